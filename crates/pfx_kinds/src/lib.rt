@@ -1,0 +1,4 @@
+//! The kinds of job.
+#![tactic(auto)]
+
+pub mod count;
