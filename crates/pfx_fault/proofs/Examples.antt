@@ -1,0 +1,33 @@
+-- Rows that show what the table and the line mean.
+use Rattle.std.proofs.Common.{◌≡◌, codes, refl}
+use Rattle.std.specs.Fmt.{digits}
+use Rattle.pfx_fault.specs.declared.refusals.Fault.TheVariants as fault
+use Rattle.pfx_fault.specs.Refusals.{status_of}
+use Rattle.pfx_fault.specs.Line.{fault_text, fault_line}
+
+pub no_field : fault_line fault.BadSet ≡ codes "pfx: error 10 BadSet\n"
+unfolding digits
+no_field = refl
+
+pub one_field : fault_line (fault.BadWeight 2) ≡ codes "pfx: error 14 BadWeight task=2\n"
+unfolding digits
+one_field = refl
+
+pub two_fields : fault_text (fault.TooFewEligible 1 64) ≡ codes "22 TooFewEligible eligible=1 m=64"
+unfolding digits
+two_fields = refl
+
+pub a_set_ends_with_3 : status_of fault.Overload ≡ 3
+a_set_ends_with_3 = refl
+
+pub a_plan_ends_with_3 : status_of fault.WrongSum ≡ 3
+a_plan_ends_with_3 = refl
+
+pub input_ends_with_8 : status_of fault.InputFailed ≡ 8
+input_ends_with_8 = refl
+
+pub output_ends_with_8 : status_of fault.OutputFailed ≡ 8
+output_ends_with_8 = refl
+
+pub memory_ends_with_5 : status_of fault.NoMemory ≡ 5
+memory_ends_with_5 = refl

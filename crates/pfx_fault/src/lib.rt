@@ -1,0 +1,17 @@
+//! The refusals of the program: each one's number, name, fields and exit status, and the line that
+//! the program prints for it.
+//!
+//! What it keeps true: the numbers, names and fields are those of one table, `refusal` of
+//! `specs/Refusals.antt`; the line is exactly `pfx: error`, the number, the name and ` field=value`
+//! for each field in the table's order, ended by one line feed; the exit status follows from the
+//! number alone.
+#![tactic(auto)]
+
+mod line;
+mod refusals;
+
+pub use line::put_fault;
+pub use refusals::Fault;
+
+#[cfg(test)]
+mod tests;
