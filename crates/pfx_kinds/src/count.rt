@@ -10,8 +10,10 @@ pub const COUNT: u8 = 1;
 /// A count that goes up by one at each step. Its type keeps that the value stays below 2^63 to the last step.
 #[derive(Debug, Drop)]
 pub struct Count {
-    left: u32,
-    value: u64,
+    /// How many steps are left.
+    pub left: u32,
+    /// The value.
+    pub value: u64,
     ghost fits: { IsTrue (count_fits left value) },
 }
 
@@ -23,13 +25,6 @@ impl Count {
         ensures value { result.value ≡ value }
     {
         Count { left, value }
-    }
-
-    /// The value.
-    pub fn value(&self) -> u64
-        ensures { result ≡ self.now.value }
-    {
-        self.value
     }
 }
 
