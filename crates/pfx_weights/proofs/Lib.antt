@@ -1,0 +1,2 @@
+pub mod Commons
+pub mod Fills
