@@ -1,0 +1,5 @@
+mod Honest
+mod Left
+mod Noted
+mod Replayed
+pub mod Steps

@@ -1,0 +1,5 @@
+pub mod Disk
+pub mod Gates
+pub mod Memory
+pub mod Replay
+pub mod Stop
