@@ -1,11 +1,7 @@
-use Rattle.std.proofs.Common.{◌≡◌, ◌≢◌, ℕ, ◌+◌, ◌*◌, ◌-◌, ◌<◌, ◌≤◌, List, [], ◌∷◌, map, arith, ap, sym, subst, refl, ◌∙◌}
+use Rattle.std.proofs.Common.{◌≡◌, ◌≢◌, ℕ, ◌+◌, ◌*◌, ◌-◌, ◌<◌, ◌≤◌, List, [], ◌∷◌, map, arith, ap, sym, subst, ◌∙◌}
 use Rattle.std.specs.Ordering.{ordering_reverse}
-use Rattle.std.specs.declared.cmp.Ordering.{Ordering}
-use Rattle.std.specs.declared.cmp.Ordering.TheVariants.{Less, Equal, Greater}
-use Rattle.std.specs.Cmp.Lexicographic.{slice_cmp}
 use Rattle.pfx_symbols.specs.declared.kinds.Symbol.{Symbol}
-use Rattle.pfx_symbols.specs.declared.kinds.Symbol.TheVariants.{Minus, Zero, Plus}
-use Rattle.pfx_symbols.specs.Symbols.{symbol_cmp}
+use Rattle.pfx_symbols.specs.declared.kinds.Symbol.TheVariants.{Zero, Plus}
 use Rattle.pfx_symbols.specs.Strings.{Spells}
 use Rattle.pfx_symbols.proofs.Strings.{minuses, negated, complement, negated_cmp, After, Gaps}
 use Rattle.pfx_symbols.proofs.Rounds.{Head, head, first_zero, first_plus, gaps_differ, gaps_after, sizes_differ, same_front, same_sizes, some_left, some_steps, two_steps}
