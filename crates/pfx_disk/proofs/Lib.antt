@@ -1,3 +1,4 @@
+mod Failing
 mod Honest
 mod Left
 mod Noted

@@ -1,4 +1,5 @@
 pub mod Disk
+pub mod Fault
 pub mod Gates
 pub mod Memory
 pub mod Replay

@@ -1,4 +1,4 @@
-ghost use Rattle.std.specs.Prelude.{◌≡◌, ◌≤◌, ◌+◌, ◌++◌, List, ℕ, length, take, drop, IfOk, OnOk, IsErr};
+ghost use Rattle.std.specs.Prelude.{◌≡◌, ◌≤◌, ◌<◌, ◌+◌, ◌^◌, ◌++◌, List, ℕ, length, take, drop, IfOk, OnOk, IsErr};
 
 use thiserror::Error;
 
@@ -22,11 +22,13 @@ pub trait Disk {
 
     /// How many calls were made; this one isn't counted.
     fn clock(&self) -> u64
-        ensures { result ≡ (view self.now).clock };
+        ensures value { result ≡ (view self.now).clock }
+        ensures limit { result < 2 ^ 63 };
 
     /// How many calls failed.
     fn failures(&self) -> u64
-        ensures { result ≡ (view self.now).failures };
+        ensures value { result ≡ (view self.now).failures }
+        ensures limit { result < 2 ^ 63 };
 
     /// How many bytes there are.
     fn len(&mut self) -> Result<usize, DeviceFailed>

@@ -13,11 +13,13 @@
 mod bytes;
 mod call;
 mod device;
+mod fault;
 mod gates;
 mod memory;
 mod stop;
 
 pub use device::{DeviceFailed, Disk, LIMIT};
+pub use fault::FaultDisk;
 pub use gates::GATE_OPEN;
 pub use memory::MemoryDisk;
 pub use stop::Fate;

@@ -163,7 +163,8 @@ impl MemoryDisk {
 
     #[tactic(auto, using(crate::proofs::Noted::acts_count))]
     fn moment(&self) -> u64
-        ensures { result ≡ (memory_view self.now).clock }
+        ensures value { result ≡ (memory_view self.now).clock }
+        ensures limit { result < 2 ^ 63 }
     {
         self.calls.len() as u64 + self.late
     }
