@@ -1,0 +1,15 @@
+use Rattle.std.proofs.Common.{rules, ◌≡◌, ◌∙◌, Err, ap, ap₂, refl}
+use Rattle.clap.specs.Takes.{takes}
+use Rattle.clap.specs.Simple.{is_simple, subcommand_of}
+use Rattle.pfx_words.specs.Requests.{asked, asked_in}
+use Rattle.pfx_words.proofs.program.read_words.Goals as goal
+
+pub returns-in_err-matches-clause-taken : goal.returns-in_err-matches-clause-taken
+returns-in_err-matches-clause-taken c =
+    let same : c.from_residual-in_err-matches.result ≡ Err c.in_err-matches.field-0.0 = search rules in
+    rw same (λ taken. c.in_err-matches.ensures.passes (ap₂ takes c.in_ok-command.ensures.0 refl ∙ taken))
+
+pub returns-clause-ok : goal.returns-clause-ok
+unfolding asked
+returns-clause-ok c =
+    c.request_in.ensures ∙ ap asked_in ((c.in_ok-matches.ensures.matches (ap is_simple c.in_ok-command.ensures.0)).1 ∙ ap₂ subcommand_of c.in_ok-command.ensures.0 refl)

@@ -1,0 +1,36 @@
+-- The program's command and its subcommands, in the words of `clap`.
+use Rattle.std.specs.Prelude.{◌≡◌, false, true, codes, Some, pos}
+use Rattle.clap.specs.Walk.{Rule, Text, rule_of}
+use Rattle.clap.specs.Simple.{App, app_of, new_app, new_rule, with_rule, with_subcommand, on_top}
+use Rattle.clap.specs.declared.builder.arg.Arg.{Arg}
+use Rattle.clap.specs.declared.builder.command.Command.{Command}
+use Rattle.clap.specs.declared.builder.command.Command.TheViews.{out-Command}
+use Rattle.clap.specs.declared.builder.value_parser.ValueParser.TheVariants as vp
+
+-- a word that has to be there
+abbrev pub required : Text → Rule
+required id = record (new_rule id) { required = true }
+
+-- a count of slots: 0 to 1,048,576
+abbrev pub slots : Rule
+slots = record (required (codes "SLOTS")) { parser = Some (vp.Signed (pos 0) (pos 1048576)) }
+
+-- `plan SET SLOTS`
+abbrev pub plan_app : App
+plan_app = with_rule (with_rule (new_app (codes "plan")) (required (codes "SET"))) slots
+
+-- `pfx`: one of its subcommands has to follow, and each of them tells the version too
+abbrev pub bare_app : App
+bare_app = on_top (λ s. record s { subcommand_required = true; has_version = true; propagate_version = true }) (new_app (codes "pfx"))
+
+-- `pfx` with its subcommands
+abbrev pub pfx_app : App
+pfx_app = with_subcommand bare_app plan_app.top
+
+-- the command is this one, with no global argument
+abbrev pub IsCommand : Command → App → Type 0
+IsCommand c app = (app_of c ≡ app) × ((out-Command c).has_globals ≡ false)
+
+-- the argument follows this rule, and is its own command's alone
+abbrev pub IsArgument : Arg → Rule → Type 0
+IsArgument a rule = (rule_of a ≡ rule) × (a.global ≡ false)

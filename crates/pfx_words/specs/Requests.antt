@@ -1,0 +1,49 @@
+-- What the words of a command line ask for.
+use Rattle.std.specs.Prelude.{ℕ, Bool, ◌&&◌, nat_lt, if◌then◌else◌, codes, List, length, Option, Some, None, option_and_then}
+use Rattle.std.specs.Char.{digit_value}
+use Rattle.std.specs.List.{list_all}
+use Rattle.std.specs.Str.{bytes_eq}
+use Rattle.std.specs.Str.Parse.{digits_value, without_leading_plus}
+use Rattle.clap.specs.Walk.{Row, Text, first_of, one_of}
+use Rattle.clap.specs.Simple.{subcommand_of}
+use Rattle.pfx_words.specs.Commands.{pfx_app}
+use Rattle.pfx_words.specs.declared.request.Request.{Request}
+use Rattle.pfx_words.specs.declared.request.Request.TheVariants as request
+
+-- a request, with its texts
+pub data Asked : Type 0 where
+  plan : Text → ℕ → Asked
+
+-- the request that a value of the code is
+abbrev pub asked_by : Request → Asked
+asked_by (request.Plan set slots) = plan set.now slots
+
+-- one digit or more, of a number of 32 bits
+abbrev pub is_number : Text → Bool
+is_number ds = nat_lt 0 (length ds) && list_all (λ d. nat_lt (digit_value d) 10) ds && nat_lt (digits_value 10 ds) 4294967296
+
+-- the number that a text writes, where a plus may stand first
+abbrev pub number_of : Text → Option ℕ
+number_of text = let ds = without_leading_plus text in if is_number ds then Some (digits_value 10 ds) else None
+
+-- the first text that was found for an argument, and the number that it writes
+abbrev pub text_at : Text → List Row → Option Text
+text_at id rows = first_of id rows
+
+abbrev pub number_at : Text → List Row → Option ℕ
+number_at id rows = option_and_then number_of (one_of id rows)
+
+-- a plan, if both its words are there
+abbrev pub plan_of : Option Text → Option ℕ → Option Asked
+plan_of (Some set) (Some slots) = Some (plan set slots)
+plan_of (Some set) None = None
+plan_of None slots = None
+
+-- what a subcommand asks for, by its name and what was found for its arguments
+abbrev pub asked_in : Option (Text × List Row) → Option Asked
+asked_in None = None
+asked_in (Some used) = if bytes_eq used.0 (codes "plan") then plan_of (text_at (codes "SET") used.1) (number_at (codes "SLOTS") used.1) else None
+
+-- what the words ask for: of the subcommand that they name, with the arguments that follow it
+unfoldable pub asked : List Text → Option Asked
+asked words = asked_in (subcommand_of pfx_app words)

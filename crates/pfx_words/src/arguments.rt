@@ -1,0 +1,29 @@
+//! Arguments that subcommands share, and what was found for them.
+
+ghost use Rattle.std.specs.Prelude.{◌≡◌, option_map};
+ghost use Rattle.clap.specs.Matches.{found_of};
+ghost use Rattle.clap.specs.Walk.{rows_of};
+ghost use Rattle.pfx_words.specs.Commands.{required, IsArgument};
+ghost use Rattle.pfx_words.specs.Requests.{text_at, number_at};
+
+use clap::{Arg, ArgMatches};
+use std::alloc::Global;
+
+// A word that has to be there, by its name in the usage.
+pub(crate) fn required_word<'a>(alloc: Global, name: &'a str) -> Arg<'a>
+    ensures { IsArgument result (required name.entry.now) }
+{
+    Arg::new(alloc, name).required(true)
+}
+
+pub(crate) fn text_under<'a>(matches: &ArgMatches<'a>, name: &str) -> Option<&'a str>
+    ensures { option_map (λ s. s.now) result ≡ text_at name.now (rows_of (found_of matches.now)) }
+{
+    matches.get_str(name)
+}
+
+pub(crate) fn number_under(matches: &ArgMatches<'_>, name: &str) -> Option<u32>
+    ensures { result ≡ number_at name.now (rows_of (found_of matches.now)) }
+{
+    matches.get_one::<u32>(name)
+}

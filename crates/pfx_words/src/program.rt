@@ -1,0 +1,70 @@
+//! `pfx` and its subcommands.
+
+ghost use Rattle.std.specs.Prelude.{◌≡◌, IfOk, IfErr, map, true, option_map};
+ghost use Rattle.clap.specs.Faults.{fault_of};
+ghost use Rattle.clap.specs.Kinds.{FailsBy};
+ghost use Rattle.clap.specs.Takes.{takes};
+ghost use Rattle.clap.specs.Values.{kind_of};
+ghost use Rattle.clap.specs.Simple.{subcommand_rows_of};
+ghost use Rattle.pfx_words.specs.Commands.{bare_app, pfx_app, IsCommand};
+ghost use Rattle.pfx_words.specs.Requests.{asked_by, asked_in, asked};
+
+use crate::Request;
+use crate::plan::{plan_command, plan_request};
+use clap::error::ErrorKind;
+use clap::{ArgMatches, Command, Error};
+use std::alloc::{AllocError, Global};
+
+const ABOUT: &str = "Share workers among long jobs by proportionate progress";
+
+const LONG: &str = "Share workers among long jobs by proportionate progress
+
+A set file names the workers and the tasks. A task of weight e/p gets e of every p slots, and is
+never a whole slot ahead of its share or behind it.";
+
+const EXAMPLE: &str = "Example:
+  pfx plan examples/thirds.toml 4    the first four slots of three tasks of weight 2/3";
+
+fn bare_command<'a>(alloc: Global) -> Command<'a>
+    ensures { IsCommand result bare_app }
+{
+    Command::new(alloc, "pfx")
+        .version("0.1.0")
+        .propagate_version(true)
+        .subcommand_required(true)
+        .about(ABOUT)
+        .long_about(LONG)
+        .after_help(EXAMPLE)
+}
+
+fn pfx_command<'a>(alloc: Global) -> Result<Command<'a>, AllocError>
+    ensures { IfOk result (λ c. IsCommand c pfx_app) }
+{
+    bare_command(alloc).subcommand(plan_command(alloc)?)
+}
+
+fn request_in<'a>(matches: &ArgMatches<'a>) -> Option<Request<'a>>
+    ensures { option_map asked_by result ≡ asked_in (subcommand_rows_of matches.now) }
+{
+    let (name, inner) = matches.subcommand()?;
+    if name == "plan" {
+        plan_request(inner)
+    } else {
+        None
+    }
+}
+
+/// What the words of a command line ask for. The first word is the program's own name.
+///
+/// An `Err` has the text to print and the exit status: 2 and what was expected where the command
+/// doesn't take the words, 0 where they ask for help or for the version. `OutOfMemory` is its kind
+/// where memory ran out. `None` comes where the words ask for nothing, which the command refuses.
+pub fn read_words<'a>(alloc: Global, words: &'a [&'a str]) -> Result<Option<Request<'a>>, Error>
+    ensures ok { IfOk result (λ r. option_map asked_by r ≡ asked (map (λ w. w.now) words.entry.now)) }
+    ensures taken { IfErr result (λ e. takes pfx_app (map (λ w. w.now) words.entry.now) ≡ true → kind_of e ≡ ErrorKind.OutOfMemory) }
+    ensures faults { FailsBy (fault_of pfx_app (map (λ w. w.now) words.entry.now)) result }
+{
+    let command = pfx_command(alloc)?;
+    let matches = command.try_get_matches_from(words)?;
+    Ok(request_in(&matches))
+}

@@ -1,0 +1,105 @@
+//! Words as a shell passes them, and the texts that answer them.
+
+use super::*;
+use clap::error::ErrorKind;
+use std::alloc::Global;
+
+#[test]
+fn reads_a_plan(rt: HostRuntime) -> anyhow::Result<()> {
+    // The words after the program's name, the path and the number of slots.
+    let rows = [
+        (["pfx", "plan", "a.toml", "4"].as_slice(), "a.toml", 4),
+        (
+            ["/usr/bin/pfx", "plan", "sets/b c.toml", "0"].as_slice(),
+            "sets/b c.toml",
+            0,
+        ),
+        (["", "plan", "", "1048576"].as_slice(), "", 1_048_576),
+        (["pfx", "plan", "+7", "+7"].as_slice(), "+7", 7),
+        (["pfx", "plan", "--", "-a", "007"].as_slice(), "-a", 7),
+        (["pfx", "plan", "plan", "--", "3"].as_slice(), "plan", 3),
+    ];
+    for (words, set, slots) in rows {
+        let request = read_words(rt.alloc(), words)?;
+        assert!(rt;
+            request == Some(Request::Plan { set, slots }),
+            "{request:?}"
+        );
+    }
+    Ok(())
+}
+
+// Whether the words are answered by a text with this part, and this exit status.
+fn is_answered(alloc: Global, words: &[&str], status: i32, part: &str) -> anyhow::Result<bool> {
+    match read_words(alloc, words) {
+        Ok(_) => Ok(false),
+        Err(error) if error.kind() == ErrorKind::OutOfMemory => Err(error.into()),
+        Err(error) => {
+            let text = error.to_string(alloc)?;
+            Ok(error.exit_code() == status && text.contains(part))
+        }
+    }
+}
+
+#[test]
+fn says_what_was_expected(rt: HostRuntime) -> anyhow::Result<()> {
+    let rows = [
+        (["pfx"].as_slice(), "[subcommands: plan, help]"),
+        ([].as_slice(), "[subcommands: plan, help]"),
+        (
+            ["pfx", "paln", "a.toml", "4"].as_slice(),
+            "a similar subcommand exists: 'plan'",
+        ),
+        (["pfx", "plan"].as_slice(), "<SET>\n  <SLOTS>\n"),
+        (
+            ["pfx", "plan", "a.toml"].as_slice(),
+            "<SLOTS>\n\nUsage: pfx plan <SET> <SLOTS>",
+        ),
+        (
+            ["pfx", "plan", "a.toml", "1048577"].as_slice(),
+            "1048577 is not in 0..=1048576",
+        ),
+        (
+            ["pfx", "plan", "a.toml", "99999999999999999999"].as_slice(),
+            "for '<SLOTS>'",
+        ),
+        (
+            ["pfx", "plan", "a.toml", "four"].as_slice(),
+            "invalid value 'four' for '<SLOTS>'",
+        ),
+        (
+            ["pfx", "plan", "a.toml", "-1"].as_slice(),
+            "unexpected argument '-1' found",
+        ),
+        (
+            ["pfx", "plan", "a.toml", "4", "5"].as_slice(),
+            "unexpected argument '5' found",
+        ),
+    ];
+    for (words, part) in rows {
+        assert!(rt; is_answered(rt.alloc(), words, 2, part)?, "{part}");
+    }
+    Ok(())
+}
+
+#[test]
+fn answers_with_help_and_version(rt: HostRuntime) -> anyhow::Result<()> {
+    let rows = [
+        (["pfx", "--help"].as_slice(), "Usage: pfx <COMMAND>"),
+        (["pfx", "-h"].as_slice(), "  plan  Print which tasks run"),
+        (
+            ["pfx", "plan", "--help"].as_slice(),
+            "Usage: pfx plan <SET> <SLOTS>",
+        ),
+        (
+            ["pfx", "help", "plan"].as_slice(),
+            "How many slots to print, 0 to 1048576",
+        ),
+        (["pfx", "--version"].as_slice(), "pfx 0.1.0\n"),
+        (["pfx", "plan", "--version"].as_slice(), " 0.1.0\n"),
+    ];
+    for (words, part) in rows {
+        assert!(rt; is_answered(rt.alloc(), words, 0, part)?, "{part}");
+    }
+    Ok(())
+}
