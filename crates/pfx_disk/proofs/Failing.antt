@@ -4,7 +4,7 @@ use Rattle.std.proofs.lemmas.Bool.{cases_lt, false≢true}
 use Rattle.pfx_disk.specs.declared.device.DeviceFailed.{DeviceFailed}
 use Rattle.pfx_disk.specs.Disk.{View, IsHonest, IsLive, IsSpent, Leaves, Same, Torn, Ticks, HasFailed}
 use Rattle.pfx_disk.specs.Fault.{failing, one_fewer, own_failures}
-use Rattle.pfx_disk.proofs.Steps.{leaves_torn}
+use Rattle.pfx_disk.proofs.Steps.{leaves_torn, leaves_none, leaves_torn_none}
 
 pub honest_in : (a : View) (n : ℕ) → IsHonest (failing a n) → IsHonest a
 honest_in a n h = record { here = h.here; counted = h.counted }
@@ -27,22 +27,9 @@ leaves_out step a b m n l = record {
 pub leaves_torn_out : (at k : ℕ) (a b : View) (m n : ℕ) → Leaves Same a b → Leaves (Torn at k) (failing a m) (failing b n)
 leaves_torn_out at k a b m n l = leaves_out (Torn at k) a b m n (leaves_torn at k a b l)
 
--- nothing is done
-pub leaves_none : (a : View) → IsHonest a → Leaves Same a a
-leaves_none a honest = record {
-  honest = honest;
-  contents = refl;
-  now = λ image is. (image, is, refl);
-  since = λ c image le is. inl is;
-  keeps = λ c image le is. is;
-}
-
-pub leaves_torn_none : (at k : ℕ) (a : View) → IsHonest a → Leaves (Torn at k) a a
-leaves_torn_none at k a honest = leaves_torn at k a a (leaves_none a honest)
-
 -- a spent disk makes no call
-pub ticks_spent : {T : Type 0} (a : View) (m : ℕ) (e : DeviceFailed) → a.clock < 2 ^ 63 → IsSpent (failing a m) → Ticks {T = T} (failing a m) (failing a m) (Err e)
-ticks_spent a m e limit spent = record {
+pub ticks_spent : {T : Type 0} (a : View) (e : DeviceFailed) → a.clock < 2 ^ 63 → a.failures < 2 ^ 63 → IsSpent a → Ticks {T = T} a a (Err e)
+ticks_spent a e clock failures spent = record {
   ok = λ is. absurd (false≢true is);
   err = λ is. inr spent;
   tick = λ live. absurd (never live spent);
@@ -50,13 +37,16 @@ ticks_spent a m e limit spent = record {
   later = omega arith;
   once = omega arith;
   no_fewer = omega arith;
-  clock_limit = limit;
-  failures_limit = omega arith;
+  clock_limit = clock;
+  failures_limit = failures;
 }
   where
-    never : IsLive (failing a m) → IsSpent (failing a m) → ⊥
+    never : IsLive a → IsSpent a → ⊥
     never live (inl clock) = omega (arith, live.clock, clock)
     never live (inr failures) = omega (arith, live.failures, failures)
+
+pub ticks_fault_spent : {T : Type 0} (a : View) (m : ℕ) (e : DeviceFailed) → a.clock < 2 ^ 63 → IsSpent (failing a m) → Ticks {T = T} (failing a m) (failing a m) (Err e)
+ticks_fault_spent a m e limit spent = ticks_spent (failing a m) e limit (omega arith) spent
 
 -- the call that fails by itself
 pub ticks_failing : {T S : Type 0} (a b : View) (before : Option ℕ) (r : Result S DeviceFailed) (e : DeviceFailed) → before ≡ Some 0 → IsLive (failing a (own_failures before)) → Ticks a b r → Ticks {T = T} (failing a (own_failures before)) (failing b (own_failures (one_fewer before))) (Err e)
@@ -109,4 +99,6 @@ pub succeeded : {T : Type 0} (a b : View) (r : Result T DeviceFailed) (P : Type 
 succeeded a b (Ok value) P live time same is = is
 succeeded a b (Err e) P live time same is = let more = time.rise live refl in absurd (omega (arith, more, same))
 
-pub ruleset failing_steps = (honest_in, honest_out, live_in, leaves_out, leaves_torn_out, leaves_none, leaves_torn_none, ticks_spent, ticks_failing, ticks_same)
+pub ruleset failing_steps = (honest_in, honest_out, live_in, leaves_out, leaves_torn_out, leaves_none, leaves_torn_none, ticks_fault_spent, ticks_failing, ticks_same)
+
+pub ruleset spent_steps = (leaves_none, leaves_torn_none, ticks_spent)

@@ -1,4 +1,5 @@
 mod Failing
+pub mod GateLemmas
 mod Honest
 mod Left
 mod Noted

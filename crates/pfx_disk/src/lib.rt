@@ -14,12 +14,17 @@ mod bytes;
 mod call;
 mod device;
 mod fault;
+mod file;
 mod gates;
+mod held;
+pub mod laws;
 mod memory;
 mod stop;
 
 pub use device::{DeviceFailed, Disk, LIMIT};
 pub use fault::FaultDisk;
+pub use file::FileDisk;
 pub use gates::GATE_OPEN;
+pub use held::{Gate, GateDisk};
 pub use memory::MemoryDisk;
 pub use stop::Fate;
