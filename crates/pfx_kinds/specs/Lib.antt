@@ -5,3 +5,9 @@ pub mod CountKind
 pub mod Scans
 pub mod ScanBytes
 pub mod ScanKind
+pub mod Cells
+pub mod CellBits
+pub mod Rules
+pub mod RuleBytes
+pub mod RuleKind
+pub mod Rings

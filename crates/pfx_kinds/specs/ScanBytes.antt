@@ -3,10 +3,9 @@ use Rattle.std.specs.Prelude.{◌≡◌, ℕ, ◌+◌, ◌-◌, ◌^◌, ◌<◌
 use Rattle.std.proofs.Common.{arith, suc, ap₂, ap, zero, sym, ◌∙◌, length-append}
 use Rattle.std.proofs.lemmas.Bool.Decides.{nat_tests}
 use Rattle.std.proofs.lemmas.List.{length-replicate}
-use Rattle.std.proofs.Math.Seq.{take-append_seam, drop-append_seam, take-length}
 use Rattle.byteorder.specs.Endian.{little_bytes}
 use Rattle.byteorder.specs.Numbers.{little_number-reads_back}
-use Rattle.pfx_kinds.specs.Tests.{both-true, true-both}
+use Rattle.pfx_kinds.specs.Tests.{both-true, true-both, take_front, drop_front}
 use Rattle.pfx_kinds.specs.Scans.{ScanFields, places_of, stands_at, are_zeros, scan_numbers_fit, scan_lists_fit, scan_fits, scan_bytes, scan_found, found_after}
 
 -- the tests by comparisons
@@ -87,12 +86,6 @@ scan_fits-step n a b found text needle h =
     })) parts.1
 
 -- the numbers are found again in their bytes
-take_front : (xs ys : List ℕ) (n : ℕ) → length xs ≡ n → take n (xs ++ ys) ≡ xs
-take_front xs ys n e = ap (λ k. take k (xs ++ ys)) (sym e) ∙ take-append_seam xs ys
-
-drop_front : (xs ys : List ℕ) (n : ℕ) → length xs ≡ n → drop n (xs ++ ys) ≡ ys
-drop_front xs ys n e = ap (λ k. drop k (xs ++ ys)) (sym e) ∙ drop-append_seam xs ys
-
 abbrev with_lists : ScanFields → ℕ → List ℕ → List ℕ → ScanFields
 with_lists f left text needle = record { left = left; text_length = f.text_length; needle_length = f.needle_length; found = f.found; text = text; needle = needle }
 

@@ -2,4 +2,6 @@
 #![tactic(auto)]
 
 pub mod count;
+pub mod ring;
+pub mod rule;
 pub mod scan;
