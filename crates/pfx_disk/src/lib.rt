@@ -28,3 +28,6 @@ pub use gates::GATE_OPEN;
 pub use held::{Gate, GateDisk};
 pub use memory::MemoryDisk;
 pub use stop::Fate;
+
+#[cfg(test)]
+mod tests;
