@@ -47,7 +47,7 @@ members_more n s b xs e f =
     let is : suc n ≡ n + 1 = omega arith in
     ap (λ l. l ++ if_member b n) e ∙ ap (λ c. members n s ++ if_member c n) f ∙ ap (λ k. members k s) is
 
-other_number : (n x : ℕ) → n ≢ x → (n == x) ≡ false
+pub other_number : (n x : ℕ) → n ≢ x → (n == x) ≡ false
 other_number n x h = grind (arith, common_steps)
 
 same_itself : (n : ℕ) → (n == n) ≡ true
@@ -107,14 +107,14 @@ pub none_is : (row : List ℕ) (x : ℕ) → ((i : ℕ) → i < length row → g
 none_is [] x h = refl
 none_is (y ∷ ys) x h = ap (λ b. b || is_in ys x) (other_number y x (h 0 (omega arith))) ∙ none_is ys x (λ i l. h (suc i) (omega arith))
 
-same_number : (n x : ℕ) → n ≡ x → (n == x) ≡ true
+pub same_number : (n x : ℕ) → n ≡ x → (n == x) ≡ true
 same_number n x h = grind (arith, common_steps)
 
 or_true : (b : Bool) → (b || true) ≡ true
 or_true true = refl
 or_true false = refl
 
-one_is : (row : List ℕ) (x i : ℕ) → i < length row → get_or row i 0 ≡ x → is_in row x ≡ true
+pub one_is : (row : List ℕ) (x i : ℕ) → i < length row → get_or row i 0 ≡ x → is_in row x ≡ true
 one_is [] x i l e = absurd (omega arith)
 one_is (y ∷ ys) x zero l e = ap (λ b. b || is_in ys x) (same_number y x e)
 one_is (y ∷ ys) x (suc i) l e = ap (λ b. (y == x) || b) (one_is ys x i (omega arith) e) ∙ or_true (y == x)

@@ -1,0 +1,4 @@
+pub mod Going
+pub mod PassingLemmas
+pub mod Shown
+pub mod Steps
