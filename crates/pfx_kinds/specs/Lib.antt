@@ -11,3 +11,5 @@ pub mod Rules
 pub mod RuleBytes
 pub mod RuleKind
 pub mod Rings
+pub mod AnyKind
+pub mod Starts

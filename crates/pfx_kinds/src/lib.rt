@@ -1,7 +1,9 @@
 //! The kinds of job.
 #![tactic(auto)]
 
+pub mod any;
 pub mod count;
-pub mod ring;
+mod ring;
 pub mod rule;
 pub mod scan;
+pub mod start;
