@@ -3,12 +3,13 @@
 ghost use Rattle.std.specs.Prelude.{◌≡◌, ℕ, ◌+◌, ◌*◌, ◌<◌, ◌≤◌, ◌^◌, length, slice_index_or, sum, All, MatchResult, IfOk, OnOk, OnErr};
 ghost use Rattle.pfx_weights.specs.Rows.{is_in, IsFullRow};
 ghost use Rattle.pfx_columns.specs.Lags.{lag_of};
-ghost use Rattle.pfx_columns.specs.Ledgers.{IsLedger, IsFair, FirstOutOfRange, Refuses, RefusesRow, task, phase, start, ledger_at, after};
+ghost use Rattle.pfx_columns.specs.Ledgers.{IsLedger, IsFair, FirstOutOfRange, Refuses, RefusesRow, task, phase, class, rank, start, ledger_at, after};
 
 use crate::LedgerFault;
-use crate::entries::{Entry, entry_at};
+use crate::entries::{Entry, class_now, entry_at};
 use crate::slots::{first_unfair, pass_slot};
 use crate::starts::{entries_at, lag_check, sum_of};
+use pfx_symbols::{Class, Rank};
 use pfx_weights::{Row, TaskSet};
 use std::alloc::{AllocError, Global};
 use std::marker::Model;
@@ -112,10 +113,10 @@ impl Columns {
         ensures ok { OnOk result (self.new ≡ after self.old (is_in row.now)) }
         ensures err { OnErr result (self.new ≡ self.old) }
     {
-        if let Some(task) = first_unfair(&self.entries, self.slot, row) {
+        if let Some(task) = first_unfair(&self.entries, row) {
             return Err(LedgerFault::OutOfRange { task });
         }
-        pass_slot(&mut self.entries, self.slot, row);
+        pass_slot(&mut self.entries, row);
         self.slot += 1;
         Ok(())
     }
@@ -196,5 +197,25 @@ impl Columns {
         let entries = &self.entries;
         let entry = entries[x];
         entry.phase
+    }
+
+    /// The class of a task at the slot to come.
+    pub fn class(&self, x: usize) -> Class
+        requires { x < length self.now.set.weights }
+        ensures { result ≡ class self.now x }
+    {
+        let entries = &self.entries;
+        let entry = entries[x];
+        class_now(entry)
+    }
+
+    /// The rank of a task at the slot to come, as the choice compares it.
+    pub fn rank(&self, x: usize) -> Rank
+        requires { x < length self.now.set.weights }
+        ensures { result ≡ rank self.now x }
+    {
+        let entries = &self.entries;
+        let entry = entries[x];
+        Rank::new(entry.phase, entry.e, entry.p, x as u16)
     }
 }

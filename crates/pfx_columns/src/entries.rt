@@ -1,8 +1,10 @@
 //! What the ledger keeps of one task.
 
-ghost use Rattle.std.specs.Prelude.{◌≡◌, ◌+◌, ◌<◌, ◌≤◌, ◌^◌, ◌↔◌, IsTrue, pos, ◌-ℤ◌};
-ghost use Rattle.pfx_columns.specs.Lags.{IsFairAt};
+ghost use Rattle.std.specs.Prelude.{◌≡◌, ℕ, ◌+◌, ◌<◌, ◌≤◌, ◌^◌, ◌↔◌, IsTrue, pos, ◌-ℤ◌};
+ghost use Rattle.pfx_columns.specs.Lags.{IsFairAt, class_at};
 ghost use Rattle.pfx_columns.specs.Entries.{IsEntry, IsInRange, IsBetween, weight_of, lag_after, entry_after};
+
+use pfx_symbols::{Class, class, symbol};
 
 /// One task: its weight e/p, the slots that it got, and for the slot to come the numerator of its lag and its phase.
 #[derive(Clone, Copy, Debug)]
@@ -86,6 +88,14 @@ pub fn next_entry(entry: Entry, ran: bool) -> Entry
             phase - entry.p
         },
     }
+}
+
+/// The class of a task at the slot to come.
+pub fn class_now(entry: Entry) -> Class
+    requires { (t : ℕ) × IsEntry t entry }
+    ensures { (t : ℕ) → IsEntry t entry → result ≡ class_at entry.e entry.p entry.alloc t }
+{
+    class(entry.lag, symbol(entry.e, entry.p, entry.phase))
 }
 
 /// How much greater the one product is than the other.
