@@ -203,7 +203,7 @@ then-zero (x ∷ xs) (suc k) = then-zero xs k
 pub front-word : (last : ℕ) (words : List ℕ) (k : ℕ) → slice_index (with_front last words) (k + 1) ≡ slice_index words k
 front-word last words k = rw add-one (then-zero words k)
 
-past_words : (words : List ℕ) (k : ℕ) → length words ≤ k → slice_index words k ≡ 0
+pub past_words : (words : List ℕ) (k : ℕ) → length words ≤ k → slice_index words k ≡ 0
 past_words [] k h = refl
 past_words (x ∷ xs) zero h = absurd (omega arith)
 past_words (x ∷ xs) (suc k) h = past_words xs k (omega arith)

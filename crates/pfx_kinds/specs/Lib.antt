@@ -13,3 +13,4 @@ pub mod RuleKind
 pub mod Rings
 pub mod AnyKind
 pub mod Starts
+pub mod AnyStart

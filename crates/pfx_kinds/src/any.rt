@@ -1,10 +1,12 @@
-ghost use Rattle.std.specs.Prelude.{◌≡◌, ◌<◌};
+ghost use Rattle.std.specs.Prelude.{◌≡◌, MatchResult, Ok, Err};
+ghost use Rattle.pfx_kinds.specs.Starts.{any_start};
 
 use pfx_jobs::job::{Job, JobFault};
 
 use crate::count::{COUNT, Count};
 use crate::rule::{RULE, Rule};
 use crate::scan::{SCAN, Scan};
+use crate::start::StartFault;
 
 /// A job of any kind.
 #[derive(Debug, Drop)]
@@ -15,6 +17,29 @@ pub enum AnyJob {
     Rule(Rule),
     /// A search.
     Scan(Scan),
+}
+
+impl AnyJob {
+    ghost use Rattle.pfx_kinds.specs.AnyStart.{fields_of};
+
+    /// The job of the kind `count`, `rule` or `scan` at its start, of its goal and its data.
+    ///
+    /// A kind of another name is refused first, then a goal out of the kind's range, then data that is not in the
+    /// kind's form, as `Count::start`, `Rule::start` and `Scan::start` say.
+    pub fn start(kind: &str, goal: u64, text: &[u8]) -> Result<AnyJob, StartFault>
+        ensures { MatchResult result (λ job. any_start kind.now goal text.now ≡ Ok (fields_of job)) (λ fault. any_start kind.now goal text.now ≡ Err fault) }
+    {
+        if kind == "count" {
+            return Ok(AnyJob::Count(Count::start(goal, text)?));
+        }
+        if kind == "rule" {
+            return Ok(AnyJob::Rule(Rule::start(goal, text)?));
+        }
+        if kind == "scan" {
+            return Ok(AnyJob::Scan(Scan::start(goal, text)?));
+        }
+        Err(StartFault::BadKind)
+    }
 }
 
 impl Job for AnyJob {

@@ -1,8 +1,11 @@
-ghost use Rattle.std.specs.Prelude.{◌≡◌, ◌+◌, ◌<◌, ◌^◌, IsTrue};
+ghost use Rattle.std.specs.Prelude.{◌≡◌, ◌+◌, ◌<◌, ◌≤◌, ◌^◌, IsTrue, IfSome, MatchResult, Ok, Err};
 ghost use Rattle.pfx_kinds.specs.Counts.{count_fits};
+ghost use Rattle.pfx_kinds.specs.Starts.{count_start, value_in};
 
 use byteorder::{ByteOrder, LittleEndian};
 use pfx_jobs::job::{Job, JobFault};
+
+use crate::start::{StartFault, decimal_within, is_count_of_steps};
 
 /// The first byte of a Count's encoding.
 pub const COUNT: u8 = 1;
@@ -17,7 +20,20 @@ pub struct Count {
     ghost fits: { IsTrue (count_fits left value) },
 }
 
+/// The value that the data of a Count gives.
+fn value_in(text: &[u8]) -> Option<u64>
+    ensures value { result ≡ value_in text.now }
+    ensures most { IfSome result (λ value. value ≤ 4294967295) }
+{
+    if text.is_empty() {
+        return Some(0);
+    }
+    decimal_within(10, 4294967295, text)
+}
+
 impl Count {
+    ghost use Rattle.pfx_kinds.specs.CountKind.{count_coding};
+
     /// A count from `value` on that goes up `left` times.
     pub fn new(left: u32, value: u64) -> Count
         requires { value + left < 2 ^ 63 }
@@ -25,6 +41,20 @@ impl Count {
         ensures value { result.value ≡ value }
     {
         Count { left, value }
+    }
+
+    /// The count of `goal` steps from the value that the data gives: 1 to 4294967295 steps, and no data for 0 or 1 to
+    /// 10 decimal digits of a value up to 4294967295.
+    pub fn start(goal: u64, text: &[u8]) -> Result<Count, StartFault>
+        ensures { MatchResult result (λ s. count_start goal text.now ≡ Ok (count_coding.fields s)) (λ fault. count_start goal text.now ≡ Err fault) }
+    {
+        if !is_count_of_steps(goal) {
+            return Err(StartFault::BadGoal);
+        }
+        match value_in(text) {
+            Some(value) => Ok(Count::new(goal as u32, value)),
+            None => Err(StartFault::BadData),
+        }
     }
 }
 

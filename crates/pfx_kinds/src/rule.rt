@@ -1,11 +1,14 @@
-ghost use Rattle.std.specs.Prelude.{◌≡◌, ◌<◌, ◌≤◌, IsTrue};
-ghost use Rattle.pfx_kinds.specs.Cells.{cell_at};
+ghost use Rattle.std.specs.Prelude.{◌≡◌, ◌<◌, ◌≤◌, ◌+◌, ◌*◌, ℕ, IsTrue, MatchResult, Ok, Err, cond, nat_eq, slice_index, length};
+ghost use Rattle.pfx_kinds.specs.Cells.{cell_at, digits, packed};
+ghost use Rattle.pfx_kinds.specs.Starts.{rule_start, drawn, is_cell, is_ring};
+ghost use Rattle.std.specs.List.{list_all};
 ghost use Rattle.pfx_kinds.specs.Rules.{rule_fits, is_clear_past};
 
 use byteorder::{ByteOrder, LittleEndian};
 use pfx_jobs::job::{Job, JobFault};
 
 use crate::ring::next_cells;
+use crate::start::{StartFault, at_colon, decimal_within, is_count_of_steps};
 
 /// The first byte of a Rule's encoding.
 pub const RULE: u8 = 2;
@@ -54,6 +57,92 @@ fn is_rule(left: u32, width: u16, cells: &[u8; CELL_BYTES]) -> bool
     ensures { result ≡ rule_fits left width cells.now }
 {
     2 < width && width < 513 && is_clear_past(width, cells)
+}
+
+/// A cell of a drawing: 1 at a `1`.
+fn drawn(cells: &[u8], i: usize) -> u8
+    ensures { result ≡ drawn cells.now i }
+{
+    match cells.get(i) {
+        Some(b'1') => 1,
+        _ => 0,
+    }
+}
+
+/// Eight cells of a drawing as a byte.
+fn drawn_byte(cells: &[u8], at: usize) -> u8
+    requires { at < 512 }
+    ensures { result ≡ digits (drawn cells.now) at 8 }
+{
+    let front = drawn(cells, at) * 128 + drawn(cells, at + 1) * 64 + drawn(cells, at + 2) * 32 + drawn(cells, at + 3) * 16;
+    front + drawn(cells, at + 4) * 8 + drawn(cells, at + 5) * 4 + drawn(cells, at + 6) * 2 + drawn(cells, at + 7)
+}
+
+/// Whether a character draws a cell.
+fn is_cell(byte: u8) -> bool
+    ensures { result ≡ is_cell byte }
+{
+    byte == b'0' || byte == b'1'
+}
+
+/// Whether all characters draw cells.
+fn are_cells(cells: &[u8]) -> bool
+    ensures { result ≡ list_all is_cell cells.now }
+{
+    cells.iter().all(|byte| is_cell(*byte))
+}
+
+/// Whether a drawing is that of a ring.
+fn is_ring(cells: &[u8]) -> bool
+    ensures { result ≡ is_ring cells.now }
+{
+    2 < cells.len() && cells.len() < 513 && are_cells(cells)
+}
+
+impl Rule {
+    ghost use Rattle.pfx_kinds.specs.RuleKind.{rule_coding};
+
+    /// The automaton at its start, its cells drawn as one character each: `1` for 1, any other for 0.
+    pub fn new(left: u32, number: u8, cells: &[u8]) -> Rule
+        requires wide { 3 ≤ length cells.now }
+        requires narrow { length cells.now ≤ 512 }
+        ensures left { result.left ≡ left }
+        ensures number { result.number ≡ number }
+        ensures width { result.width ≡ length cells.now }
+        ensures cells { result.cells ≡ packed (drawn cells.now) 0 64 }
+    {
+        let mut all = [0; CELL_BYTES];
+        'bytes: for j in 0..CELL_BYTES {
+            all[j] = drawn_byte(cells, 8 * j);
+        }
+        Rule {
+            left,
+            number,
+            width: cells.len() as u16,
+            cells: all,
+        }
+    }
+
+    /// The automaton of `goal` steps that the data gives: 1 to 4294967295 steps, and the rule's number 0 to 255 in 1 to
+    /// 3 decimal digits, a colon, and 3 to 512 cells, `0` or `1` each.
+    pub fn start(goal: u64, text: &[u8]) -> Result<Rule, StartFault>
+        ensures { MatchResult result (λ s. rule_start goal text.now ≡ Ok (rule_coding.fields s)) (λ fault. rule_start goal text.now ≡ Err fault) }
+    {
+        if !is_count_of_steps(goal) {
+            return Err(StartFault::BadGoal);
+        }
+        let Some(at) = at_colon(text) else {
+            return Err(StartFault::BadData);
+        };
+        let Some(number) = decimal_within(3, 255, &text[..at]) else {
+            return Err(StartFault::BadData);
+        };
+        let cells = &text[at + 1..];
+        if !is_ring(cells) {
+            return Err(StartFault::BadData);
+        }
+        Ok(Rule::new(goal as u32, number as u8, cells))
+    }
 }
 
 impl Job for Rule {

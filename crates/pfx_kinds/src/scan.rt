@@ -1,8 +1,12 @@
-ghost use Rattle.std.specs.Prelude.{◌≡◌, ◌+◌, ◌<◌, ◌≤◌, ◌^◌, ◌-◌, ◌++◌, IsTrue, length, replicate};
+ghost use Rattle.std.specs.Prelude.{◌≡◌, ◌+◌, ◌<◌, ◌≤◌, ◌^◌, ◌-◌, ◌++◌, IsTrue, MatchResult, Ok, Err, length, replicate};
+ghost use Rattle.pfx_kinds.specs.Starts.{scan_start, scan_of, is_printable, is_search};
+ghost use Rattle.std.specs.List.{list_all};
 ghost use Rattle.pfx_kinds.specs.Scans.{scan_fits, scan_numbers_fit, are_zeros, places_of};
 
 use byteorder::{ByteOrder, LittleEndian};
 use pfx_jobs::job::{Job, JobFault};
+
+use crate::start::{StartFault, at_colon};
 
 /// The first byte of a Scan's encoding.
 pub const SCAN: u8 = 3;
@@ -70,6 +74,25 @@ fn is_scan(
         && are_zeros(&needle[needle_length as usize..])
 }
 
+/// Whether all bytes are 0x20 to 0x7E.
+fn are_printable(bytes: &[u8]) -> bool
+    ensures { result ≡ list_all is_printable bytes.now }
+{
+    bytes.iter().all(|byte| 32 <= *byte && *byte <= 126)
+}
+
+/// Whether this is a needle and a text that it is searched in.
+fn is_search(needle: &[u8], text: &[u8]) -> bool
+    ensures { result ≡ is_search needle.now text.now }
+{
+    !needle.is_empty()
+        && needle.len() <= MOST_NEEDLE
+        && needle.len() <= text.len()
+        && text.len() <= MOST_TEXT
+        && are_printable(needle)
+        && are_printable(text)
+}
+
 /// The bytes, followed by zeros.
 fn padded<const N: usize>(bytes: &[u8]) -> [u8; N]
     requires { length bytes.now ≤ N }
@@ -81,16 +104,13 @@ fn padded<const N: usize>(bytes: &[u8]) -> [u8; N]
 }
 
 impl Scan {
-    ghost use Rattle.pfx_kinds.specs.ScanKind.{text_of, needle_of};
+    ghost use Rattle.pfx_kinds.specs.ScanKind.{text_of, needle_of, scan_coding};
 
     /// The search for a needle of 1 to 16 bytes in a text of at most 64, at its start.
     pub fn new(needle: &[u8], text: &[u8]) -> Scan
         requires needle_length { (0 < length needle.now) × (length needle.now ≤ 16) }
         requires text_length { (length needle.now ≤ length text.now) × (length text.now ≤ 64) }
-        ensures text { text_of result ≡ text.now }
-        ensures needle { needle_of result ≡ needle.now }
-        ensures left { result.left ≡ places_of (length text.now) (length needle.now) }
-        ensures found { result.found ≡ 0 }
+        ensures { scan_coding.fields result ≡ scan_of needle.now text.now }
     {
         Scan {
             left: (text.len() - needle.len() + 1) as u32,
@@ -100,6 +120,23 @@ impl Scan {
             text: padded(text),
             needle: padded(needle),
         }
+    }
+
+    /// The search that the data gives: a goal of 0, which means all places, and a needle of 1 to 16 bytes, a colon and a
+    /// text of at most 64 and at least as many, all of them 0x20 to 0x7E.
+    pub fn start(goal: u64, text: &[u8]) -> Result<Scan, StartFault>
+        ensures { MatchResult result (λ s. scan_start goal text.now ≡ Ok (scan_coding.fields s)) (λ fault. scan_start goal text.now ≡ Err fault) }
+    {
+        if goal != 0 {
+            return Err(StartFault::BadGoal);
+        }
+        let Some(at) = at_colon(text) else {
+            return Err(StartFault::BadData);
+        };
+        if !is_search(&text[..at], &text[at + 1..]) {
+            return Err(StartFault::BadData);
+        }
+        Ok(Scan::new(&text[..at], &text[at + 1..]))
     }
 
     /// The text.
