@@ -358,7 +358,7 @@ kept_bit b m h e = omega arith
 lost_bit : (b m : ℕ) → m ≡ 0 → min b m ≡ 0
 lost_bit b m e = omega arith
 
-within_yes : (width : ℕ) (cell : ℕ → ℕ) (i : ℕ) → i < width → within width cell i ≡ cell i
+pub within_yes : (width : ℕ) (cell : ℕ → ℕ) (i : ℕ) → i < width → within width cell i ≡ cell i
 within_yes width cell i h = let t : nat_lt i width ≡ true = grind (arith, nat_tests) in rw t refl
 
 within_no : (width : ℕ) (cell : ℕ → ℕ) (i : ℕ) → width ≤ i → within width cell i ≡ 0

@@ -14,3 +14,4 @@ pub mod Rings
 pub mod AnyKind
 pub mod Starts
 pub mod AnyStart
+pub mod Laws

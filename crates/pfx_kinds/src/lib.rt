@@ -3,6 +3,7 @@
 
 pub mod any;
 pub mod count;
+pub mod laws;
 mod ring;
 pub mod rule;
 pub mod scan;
