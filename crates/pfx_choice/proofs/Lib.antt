@@ -1,0 +1,6 @@
+pub mod Best
+pub mod Choosing
+pub mod Exists
+pub mod Marks
+pub mod PfFunction
+pub mod Picking

@@ -1,0 +1,4 @@
+pub mod Choices
+pub mod Laws
+pub mod PfRows
+pub mod Picks
