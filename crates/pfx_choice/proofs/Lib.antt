@@ -4,3 +4,4 @@ pub mod Exists
 pub mod Marks
 pub mod PfFunction
 pub mod Picking
+pub mod Planning

@@ -178,3 +178,7 @@ pf_function g = record {
 pub answers_function : (g : Ledger) (r : Result (List ℕ) ChoiceFault) → MatchResult r (λ row. IsChosen g row) (λ f. Fails g f) → AnswersFunction (chosen g) r
 answers_function g (Ok row) h = chosen_given g row h
 answers_function g (Err f) h = λ ne. fault_given g f ne h
+
+-- where there are places, there is a row
+pub row_where_places : (g : Ledger) → urgent g ≤ g.set.workers → g.set.workers ≤ urgent g + contending g → (row : List ℕ) × IsPfRow g row
+row_where_places g low high = (members (total g) (pf_set g), row_of g low high)

@@ -12,7 +12,7 @@ use std::slice;
 const WIDEST: usize = 64;
 
 /// The tasks that run in one slot: at most 64 task numbers, strictly rising. It takes no heap memory.
-#[derive(Drop)]
+#[derive(Debug, Drop)]
 pub struct Row {
     /// The numbers; the places past `len` hold zeros.
     places: [u16; WIDEST],
