@@ -8,3 +8,6 @@ mod ring;
 pub mod rule;
 pub mod scan;
 pub mod start;
+
+#[cfg(test)]
+mod tests;
