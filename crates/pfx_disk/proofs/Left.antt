@@ -1,8 +1,8 @@
 -- What a stop may leave, one call on.
-use Rattle.std.proofs.Common.{◌≡◌, ◌⊎◌, inl, inr, ⊎_elim, ℕ, zero, suc, ◌+◌, ◌-◌, min, ◌≤◌, ◌<◌, List, [], ◌∷◌, ◌++◌, length, get_or, take, drop, replicate, refl, sym, ◌∙◌, ap, subst, arith, length-append, length-take, length-drop, append-nil}
+use Rattle.std.proofs.Common.{◌≡◌, ◌⊎◌, inl, inr, ⊎_elim, ℕ, zero, ◌+◌, ◌-◌, min, ◌≤◌, ◌<◌, List, [], ◌∷◌, ◌++◌, length, get_or, take, drop, replicate, refl, sym, ◌∙◌, ap, subst, arith, length-append, length-take, length-drop, append-nil}
 use Rattle.std.proofs.lemmas.List.{places, take_all, drop_all, take-append-le, length-replicate}
 use Rattle.std.proofs.lemmas.Bool.{cases_lt}
-use Rattle.pfx_disk.specs.Disk.{View, IsHonest, After, Leaves, Same, Torn, Only}
+use Rattle.pfx_disk.specs.Disk.{IsHonest, After, Leaves, Same, Torn, Only}
 use Rattle.pfx_disk.specs.Stop.{Act, Sync, Write, Look, put, contents_after, LeftAfter, Left, LeftSince, view_of}
 
 -- no zeros are needed where the place lies inside
@@ -20,10 +20,10 @@ pub put_reached : (at : ℕ) (bytes old new then : List ℕ) → new ≡ old ++ 
 put_reached at bytes old new then is also = elim (cases_lt (length old) at) [
   | inr inside ↦ also ∙ ap (λ (l : List ℕ). take at l ++ bytes ++ drop (at + length bytes) l) (is ∙ sym (reached at old inside)) ∙ sym (put_inside at bytes old inside)
   | inl past ↦
-    let long : length new ≡ at = omega (arith, ap length is, length-append old (replicate (at - length old) 0), length-replicate {A = ℕ} (at - length old) zero, past) in
-    also
-    ∙ ap (λ (l : List ℕ). l ++ bytes ++ drop (at + length bytes) new) (take_all at new (omega (arith, long)) ∙ is ∙ ap (λ (l : List ℕ). l ++ replicate (at - length old) 0) (sym (take_all at old (omega (arith, past)))))
-    ∙ ap (λ (l : List ℕ). take at old ++ replicate (at - length old) 0 ++ bytes ++ l) (drop_all (at + length bytes) new (omega (arith, long)) ∙ sym (drop_all (at + length bytes) old (omega (arith, past))))
+      let long : length new ≡ at = omega (arith, ap length is, length-append old (replicate (at - length old) 0), length-replicate {A = ℕ} (at - length old) zero, past) in
+      also
+      ∙ ap (λ (l : List ℕ). l ++ bytes ++ drop (at + length bytes) new) (take_all at new (omega (arith, long)) ∙ is ∙ ap (λ (l : List ℕ). l ++ replicate (at - length old) 0) (sym (take_all at old (omega (arith, past)))))
+      ∙ ap (λ (l : List ℕ). take at old ++ replicate (at - length old) 0 ++ bytes ++ l) (drop_all (at + length bytes) new (omega (arith, long)) ∙ sym (drop_all (at + length bytes) old (omega (arith, past))))
 ]
 
 -- a whole write is one of the torn ones
@@ -36,8 +36,10 @@ put_torn at bytes old = record {
   where
     before : (i : ℕ) → i < length old → i < at → get_or (put at bytes old) i 0 ≡ get_or old i 0
     before i inside below = search (arith, places, length-replicate {A = ℕ})
+
     behind : (i : ℕ) → i < length old → at + length bytes ≤ i → get_or (put at bytes old) i 0 ≡ get_or old i 0
     behind i inside above = ap (λ (l : List ℕ). get_or l i 0) (put_inside at bytes old (omega (arith, inside, above))) ∙ search (arith, places)
+
     long : length (put at bytes old) ≡ min at (length old) + (at - length old) + length bytes + (length old - (at + length bytes))
     long = omega (arith, length-append (take at old ++ replicate (at - length old) 0 ++ bytes) (drop (at + length bytes) old), length-append (take at old ++ replicate (at - length old) 0) bytes, length-append (take at old) (replicate (at - length old) 0), length-take at old, length-replicate {A = ℕ} (at - length old) zero, length-drop (at + length bytes) old)
 
@@ -105,19 +107,19 @@ leaves_more step start done act failures failures_then whole last = record {
 module _ (start : List ℕ) (done : List Act) (failures failures_then : ℕ) where
   pub leaves_write : (at : ℕ) (bytes : List ℕ) → Leaves (Torn at (length bytes)) (view_of start done 0 failures) (view_of start (done ++ Write at bytes ∷ []) 0 failures_then)
   leaves_write at bytes = leaves_more (Torn at (length bytes)) start done (Write at bytes) failures failures_then
-    (put_torn at bytes (contents_after start done))
-    (λ image is. left_more start (λ i. i ≡ start) done (Write at bytes ∷ []) image is)
+      (put_torn at bytes (contents_after start done))
+      (λ image is. left_more start (λ i. i ≡ start) done (Write at bytes ∷ []) image is)
 
   pub only_synced : Only (contents_after start done) (view_of start (done ++ Sync ∷ []) 0 failures_then)
   only_synced image is = left_more start (λ i. i ≡ start) done (Sync ∷ []) image is
 
   pub leaves_sync : Leaves Same (view_of start done 0 failures) (view_of start (done ++ Sync ∷ []) 0 failures_then)
   leaves_sync = leaves_more Same start done Sync failures failures_then refl
-    (λ image is. (contents_after start done, here start (λ i. i ≡ start) done refl, only_synced image is))
+      (λ image is. (contents_after start done, here start (λ i. i ≡ start) done refl, only_synced image is))
 
   pub leaves_look : Leaves Same (view_of start done 0 failures) (view_of start (done ++ Look ∷ []) 0 failures_then)
   leaves_look = leaves_more Same start done Look failures failures_then refl
-    (λ image is. (image, left_more start (λ i. i ≡ start) done (Look ∷ []) image is, refl))
+      (λ image is. (image, left_more start (λ i. i ≡ start) done (Look ∷ []) image is, refl))
 
   -- a call that does nothing, when no more are noted
   pub leaves_late : (late late_then : ℕ) → Leaves Same (view_of start done late failures) (view_of start done late_then failures_then)

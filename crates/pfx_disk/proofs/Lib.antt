@@ -1,3 +1,4 @@
+mod Examples
 mod Failing
 pub mod GateLemmas
 mod Honest

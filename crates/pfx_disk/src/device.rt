@@ -2,7 +2,7 @@ ghost use Rattle.std.specs.Prelude.{◌≡◌, ◌≤◌, ◌<◌, ◌+◌, ◌^
 
 use thiserror::Error;
 
-/// The greatest clock and the greatest count of failures, 2^63 - 1. A disk at one of them makes no further call.
+// The greatest clock and the greatest count of failures. A disk at one of them makes no further call.
 pub const LIMIT: u64 = (1 << 63) - 1;
 
 /// A call of a disk failed.

@@ -77,9 +77,21 @@ impl MemoryDisk {
         ensures room { IfOk result (HasRoomFor (longest_of self.now) (calls_left self.now) (bytes_left self.now)) }
     {
         let after = after.min(self.calls.len());
-        let image = leave(alloc, &self.start, &self.calls[..after], &self.written, fates)?;
+        let image = leave(
+            alloc,
+            &self.start,
+            &self.calls[..after],
+            &self.written,
+            fates,
+        )?;
         let room = self.bytes.capacity().max(image.len());
-        let disk = MemoryDisk::new(alloc, &image, room, self.calls.capacity(), self.written.capacity())?;
+        let disk = MemoryDisk::new(
+            alloc,
+            &image,
+            room,
+            self.calls.capacity(),
+            self.written.capacity(),
+        )?;
         Ok(disk)
     }
 

@@ -49,7 +49,11 @@ fn settle(
 fn fate_at(fates: &[Fate], n: usize) -> Fate
     ensures { result ≡ fate_of fates.now n }
 {
-    if n < fates.len() { fates[n] } else { Fate::Kept }
+    if n < fates.len() {
+        fates[n]
+    } else {
+        Fate::Kept
+    }
 }
 
 // What the calls so far leave: what a read gives, and the image with the fates.
@@ -88,7 +92,13 @@ impl Replay {
             Call::Wrote(at, n) => {
                 let bytes = &written[self.written..self.written + n];
                 put_over(&mut self.contents, at, bytes)?;
-                settle(alloc, &mut self.image, at, bytes, fate_at(fates, self.writes))?;
+                settle(
+                    alloc,
+                    &mut self.image,
+                    at,
+                    bytes,
+                    fate_at(fates, self.writes),
+                )?;
                 self.written += n;
                 self.writes += 1;
                 Ok(())
@@ -118,6 +128,11 @@ pub fn leave(
     for call in calls {
         replay.step(alloc, *call, written, fates)?;
     }
-    let Replay { contents, image, written, writes } = replay;
+    let Replay {
+        contents,
+        image,
+        written,
+        writes,
+    } = replay;
     Ok(image)
 }

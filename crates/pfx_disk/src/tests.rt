@@ -180,8 +180,15 @@ fn stops_behind_every_call_with_every_fate(rt: HostRuntime) -> Result<(), Fail> 
             let mut left = disk.stopped(alloc, after, &fates)?;
             let made = MADE.get(..after).ok_or("after")?;
             let image = held(alloc, &mut left)?;
-            assert_eq!(rt; image, expected(alloc, made, &fates)?, "behind {after}, {fates:?}");
-            assert!(rt; may_be_left(alloc, made, &image)?, "behind {after}, {fates:?}");
+            assert_eq!(rt;
+                image,
+                expected(alloc, made, &fates)?,
+                "behind {after}, {fates:?}"
+            );
+            assert!(rt;
+                may_be_left(alloc, made, &image)?,
+                "behind {after}, {fates:?}"
+            );
             // A later stop leaves the same until something is written.
             let mut again = left.stopped(alloc, 0, &fates)?;
             assert_eq!(rt; held(alloc, &mut again)?, image);
@@ -248,12 +255,20 @@ fn a_fault_is_counted_once(rt: HostRuntime) -> Result<(), Fail> {
                 true => FaultDisk::with_work_done(memory, k as u64),
             };
             assert_eq!(rt; run(&mut disk), Err(DeviceFailed), "at {k}");
-            assert_eq!(rt; (disk.clock(), disk.failures()), (k as u64 + 1, 1), "at {k}");
+            assert_eq!(rt;
+                (disk.clock(), disk.failures()),
+                (k as u64 + 1, 1),
+                "at {k}"
+            );
             assert_eq!(rt; disk.sync(), Ok(()), "at {k}");
             assert_eq!(rt; disk.failures(), 1, "at {k}");
             let mut memory = disk.into_inner();
             let done = MADE.get(..if works { k + 1 } else { k }).ok_or("done")?;
-            assert_eq!(rt; held(alloc, &mut memory)?, expected(alloc, done, &[])?, "at {k}");
+            assert_eq!(rt;
+                held(alloc, &mut memory)?,
+                expected(alloc, done, &[])?,
+                "at {k}"
+            );
         }
     }
     Ok(())
@@ -296,7 +311,11 @@ fn is_held<R: Wait + Threads + Sync + Drop>(rt: &R, alloc: Global) -> Result<boo
         asked: AtomicU64::new(0),
         released: AtomicU64::new(0),
     };
-    let (held, _) = thread::join(rt, || came_behind(&mut disk, &told), || release_later(&gate, &told));
+    let (held, _) = thread::join(
+        rt,
+        || came_behind(&mut disk, &told),
+        || release_later(&gate, &told),
+    );
     Ok(held)
 }
 
