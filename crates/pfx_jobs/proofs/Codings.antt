@@ -1,9 +1,9 @@
 -- A coding's kind keeps the laws.
-use Rattle.std.specs.Prelude.{◌≡◌, ℕ, ◌+◌, ◌<◌, Bool, true, false, List, length, Option, Some, None, IsTrue, refl}
+use Rattle.std.specs.Prelude.{◌≡◌, ℕ, ◌+◌, ◌<◌, Bool, true, false, List, Some, IsTrue, refl}
 use Rattle.std.specs.Str.{bytes_eq}
 use Rattle.std.proofs.Common.{sym, ◌∙◌, ap, subst}
 use Rattle.std.proofs.lemmas.Slice.Eq.{bytes_eq-Decides}
-use Rattle.pfx_jobs.specs.Kind.{Kind, Laws}
+use Rattle.pfx_jobs.specs.Kind.{Laws}
 use Rattle.pfx_jobs.specs.Coding.{Coding, CodingLaws, checked, decoded_by, kind_by}
 
 pub bytes_eq-true : (xs ys : List ℕ) → bytes_eq xs ys ≡ true → xs ≡ ys
@@ -16,7 +16,7 @@ bytes_eq-same xs ys e = (bytes_eq-Decides xs ys).1 e
 checked-state : {F J : Type 0} (C : Coding F J) (L : CodingLaws C) (s : J) (f : F) (fit : Bool) (fits : C.fits f ≡ fit) (same : Bool) → f ≡ C.fields s → same ≡ true → checked C f fit fits same ≡ Some s
 checked-state {F} {J} C L s f true fits true e h =
     let at_fields : (g : F) → g ≡ C.fields s → (k : IsTrue (C.fits g)) → C.made g k ≡ s = λ g d.
-      subst (λ (x : F). (k : IsTrue (C.fits x)) → C.made x k ≡ s) (sym d) (λ k. L.made_again s k) in
+    subst (λ (x : F). (k : IsTrue (C.fits x)) → C.made x k ≡ s) (sym d) (λ k. L.made_again s k) in
     ap Some (at_fields f e fits)
 checked-state C L s f true fits false e h = absurd cc
 checked-state C L s f false fits same e h = absurd (let g : false ≡ true = sym fits ∙ (ap C.fits e ∙ L.fields_fit s) in cc)

@@ -1,5 +1,5 @@
 -- What follows from the laws of a kind.
-use Rattle.std.specs.Prelude.{◌≡◌, ℕ, ◌+◌, ◌<◌, ◌≤◌, List, length, Option, Some, None, refl}
+use Rattle.std.specs.Prelude.{◌≡◌, ℕ, ◌+◌, ◌≤◌, List, Option, Some, None, refl}
 use Rattle.std.proofs.Common.{sym, ◌∙◌, ap, arith, zero, suc}
 use Rattle.pfx_jobs.specs.Kind.{Kind, Laws}
 use Rattle.pfx_jobs.specs.Steps.{times}
@@ -12,7 +12,7 @@ decoded-spelling K L s bytes e = ap K.decoded (sym e) ∙ L.round_trip s
 pub decoded-none : {J : Type 0} (K : Kind J) → Laws K → (bytes : List ℕ) → ((s : J) → K.spelling s ≡ bytes → ⊥) → K.decoded bytes ≡ None
 decoded-none {J} K L bytes none =
     let at : (r : Option J) → K.decoded bytes ≡ r → r ≡ None = λ r.
-      elim r as (λ (r : Option J). K.decoded bytes ≡ r → r ≡ None) [ Some s ↦ (λ h. absurd (none s (L.only_encodings bytes s h))) | None ↦ (λ h. refl) ] in
+    elim r as (λ (r : Option J). K.decoded bytes ≡ r → r ≡ None) [ Some s ↦ (λ h. absurd (none s (L.only_encodings bytes s h))) | None ↦ (λ h. refl) ] in
     at (K.decoded bytes) refl
 
 -- states with one encoding are one

@@ -1,0 +1,4 @@
+pub mod Walks
+pub mod WalkBytes
+pub mod WalkKind
+pub mod Laws
