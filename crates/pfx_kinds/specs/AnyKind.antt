@@ -1,7 +1,7 @@
 -- A job of any kind: the first byte of its encoding tells the kind.
 use Rattle.std.specs.Prelude.{◌≡◌, ℕ, ◌+◌, ◌<◌, Bool, true, false, nat_eq, List, length, slice_index, Option, Some, None, refl}
 use Rattle.std.specs.Option.{option_map}
-use Rattle.std.proofs.Common.{sym, ◌∙◌, ap, subst}
+use Rattle.std.proofs.Common.{sym, ◌∙◌, ap}
 use Rattle.pfx_jobs.specs.Kind.{Kind, Laws}
 use Rattle.pfx_kinds.specs.Counts.{count_bytes}
 use Rattle.pfx_kinds.specs.CountKind.{count_kind, count_laws}
@@ -99,7 +99,7 @@ unfolding any_decoded
 only_encodings bytes s e =
     let tag = slice_index bytes 0 in
     read_as-only (nat_eq tag 1) (nat_eq tag 2) (nat_eq tag 3) (count_kind.decoded bytes) (rule_kind.decoded bytes) (scan_kind.decoded bytes) bytes s
-      (λ t. count_laws.only_encodings bytes t) (λ t. rule_laws.only_encodings bytes t) (λ t. scan_laws.only_encodings bytes t) e
+    (λ t. count_laws.only_encodings bytes t) (λ t. rule_laws.only_encodings bytes t) (λ t. scan_laws.only_encodings bytes t) e
 
 pub any_laws : Laws any_kind
 any_laws = record { counts_down = counts_down; long = long; round_trip = round_trip; only_encodings = only_encodings }

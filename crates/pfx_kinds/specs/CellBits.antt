@@ -1,11 +1,11 @@
 -- Cells in bytes, and bytes of cells.
-use Rattle.std.specs.Prelude.{◌≡◌, ℕ, ◌+◌, ◌-◌, ◌*◌, ◌/◌, ◌%◌, ◌^◌, ◌<◌, ◌≤◌, Bool, true, false, nat_lt, nat_eq, cond, List, [], ◌∷◌, length, slice_index, IsTrue, refl}
+use Rattle.std.specs.Prelude.{◌≡◌, ℕ, ◌+◌, ◌-◌, ◌*◌, ◌/◌, ◌%◌, ◌^◌, ◌<◌, Bool, true, false, nat_lt, cond, List, length, slice_index, refl}
 use Rattle.std.specs.Int.{bit_at}
 use Rattle.std.proofs.Common.{zero, suc, arith, sym, ◌∙◌, ap, ap₂}
-use Rattle.std.proofs.Math.Nat.{pow-suc, zero-add, suc-add, add-mul, mul_assoc, add_assoc}
+use Rattle.std.proofs.Math.Nat.{pow-suc, zero-add, suc-add, add-mul, mul_assoc}
 use Rattle.std.proofs.lemmas.Nat.{mul-add-lt, pow-add}
 use Rattle.std.proofs.lemmas.Nat.Bits.{bit_at-lt, bit_at_lowest, bit_at_cat_low, bit_at_cat_high, same_from_bits_below}
-use Rattle.pfx_kinds.specs.Cells.{cell_at, next_cell, digits, packed, within, next_cells}
+use Rattle.pfx_kinds.specs.Cells.{cell_at, next_cell, digits, packed, within}
 
 -- a cell is 0 or 1
 pub record AreBits (cell : ℕ → ℕ) : Type 0 where
@@ -49,7 +49,7 @@ bit_at-digits cell B at (suc n) i (suc j) e =
 pub digits-from : (cell : ℕ → ℕ) → AreBits cell → (at n x : ℕ) → x < 2 ^ n → ((i j : ℕ) → i + suc j ≡ n → bit_at x i ≡ cell (at + j)) → x ≡ digits cell at n
 digits-from cell B at n x small bits =
     same_from_bits_below n x (digits cell at n) small (digits-lt cell B at n)
-      (λ i h. let e : i + suc (n - 1 - i) ≡ n = omega arith in bits i (n - 1 - i) e ∙ sym (bit_at-digits cell B at n i (n - 1 - i) e))
+    (λ i h. let e : i + suc (n - 1 - i) ≡ n = omega arith in bits i (n - 1 - i) e ∙ sym (bit_at-digits cell B at n i (n - 1 - i) e))
 
 -- byte j of the packed cells
 pub slice_index-packed : (cell : ℕ → ℕ) (at n j : ℕ) → j < n → slice_index (packed cell at n) j ≡ digits cell (at + 8 * j) 8
@@ -74,10 +74,10 @@ cell_at-packed cell B n i h =
 pub digits-cell_at : (bytes : List ℕ) (j : ℕ) → slice_index bytes j < 256 → digits (cell_at bytes) (8 * j) 8 ≡ slice_index bytes j
 digits-cell_at bytes j small =
     sym (digits-from (cell_at bytes) (cell_at-bits bytes) (8 * j) 8 (slice_index bytes j) small
-      (λ i k e.
-        let place : (8 * j + k) / 8 ≡ j = omega arith in
-        let bit : 7 - (8 * j + k) % 8 ≡ i = omega arith in
-        sym (ap₂ (λ p q. bit_at (slice_index bytes p) q) place bit)))
+    (λ i k e.
+    let place : (8 * j + k) / 8 ≡ j = omega arith in
+    let bit : 7 - (8 * j + k) % 8 ≡ i = omega arith in
+    sym (ap₂ (λ p q. bit_at (slice_index bytes p) q) place bit)))
 
 -- the first m digits and the last n
 pub digits-add : (cell : ℕ → ℕ) (at m n : ℕ) → digits cell at (m + n) ≡ digits cell at m * 2 ^ n + digits cell (at + m) n

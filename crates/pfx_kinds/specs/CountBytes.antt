@@ -1,6 +1,6 @@
 -- The ranges and the bytes of a Count.
 use Rattle.std.specs.Prelude.{◌≡◌, ℕ, ◌+◌, ◌^◌, ◌<◌, ◌++◌, length, IsTrue, refl, replicate}
-use Rattle.std.proofs.Common.{arith, suc, ap₂, zero}
+use Rattle.std.proofs.Common.{arith, suc, ap₂}
 use Rattle.std.proofs.lemmas.Bool.Decides.{nat_tests}
 use Rattle.byteorder.specs.Endian.{little_bytes}
 use Rattle.byteorder.specs.Numbers.{little_number-reads_back}

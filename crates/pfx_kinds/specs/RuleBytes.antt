@@ -1,14 +1,14 @@
 -- The ranges and the bytes of a Rule.
-use Rattle.std.specs.Prelude.{◌≡◌, ℕ, ◌+◌, ◌-◌, ◌*◌, ◌^◌, ◌<◌, ◌≤◌, Bool, true, false, ◌&&◌, nat_lt, nat_eq, cond, List, [], ◌∷◌, ◌++◌, length, replicate, take, drop, IsTrue, refl}
+use Rattle.std.specs.Prelude.{◌≡◌, ℕ, ◌+◌, ◌-◌, ◌^◌, ◌<◌, ◌≤◌, Bool, true, false, nat_lt, nat_eq, List, ◌∷◌, ◌++◌, length, replicate, IsTrue, refl}
 use Rattle.std.specs.List.{list_all, range_with_len}
-use Rattle.std.proofs.Common.{arith, suc, ap₂, ap, zero, sym, ◌∙◌, length-append}
+use Rattle.std.proofs.Common.{arith, suc, ap, zero, sym, ◌∙◌, length-append}
 use Rattle.std.proofs.Common.{inl, inr}
 use Rattle.std.proofs.lemmas.Bool.{cases_eq}
 use Rattle.std.proofs.lemmas.Bool.Decides.{nat_tests}
 use Rattle.byteorder.specs.Endian.{little_bytes}
 use Rattle.byteorder.specs.Numbers.{little_number-reads_back}
-use Rattle.pfx_kinds.specs.Tests.{both-true, true-both, take_front, drop_front}
-use Rattle.pfx_kinds.specs.Cells.{cell_at, next_cell, digits, packed, within, next_cells}
+use Rattle.pfx_kinds.specs.Tests.{both-true, true-both, take_front}
+use Rattle.pfx_kinds.specs.Cells.{cell_at, next_cell, packed, within, next_cells}
 use Rattle.pfx_kinds.specs.CellBits.{AreBits, next_cell-bits, within-bits, cell_at-packed, length-packed}
 use Rattle.pfx_kinds.specs.Rules.{RuleFields, is_clear_past, rule_fits, rule_bytes, rule_found}
 
@@ -73,8 +73,8 @@ past_none cell width i h = let t : nat_lt i width ≡ false = grind (arith, nat_
 pub clear_packed : (width : ℕ) (cell : ℕ → ℕ) → AreBits cell → IsTrue (is_clear_past width (packed (within width cell) 0 64))
 clear_packed width cell B =
     range-all _ width (512 - width) (λ i lo hi.
-      let e = cell_at-packed (within width cell) (within-bits width cell B) 64 i (omega arith) ∙ past_none cell width i lo in
-      ap (λ k. nat_eq k 0) e)
+    let e = cell_at-packed (within width cell) (within-bits width cell B) 64 i (omega arith) ∙ past_none cell width i lo in
+    ap (λ k. nat_eq k 0) e)
 
 -- a step keeps the range
 pub rule_fits-step : (n number width : ℕ) (cells : List ℕ) → IsTrue (rule_fits (suc n) width cells) → IsTrue (rule_fits n width (next_cells number width cells))
@@ -109,9 +109,9 @@ rule_found-rule_bytes f h =
     let facts = rule_facts f.left f.width f.cells h in
     let behind : List ℕ = f.cells ++ replicate 56 0 in
     same_fields f _ _ _
-      (little_number-reads_back 4 f.left ((f.number ∷ little_bytes 2 f.width) ++ behind) (omega (arith, facts.left_small)))
-      (little_number-reads_back 2 f.width behind (omega (arith, facts.narrow)))
-      (take_front f.cells (replicate 56 0) 64 facts.long)
+    (little_number-reads_back 4 f.left ((f.number ∷ little_bytes 2 f.width) ++ behind) (omega (arith, facts.left_small)))
+    (little_number-reads_back 2 f.width behind (omega (arith, facts.narrow)))
+    (take_front f.cells (replicate 56 0) 64 facts.long)
 
 pub length-rule_bytes : (f : RuleFields) → length f.cells ≡ 64 → length (rule_bytes f) ≡ 128
 unfolding rule_bytes

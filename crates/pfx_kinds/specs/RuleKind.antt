@@ -1,9 +1,9 @@
 -- The kind Rule: at each step all cells of the ring are made new at once.
-use Rattle.std.specs.Prelude.{◌≡◌, ℕ, ◌+◌, ◌<◌, List, length, IsTrue, refl}
+use Rattle.std.specs.Prelude.{◌≡◌, ℕ, ◌+◌, ◌<◌, List, IsTrue, refl}
 use Rattle.std.proofs.Common.{zero, suc, arith, ap}
 use Rattle.std.proofs.Math.Bool.{Bool-set}
 use Rattle.pfx_jobs.specs.Kind.{Kind, Laws}
-use Rattle.pfx_jobs.specs.Coding.{Coding, CodingLaws, kind_by}
+use Rattle.pfx_jobs.specs.Coding.{Coding, kind_by}
 use Rattle.pfx_jobs.proofs.Codings.{laws_by}
 use Rattle.pfx_kinds.specs.Cells.{next_cells}
 use Rattle.pfx_kinds.specs.Rules.{RuleFields, rule_fits, rule_bytes, rule_found}

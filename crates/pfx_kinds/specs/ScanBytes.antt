@@ -1,9 +1,8 @@
 -- The ranges and the bytes of a Scan.
-use Rattle.std.specs.Prelude.{◌≡◌, ℕ, ◌+◌, ◌-◌, ◌^◌, ◌<◌, ◌≤◌, Bool, true, false, ◌&&◌, nat_lt, nat_eq, cond, List, [], ◌∷◌, ◌++◌, length, replicate, take, drop, IsTrue, refl}
-use Rattle.std.proofs.Common.{arith, suc, ap₂, ap, zero, sym, ◌∙◌, length-append}
+use Rattle.std.specs.Prelude.{◌≡◌, ℕ, ◌+◌, ◌-◌, ◌^◌, ◌<◌, ◌≤◌, Bool, true, false, nat_lt, nat_eq, cond, List, ◌∷◌, ◌++◌, length, replicate, take, drop, IsTrue, refl}
+use Rattle.std.proofs.Common.{arith, suc, ap₂, ap, zero, ◌∙◌, length-append}
 use Rattle.std.proofs.lemmas.Bool.Decides.{nat_tests}
 use Rattle.std.proofs.lemmas.List.{length-replicate}
-use Rattle.byteorder.specs.Endian.{little_bytes}
 use Rattle.byteorder.specs.Numbers.{little_number-reads_back}
 use Rattle.pfx_kinds.specs.Tests.{both-true, true-both, take_front, drop_front}
 use Rattle.pfx_kinds.specs.Scans.{ScanFields, places_of, stands_at, are_zeros, scan_numbers_fit, scan_lists_fit, scan_fits, scan_bytes, scan_found, found_after}
@@ -101,9 +100,9 @@ scan_found-scan_bytes f h =
     let lists = scan_lists f.text_length f.needle_length f.text f.needle parts.1 in
     let small : f.left < 256 ^ 4 = omega (arith, numbers.counted, numbers.text_short) in
     same_fields f _ _ _
-      (little_number-reads_back 4 f.left (f.text_length ∷ f.needle_length ∷ f.found ∷ (f.text ++ (f.needle ++ replicate 40 0))) small)
-      (take_front f.text (f.needle ++ replicate 40 0) 64 lists.text_long)
-      (ap (take 16) (drop_front f.text (f.needle ++ replicate 40 0) 64 lists.text_long) ∙ take_front f.needle (replicate 40 0) 16 lists.needle_long)
+    (little_number-reads_back 4 f.left (f.text_length ∷ f.needle_length ∷ f.found ∷ (f.text ++ (f.needle ++ replicate 40 0))) small)
+    (take_front f.text (f.needle ++ replicate 40 0) 64 lists.text_long)
+    (ap (take 16) (drop_front f.text (f.needle ++ replicate 40 0) 64 lists.text_long) ∙ take_front f.needle (replicate 40 0) 16 lists.needle_long)
 
 pub length-scan_bytes : (f : ScanFields) → length f.text ≡ 64 → length f.needle ≡ 16 → length (scan_bytes f) ≡ 128
 unfolding scan_bytes

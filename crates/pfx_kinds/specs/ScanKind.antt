@@ -3,10 +3,10 @@ use Rattle.std.specs.Prelude.{◌≡◌, ℕ, ◌+◌, ◌<◌, List, length, ta
 use Rattle.std.proofs.Common.{zero, suc, arith, ap}
 use Rattle.std.proofs.Math.Bool.{Bool-set}
 use Rattle.pfx_jobs.specs.Kind.{Kind, Laws}
-use Rattle.pfx_jobs.specs.Coding.{Coding, CodingLaws, kind_by}
+use Rattle.pfx_jobs.specs.Coding.{Coding, kind_by}
 use Rattle.pfx_jobs.proofs.Codings.{laws_by}
 use Rattle.pfx_kinds.specs.Tests.{both-true}
-use Rattle.pfx_kinds.specs.Scans.{ScanFields, places_of, scan_fits, scan_numbers_fit, scan_lists_fit, scan_bytes, scan_found, found_after}
+use Rattle.pfx_kinds.specs.Scans.{ScanFields, scan_fits, scan_numbers_fit, scan_lists_fit, scan_bytes, scan_found, found_after}
 use Rattle.pfx_kinds.specs.ScanBytes.{scan_fits-step, scan_found-scan_bytes, length-scan_bytes, scan_lists}
 use Rattle.pfx_kinds.specs.declared.scan.Scan.{Scan}
 

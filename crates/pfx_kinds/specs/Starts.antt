@@ -97,5 +97,5 @@ map_ok f (Err e) = Err e
 unfoldable pub any_start : List ℕ → ℕ → List ℕ → Result AnyFields StartFault
 any_start kind goal text =
     cond (bytes_eq kind (codes "count")) (map_ok a_count (count_start goal text))
-      (cond (bytes_eq kind (codes "rule")) (map_ok a_rule (rule_start goal text))
-        (cond (bytes_eq kind (codes "scan")) (map_ok a_scan (scan_start goal text)) (Err BadKind)))
+    (cond (bytes_eq kind (codes "rule")) (map_ok a_rule (rule_start goal text))
+    (cond (bytes_eq kind (codes "scan")) (map_ok a_scan (scan_start goal text)) (Err BadKind)))

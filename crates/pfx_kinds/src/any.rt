@@ -1,12 +1,11 @@
 ghost use Rattle.std.specs.Prelude.{◌≡◌, MatchResult, Ok, Err};
 ghost use Rattle.pfx_kinds.specs.Starts.{any_start};
 
-use pfx_jobs::job::{Job, JobFault};
-
 use crate::count::{COUNT, Count};
 use crate::rule::{RULE, Rule};
 use crate::scan::{SCAN, Scan};
 use crate::start::StartFault;
+use pfx_jobs::job::{Job, JobFault};
 
 /// A job of any kind.
 #[derive(Debug, Drop)]

@@ -2,10 +2,9 @@ ghost use Rattle.std.specs.Prelude.{◌≡◌, ◌+◌, ◌<◌, ◌≤◌, ◌^
 ghost use Rattle.pfx_kinds.specs.Counts.{count_fits};
 ghost use Rattle.pfx_kinds.specs.Starts.{count_start, value_in};
 
+use crate::start::{StartFault, decimal_within, is_count_of_steps};
 use byteorder::{ByteOrder, LittleEndian};
 use pfx_jobs::job::{Job, JobFault};
-
-use crate::start::{StartFault, decimal_within, is_count_of_steps};
 
 /// The first byte of a Count's encoding.
 pub const COUNT: u8 = 1;

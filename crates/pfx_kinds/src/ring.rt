@@ -5,9 +5,8 @@ ghost use Rattle.pfx_kinds.specs.Cells.{next_cells};
 ghost use Rattle.pfx_kinds.specs.Rings.{pick, IsRing};
 ghost use Rattle.pfx_kinds.specs.Rules.{is_clear_past};
 
-use byteorder::{BigEndian, ByteOrder};
-
 use crate::rule::CELL_BYTES;
+use byteorder::{BigEndian, ByteOrder};
 
 /// How many words of 64 cells there are.
 const WORDS: usize = 8;
@@ -29,7 +28,11 @@ fn plane(number: u8, place: u8) -> u64
     requires { place < 8 }
     ensures { (b : ℕ) → b < 64 → bit_at result b ≡ bit_at number place }
 {
-    if number >> place & 1 == 1 { u64::MAX } else { 0 }
+    if number >> place & 1 == 1 {
+        u64::MAX
+    } else {
+        0
+    }
 }
 
 /// The new states of 64 cells, each at its own bit, of their left neighbours, themselves and their right neighbours.

@@ -4,11 +4,10 @@ ghost use Rattle.pfx_kinds.specs.Starts.{rule_start, drawn, is_cell, is_ring};
 ghost use Rattle.std.specs.List.{list_all};
 ghost use Rattle.pfx_kinds.specs.Rules.{rule_fits, is_clear_past};
 
-use byteorder::{ByteOrder, LittleEndian};
-use pfx_jobs::job::{Job, JobFault};
-
 use crate::ring::next_cells;
 use crate::start::{StartFault, at_colon, decimal_within, is_count_of_steps};
+use byteorder::{ByteOrder, LittleEndian};
+use pfx_jobs::job::{Job, JobFault};
 
 /// The first byte of a Rule's encoding.
 pub const RULE: u8 = 2;
@@ -74,8 +73,15 @@ fn drawn_byte(cells: &[u8], at: usize) -> u8
     requires { at < 512 }
     ensures { result ≡ digits (drawn cells.now) at 8 }
 {
-    let front = drawn(cells, at) * 128 + drawn(cells, at + 1) * 64 + drawn(cells, at + 2) * 32 + drawn(cells, at + 3) * 16;
-    front + drawn(cells, at + 4) * 8 + drawn(cells, at + 5) * 4 + drawn(cells, at + 6) * 2 + drawn(cells, at + 7)
+    let front = drawn(cells, at) * 128
+        + drawn(cells, at + 1) * 64
+        + drawn(cells, at + 2) * 32
+        + drawn(cells, at + 3) * 16;
+    front
+        + drawn(cells, at + 4) * 8
+        + drawn(cells, at + 5) * 4
+        + drawn(cells, at + 6) * 2
+        + drawn(cells, at + 7)
 }
 
 /// Whether a character draws a cell.

@@ -3,10 +3,9 @@ ghost use Rattle.pfx_kinds.specs.Starts.{scan_start, scan_of, is_printable, is_s
 ghost use Rattle.std.specs.List.{list_all};
 ghost use Rattle.pfx_kinds.specs.Scans.{scan_fits, scan_numbers_fit, are_zeros, places_of};
 
+use crate::start::{StartFault, at_colon};
 use byteorder::{ByteOrder, LittleEndian};
 use pfx_jobs::job::{Job, JobFault};
-
-use crate::start::{StartFault, at_colon};
 
 /// The first byte of a Scan's encoding.
 pub const SCAN: u8 = 3;

@@ -1,10 +1,8 @@
-use std::test::Fail;
-
-use pfx_jobs::job::{Job, JobFault, are_same};
-use pfx_jobs::quantum::Quantum;
-
 use crate::any::AnyJob;
 use crate::start::StartFault;
+use pfx_jobs::job::{Job, JobFault, are_same};
+use pfx_jobs::quantum::Quantum;
+use std::test::Fail;
 
 /// The bytes, followed by zeros.
 fn with_zeros(front: &[u8]) -> [u8; 128] {
@@ -40,7 +38,10 @@ fn scan_vector() -> [u8; 128] {
 #[test]
 fn starts_and_encodes(rt: HostRuntime) -> Result<(), Fail> {
     let count = AnyJob::start("count", 5, b"10")?;
-    assert_eq!(rt; encoded(&count), with_zeros(&[1, 5, 0, 0, 0, 0x0a, 0, 0, 0, 0, 0, 0, 0]));
+    assert_eq!(rt;
+        encoded(&count),
+        with_zeros(&[1, 5, 0, 0, 0, 0x0a, 0, 0, 0, 0, 0, 0, 0])
+    );
     let scan = AnyJob::start("scan", 0, b"ab:abcab")?;
     assert_eq!(rt; encoded(&scan), scan_vector());
     let empty = AnyJob::start("count", 1, b"")?;
@@ -55,10 +56,17 @@ fn starts_and_encodes(rt: HostRuntime) -> Result<(), Fail> {
 #[test]
 fn steps_a_rule(rt: HostRuntime) -> Result<(), Fail> {
     let mut job = AnyJob::start("rule", 3, b"110:00000001")?;
-    assert_eq!(rt; encoded(&job), with_zeros(&[2, 3, 0, 0, 0, 0x6e, 8, 0, 0b0000_0001]));
+    assert_eq!(rt;
+        encoded(&job),
+        with_zeros(&[2, 3, 0, 0, 0, 0x6e, 8, 0, 0b0000_0001])
+    );
     for (left, cells) in [(2, 0b0000_0011), (1, 0b0000_0111), (0, 0b0000_1101)] {
         run(&mut job, 1);
-        assert_eq!(rt; encoded(&job), with_zeros(&[2, left, 0, 0, 0, 0x6e, 8, 0, cells]), "{left} left");
+        assert_eq!(rt;
+            encoded(&job),
+            with_zeros(&[2, left, 0, 0, 0, 0x6e, 8, 0, cells]),
+            "{left} left"
+        );
     }
     assert!(rt; job.is_done());
     Ok(())
@@ -98,7 +106,13 @@ fn steps_across_words(rt: HostRuntime) -> Result<(), Fail> {
 
 #[test]
 fn finds_all_places(rt: HostRuntime) -> Result<(), Fail> {
-    let table: [(&[u8], u32, u8); 5] = [(b"ab:abcab", 4, 2), (b"aa:aaaa", 3, 3), (b"b:aab", 3, 1), (b"abc:abc", 1, 1), (b"ba:aaaab", 4, 0)];
+    let table: [(&[u8], u32, u8); 5] = [
+        (b"ab:abcab", 4, 2),
+        (b"aa:aaaa", 3, 3),
+        (b"b:aab", 3, 1),
+        (b"abc:abc", 1, 1),
+        (b"ba:aaaab", 4, 0),
+    ];
     for (text, places, found) in table {
         let mut job = AnyJob::start("scan", 0, text)?;
         assert_eq!(rt; job.left(), places);
@@ -164,10 +178,16 @@ fn takes_the_greatest_data(rt: HostRuntime) {
     let mut search = [b'a'; 83];
     search[16] = b':';
     assert_eq!(rt; fault_of("scan", 0, &search[..81]), None);
-    assert_eq!(rt; fault_of("scan", 0, &search[..82]), Some(StartFault::BadData));
+    assert_eq!(rt;
+        fault_of("scan", 0, &search[..82]),
+        Some(StartFault::BadData)
+    );
     search[16] = b'a';
     search[17] = b':';
-    assert_eq!(rt; fault_of("scan", 0, &search[..82]), Some(StartFault::BadData));
+    assert_eq!(rt;
+        fault_of("scan", 0, &search[..82]),
+        Some(StartFault::BadData)
+    );
 }
 
 /// Whether the format names the bytes an encoding.
@@ -212,7 +232,11 @@ fn is_encoding(bytes: &[u8; 128]) -> bool {
 fn decodes_encodings_alone(rt: HostRuntime) -> Result<(), Fail> {
     let count = with_zeros(&[1, 5, 0, 0, 0, 0x0a]);
     let rule = with_zeros(&[2, 2, 0, 0, 0, 0x6e, 8, 0, 3]);
-    let whole = encoded(&AnyJob::start("scan", 0, b"0123456789abcdef:0123456789abcdef0123456789abcdef0123456789abcdef0123456789abcdef")?);
+    let whole = encoded(&AnyJob::start(
+        "scan",
+        0,
+        b"0123456789abcdef:0123456789abcdef0123456789abcdef0123456789abcdef0123456789abcdef",
+    )?);
     for vector in [count, rule, scan_vector(), whole] {
         for at in 0..128usize {
             for value in 0..=255u8 {

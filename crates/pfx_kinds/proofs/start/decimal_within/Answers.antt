@@ -1,13 +1,12 @@
-use Rattle.std.proofs.Common.{◌≡◌, ◌+◌, ◌-◌, ◌*◌, ◌^◌, ◌<◌, ◌≤◌, ◌∙◌, ℕ, suc, true, take, sym, ap, arith, add-one}
+use Rattle.std.proofs.Common.{◌≡◌, ◌+◌, ◌-◌, ◌*◌, ◌^◌, ◌<◌, ◌≤◌, ◌∙◌, ℕ, true, take, sym, ap, arith, add-one}
 use Rattle.std.specs.Prelude.{slice_index}
-use Rattle.std.specs.List.{list_all}
 use Rattle.std.specs.Char.{is_ascii_digit, digit_value}
 use Rattle.std.specs.Str.Parse.{digits_value}
 use Rattle.std.proofs.Math.Nat.{pow-suc}
 use Rattle.std.proofs.lemmas.Bool.Decides.{nat_tests}
 use Rattle.std.proofs.lemmas.Int.Digits.{digits_value_more}
 use Rattle.std.proofs.lemmas.List.Folds.{list_all_more}
-use Rattle.pfx_kinds.specs.Tests.{both-true, true-both}
+use Rattle.pfx_kinds.specs.Tests.{true-both}
 use Rattle.pfx_kinds.proofs.start.decimal_within.Goals as goal
 
 digit_low : (c : ℕ) → is_ascii_digit c ≡ true → 48 ≤ c
@@ -35,4 +34,5 @@ digits-preserved c =
     let all = list_all_more is_ascii_digit text i 0 (omega arith) in (
       (ap (λ x. x * 10 + (byte - 48)) c.digits.invariant.0 ∙ (ap (λ d. digits_value 10 (take i text) * 10 + d) (sym (digit_value-digit byte is)) ∙ sym value)),
       (all ∙ true-both _ _ c.digits.invariant.1 is),
-      room i c.digits.value (byte - 48) c.digits.invariant.2 (omega (arith, digit_high byte is)))
+      room i c.digits.value (byte - 48) c.digits.invariant.2 (omega (arith, digit_high byte is)),
+    )

@@ -17,7 +17,7 @@ pub returns-in_err-start-2 : goal.returns-in_err-start-2
 unfolding any_start
 returns-in_err-start-2 c =
     let same : any_start c.args.kind.now c.args.goal c.args.text.now ≡ Err c.in_err-start-2.field-0.0 =
-      rw (sym c.eq.ensures ∙ c.if-eq.false, sym c.eq-2.ensures ∙ c.if-eq-2.true) (ap (map_ok a_rule) c.in_err-start-2.ensures) in
+    rw (sym c.eq.ensures ∙ c.if-eq.false, sym c.eq-2.ensures ∙ c.if-eq-2.true) (ap (map_ok a_rule) c.in_err-start-2.ensures) in
     search rules
 
 pub returns-then-eq-2 : goal.returns-then-eq-2
@@ -28,7 +28,7 @@ pub returns-in_err-start-3 : goal.returns-in_err-start-3
 unfolding any_start
 returns-in_err-start-3 c =
     let same : any_start c.args.kind.now c.args.goal c.args.text.now ≡ Err c.in_err-start-3.field-0.0 =
-      rw (sym c.eq.ensures ∙ c.if-eq.false, sym c.eq-2.ensures ∙ c.if-eq-2.false, sym c.eq-3.ensures ∙ c.if-eq-3.true) (ap (map_ok a_scan) c.in_err-start-3.ensures) in
+    rw (sym c.eq.ensures ∙ c.if-eq.false, sym c.eq-2.ensures ∙ c.if-eq-2.false, sym c.eq-3.ensures ∙ c.if-eq-3.true) (ap (map_ok a_scan) c.in_err-start-3.ensures) in
     search rules
 
 pub returns-then-eq-3 : goal.returns-then-eq-3
