@@ -1,9 +1,9 @@
 -- What the words of a command line ask for.
-use Rattle.std.specs.Prelude.{ℕ, Bool, ◌&&◌, nat_lt, if◌then◌else◌, codes, List, length, Option, Some, None, option_and_then}
+use Rattle.std.specs.Prelude.{ℕ, Bool, ◌&&◌, ◌≤◌, nat_lt, if◌then◌else◌, codes, List, length, Option, Some, None, option_and_then}
 use Rattle.std.specs.Char.{digit_value}
 use Rattle.std.specs.List.{list_all}
 use Rattle.std.specs.Str.{bytes_eq}
-use Rattle.std.specs.Str.Parse.{digits_value, without_leading_plus}
+use Rattle.std.specs.Str.Parse.{IsNumeral, digits_value, without_leading_plus}
 use Rattle.clap.specs.Walk.{Row, Text, first_of, one_of}
 use Rattle.clap.specs.Simple.{subcommand_of}
 use Rattle.pfx_words.specs.Commands.{pfx_app}
@@ -47,3 +47,7 @@ asked_in (Some used) = if bytes_eq used.0 (codes "plan") then plan_of (text_at (
 -- what the words ask for: of the subcommand that they name, with the arguments that follow it
 unfoldable pub asked : List Text → Option Asked
 asked words = asked_in (subcommand_of pfx_app words)
+
+-- the text is a count of slots in digits: 0 to 1,048,576
+abbrev pub IsSlots : Text → Type 0
+IsSlots text = IsNumeral 10 text × (digits_value 10 text ≤ 1048576)

@@ -8,6 +8,7 @@
 #![tactic(auto)]
 
 mod arguments;
+pub mod laws;
 mod plan;
 mod program;
 mod request;

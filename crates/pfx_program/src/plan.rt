@@ -1,0 +1,118 @@
+//! `pfx plan`.
+
+ghost use Rattle.std.specs.Prelude.{List, ◌≡◌, ℕ, Ok, Some, IfSome, IfOk, IfErr, OnOk, map};
+ghost use Rattle.std.specs.Io.KnownBytes.{Appends};
+ghost use Rattle.pfx_weights.specs.Rows.{is_in};
+ghost use Rattle.pfx_weights.specs.Sets.{FilledSet, Accepts};
+ghost use Rattle.pfx_columns.specs.Ledgers.{start, after};
+ghost use Rattle.pfx_choice.specs.PfRows.{chosen};
+ghost use Rattle.pfx_set_text.specs.SetFile.{weights_of, set_of_bytes};
+ghost use Rattle.pfx_set_text.specs.Views.{task_view, set_view};
+ghost use Rattle.pfx_program.specs.Lines.{slot_line};
+ghost use Rattle.pfx_program.specs.Plan.{Leaves, IsInputFault, ReadFails, StartFails, SlotFails};
+
+use crate::faults::{choice_fault, set_fault};
+use crate::lines::line_of;
+use crate::output::put;
+use pfx_choice::{Chooser, give};
+use pfx_columns::Columns;
+use pfx_fault::Fault;
+use pfx_set_text::{NamedTask, SetText, SetTextFault, read_set};
+use pfx_weights::TaskSet;
+use std::alloc::Global;
+use std::io::{ErrorKind, Read, Write};
+
+fn read_all<R: Read>(alloc: Global, input: &mut R) -> Result<Vec<u8>, Fault>
+    ensures ok { IfOk result (λ v. IfSome (R.remaining input.old) (λ bytes. v.items ≡ bytes)) }
+    ensures err { IfErr result IsInputFault }
+{
+    let mut bytes = Vec::new(alloc);
+    match input.read_to_end(&mut bytes) {
+        Ok(_) => Ok(bytes),
+        Err(e) if e.kind() == ErrorKind::OutOfMemory => Err(Fault::NoMemory),
+        Err(_) => Err(Fault::InputFailed),
+    }
+}
+
+fn set_from(alloc: Global, bytes: &[u8]) -> Result<SetText, Fault>
+    ensures ok { IfOk result (λ s. set_of_bytes bytes.now ≡ Some (set_view s)) }
+    ensures err { IfErr result (ReadFails bytes.now) }
+{
+    match read_set(alloc, bytes) {
+        Ok(set) => Ok(set),
+        Err(SetTextFault::BadSet) => Err(Fault::BadSet),
+        Err(SetTextFault::NoMemory) => Err(Fault::NoMemory),
+    }
+}
+
+fn started(alloc: Global, file: &SetText) -> Result<Columns, Fault>
+    ensures ok { IfOk result (λ c. (s : FilledSet) × Accepts file.now.workers (weights_of (set_view file.now)) s × (c ≡ start s)) }
+    ensures err { IfErr result (StartFails (set_view file.now)) }
+{
+    let Ok(weights) = file.weights(alloc) else {
+        return Err(Fault::NoMemory);
+    };
+    let set = match TaskSet::new(alloc, file.workers, weights.as_slice()) {
+        Ok(set) => set,
+        Err(fault) => return Err(set_fault(fault)),
+    };
+    match Columns::zero(alloc, &set) {
+        Ok(columns) => Ok(columns),
+        Err(_) => Err(Fault::NoMemory),
+    }
+}
+
+// Writes the line of the next slot.
+fn put_slot<W: Write>(
+    alloc: Global,
+    chooser: &mut Chooser,
+    tasks: &[NamedTask],
+    columns: &mut Columns,
+    output: &mut W,
+) -> Result<(), Fault>
+    ensures ok { OnOk result ((row : List ℕ) × (chosen columns.old ≡ Ok row) × (columns.new ≡ after columns.old (is_in row)) × Appends (W.contents output.old) (W.contents output.new) (slot_line (map task_view tasks.now) columns.old.slot row)) }
+    ensures err { IfErr result (SlotFails (map task_view tasks.now) columns.old (W.contents output.old) (W.contents output.new)) }
+{
+    let row = match chooser.choose(columns) {
+        Ok(row) => row,
+        Err(fault) => return Err(choice_fault(fault)),
+    };
+    let Ok(line) = line_of(alloc, tasks, columns.slot(), &row) else {
+        return Err(Fault::NoMemory);
+    };
+    give(columns, &row);
+    match put(output, line.as_slice()) {
+        Ok(()) => Ok(()),
+        Err(_) => Err(Fault::OutputFailed),
+    }
+}
+
+/// Writes the plan of the first `slots` slots of the set that the reader gives: for each slot a line of CSV, its
+/// number and the names of the tasks of its row, where idle task `j` is `*j`.
+///
+/// The answer is the plan's end: `Ok` after all its lines, and else the fault that stopped it, with the lines before
+/// it written. `InputFailed` comes where the reader fails, with nothing written; `OutputFailed` where the writer does,
+/// with a beginning of the plan written; `NoMemory` where a growth was refused, with some first lines written.
+pub fn run_plan<R: Read, W: Write>(
+    alloc: Global,
+    input: &mut R,
+    output: &mut W,
+    slots: u64,
+) -> Result<(), Fault>
+    ensures { IfSome (R.remaining input.old) (λ bytes. Leaves bytes slots (W.contents output.old) (W.contents output.new) result) }
+{
+    let bytes = read_all(alloc, input)?;
+    let file = set_from(alloc, bytes.as_slice())?;
+    let mut columns = started(alloc, &file)?;
+    let mut chooser = Chooser::new(alloc);
+    for _ in 0..slots {
+        put_slot(
+            alloc,
+            &mut chooser,
+            file.tasks.as_slice(),
+            &mut columns,
+            output,
+        )?;
+    }
+    Ok(())
+}

@@ -1,0 +1,174 @@
+//! Plans of whole set files, and what a failing reader or writer leaves.
+
+use super::*;
+use pfx_fault::Fault;
+use std::alloc::Global;
+use std::io;
+use std::io::{ErrorKind, Read, Write};
+
+const THIRDS: &str = "workers = 2
+task = [{name = \"a\", e = 2, p = 3}, {name = \"b\", e = 2, p = 3}, {name = \"c\", e = 2, p = 3}]
+";
+
+const HALF_AND_THIRD: &str = "workers = 1
+task = [{name = \"x\", e = 1, p = 2}, {name = \"y\", e = 1, p = 3}]
+";
+
+const HALF_ON_TWO: &str = "workers = 2
+task = [{name = \"x\", e = 1, p = 2}]
+";
+
+const MOST_ON_TWO: &str = "workers = 2
+task = [{name = \"x\", e = 4, p = 5}]
+";
+
+const TWO_PERIODS: &str = "workers = 2
+task = [{name = \"x\", e = 2, p = 3}, {name = \"y\", e = 2, p = 5}]
+";
+
+const FOUR_ON_THREE: &str = "workers = 3
+task = [{name = \"a\", e = 2, p = 3}, {name = \"b\", e = 2, p = 3},
+    {name = \"c\", e = 5, p = 6}, {name = \"d\", e = 5, p = 6}]
+";
+
+// What is written, and the fault at its end.
+fn planned(alloc: Global, set: &str, slots: u64) -> (Vec<u8>, Result<(), Fault>) {
+    let mut written = Vec::new(alloc);
+    let end = run_plan(alloc, &mut set.as_bytes(), &mut written, slots);
+    (written, end)
+}
+
+#[test]
+fn prints_the_rows(rt: HostRuntime) -> anyhow::Result<()> {
+    // The rows of a plain program, apart from this one, that follows the definitions.
+    let rows = [
+        (THIRDS, 4, "0,a,b\n1,a,c\n2,b,c\n3,a,b\n"),
+        (THIRDS, 0, ""),
+        (HALF_AND_THIRD, 6, "0,x\n1,y\n2,x\n3,y\n4,x\n5,*0\n"),
+        (HALF_ON_TWO, 4, "0,x,*0\n1,*1,*2\n2,x,*0\n3,*1,*2\n"),
+        (MOST_ON_TWO, 5, "0,x,*0\n1,x,*0\n2,x,*1\n3,x,*0\n4,*0,*1\n"),
+        (FOUR_ON_THREE, 4, "0,a,c,d\n1,b,c,d\n2,a,b,c\n3,a,b,d\n"),
+        (
+            TWO_PERIODS,
+            15,
+            "0,x,*0\n1,y,*0\n2,x,*0\n3,x,*0\n4,y,*0\n5,x,*0\n6,x,*0\n7,y,*0\n8,x,*0\n9,y,*0\n10,x,*0\n11,x,*0\n12,x,y\n13,x,*0\n14,y,*0\n",
+        ),
+    ];
+    for (set, slots, want) in rows {
+        let (written, end) = planned(rt.alloc(), set, slots);
+        end?;
+        assert_eq!(rt; written.as_slice(), want.as_bytes(), "{set}");
+    }
+    Ok(())
+}
+
+#[test]
+fn refuses_with_no_line(rt: HostRuntime) -> anyhow::Result<()> {
+    let rows = [
+        ("workers = 1 2", Fault::BadSet),
+        ("workers = 1", Fault::NoTasks),
+        (
+            "workers = 65\ntask = [{name = \"x\", e = 1, p = 2}]",
+            Fault::BadWorkers,
+        ),
+        (
+            "workers = -1\ntask = [{name = \"x\", e = 1, p = 2}]",
+            Fault::BadWorkers,
+        ),
+        (
+            "workers = 1\ntask = [{name = \"x\", e = 1, p = 2}, {name = \"y\", e = 2, p = 2}]",
+            Fault::BadWeight { task: 1 },
+        ),
+        (
+            "workers = 1\ntask = [{name = \"x\", e = 1, p = 1048576}, {name = \"y\", e = 1, p = 3}]",
+            Fault::HyperperiodTooLarge { task: 1 },
+        ),
+        (
+            "workers = 1\ntask = [{name = \"x\", e = 1, p = 2}, {name = \"y\", e = 2, p = 3}]",
+            Fault::Overload,
+        ),
+    ];
+    for (set, fault) in rows {
+        let (written, end) = planned(rt.alloc(), set, 3);
+        if end == Err(Fault::NoMemory) {
+            return Err(Fault::NoMemory.into());
+        }
+        assert_eq!(rt; end, Err(fault), "{set}");
+        assert!(rt; written.is_empty(), "{set}");
+    }
+    Ok(())
+}
+
+// A reader that fails behind its first bytes.
+#[derive(Drop)]
+struct Torn<'a> {
+    left: &'a [u8],
+}
+
+impl Read for Torn<'_> {
+    fn read(&mut self, buf: &mut [u8]) -> io::Result<usize> {
+        if self.left.is_empty() {
+            return Err(io::Error::from(ErrorKind::Other));
+        }
+        self.left.read(buf)
+    }
+}
+
+#[test]
+fn reader_fails_in_the_middle(rt: HostRuntime) -> anyhow::Result<()> {
+    // The first bytes alone would be a set.
+    let mut input = Torn {
+        left: THIRDS.as_bytes(),
+    };
+    let mut written = Vec::new(rt.alloc());
+    let end = run_plan(rt.alloc(), &mut input, &mut written, 4);
+    if end == Err(Fault::NoMemory) {
+        return Err(Fault::NoMemory.into());
+    }
+    assert_eq!(rt; end, Err(Fault::InputFailed));
+    assert!(rt; written.is_empty());
+    Ok(())
+}
+
+// A writer that takes one byte at a time, is interrupted before each, and is full at last.
+#[derive(Drop)]
+struct Narrow {
+    held: [u8; 8],
+    len: usize,
+    interrupts: bool,
+}
+
+impl Write for Narrow {
+    fn write(&mut self, buf: &[u8]) -> io::Result<usize> {
+        self.interrupts = !self.interrupts;
+        if self.interrupts {
+            return Err(io::Error::from(ErrorKind::Interrupted));
+        }
+        if buf.is_empty() || self.len >= 8 {
+            return Ok(0);
+        }
+        self.held[self.len] = buf[0];
+        self.len += 1;
+        Ok(1)
+    }
+
+    fn flush(&mut self) -> io::Result<()> {
+        Ok(())
+    }
+}
+
+#[test]
+fn writer_fails_in_the_middle(rt: HostRuntime) -> anyhow::Result<()> {
+    let mut output = Narrow {
+        held: [0; 8],
+        len: 0,
+        interrupts: false,
+    };
+    let end = run_plan(rt.alloc(), &mut THIRDS.as_bytes(), &mut output, 4);
+    if end == Err(Fault::NoMemory) {
+        return Err(Fault::NoMemory.into());
+    }
+    assert_eq!(rt; end, Err(Fault::OutputFailed));
+    assert_eq!(rt; output.held, *b"0,a,b\n1,");
+    Ok(())
+}
