@@ -12,6 +12,8 @@ use Rattle.pfx_symbols.specs.Ranks.{IsRank, rank_cmp}
 use Rattle.pfx_symbols.proofs.Beating as beating
 use Rattle.pfx_columns.specs.Ledgers.{Ledger, total, task, class, rank, IsLedger}
 use Rattle.pfx_columns.proofs.Shown.{filled_weight}
+use Rattle.pfx_symbols.specs.RankLaws.{rank_total}
+use Rattle.pfx_choice.specs.PfRows.{is_greater}
 use Rattle.pfx_choice.specs.Choices.{order, BeatsIn, is_contending}
 use Rattle.pfx_choice.proofs.Choosing.{order_total}
 
@@ -128,3 +130,17 @@ pub best-take : (g : Ledger) (bs : List Bool) (n : ℕ) (o : Option ℕ) → IsB
 best-take g bs n None h f =
     (omega arith, f, λ x l ne is. (let less : x < n = omega arith in true_not_false (free g bs x) is (h x less)))
 best-take g bs n (Some y) h f = take_step g bs n y (order g n y) h f refl
+
+not_above_itself : (o : Ordering) → o ≡ ordering_reverse o → is_greater o ≡ false
+not_above_itself Less e = refl
+not_above_itself Equal e = refl
+not_above_itself Greater e = cc
+
+-- of two tasks the one beats the other exactly where its rank is above
+pub rank_above : (g : Ledger) (x y : ℕ) → IsLedger g → x < total g → y < total g → is_greater (rank_cmp (rank g x) (rank g y)) ≡ is_greater (order g x y)
+rank_above g x y h l k = elim (cases_eq x y) [
+  | inl same ↦
+      (let P : ℕ → Type 0 = λ z. is_greater (rank_cmp (rank g x) (rank g z)) ≡ is_greater (order g x z) in
+      subst P same (not_above_itself (rank_cmp (rank g x) (rank g x)) (rank_total.antisymm (rank g x) (rank g x)) ∙ sym (not_above_itself (order g x x) ((order_total g).antisymm x x))))
+  | inr other ↦ ap is_greater (rank_order g x y h l k other)
+]

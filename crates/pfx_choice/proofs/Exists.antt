@@ -1,5 +1,5 @@
 -- PF's choice exists where there are places for the urgent tasks and enough tasks for the places.
-use Rattle.std.proofs.Common.{◌≡◌, ◌≢◌, ℕ, zero, suc, ◌+◌, ◌-◌, ◌<◌, ◌≤◌, Bool, true, false, List, [], ◌∷◌, ◌++◌, length, set, Option, Some, None, arith, sym, ◌∙◌, refl, subst, length-set}
+use Rattle.std.proofs.Common.{◌≡◌, ◌≢◌, ℕ, zero, suc, ◌+◌, ◌-◌, ◌<◌, ◌≤◌, Bool, true, false, List, [], ◌∷◌, ◌++◌, length, set, Option, Some, None, arith, ◌∙◌, refl, subst, length-set}
 use Rattle.std.proofs.lemmas.List.{length_push}
 use Rattle.pfx_weights.specs.Rows.{one, count}
 use Rattle.pfx_weights.proofs.Counts.{true_not_false, count-le, count-sub}

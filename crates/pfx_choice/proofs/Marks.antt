@@ -2,7 +2,7 @@
 use Rattle.std.proofs.Common.{◌≡◌, ◌≢◌, ℕ, ◌+◌, ◌<◌, Bool, true, false, if◌then◌else◌, List, [], ◌∷◌, ◌++◌, length, set, Some, None, arith, ap, sym, ◌∙◌, refl, subst, inl, inr, get_or-set_same, get_or-set_other}
 use Rattle.std.proofs.lemmas.Bool.{cases_lt, cases_eq}
 use Rattle.std.proofs.lemmas.List.{get_or_append_left, get_or_push}
-use Rattle.pfx_weights.specs.Rows.{one, count}
+use Rattle.pfx_weights.specs.Rows.{one}
 use Rattle.pfx_weights.proofs.Counts.{true_not_false, count-same, count-more, count-sum}
 use Rattle.pfx_symbols.specs.declared.kinds.Class.{Class}
 use Rattle.pfx_symbols.specs.declared.kinds.Class.TheVariants.{Contending, Urgent, Tnegru}

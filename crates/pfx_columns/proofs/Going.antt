@@ -1,5 +1,5 @@
 -- One slot more: entries, allocations and ledgers.
-use Rattle.std.proofs.Common.{◌≡◌, ◌≢◌, ℕ, zero, suc, ℤ, pos, ◌-ℤ◌, ◌+ℤ◌, ◌<ℤ◌, ◌+◌, ◌-◌, ◌*◌, ◌%◌, ◌<◌, ◌≤◌, ◌^◌, Bool, true, false, nat_lt, if◌then◌else◌, List, [], ◌∷◌, length, map, get_or, arith, ap, sym, ◌∙◌, refl, subst, inl, inr, ◌↔◌}
+use Rattle.std.proofs.Common.{◌≡◌, ℕ, zero, suc, ℤ, pos, ◌-ℤ◌, ◌+◌, ◌-◌, ◌*◌, ◌%◌, ◌<◌, ◌^◌, Bool, true, false, nat_lt, if◌then◌else◌, List, [], ◌∷◌, length, map, get_or, arith, ap, sym, ◌∙◌, refl, subst, inl, inr}
 use Rattle.std.specs.Prelude.{All, sum}
 use Rattle.std.proofs.Math.Nat.{mod-lt, mod-eq_of_lt}
 use Rattle.std.proofs.lemmas.Grind.{common_steps}
@@ -11,8 +11,8 @@ use Rattle.pfx_weights.specs.Rows.{one, count}
 use Rattle.pfx_symbols.proofs.Phases.{phase_more, wrapped}
 use Rattle.pfx_columns.specs.declared.entries.Entry.{Entry}
 use Rattle.pfx_columns.specs.Lags.{lag_of, IsFairAt}
-use Rattle.pfx_columns.specs.Entries.{IsEntry, IsInRange, IsBetween, weight_of, alloc_of, lag_after, phase_after, entry_after, entries_after, no_entry, Stays}
-use Rattle.pfx_columns.specs.Ledgers.{Ledger, Task, add, after, total, task}
+use Rattle.pfx_columns.specs.Entries.{IsEntry, IsInRange, IsBetween, weight_of, alloc_of, lag_after, phase_after, entry_after, entries_after, no_entry}
+use Rattle.pfx_columns.specs.Ledgers.{Ledger, add, after, task}
 use Rattle.pfx_columns.proofs.Steps.{fair_below}
 
 -- an entry at a slot below 2^40 has small numbers

@@ -12,7 +12,7 @@ use Rattle.pfx_weights.proofs.RowSets.{count-is_in}
 use Rattle.pfx_columns.specs.declared.entries.Entry.{Entry}
 use Rattle.pfx_columns.specs.Entries.{IsEntry, IsBetween, lag_after, weight_of, alloc_of, entries_after, no_entry, Stays, IsFirstUnfair}
 use Rattle.pfx_columns.specs.Columns.{shown, IsKept}
-use Rattle.pfx_columns.specs.Ledgers.{Ledger, Task, IsLedger, IsFair, IsFairTask, FirstOutOfRange, add, after, total, task, start, ledger_at}
+use Rattle.pfx_columns.specs.Ledgers.{Ledger, IsLedger, IsFair, IsFairTask, FirstOutOfRange, add, after, total, task, start, ledger_at}
 use Rattle.pfx_columns.proofs.Steps.{fair_from, fair_below}
 use Rattle.pfx_columns.proofs.Going.{weights_stay, allocs_after, length-add, sum-add, task-after, entries_go_on, stays_to_fair, fair_to_stays}
 

@@ -1,6 +1,6 @@
 //! The ledger.
 
-ghost use Rattle.std.specs.Prelude.{◌≡◌, ℕ, ◌+◌, ◌*◌, ◌<◌, ◌≤◌, ◌^◌, length, slice_index_or, sum, All, MatchResult, IfOk, OnOk, OnErr};
+ghost use Rattle.std.specs.Prelude.{IsTrue, ◌↔◌, ◌≡◌, ℕ, ◌+◌, ◌*◌, ◌<◌, ◌≤◌, ◌^◌, length, slice_index_or, sum, All, MatchResult, IfOk, OnOk, OnErr};
 ghost use Rattle.pfx_weights.specs.Rows.{is_in, IsFullRow};
 ghost use Rattle.pfx_columns.specs.Lags.{lag_of};
 ghost use Rattle.pfx_columns.specs.Ledgers.{IsLedger, IsFair, FirstOutOfRange, Refuses, RefusesRow, task, phase, class, rank, start, ledger_at, after};
@@ -37,6 +37,13 @@ impl Model for Columns {
     ghost view = { λ a. shown a.workers a.real a.hyper a.slot a.entries.items };
 
     ghost invariant = { λ a. IsKept a.workers a.real a.hyper a.slot a.entries.items };
+}
+
+/// Whether all numbers are below another.
+fn are_below(numbers: &[u16], end: usize) -> bool
+    ensures { IsTrue result ↔ All (λ x. x < end) numbers.now }
+{
+    numbers.iter().all(|x| usize::from(*x) < end)
 }
 
 impl Columns {
@@ -100,6 +107,13 @@ impl Columns {
             slot: self.slot,
             entries: Vec::from_slice(alloc, &self.entries)?,
         })
+    }
+
+    /// Whether the row gives each worker one of the set's tasks.
+    pub fn fits(&self, row: &Row) -> bool
+        ensures { IsTrue result ↔ IsFullRow self.now.set.workers (length self.now.set.weights) row.now }
+    {
+        row.len() == self.workers as usize && are_below(row.as_slice(), self.entries.len())
     }
 
     /// Gives each task of the row one slot, and goes to the next slot.

@@ -20,3 +20,6 @@ mod starts;
 pub use columns::Columns;
 pub use faults::LedgerFault;
 pub use starts::lag_check;
+
+#[cfg(test)]
+mod tests;

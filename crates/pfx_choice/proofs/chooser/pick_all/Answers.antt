@@ -1,4 +1,4 @@
-use Rattle.std.proofs.Common.{◌≡◌, ◌∙◌, ap, sym, true, false}
+use Rattle.std.proofs.Common.{◌∙◌, ap, sym, true, false}
 use Rattle.std.proofs.lemmas.List.{append-nil}
 use Rattle.pfx_choice.specs.Picks.{pick}
 use Rattle.pfx_weights.proofs.RowSets.{members_more}

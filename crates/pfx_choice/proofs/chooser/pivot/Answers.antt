@@ -1,6 +1,5 @@
-use Rattle.std.proofs.Common.{◌≡◌, ◌+◌, ◌-◌, length, ◌++◌, ◌∷◌, arith, length-append, ap, ◌∙◌, sym}
+use Rattle.std.proofs.Common.{◌≡◌, ◌+◌, length, ◌++◌, ◌∷◌, arith, length-append}
 use Rattle.std.proofs.lemmas.List.Sorted.{length_permutation}
-use Rattle.pfx_choice.specs.Picks.{IsPivot}
 use Rattle.pfx_choice.proofs.chooser.pivot.Goals as goal
 
 pub returns : goal.returns

@@ -1,4 +1,4 @@
-use Rattle.std.proofs.Common.{◌≡◌, ◌∙◌, ap, sym, true, false, ◌++◌, ◌∷◌, []}
+use Rattle.std.proofs.Common.{◌∙◌, ap, sym, true, false, ◌++◌, ◌∷◌, []}
 use Rattle.std.proofs.lemmas.List.{append-nil}
 use Rattle.pfx_choice.proofs.Picking.{ranks_more}
 use Rattle.pfx_choice.proofs.chooser.rank_contending.Goals as goal

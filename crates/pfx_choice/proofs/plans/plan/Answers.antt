@@ -1,4 +1,4 @@
-use Rattle.std.proofs.Common.{◌≡◌, ◌+◌, ◌∙◌, ◌++◌, ◌∷◌, [], List, ap, sym, subst, arith, length}
+use Rattle.std.proofs.Common.{◌≡◌, ◌+◌, ◌∙◌, ◌++◌, ◌∷◌, [], ap, sym, subst, arith, length}
 use Rattle.std.proofs.lemmas.List.{length_push}
 use Rattle.pfx_weights.specs.Rows.{is_in, Schedule}
 use Rattle.pfx_columns.specs.Ledgers.{Ledger, after}

@@ -1,9 +1,8 @@
-use Rattle.std.proofs.Common.{◌≡◌, ◌∙◌, ap, arith, pos, neg_ℤ, ◌<ℤ◌, rules}
-use Rattle.std.proofs.lemmas.Int.{ints, to_z-of_z}
+use Rattle.std.proofs.Common.{◌∙◌, ap, pos, neg_ℤ, ◌<ℤ◌, rules}
+use Rattle.std.proofs.lemmas.Int.{to_z-of_z}
 use Rattle.std.specs.Prelude.{FitsSigned}
 use Rattle.std.specs.Int.{w32}
 use Rattle.pfx_symbols.specs.Classes.{class_of}
-use Rattle.pfx_symbols.specs.Symbols.{symbol_at}
 use Rattle.pfx_columns.specs.Lags.{lag_of}
 use Rattle.pfx_columns.proofs.entries.class_now.Goals as goal
 

@@ -1,4 +1,4 @@
-use Rattle.std.proofs.Common.{◌≡◌, ◌≤◌, ◌∙◌, sym, arith, length}
+use Rattle.std.proofs.Common.{◌∙◌, sym, arith}
 use Rattle.pfx_columns.proofs.PassingLemmas.{tested, absent}
 use Rattle.pfx_columns.proofs.passing.is_next.Goals as goal
 

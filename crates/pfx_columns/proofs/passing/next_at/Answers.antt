@@ -1,4 +1,4 @@
-use Rattle.std.proofs.Common.{◌≡◌, ◌∙◌, ◌≤◌, sym, arith, length}
+use Rattle.std.proofs.Common.{◌∙◌, sym, arith}
 use Rattle.pfx_columns.proofs.PassingLemmas.{pass_here, pass_by}
 use Rattle.pfx_columns.proofs.passing.next_at.Goals as goal
 

@@ -1,4 +1,4 @@
-use Rattle.std.proofs.Common.{◌≡◌, ◌<◌, ◌∙◌, arith, length, get_or, subst, sym, List}
+use Rattle.std.proofs.Common.{◌∙◌, arith, subst, sym, List}
 use Rattle.std.specs.Prelude.{All}
 use Rattle.std.proofs.lemmas.List.Elements.{All-push}
 use Rattle.pfx_columns.specs.declared.entries.Entry.{Entry}

@@ -1,6 +1,5 @@
-use Rattle.std.proofs.Common.{◌≡◌, ◌≤◌, ◌<◌, ◌+◌, ◌-◌, ◌^◌, ◌∙◌, ap, sym, subst, arith, length, List}
-use Rattle.pfx_weights.specs.Rows.{IsRow, members}
-use Rattle.pfx_columns.specs.Ledgers.{total}
+use Rattle.std.proofs.Common.{◌≡◌, ◌∙◌, ap, sym, subst, arith, length}
+use Rattle.pfx_weights.specs.Rows.{IsRow}
 use Rattle.pfx_choice.specs.Choices.{contending}
 use Rattle.pfx_choice.specs.Picks.{pick}
 use Rattle.pfx_choice.proofs.Picking.{length-ranks, picks_from, pf_is_row}

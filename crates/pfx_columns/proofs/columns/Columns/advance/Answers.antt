@@ -1,8 +1,8 @@
-use Rattle.std.proofs.Common.{◌≡◌, ◌+◌, ◌<◌, ◌^◌, ◌∙◌, ◌++◌, ℕ, List, Some, take, drop, map, ap, sym, subst, length}
+use Rattle.std.proofs.Common.{◌≡◌, ◌+◌, ◌<◌, ◌^◌, ◌∙◌, ◌++◌, ℕ, List, Some, take, drop, ap, sym, subst, length}
 use Rattle.std.proofs.lemmas.List.{take_at}
 use Rattle.pfx_weights.specs.Rows.{is_in, IsFullRow}
 use Rattle.pfx_columns.specs.declared.entries.Entry.{Entry}
-use Rattle.pfx_columns.specs.Entries.{entries_after, IsFirstUnfair, weight_of, Stays}
+use Rattle.pfx_columns.specs.Entries.{entries_after, IsFirstUnfair, Stays}
 use Rattle.pfx_columns.specs.Columns.{IsKept, shown}
 use Rattle.pfx_columns.specs.Ledgers.{Ledger, IsFair, FirstOutOfRange, after}
 use Rattle.pfx_columns.proofs.Going.{length-entries_after}

@@ -1,6 +1,5 @@
 use Rattle.std.proofs.Common.{◌≡◌, ◌∙◌, ap, map, take, length, arith}
 use Rattle.std.proofs.Math.Seq.{take-length}
-use Rattle.pfx_columns.specs.Ledgers.{start}
 use Rattle.pfx_columns.proofs.Shown.{kept_of, start_ledger}
 use Rattle.pfx_columns.proofs.columns.Columns.zero.Goals as goal
 
