@@ -1,7 +1,7 @@
 mod Examples
-mod Failing
+pub mod Failing
 pub mod GateLemmas
-mod Honest
+pub mod Honest
 mod Left
 mod Noted
 mod Replayed

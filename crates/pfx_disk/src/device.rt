@@ -12,6 +12,10 @@ pub struct DeviceFailed;
 
 /// A row of bytes with a length, and what a stop may leave of it.
 ///
+/// Each call but `clock` and `failures` is one tick of the clock. A call that fails is counted and may have done any
+/// part of its work; one that succeeds leaves the count. Where the clock or the count stands at 2^63 - 1, a call fails
+/// and does nothing.
+///
 /// A disk that is honest is so after each call, and no other becomes so. The clock and the count of failures begin
 /// anew with each value of a disk, so a clock means something for its own disk only.
 pub trait Disk {

@@ -27,11 +27,12 @@ pub struct MemoryDisk {
 }
 
 impl MemoryDisk {
-    ghost use Rattle.pfx_disk.specs.Disk.{IsLive, IsSpent, HasFailed, Leaves, Same, Torn, Written, Only};
+    ghost use Rattle.pfx_disk.specs.Disk.{IsHonest, IsLive, IsSpent, HasFailed, Leaves, Same, Torn, Written, Only};
     ghost use Rattle.pfx_disk.specs.Memory.{memory_view, HasRoomFor, HasRoom, Uses, IsSettled, longest_of, calls_left, bytes_left};
 
     /// A disk with these contents, of which nothing is to be synced. It may become as long as `longest`, and there is
     /// room to note so many calls, and so many bytes that they write.
+    #[tactic(auto, using(crate::proofs::Honest::memory_honest))]
     pub fn new(
         alloc: Global,
         contents: &[u8],
@@ -40,6 +41,7 @@ impl MemoryDisk {
         bytes: usize,
     ) -> Result<MemoryDisk, AllocError>
         requires { length contents.now ≤ longest }
+        ensures honest { IfOk result (λ disk. IsHonest (memory_view disk)) }
         ensures contents { IfOk result (λ disk. (memory_view disk).contents ≡ contents.now) }
         ensures only { IfOk result (λ disk. Only contents.now (memory_view disk)) }
         ensures clock { IfOk result (λ disk. (memory_view disk).clock ≡ 0) }
@@ -61,6 +63,7 @@ impl MemoryDisk {
 
     /// The disk after a stop behind the first `after` calls. The writes among them that no sync followed have the
     /// fates, in their order, and are kept past the list's end. The disk has the same room, and no calls are noted.
+    #[tactic(auto, using(crate::proofs::Honest::memory_honest))]
     pub fn stopped(
         &self,
         alloc: Global,
@@ -68,6 +71,7 @@ impl MemoryDisk {
         fates: &[Fate],
     ) -> Result<MemoryDisk, AllocError>
         requires { after ≤ (memory_view self.now).clock }
+        ensures honest { IfOk result (λ disk. IsHonest (memory_view disk)) }
         // What is left is one of the images since that moment, and nothing else.
         ensures image { IfOk result (λ disk. (memory_view self.now).since after (memory_view disk).contents) }
         ensures fates { IfOk result (λ disk. IsSettled after fates.now self.now (memory_view disk).contents) }
