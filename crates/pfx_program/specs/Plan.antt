@@ -29,7 +29,7 @@ pub record IsSetRefused (file : SetFile) (text : List ℕ) (end : Option Fault) 
   pub no_line : text ≡ []
   pub stop : end ≡ Some (fault_of_set why)
 
--- the plan of a file's bytes
+-- the plan of so many slots for the bytes of a file: its text, and the fault at its end
 abbrev pub IsPlanText : List ℕ → ℕ → List ℕ → Option Fault → Type 0
 IsPlanText bytes slots text end = MatchOption (set_of_bytes bytes) ((text ≡ []) × (end ≡ Some fault.BadSet)) (λ file. IsPlanned file slots text end ⊎ IsSetRefused file text end)
 

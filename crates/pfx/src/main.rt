@@ -1,0 +1,118 @@
+//! The program `pfx`.
+//!
+//! It does what its words ask for, over the system's own files. Where that fails it prints one fault line on standard
+//! error and ends with the fault's exit status. Help and version end with 0, words that it doesn't take with 2.
+#![tactic(auto)]
+
+ghost use Rattle.std.specs.Prelude.{◌≡◌, ◌⊎◌};
+ghost use Rattle.pfx_fault.specs.Refusals.{status_of};
+
+use clap::Error;
+use clap::error::ErrorKind;
+use pfx_fault::{Fault, put_fault};
+use pfx_program::run_plan;
+use pfx_words::{Request, read_words};
+use std::alloc::Global;
+use std::fs::File;
+use std::io::{BufWriter, Write};
+use std::process::ExitCode;
+use std::rt::Runtime;
+use std::{env, io};
+
+/// The exit status of words that the program doesn't take.
+const USAGE: u8 = 2;
+
+// Want of memory is a fault of its own; any other error is this one.
+fn fault_of(error: &io::Error, other: Fault) -> Fault
+    ensures { (result ≡ other) ⊎ (result ≡ Fault.NoMemory) }
+{
+    if error.kind() == io::ErrorKind::OutOfMemory {
+        Fault::NoMemory
+    } else {
+        other
+    }
+}
+
+// `pfx plan SET SLOTS`.
+fn plan<R: Runtime + AllocGlobal>(
+    rt: &R,
+    alloc: Global,
+    set: &str,
+    slots: u32,
+) -> Result<(), Fault> {
+    let mut input = match File::open(rt, set) {
+        Ok(file) => file,
+        Err(error) => return Err(fault_of(&error, Fault::InputFailed)),
+    };
+    let Ok(mut output) = BufWriter::new(alloc, io::writer(rt)) else {
+        return Err(Fault::NoMemory);
+    };
+    let planned = run_plan(alloc, &mut input, &mut output, u64::from(slots));
+    let flushed = output.flush();
+    planned?;
+    match flushed {
+        Ok(()) => Ok(()),
+        Err(error) => Err(fault_of(&error, Fault::OutputFailed)),
+    }
+}
+
+// Prints the fault's line. Where standard error fails too, the status still tells.
+fn failed(rt: &HostRuntime, fault: Fault) -> u8
+    ensures { result ≡ status_of fault }
+{
+    let _ = put_fault(&mut rt.stderr(), fault);
+    fault.status()
+}
+
+// Answers words that ask for nothing to be done: by the help, the version or what was expected.
+fn answered(rt: &HostRuntime, error: &Error) -> u8 {
+    if error.kind() == ErrorKind::OutOfMemory {
+        return failed(rt, Fault::NoMemory);
+    }
+    if error.print(rt).is_err() && !error.use_stderr() {
+        return failed(rt, Fault::OutputFailed);
+    }
+    error.exit_code() as u8
+}
+
+fn done(rt: &HostRuntime, alloc: Global, words: &[&str]) -> u8 {
+    let request = match read_words(alloc, words) {
+        Ok(Some(request)) => request,
+        Ok(None) => return USAGE,
+        Err(error) => return answered(rt, &error),
+    };
+    let done = match request {
+        Request::Plan { set, slots } => plan(rt, alloc, set, slots),
+    };
+    match done {
+        Ok(()) => 0,
+        Err(fault) => failed(rt, fault),
+    }
+}
+
+// The program's words.
+fn given(rt: &HostRuntime, alloc: Global) -> io::Result<Vec<String>> {
+    let words = env::args(rt)?;
+    Ok(words.collect(alloc)?)
+}
+
+fn main(rt: HostRuntime) -> ExitCode {
+    let alloc = rt.alloc();
+    let given = match given(&rt, alloc) {
+        Ok(given) => given,
+        Err(error) if error.kind() == io::ErrorKind::OutOfMemory => {
+            return ExitCode::from(failed(&rt, Fault::NoMemory));
+        }
+        Err(_) => {
+            let _ = eprintln!(rt; "error: a word is no UTF-8 text");
+            return ExitCode::from(USAGE);
+        }
+    };
+    let mut words = Vec::new(alloc);
+    for word in given.iter() {
+        if words.push(word.as_str()).is_err() {
+            return ExitCode::from(failed(&rt, Fault::NoMemory));
+        }
+    }
+    ExitCode::from(done(&rt, alloc, words.as_slice()))
+}
