@@ -1,7 +1,13 @@
 pub mod Best
 pub mod Choosing
+pub mod Exchange
 pub mod Exists
+pub mod Keeping
 pub mod Marks
+pub mod Optimality
 pub mod PfFunction
 pub mod Picking
 pub mod Planning
+pub mod Schedules
+pub mod SetSchedules
+pub mod Substrings
