@@ -1,10 +1,11 @@
 -- The plan of a set file: what is printed, and the fault at its end, if there is one.
 use Rattle.std.specs.Prelude.{◌≡◌, ◌≢◌, ◌≤◌, ◌⊎◌, ◌++◌, ⊤, ℕ, List, [], Option, Some, None, Result, Ok, Err, MatchOption, option_map}
 use Rattle.std.specs.Io.KnownBytes.{Appends, Keeps}
+use Rattle.pfx_weights.specs.Rows.{is_in}
 use Rattle.pfx_weights.specs.Sets.{FilledSet, Accepts, Refuses}
 use Rattle.pfx_weights.specs.declared.faults.SetFault.{SetFault}
 use Rattle.pfx_weights.specs.declared.faults.SetFault.TheVariants as setfault
-use Rattle.pfx_columns.specs.Ledgers.{Ledger, start}
+use Rattle.pfx_columns.specs.Ledgers.{Ledger, start, after}
 use Rattle.pfx_choice.specs.PfRows.{chosen}
 use Rattle.pfx_choice.specs.declared.faults.ChoiceFault.{ChoiceFault}
 use Rattle.pfx_fault.specs.declared.refusals.Fault.{Fault}
@@ -65,10 +66,18 @@ ReadFails bytes fault.BadSet = set_of_bytes bytes ≡ None
 ReadFails bytes fault.NoMemory = ⊤
 ReadFails bytes other = ⊥
 
+-- the ledger before slot 0 of a file's set
+abbrev pub IsStart : SetFile → Ledger → Type 0
+IsStart file g = (set : FilledSet) × Accepts file.workers (weights_of file) set × (g ≡ start set)
+
 -- why a set has no start
 abbrev pub StartFails : SetFile → Fault → Type 0
 StartFails file fault.NoMemory = ⊤
 StartFails file other = (why : SetFault) × Refuses file.workers (weights_of file) why × (why ≢ setfault.NoMemory) × (other ≡ fault_of_set why)
+
+-- the line of a slot was written, and the ledger is the next one
+abbrev pub SlotPrinted : List FileTask → Ledger → Ledger → Option (List ℕ) → Option (List ℕ) → Type 0
+SlotPrinted tasks g next old new = (row : List ℕ) × (chosen g ≡ Ok row) × (next ≡ after g (is_in row)) × Appends old new (slot_line tasks g.slot row)
 
 -- why a slot's line wasn't written, and what was
 abbrev pub SlotFails : List FileTask → Ledger → Option (List ℕ) → Option (List ℕ) → Fault → Type 0

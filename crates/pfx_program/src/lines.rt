@@ -17,7 +17,8 @@ fn push_name(
     tasks: &[NamedTask],
     task: u16,
 ) -> Result<(), AllocError>
-    ensures fields { OnOk result (fields_of fields.new ≡ fields_of fields.old ++ (partial_of fields.old ++ name_of (map task_view tasks.now) task) ∷ []) }
+    ensures fields { OnOk result (fields_of fields.new
+        ≡ fields_of fields.old ++ (partial_of fields.old ++ name_of (map task_view tasks.now) task) ∷ []) }
     ensures partial { OnOk result (partial_of fields.new ≡ []) }
 {
     let place = task as usize;

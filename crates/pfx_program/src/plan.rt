@@ -1,15 +1,9 @@
 //! `pfx plan`.
 
-ghost use Rattle.std.specs.Prelude.{List, ◌≡◌, ℕ, Ok, Some, IfSome, IfOk, IfErr, OnOk, map};
-ghost use Rattle.std.specs.Io.KnownBytes.{Appends};
-ghost use Rattle.pfx_weights.specs.Rows.{is_in};
-ghost use Rattle.pfx_weights.specs.Sets.{FilledSet, Accepts};
-ghost use Rattle.pfx_columns.specs.Ledgers.{start, after};
-ghost use Rattle.pfx_choice.specs.PfRows.{chosen};
-ghost use Rattle.pfx_set_text.specs.SetFile.{weights_of, set_of_bytes};
+ghost use Rattle.std.specs.Prelude.{◌≡◌, Some, IfSome, IfOk, IfErr, OnOk, map};
+ghost use Rattle.pfx_set_text.specs.SetFile.{set_of_bytes};
 ghost use Rattle.pfx_set_text.specs.Views.{task_view, set_view};
-ghost use Rattle.pfx_program.specs.Lines.{slot_line};
-ghost use Rattle.pfx_program.specs.Plan.{Leaves, IsInputFault, ReadFails, StartFails, SlotFails};
+ghost use Rattle.pfx_program.specs.Plan.{Leaves, IsInputFault, ReadFails, IsStart, StartFails, SlotPrinted, SlotFails};
 
 use crate::faults::{choice_fault, set_fault};
 use crate::lines::line_of;
@@ -46,7 +40,7 @@ fn set_from(alloc: Global, bytes: &[u8]) -> Result<SetText, Fault>
 }
 
 fn started(alloc: Global, file: &SetText) -> Result<Columns, Fault>
-    ensures ok { IfOk result (λ c. (s : FilledSet) × Accepts file.now.workers (weights_of (set_view file.now)) s × (c ≡ start s)) }
+    ensures ok { IfOk result (IsStart (set_view file.now)) }
     ensures err { IfErr result (StartFails (set_view file.now)) }
 {
     let Ok(weights) = file.weights(alloc) else {
@@ -70,8 +64,10 @@ fn put_slot<W: Write>(
     columns: &mut Columns,
     output: &mut W,
 ) -> Result<(), Fault>
-    ensures ok { OnOk result ((row : List ℕ) × (chosen columns.old ≡ Ok row) × (columns.new ≡ after columns.old (is_in row)) × Appends (W.contents output.old) (W.contents output.new) (slot_line (map task_view tasks.now) columns.old.slot row)) }
-    ensures err { IfErr result (SlotFails (map task_view tasks.now) columns.old (W.contents output.old) (W.contents output.new)) }
+    ensures ok { OnOk result (SlotPrinted (map task_view tasks.now) columns.old columns.new
+        (W.contents output.old) (W.contents output.new)) }
+    ensures err { IfErr result (SlotFails (map task_view tasks.now) columns.old
+        (W.contents output.old) (W.contents output.new)) }
 {
     let row = match chooser.choose(columns) {
         Ok(row) => row,
@@ -99,7 +95,8 @@ pub fn run_plan<R: Read, W: Write>(
     output: &mut W,
     slots: u64,
 ) -> Result<(), Fault>
-    ensures { IfSome (R.remaining input.old) (λ bytes. Leaves bytes slots (W.contents output.old) (W.contents output.new) result) }
+    ensures { IfSome (R.remaining input.old)
+        (λ bytes. Leaves bytes slots (W.contents output.old) (W.contents output.new) result) }
 {
     let bytes = read_all(alloc, input)?;
     let file = set_from(alloc, bytes.as_slice())?;

@@ -32,6 +32,10 @@ abbrev pub segment_of : Option Data → Option ℕ
 segment_of None = Some 1048576
 segment_of (Some value) = option_map number_of (as_integer value)
 
+-- the segment size at the key `segment`
+abbrev pub segment_in : Members → Option ℕ
+segment_in table = segment_of (get_member (codes "segment") table)
+
 -- a letter, a digit, `_` or `-`
 abbrev pub is_name_byte : ℕ → Bool
 is_name_byte b = is_ascii_alphanumeric b || (b == 95) || (b == 45)
@@ -87,10 +91,14 @@ are_distinct (t ∷ ts) = is_fresh t.name ts && are_distinct ts
 abbrev pub checked_tasks : List FileTask → Option (List FileTask)
 checked_tasks ts = if are_distinct ts then Some ts else None
 
--- the tasks at the key `task`: none where the file has no such key
-abbrev pub tasks_in : Option Data → Option (List FileTask)
-tasks_in None = Some []
-tasks_in (Some value) = option_and_then checked_tasks (option_and_then tasks_of (as_array value))
+-- the tasks: none where the file has no such key
+abbrev pub tasks_at : Option Data → Option (List FileTask)
+tasks_at None = Some []
+tasks_at (Some value) = option_and_then checked_tasks (option_and_then tasks_of (as_array value))
+
+-- the tasks at the key `task`
+abbrev pub tasks_in : Members → Option (List FileTask)
+tasks_in table = tasks_at (get_member (codes "task") table)
 
 -- a set, if its three parts are there
 abbrev pub set_of : Option ℕ → Option ℕ → Option (List FileTask) → Option SetFile
@@ -101,7 +109,7 @@ set_of None segment tasks = None
 
 -- the set that a document is
 unfoldable pub set_in : Members → Option SetFile
-set_in table = set_of (number_at (codes "workers") table) (segment_of (get_member (codes "segment") table)) (tasks_in (get_member (codes "task") table))
+set_in table = set_of (number_at (codes "workers") table) (segment_in table) (tasks_in table)
 
 -- the set that a file's bytes are: text that is a TOML document that is a set
 unfoldable pub set_of_bytes : List ℕ → Option SetFile

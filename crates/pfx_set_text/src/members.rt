@@ -4,7 +4,7 @@ ghost use Rattle.std.specs.Prelude.{◌≡◌, Some, None, IfOk, IsErrOf, codes,
 ghost use Rattle.std.specs.List.{list_all};
 ghost use Rattle.toml.specs.Data.{get_member};
 ghost use Rattle.toml.specs.View.{view, table_view};
-ghost use Rattle.pfx_set_text.specs.SetFile.{number_of, number_at, segment_of, is_name_byte, is_name, name_in};
+ghost use Rattle.pfx_set_text.specs.SetFile.{number_of, number_at, segment_in, is_name_byte, is_name, name_in};
 
 use crate::SetTextFault;
 use std::alloc::Global;
@@ -39,7 +39,7 @@ pub(crate) fn number_under(table: &Table, key: &str) -> Option<u32>
 }
 
 pub(crate) fn segment_under(table: &Table) -> Option<u32>
-    ensures { result ≡ segment_of (get_member (codes "segment") (table_view table.now)) }
+    ensures { result ≡ segment_in (table_view table.now) }
 {
     match find(table, "segment") {
         Some(value) => match value.as_integer() {

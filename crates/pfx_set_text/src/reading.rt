@@ -68,8 +68,8 @@ fn have_own_names(tasks: &[NamedTask]) -> bool
 }
 
 fn tasks_under(alloc: Global, table: &Table) -> Result<Vec<NamedTask>, SetTextFault>
-    ensures ok { IfOk result (λ ts. tasks_in (get_member (codes "task") (table_view table.now)) ≡ Some (map task_view ts.items)) }
-    ensures bad { IsErrOf result SetTextFault.BadSet → tasks_in (get_member (codes "task") (table_view table.now)) ≡ None }
+    ensures ok { IfOk result (λ ts. tasks_in (table_view table.now) ≡ Some (map task_view ts.items)) }
+    ensures bad { IsErrOf result SetTextFault.BadSet → tasks_in (table_view table.now) ≡ None }
 {
     let Some(value) = find(table, "task") else {
         return Ok(Vec::new(alloc));

@@ -39,10 +39,14 @@ plan_of (Some set) (Some slots) = Some (plan set slots)
 plan_of (Some set) None = None
 plan_of None slots = None
 
+-- the plan that is asked for by what was found
+abbrev pub plan_in : List Row → Option Asked
+plan_in rows = plan_of (text_at (codes "SET") rows) (number_at (codes "SLOTS") rows)
+
 -- what a subcommand asks for, by its name and what was found for its arguments
 abbrev pub asked_in : Option (Text × List Row) → Option Asked
 asked_in None = None
-asked_in (Some used) = if bytes_eq used.0 (codes "plan") then plan_of (text_at (codes "SET") used.1) (number_at (codes "SLOTS") used.1) else None
+asked_in (Some used) = if bytes_eq used.0 (codes "plan") then plan_in used.1 else None
 
 -- what the words ask for: of the subcommand that they name, with the arguments that follow it
 unfoldable pub asked : List Text → Option Asked

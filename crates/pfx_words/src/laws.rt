@@ -12,5 +12,6 @@ pub fn plain_plan(program: &str, set: &str, slots: &str)
     requires set { starts_with_minus set.now ≡ false }
     requires slots { IsSlots slots.now }
     ensures taken { takes pfx_app (program.now ∷ codes "plan" ∷ set.now ∷ slots.now ∷ []) ≡ true }
-    ensures asked { asked (program.now ∷ codes "plan" ∷ set.now ∷ slots.now ∷ []) ≡ Some (plan set.now (digits_value 10 slots.now)) }
+    ensures asked { asked (program.now ∷ codes "plan" ∷ set.now ∷ slots.now ∷ [])
+        ≡ Some (plan set.now (digits_value 10 slots.now)) }
 {}

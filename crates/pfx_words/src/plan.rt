@@ -1,10 +1,10 @@
 //! `pfx plan SET SLOTS`.
 
-ghost use Rattle.std.specs.Prelude.{◌≡◌, IfOk, codes, option_map};
+ghost use Rattle.std.specs.Prelude.{◌≡◌, IfOk, option_map};
 ghost use Rattle.clap.specs.Matches.{found_of};
 ghost use Rattle.clap.specs.Walk.{rows_of};
 ghost use Rattle.pfx_words.specs.Commands.{slots, plan_app, IsArgument, IsCommand};
-ghost use Rattle.pfx_words.specs.Requests.{asked_by, plan_of, text_at, number_at};
+ghost use Rattle.pfx_words.specs.Requests.{asked_by, plan_in};
 
 use crate::Request;
 use crate::arguments::{number_under, required_word, text_under};
@@ -42,7 +42,7 @@ pub(crate) fn plan_command<'a>(alloc: Global) -> Result<Command<'a>, AllocError>
 }
 
 pub(crate) fn plan_request<'a>(matches: &ArgMatches<'a>) -> Option<Request<'a>>
-    ensures { option_map asked_by result ≡ plan_of (text_at (codes "SET") (rows_of (found_of matches.now))) (number_at (codes "SLOTS") (rows_of (found_of matches.now))) }
+    ensures { option_map asked_by result ≡ plan_in (rows_of (found_of matches.now)) }
 {
     let set = text_under(matches, "SET")?;
     let slots = number_under(matches, "SLOTS")?;

@@ -1,10 +1,11 @@
 //! `pfx` and its subcommands.
 
-ghost use Rattle.std.specs.Prelude.{◌≡◌, IfOk, IfErr, map, true, option_map};
+ghost use Rattle.std.specs.Prelude.{◌≡◌, IfOk, IfErr, true, option_map};
 ghost use Rattle.clap.specs.Faults.{fault_of};
 ghost use Rattle.clap.specs.Kinds.{FailsBy};
 ghost use Rattle.clap.specs.Takes.{takes};
 ghost use Rattle.clap.specs.Values.{kind_of};
+ghost use Rattle.clap.specs.Walk.{texts};
 ghost use Rattle.clap.specs.Simple.{subcommand_rows_of};
 ghost use Rattle.pfx_words.specs.Commands.{bare_app, pfx_app, IsCommand};
 ghost use Rattle.pfx_words.specs.Requests.{asked_by, asked_in, asked};
@@ -60,9 +61,9 @@ fn request_in<'a>(matches: &ArgMatches<'a>) -> Option<Request<'a>>
 /// doesn't take the words, 0 where they ask for help or for the version. `OutOfMemory` is its kind
 /// where memory ran out. `None` comes where the words ask for nothing, which the command refuses.
 pub fn read_words<'a>(alloc: Global, words: &'a [&'a str]) -> Result<Option<Request<'a>>, Error>
-    ensures ok { IfOk result (λ r. option_map asked_by r ≡ asked (map (λ w. w.now) words.entry.now)) }
-    ensures taken { IfErr result (λ e. takes pfx_app (map (λ w. w.now) words.entry.now) ≡ true → kind_of e ≡ ErrorKind.OutOfMemory) }
-    ensures faults { FailsBy (fault_of pfx_app (map (λ w. w.now) words.entry.now)) result }
+    ensures ok { IfOk result (λ r. option_map asked_by r ≡ asked (texts words.entry.now)) }
+    ensures taken { IfErr result (λ e. takes pfx_app (texts words.entry.now) ≡ true → kind_of e ≡ ErrorKind.OutOfMemory) }
+    ensures faults { FailsBy (fault_of pfx_app (texts words.entry.now)) result }
 {
     let command = pfx_command(alloc)?;
     let matches = command.try_get_matches_from(words)?;
