@@ -49,7 +49,8 @@ pub trait Disk {
         ensures limit { IsSpent (view self.old) → IsErr result × (self.new ≡ self.old) × (out.new ≡ out.old) }
         ensures honest { IsHonest (view self.new) → IsHonest (view self.old) }
         ensures leaves { IsHonest (view self.old) → Leaves Same (view self.old) (view self.new) }
-        ensures bytes { IsHonest (view self.old) → OnOk result (out.new ≡ take (length out.old) (drop at (view self.old).contents)) };
+        ensures bytes { IsHonest (view self.old)
+            → OnOk result (out.new ≡ take (length out.old) (drop at (view self.old).contents)) };
 
     /// Writes the bytes from this place on, past the end too.
     fn write_at(&mut self, at: usize, bytes: &[u8]) -> Result<(), DeviceFailed>
@@ -57,8 +58,10 @@ pub trait Disk {
         ensures time { Ticks (view self.old) (view self.new) result }
         ensures limit { IsSpent (view self.old) → IsErr result × (self.new ≡ self.old) }
         ensures honest { IsHonest (view self.new) → IsHonest (view self.old) }
-        ensures leaves { IsHonest (view self.old) → Leaves (Torn at (length bytes.now)) (view self.old) (view self.new) }
-        ensures written { IsHonest (view self.old) → OnOk result (Written at bytes.now (view self.old).contents (view self.new).contents) };
+        ensures leaves { IsHonest (view self.old)
+            → Leaves (Torn at (length bytes.now)) (view self.old) (view self.new) }
+        ensures written { IsHonest (view self.old)
+            → OnOk result (Written at bytes.now (view self.old).contents (view self.new).contents) };
 
     /// After it, a stop leaves what a read gives.
     fn sync(&mut self) -> Result<(), DeviceFailed>
@@ -66,8 +69,10 @@ pub trait Disk {
         ensures limit { IsSpent (view self.old) → IsErr result × (self.new ≡ self.old) }
         ensures honest { IsHonest (view self.new) → IsHonest (view self.old) }
         ensures leaves { IsHonest (view self.old) → Leaves Same (view self.old) (view self.new) }
-        ensures durable { IsHonest (view self.old) → OnOk result (Only (view self.old).contents (view self.new)) };
+        ensures durable { IsHonest (view self.old)
+            → OnOk result (Only (view self.old).contents (view self.new)) };
 
     /// A law: since this moment there is no image but those of now.
-    ghost only_now: { (disk : Self) (image : List ℕ) → (view disk).since (view disk).clock image → (view disk).now image };
+    ghost only_now: { (disk : Self) (image : List ℕ) → (view disk).since (view disk).clock image
+        → (view disk).now image };
 }
