@@ -1,10 +1,14 @@
 -- The tasks that a pivot picks are PF's choice.
-use Rattle.std.proofs.Common.{◌≡◌, ◌≢◌, ℕ, zero, suc, ◌+◌, ◌-◌, ◌<◌, ◌≤◌, ◌==◌, Bool, true, false, if◌then◌else◌, List, [], ◌∷◌, ◌++◌, length, get_or, Option, Some, None, arith, ap, sym, ◌∙◌, refl, subst, inl, inr}
-use Rattle.std.proofs.lemmas.Bool.{cases_lt}
-use Rattle.std.proofs.lemmas.List.{append-nil, get_or_append_left, get_or_push}
+use Rattle.std.proofs.Common.{◌≡◌, ◌≢◌, ℕ, zero, suc, ◌+◌, ◌-◌, ◌<◌, ◌≤◌, ◌==◌, ◌||◌, ◌&&◌, Bool, true, false, if◌then◌else◌, List, [], ◌∷◌, ◌++◌, length, set, get_or, Option, Some, None, arith, ap, sym, ◌∙◌, refl, subst, inl, inr, length-append, get_or-set_same, get_or-set_other}
+use Rattle.std.proofs.lemmas.Bool.{cases_lt, cases_eq}
+use Rattle.std.proofs.lemmas.List.{append-nil}
 use Rattle.std.proofs.lemmas.List.Sums.{sum_by-cons, sum_by-append, sum_by_push}
-use Rattle.std.proofs.lemmas.List.Sorted.{sum_by-IsPermutation}
-use Rattle.std.specs.Prelude.{sum_by}
+use Rattle.std.proofs.lemmas.List.Sorted.{sum_by-IsPermutation, length_permutation, list_any-IsPermutation, All-permutation}
+use Rattle.std.proofs.lemmas.List.Elements.{All-nil, All-cons, All-tail, All-push, All-weaker}
+use Rattle.std.proofs.lemmas.List.Folds.{list_any-append}
+use Rattle.std.specs.Prelude.{sum_by, All}
+use Rattle.std.specs.List.{list_any}
+use Rattle.std.specs.List.Sorted.{IsPermutation}
 use Rattle.std.specs.Ordering.{is_lt, ordering_reverse}
 use Rattle.std.specs.declared.cmp.Ordering.{Ordering}
 use Rattle.std.specs.declared.cmp.Ordering.TheVariants.{Less, Equal, Greater}
@@ -15,12 +19,12 @@ use Rattle.std.proofs.lemmas.Cmp.{tied_itself}
 use Rattle.std.proofs.lemmas.Grind.{common_steps}
 use Rattle.pfx_weights.specs.Rows.{one, count, members, IsRow}
 use Rattle.pfx_weights.proofs.Counts.{true_not_false, count-sum, count-same, none_of, at_most_one}
-use Rattle.pfx_weights.proofs.RowSets.{members_rise, length-members}
+use Rattle.pfx_weights.proofs.RowSets.{members_rise, length-members, members-same}
 use Rattle.pfx_symbols.specs.declared.kinds.Class.{Class}
 use Rattle.pfx_symbols.specs.declared.kinds.Class.TheVariants.{Contending, Urgent, Tnegru}
 use Rattle.pfx_columns.specs.Ledgers.{Ledger, total, class, rank, IsLedger}
-use Rattle.pfx_choice.specs.Choices.{urgent, contending, is_urgent, is_contending, IsPf}
-use Rattle.pfx_choice.specs.Picks.{if_rank, ranks, IsPivot, IsPivotFor, is_not_less, reaches, picked, pick}
+use Rattle.pfx_choice.specs.Choices.{urgent, contending, is_urgent, is_contending, IsPf, IsPfRow}
+use Rattle.pfx_choice.specs.Picks.{if_rank, ranks, IsPivot, IsPivotFor, is_not_less, reaches, picked, pick, marked, id_in, top, IsUrgentFlags, IsPlaced}
 use Rattle.pfx_choice.proofs.Best.{rank_order}
 
 -- the sum of a number over the contending tasks below n
@@ -180,21 +184,197 @@ ranks_more n g b xs e f =
     let is : suc n ≡ n + 1 = omega arith in
     ap (λ l. l ++ if_rank b (rank g n)) e ∙ ap (λ c. ranks n g ++ if_rank c (rank g n)) f ∙ ap (λ k. ranks k g) is
 
--- PF's choice can be a row
-pub pf_is_row : (g : Ledger) (s : ℕ → Bool) → IsPf g s → g.set.workers ≤ 64 → IsRow (members (total g) s)
-pf_is_row g s pf few =
-    let n : length (members (total g) s) ≡ count (total g) s = length-members (total g) s in
-    let size : count (total g) s ≡ g.set.workers = pf.size in
-    (omega arith, members_rise (total g) s)
+-- PF's row is one
+pub pf_is_row : (g : Ledger) (row : List ℕ) → IsPfRow g row → g.set.workers ≤ 64 → IsRow row
+pf_is_row g row h few =
+    let n : length (members (total g) h.set) ≡ count (total g) h.set = length-members (total g) h.set in
+    let size : count (total g) h.set ≡ g.set.workers = h.pf.size in
+    subst IsRow (sym h.is) (omega arith, members_rise (total g) h.set)
 
-pub class_more : (g : Ledger) (bs cs : List Class) (b : Class) (n : ℕ) → length bs ≡ n → ((k : ℕ) → k < n → get_or bs k Tnegru ≡ class g k) → b ≡ class g n → cs ≡ bs ++ b ∷ [] → (k : ℕ) → k < n + 1 → get_or cs k Tnegru ≡ class g k
-class_more g bs cs b n len h e is k l = elim (cases_lt k n) [
-  | inl less ↦ ap (λ xs. get_or xs k Tnegru) is ∙ get_or_append_left bs (b ∷ []) Tnegru k (omega arith) ∙ h k less
-  | inr ge ↦ (let same : n ≡ k = omega arith in ap (λ xs. get_or xs k Tnegru) is ∙ get_or_push bs b Tnegru k (len ∙ same) ∙ e ∙ ap (class g) same)
+pub one_most : (b : Bool) → one b ≤ 1
+one_most true = omega arith
+one_most false = omega arith
+
+pub count_one_more : (x : ℕ) (s : ℕ → Bool) (n m : ℕ) → n ≡ count x s → m ≡ one (s x) → n + m ≡ count (x + 1) s
+count_one_more x s n m e f =
+    let is : suc x ≡ x + 1 = omega arith in
+    let P : ℕ → Type 0 = λ k. n + m ≡ count k s in
+    let here : n + m ≡ count x s + one (s x) = omega arith in
+    subst P is here
+
+pub all_right : (P : Parts → Type 0) (xs ys : List Parts) → All P (xs ++ ys) → All P ys
+all_right P [] ys h = h
+all_right P (x ∷ xs) ys h = all_right P xs ys (All-tail P x (xs ++ ys) h)
+
+-- how many a selection leaves above a rank
+pub pivot_size : (rs low high : List Parts) (r : Parts) (k : ℕ) → IsPermutation rs (low ++ r ∷ high) → length low ≡ length rs - k → 0 < k → k ≤ length rs → length high + 1 ≡ k
+pivot_size rs low high r k same front some within =
+    let whole : length (low ++ r ∷ high) ≡ length rs = length_permutation rs (low ++ r ∷ high) same in
+    let parts : length (low ++ r ∷ high) ≡ length low + length (r ∷ high) = length-append low (r ∷ high) in
+    omega arith
+
+is_itself : (a b : ℕ) → a ≡ b → (a == b) ≡ true
+is_itself a b e = grind (arith, common_steps)
+
+is_other : (a b : ℕ) → a ≢ b → (a == b) ≡ false
+is_other a b e = grind (arith, common_steps)
+
+or_true : (b : Bool) → (b || true) ≡ true
+or_true true = refl
+or_true false = refl
+
+or_false : (b : Bool) → (b || false) ≡ b
+or_false true = refl
+or_false false = refl
+
+or_assoc : (a b c : Bool) → ((a || b) || c) ≡ (a || (b || c))
+or_assoc true b c = refl
+or_assoc false b c = refl
+
+-- one flag more
+pub marked_one_more : (flags : List Bool) (y x : ℕ) → y < length flags → marked (set flags y true) x ≡ (marked flags x || (y == x))
+marked_one_more flags y x l = elim (cases_eq x y) [
+  | inl same ↦
+      (let P : ℕ → Type 0 = λ z. marked (set flags y true) z ≡ (marked flags z || (y == z)) in
+      subst P (sym same) (get_or-set_same flags y true false l ∙ sym (ap (λ b. marked flags y || b) (is_itself y y refl) ∙ or_true (marked flags y))))
+  | inr other ↦ get_or-set_other flags y x true false other ∙ sym (ap (λ b. marked flags x || b) (is_other y x (λ q. other (sym q))) ∙ or_false (marked flags x))
 ]
 
--- the same from what the code knows: the ranks, the workers, and how many tasks are urgent
-pub picks_from : (g : Ledger) (o : Option Parts) (rs : List Parts) (m u : ℕ) → IsLedger g → rs ≡ ranks (total g) g → IsPivotFor rs (m - u) o → u ≡ urgent g → m ≡ g.set.workers → u ≤ m → IsPf g (pick g o)
-picks_from g o rs m u h is pivot u_is m_is le =
-    let P : List Parts → Type 0 = λ xs. IsPivotFor xs (m - u) o in
-    picks_pf g (m - u) o h (subst P is pivot) (omega arith)
+-- the pivot's flag and those above it
+pub marks_of : (flags new : List Bool) (r : Parts) (high : List Parts) (y x : ℕ) → y ≡ r.id → y < length flags → marked new x ≡ (marked (set flags y true) x || id_in high x) → marked new x ≡ (marked flags x || id_in (r ∷ high) x)
+marks_of flags new r high y x is l h =
+    h ∙ ap (λ b. b || id_in high x) (marked_one_more flags y x l) ∙ ap (λ z. (marked flags x || (z == x)) || id_in high x) is ∙ or_assoc (marked flags x) (r.id == x) (id_in high x)
+
+-- a rank of this task that reaches the pivot
+abbrev hit : Option Parts → ℕ → Parts → Bool
+hit o x q = (q.id == x) && reaches o q
+
+both_false : (b : Bool) → (b && false) ≡ false
+both_false true = refl
+both_false false = refl
+
+both_true : (b : Bool) → (b && true) ≡ b
+both_true true = refl
+both_true false = refl
+
+none_hits : (x : ℕ) (qs : List Parts) → list_any (hit None x) qs ≡ false
+none_hits x [] = refl
+none_hits x (q ∷ qs) = ap (λ b. b || list_any (hit None x) qs) (both_false (q.id == x)) ∙ none_hits x qs
+
+-- those above the pivot all reach it
+top_hits : (r : Parts) (x : ℕ) (qs : List Parts) → All (λ q. is_not_less (rank_cmp q r) ≡ true) qs → list_any (hit (Some r) x) qs ≡ id_in qs x
+top_hits r x [] h = refl
+top_hits r x (q ∷ qs) h =
+    ap (λ b. ((q.id == x) && b) || list_any (hit (Some r) x) qs) (h 0 q (omega arith))
+    ∙ ap (λ b. b || list_any (hit (Some r) x) qs) (both_true (q.id == x))
+    ∙ ap (λ b. (q.id == x) || b) (top_hits r x qs (All-tail (λ v. is_not_less (rank_cmp v r) ≡ true) q qs h))
+
+-- those below it that reach it are the pivot itself
+low_step : (r v : Parts) (x : ℕ) (a b : Bool) → (v.id == x) ≡ a → is_not_less (rank_cmp v r) ≡ b → is_lt (rank_cmp r v) ≡ false → (a && b) ≡ true → (r.id == x) ≡ true
+low_step r v x true true e f low h =
+    let o : rank_cmp v r ≡ Equal = tied (rank_cmp v r) (rank_cmp r v) low (rank_total.antisymm r v) f in
+    ap (λ q. q.id == x) (sym (same_rank v r o)) ∙ e
+low_step r v x true false e f low h = absurd (let w : false ≡ true = h in cc)
+low_step r v x false b e f low h = absurd (let w : false ≡ true = h in cc)
+
+or_parts : {P : Type 0} (a b : Bool) → (a || b) ≡ true → (a ≡ true → P) → (b ≡ true → P) → P
+or_parts true b h l r = l refl
+or_parts false b h l r = r h
+
+low_hits : (r : Parts) (x : ℕ) (qs : List Parts) → All (λ v. is_lt (rank_cmp r v) ≡ false) qs → list_any (hit (Some r) x) qs ≡ true → (r.id == x) ≡ true
+low_hits r x [] h e = cc
+low_hits r x (q ∷ qs) h e =
+    or_parts (hit (Some r) x q) (list_any (hit (Some r) x) qs) e
+    (λ here. low_step r q x (q.id == x) (is_not_less (rank_cmp q r)) refl refl (h 0 q (omega arith)) here)
+    (λ later. low_hits r x qs (All-tail (λ v. is_lt (rank_cmp r v) ≡ false) q qs h) later)
+
+or_absorbs : (a b : Bool) → (a ≡ true → b ≡ true) → (a || b) ≡ b
+or_absorbs true b h = sym (h refl)
+or_absorbs false b h = refl
+
+all_reach : (r : Parts) (high : List Parts) → All (λ q. is_lt (rank_cmp q r) ≡ false) high → All (λ q. is_not_less (rank_cmp q r) ≡ true) (r ∷ high)
+all_reach r high h =
+    All-cons (λ q. is_not_less (rank_cmp q r) ≡ true) r high (ap is_not_less (tied_itself rank_total r)) (λ i d l. at_least (rank_cmp (get_or high i d) r) (h i d l))
+
+-- the tasks at the top are those whose ranks reach the pivot
+top_is : (rs : List Parts) (k : ℕ) (o : Option Parts) (p : IsPivotFor rs k o) (x : ℕ) → id_in (top rs k o p) x ≡ list_any (hit o x) rs
+top_is rs k None p x = sym (none_hits x rs)
+top_is rs k (Some r) p x =
+    let above = top_hits r x (r ∷ p.high) (all_reach r p.high p.split.1) in
+    sym (list_any-IsPermutation (hit (Some r) x) rs (p.low ++ r ∷ p.high) p.same
+    ∙ list_any-append (hit (Some r) x) p.low (r ∷ p.high)
+    ∙ ap (λ b. list_any (hit (Some r) x) p.low || b) above
+    ∙ or_absorbs (list_any (hit (Some r) x) p.low) (id_in (r ∷ p.high) x) (λ e. ap (λ b. b || id_in p.high x) (low_hits r x p.low p.split.0 e)))
+
+if_none : (b : Bool) (r : Parts) (t : Parts → Bool) → t r ≡ false → list_any t (if_rank b r) ≡ false
+if_none true r t h = ap (λ b. b || false) h
+if_none false r t h = refl
+
+if_one : (b : Bool) (r : Parts) (x : ℕ) (f : Parts → Bool) → r.id ≡ x → list_any (λ q. (q.id == x) && f q) (if_rank b r) ≡ (if b then f r else false)
+if_one true r x f h = ap (λ b. (b && f r) || false) (is_itself r.id x h) ∙ or_false (f r)
+if_one false r x f h = refl
+
+test_other : (r : Parts) (x : ℕ) (f : Parts → Bool) → r.id ≢ x → ((r.id == x) && f r) ≡ false
+test_other r x f h = ap (λ b. b && f r) (is_other r.id x h)
+
+any_out : (n : ℕ) (g : Ledger) (x : ℕ) (f : Parts → Bool) → n ≤ x → list_any (λ q. (q.id == x) && f q) (ranks n g) ≡ false
+any_out zero g x f h = refl
+any_out (suc n) g x f h =
+    list_any-append (λ q. (q.id == x) && f q) (ranks n g) (if_rank (is_contending (class g n)) (rank g n))
+    ∙ ap (λ b. b || list_any (λ q. (q.id == x) && f q) (if_rank (is_contending (class g n)) (rank g n))) (any_out n g x f (omega arith))
+    ∙ if_none (is_contending (class g n)) (rank g n) (λ q. (q.id == x) && f q) (test_other (rank g n) x f (omega arith))
+
+-- a test on the ranks of one task
+any_in : (n : ℕ) (g : Ledger) (x : ℕ) (f : Parts → Bool) → x < n → list_any (λ q. (q.id == x) && f q) (ranks n g) ≡ (if is_contending (class g x) then f (rank g x) else false)
+any_in zero g x f h = absurd (omega arith)
+any_in (suc n) g x f h = list_any-append (λ q. (q.id == x) && f q) (ranks n g) (if_rank (is_contending (class g n)) (rank g n)) ∙ elim (cases_lt x n) [
+  | inl less ↦
+      ap (λ b. list_any (λ q. (q.id == x) && f q) (ranks n g) || b) (if_none (is_contending (class g n)) (rank g n) (λ q. (q.id == x) && f q) (test_other (rank g n) x f (omega arith)))
+      ∙ or_false (list_any (λ q. (q.id == x) && f q) (ranks n g)) ∙ any_in n g x f less
+  | inr more ↦
+      (let same : n ≡ x = omega arith in
+      ap (λ b. b || list_any (λ q. (q.id == x) && f q) (if_rank (is_contending (class g n)) (rank g n))) (any_out n g x f (omega arith))
+      ∙ if_one (is_contending (class g n)) (rank g n) x f same
+      ∙ ap (λ z. if is_contending (class g z) then f (rank g z) else false) same)
+]
+
+picked_or : (c : Class) (b : Bool) → (is_urgent c || (if is_contending c then b else false)) ≡ picked c b
+picked_or Urgent b = refl
+picked_or Contending b = refl
+picked_or Tnegru b = refl
+
+-- the flags are those of the pick
+pub placed_is_pick : (g : Ledger) (k : ℕ) (old new : List Bool) (h : IsPlaced (ranks (total g) g) k old new) → IsUrgentFlags g old → (x : ℕ) → x < total g → marked new x ≡ pick g h.pivot x
+placed_is_pick g k old new h urgent x l =
+    let n = urgent.all in
+    let rs = ranks (total g) g in
+    h.marks x (omega (arith, n, l))
+    ∙ ap (λ b. b || id_in (top rs k h.pivot h.best) x) (urgent.at x l)
+    ∙ ap (λ b. is_urgent (class g x) || b) (top_is rs k h.pivot h.best x ∙ any_in (total g) g x (reaches h.pivot) l)
+    ∙ picked_or (class g x) (reaches h.pivot (rank g x))
+
+if_below : (n : ℕ) (xs : List Parts) (b : Bool) (r : Parts) → r.id ≡ n → All (λ q. q.id < n) xs → All (λ q. q.id < suc n) (xs ++ if_rank b r)
+if_below n xs true r e h = All-push (λ q. q.id < suc n) xs r (All-weaker (λ q. q.id < n) (λ q. q.id < suc n) (λ q l. (let m : q.id < n = l in omega arith)) xs h) (omega arith)
+if_below n xs false r e h = rw append-nil (All-weaker (λ q. q.id < n) (λ q. q.id < suc n) (λ q l. (let m : q.id < n = l in omega arith)) xs h)
+
+-- the ranks' tasks are those of the ledger
+pub ranks_below : (n : ℕ) (g : Ledger) → All (λ q. q.id < n) (ranks n g)
+ranks_below zero g = All-nil (λ q. q.id < 0)
+ranks_below (suc n) g = if_below n (ranks n g) (is_contending (class g n)) (rank g n) refl (ranks_below n g)
+
+-- the flagged tasks are PF's row
+pub placed_is_pf : (g : Ledger) (m u : ℕ) (rs : List Parts) (old new : List Bool) → IsLedger g → rs ≡ ranks (total g) g → IsPlaced rs (m - u) old new → IsUrgentFlags g old → u ≡ urgent g → m ≡ g.set.workers → u ≤ m → IsPfRow g (members (length new) (marked new))
+placed_is_pf g m u rs old new h is placed urgent u_is m_is le =
+    let P : List Parts → Type 0 = λ xs. IsPlaced xs (m - u) old new in
+    let here : IsPlaced (ranks (total g) g) (m - u) old new = subst P is placed in
+    let pf : IsPf g (pick g here.pivot) = picks_pf g (m - u) here.pivot h here.best (omega arith) in
+    let len : length new ≡ total g = here.long ∙ urgent.all in
+    record {
+      set = pick g here.pivot;
+      pf = pf;
+      is = ap (λ n. members n (marked new)) len ∙ members-same (total g) (marked new) (pick g here.pivot) (placed_is_pick g (m - u) old new here urgent);
+    }
+
+-- a selection's pivot and those above it are of tasks that the ranks are of
+pub ids_after : (n : ℕ) (rs low high : List Parts) (r : Parts) → IsPermutation rs (low ++ r ∷ high) → All (λ q. q.id < n) rs → All (λ q. q.id < n) (r ∷ high)
+ids_after n rs low high r same h = all_right (λ q. q.id < n) low (r ∷ high) (All-permutation (λ q. q.id < n) rs (low ++ r ∷ high) same h)

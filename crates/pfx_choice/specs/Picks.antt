@@ -1,5 +1,5 @@
 -- The choice by a pivot: the rank that the best k of the contending tasks have at least.
-use Rattle.std.specs.Prelude.{◌≡◌, ℕ, zero, suc, ◌+◌, ◌<◌, Bool, true, false, List, [], ◌∷◌, ◌++◌, length, slice_index_or, Option, None, Some}
+use Rattle.std.specs.Prelude.{◌≡◌, ℕ, zero, suc, ◌+◌, ◌<◌, ◌==◌, ◌||◌, Bool, true, false, List, [], ◌∷◌, ◌++◌, length, slice_index_or, Option, None, Some}
 use Rattle.std.specs.declared.cmp.Ordering.{Ordering}
 use Rattle.std.specs.declared.cmp.Ordering.TheVariants.{Less, Equal, Greater}
 use Rattle.std.specs.List.Sorted.{IsPermutation, IsSplitAround}
@@ -7,12 +7,17 @@ use Rattle.pfx_symbols.specs.Ranks.{Parts, rank_cmp}
 use Rattle.pfx_symbols.specs.declared.kinds.Class.{Class}
 use Rattle.pfx_symbols.specs.declared.kinds.Class.TheVariants.{Contending, Urgent, Tnegru}
 use Rattle.pfx_columns.specs.Ledgers.{Ledger, total, class, rank}
-use Rattle.pfx_choice.specs.Choices.{is_contending}
+use Rattle.std.specs.List.{list_any}
+use Rattle.pfx_choice.specs.Choices.{is_urgent, is_contending}
 
--- the tasks' classes, by their numbers
-pub record IsClasses (g : Ledger) (cs : List Class) : Type 0 where
-  pub all : length cs ≡ total g
-  pub at : (x : ℕ) → x < total g → slice_index_or cs x Tnegru ≡ class g x
+-- the set that a list of flags marks
+abbrev pub marked : List Bool → ℕ → Bool
+marked flags x = slice_index_or flags x false
+
+-- a flag for each task, which says whether it is urgent
+pub record IsUrgentFlags (g : Ledger) (flags : List Bool) : Type 0 where
+  pub all : length flags ≡ total g
+  pub at : (x : ℕ) → x < total g → marked flags x ≡ is_urgent (class g x)
 
 abbrev pub if_rank : Bool → Parts → List Parts
 if_rank true r = r ∷ []
@@ -53,3 +58,19 @@ picked Tnegru b = false
 -- urgent, or contending and not below the pivot
 abbrev pub pick : Ledger → Option Parts → ℕ → Bool
 pick g o x = picked (class g x) (reaches o (rank g x))
+
+-- whether a task's number is among the ranks'
+abbrev pub id_in : List Parts → ℕ → Bool
+id_in qs x = list_any (λ q. q.id == x) qs
+
+-- the pivot and those above it
+abbrev pub top : (rs : List Parts) (k : ℕ) (o : Option Parts) → IsPivotFor rs k o → List Parts
+top rs k None p = []
+top rs k (Some r) p = r ∷ p.high
+
+-- the tasks of the best k of the ranks are marked, and the others as before
+pub record IsPlaced (rs : List Parts) (k : ℕ) (old new : List Bool) : Type 0 where
+  pub pivot : Option Parts
+  pub best : IsPivotFor rs k pivot
+  pub long : length new ≡ length old
+  pub marks : (x : ℕ) → x < length old → marked new x ≡ (marked old x || id_in (top rs k pivot best) x)

@@ -1,19 +1,17 @@
 //! The choice by selection: the contending ranks are split around the one that just has a place.
 
-ghost use Rattle.std.specs.Prelude.{◌≡◌, ◌≢◌, ◌+◌, ◌<◌, ◌≤◌, length, Ok, Err, MatchResult, OnOk};
-ghost use Rattle.pfx_symbols.specs.Ranks.{rank_cmp};
+ghost use Rattle.std.specs.Prelude.{◌≡◌, ℕ, ◌<◌, ◌≤◌, ◌||◌, ◌++◌, length, All, MatchResult, IfOk, OnOk};
 ghost use Rattle.pfx_weights.specs.Rows.{members};
-ghost use Rattle.pfx_columns.specs.Ledgers.{total, class};
-ghost use Rattle.pfx_choice.specs.Choices.{urgent, is_contending, IsChosen, Fails};
+ghost use Rattle.pfx_columns.specs.Ledgers.{total, rank};
+ghost use Rattle.pfx_choice.specs.Choices.{urgent, is_urgent, is_contending, IsChosen, Fails};
 ghost use Rattle.pfx_choice.specs.PfRows.{chosen, AnswersFunction};
-ghost use Rattle.pfx_choice.specs.Picks.{ranks, IsPivot, IsPivotFor, IsClasses, is_not_less, pick};
+ghost use Rattle.pfx_choice.specs.Picks.{ranks, if_rank, marked, id_in, IsUrgentFlags, IsPlaced};
 
 use crate::ChoiceFault;
 use pfx_columns::Columns;
-use pfx_symbols::{Class, Rank, compare};
+use pfx_symbols::{Class, Rank};
 use pfx_weights::Row;
 use std::alloc::{AllocError, Global};
-use std::cmp::Ordering;
 
 /// The slot at which no row is chosen any more.
 const LAST_SLOT: u64 = (1 << 40) - 1;
@@ -21,7 +19,7 @@ const LAST_SLOT: u64 = (1 << 40) - 1;
 /// Chooses the rows of slots, one after the other, and keeps the room that it takes for the next one.
 #[derive(Drop)]
 pub struct Chooser {
-    classes: Vec<Class>,
+    flags: Vec<bool>,
     ranks: Vec<Rank>,
     numbers: Vec<u16>,
 }
@@ -30,7 +28,7 @@ impl Chooser {
     /// A chooser with no room yet.
     pub fn new(alloc: Global) -> Chooser {
         Chooser {
-            classes: Vec::new(alloc),
+            flags: Vec::new(alloc),
             ranks: Vec::new(alloc),
             numbers: Vec::new(alloc),
         }
@@ -56,16 +54,12 @@ impl Chooser {
         }
         let m = ledger.workers();
         let _total = ledger.total();
-        let Ok(_) = class_all(&mut self.classes, ledger) else {
+        let Ok(urgent) = sort_out(&mut self.flags, &mut self.ranks, ledger) else {
             return Err(ChoiceFault::NoMemory);
         };
-        let urgent = urgent_count(ledger, &self.classes);
         if urgent > m {
             return Err(ChoiceFault::TooManyUrgent { urgent, m });
         }
-        let Ok(_) = rank_contending(&mut self.ranks, ledger, &self.classes) else {
-            return Err(ChoiceFault::NoMemory);
-        };
         let places = (m - urgent) as usize;
         let contending = self.ranks.len();
         if contending < places {
@@ -74,8 +68,8 @@ impl Chooser {
                 m,
             });
         }
-        let least = pivot_for(&mut self.ranks, places);
-        let Ok(_) = pick_all(&mut self.numbers, ledger, &self.classes, &least) else {
+        place_best(&mut self.flags, &mut self.ranks, places);
+        let Ok(_) = collect(&mut self.numbers, &self.flags) else {
             return Err(ChoiceFault::NoMemory);
         };
         match Row::new(&self.numbers) {
@@ -96,126 +90,90 @@ pub fn choose(alloc: Global, ledger: &Columns) -> Result<Row, ChoiceFault>
     Chooser::new(alloc).choose(ledger)
 }
 
-/// Each task's class.
-fn class_all(classes: &mut Vec<Class>, ledger: &Columns) -> Result<(), AllocError>
-    ensures { OnOk result (IsClasses ledger.now classes.new.items) }
+fn is_urgent_class(class: Class) -> bool
+    ensures { result ≡ is_urgent class }
 {
-    classes.clear();
-    for x in 0..ledger.total() {
-        classes.push(ledger.class(x))?;
-    }
-    Ok(())
+    matches!(class, Class::Urgent)
 }
 
-/// A task's class, as it was found.
-fn class_in(_ledger: &Columns, classes: &[Class], x: usize) -> Class
-    requires within { x < total _ledger.now }
-    requires found { IsClasses _ledger.now classes.now }
-    ensures { result ≡ class _ledger.now x }
+fn contends(class: Class) -> bool
+    ensures { result ≡ is_contending class }
 {
-    classes[x]
+    matches!(class, Class::Contending)
 }
 
-/// How many tasks are urgent.
-fn urgent_count(ledger: &Columns, classes: &[Class]) -> u32
-    requires { IsClasses ledger.now classes.now }
-    ensures number { result ≡ urgent ledger.now }
-    ensures within { result ≤ 1152 }
-{
-    let mut number: u32 = 0;
-    for x in 0..ledger.total() {
-        if matches!(class_in(ledger, classes, x), Class::Urgent) {
-            number += 1;
-        }
-    }
-    number
-}
-
-/// Whether a task contends.
-fn contends(ledger: &Columns, classes: &[Class], x: usize) -> bool
-    requires within { x < total ledger.now }
-    requires found { IsClasses ledger.now classes.now }
-    ensures { result ≡ is_contending (class ledger.now x) }
-{
-    matches!(class_in(ledger, classes, x), Class::Contending)
-}
-
-/// The ranks of the contending tasks.
-fn rank_contending(
+/// One rank more, where the task contends.
+fn gather(
     found: &mut Vec<Rank>,
     ledger: &Columns,
-    classes: &[Class],
+    x: usize,
+    contends: bool,
 ) -> Result<(), AllocError>
-    requires { IsClasses ledger.now classes.now }
-    ensures { OnOk result (found.new.items ≡ ranks (total ledger.now) ledger.now) }
+    requires { x < total ledger.now }
+    ensures { OnOk result (found.new.items ≡ found.old.items ++ if_rank contends (rank ledger.now x)) }
 {
-    found.clear();
-    for x in 0..ledger.total() {
-        if contends(ledger, classes, x) {
-            found.push(ledger.rank(x))?;
-        }
+    if contends {
+        found.push(ledger.rank(x))?;
     }
     Ok(())
 }
 
-/// The least of the `k` greatest ranks.
-fn pivot(ranks: &mut [Rank], k: usize) -> Rank
-    requires some { 0 < k }
-    requires within { k ≤ length ranks.old }
-    ensures { IsPivot ranks.old k result }
-{
-    let at = ranks.len() - k;
-    let (_, middle, _) = ranks.select_nth_unstable(at);
-    *middle
-}
-
-/// The least rank that has one of `k` places, where there is a place.
-fn pivot_for(ranks: &mut [Rank], k: usize) -> Option<Rank>
-    requires { k ≤ length ranks.old }
-    ensures { IsPivotFor ranks.old k result }
-{
-    if k == 0 { None } else { Some(pivot(ranks, k)) }
-}
-
-/// Whether a rank isn't below another.
-fn is_at_least(rank: &Rank, other: &Rank) -> bool
-    ensures { result ≡ is_not_less (rank_cmp rank.now other.now) }
-{
-    match compare(rank, other) {
-        Ordering::Less => false,
-        Ordering::Equal | Ordering::Greater => true,
-    }
-}
-
-/// Whether a task runs, where `least` is the least rank that has a place.
-fn is_picked(ledger: &Columns, classes: &[Class], least: &Option<Rank>, x: usize) -> bool
-    requires within { x < total ledger.now }
-    requires found { IsClasses ledger.now classes.now }
-    ensures { result ≡ pick ledger.now least.now x }
-{
-    match class_in(ledger, classes, x) {
-        Class::Urgent => true,
-        Class::Contending => match least {
-            Some(other) => is_at_least(&ledger.rank(x), other),
-            None => false,
-        },
-        Class::Tnegru => false,
-    }
-}
-
-/// The numbers of the tasks that run, rising.
-fn pick_all(
-    numbers: &mut Vec<u16>,
+/// Flags the urgent tasks and says how many there are, and gathers the ranks of the contending ones.
+fn sort_out(
+    flags: &mut Vec<bool>,
+    found: &mut Vec<Rank>,
     ledger: &Columns,
-    classes: &[Class],
-    least: &Option<Rank>,
-) -> Result<(), AllocError>
-    requires { IsClasses ledger.now classes.now }
-    ensures { OnOk result (numbers.new.items ≡ members (total ledger.now) (pick ledger.now least.now)) }
+) -> Result<u32, AllocError>
+    ensures number { IfOk result (λ number. number ≡ urgent ledger.now) }
+    ensures within { IfOk result (λ number. number ≤ 1152) }
+    ensures flags { OnOk result (IsUrgentFlags ledger.now flags.new.items) }
+    ensures ranks { OnOk result (found.new.items ≡ ranks (total ledger.now) ledger.now) }
+{
+    flags.clear();
+    found.clear();
+    let mut number: u32 = 0;
+    for x in 0..ledger.total() {
+        let class = ledger.class(x);
+        let urgent = is_urgent_class(class);
+        flags.push(urgent)?;
+        number += u32::from(urgent);
+        gather(found, ledger, x, contends(class))?;
+    }
+    Ok(number)
+}
+
+/// Flags the tasks of these ranks.
+fn flag_all(flags: &mut [bool], chosen: &[Rank])
+    requires { All (λ q. q.id < length flags.old) chosen.now }
+    ensures { (x : ℕ) → x < length flags.old → marked flags.new x ≡ (marked flags.old x || id_in chosen.now x) }
+{
+    for rank in chosen {
+        flags[usize::from(rank.id())] = true;
+    }
+}
+
+/// Flags the tasks of the `k` greatest ranks.
+fn place_best(flags: &mut [bool], ranks: &mut [Rank], k: usize)
+    requires within { k ≤ length ranks.old }
+    requires ids { All (λ q. q.id < length flags.old) ranks.old }
+    ensures { IsPlaced ranks.old k flags.old flags.new }
+{
+    if k > 0 {
+        let at = ranks.len() - k;
+        let (_, middle, high) = ranks.select_nth_unstable(at);
+        flags[usize::from(middle.id())] = true;
+        flag_all(flags, high);
+    }
+}
+
+/// The flagged tasks' numbers, rising.
+fn collect(numbers: &mut Vec<u16>, flags: &[bool]) -> Result<(), AllocError>
+    requires { length flags.now ≤ 1152 }
+    ensures { OnOk result (numbers.new.items ≡ members (length flags.now) (marked flags.now)) }
 {
     numbers.clear();
-    for x in 0..ledger.total() {
-        if is_picked(ledger, classes, least, x) {
+    for (x, flag) in flags.iter().enumerate() {
+        if *flag {
             numbers.push(x as u16)?;
         }
     }

@@ -1,30 +1,69 @@
-use Rattle.std.proofs.Common.{◌≡◌, ◌∙◌, ap, sym, subst, arith, length}
-use Rattle.pfx_weights.specs.Rows.{IsRow}
-use Rattle.pfx_choice.specs.Choices.{contending}
-use Rattle.pfx_choice.specs.Picks.{pick}
-use Rattle.pfx_choice.proofs.Picking.{length-ranks, picks_from, pf_is_row}
+use Rattle.std.proofs.Common.{◌≡◌, ◌≤◌, ◌<◌, ◌-◌, ◌++◌, ◌∙◌, ℕ, Bool, List, take, drop, ap, sym, subst, arith, length}
+use Rattle.std.specs.Prelude.{All}
+use Rattle.std.proofs.lemmas.List.{take_at}
+use Rattle.pfx_weights.specs.Rows.{IsRow, members}
+use Rattle.pfx_symbols.specs.Ranks.{Parts}
+use Rattle.pfx_columns.specs.Ledgers.{Ledger, total, IsLedger}
+use Rattle.pfx_choice.specs.Choices.{contending, IsPfRow, urgent}
+use Rattle.pfx_choice.specs.Picks.{ranks, marked, IsUrgentFlags, IsPlaced}
+use Rattle.pfx_choice.proofs.Picking.{length-ranks, ranks_below, placed_is_pf, pf_is_row}
 use Rattle.pfx_choice.proofs.chooser.Chooser.select.Goals as goal
 
 pub returns-then-contending-places : goal.returns-then-contending-places
 returns-then-contending-places c =
     let g = c.args.ledger.now in
-    let all : length c.rank_contending.new.found.items ≡ contending g = ap length c.in-Ok-rank_contending.ensures ∙ length-ranks g in
-    (omega (arith, c.slot.ensures, c.if-slot-ge-LAST_SLOT.false), omega (arith, c.urgent_count-urgent.ensures.number, c.len-contending.ensures), c.workers-m.ensures, omega arith)
+    let all : length c.sort_out.new.found.items ≡ contending g = ap length c.in-Ok.ensures.ranks ∙ length-ranks g in
+    (omega (arith, c.slot.ensures, c.if-slot-ge-LAST_SLOT.false), omega (arith, c.in-Ok.ensures.number, c.len-contending.ensures), c.workers-m.ensures, omega arith)
+
+pub place_best-requires : goal.place_best-requires
+place_best-requires c =
+    let g = c.args.ledger.now in
+    let n : length c.deref_mut.result.now ≡ total g = ap length c.deref_mut.ensures.value ∙ c.in-Ok.ensures.flags.all in
+    let P : List Parts → Type 0 = λ rs. All (λ q. q.id < length c.deref_mut.result.now) rs in
+    let is : c.deref_mut-2.result.now ≡ ranks (total g) g = c.deref_mut-2.ensures.value ∙ c.in-Ok.ensures.ranks in
+    let Below : ℕ → Type 0 = λ k. All (λ q. q.id < k) (ranks (total g) g) in
+    record {
+      within = omega (arith, c.deref_mut-2.ensures.len, c.len-contending.ensures, c.if-contending-places.false);
+      ids = subst P (sym is) (subst Below (sym n) (ranks_below (total g) g));
+    }
+
+-- the flags behind the vector are those that the placing left
+flags_left : (new old all : List Bool) (len : ℕ) → length new ≡ length old → len ≡ length old → all ≡ take len (new ++ drop (length new) old) → all ≡ new
+flags_left new old all len same is view = view ∙ take_at new (drop (length new) old) len (same ∙ sym is)
+
+pub collect-requires : goal.collect-requires
+collect-requires c =
+    let g = c.args.ledger.now in
+    let left = flags_left c.place_best.new.flags c.sort_out.new.flags.items c.deref.result.now c.sort_out.new.flags.len (c.place_best.auto.flags ∙ ap length c.deref_mut.ensures.value) c.sort_out.new.flags.ok.0 c.deref.ensures.value in
+    let n : length c.deref.result.now ≡ total g = ap length left ∙ c.place_best.auto.flags ∙ ap length c.deref_mut.ensures.value ∙ c.in-Ok.ensures.flags.all in
+    let few = c.total-total.ensures.ledger.set.number in
+    omega (arith, n, few)
+
+-- what is collected is PF's row
+collected : (g : Ledger) (m u : ℕ) (rs qs : List Parts) (flags old new all : List Bool) (numbers : List ℕ) → IsLedger g → qs ≡ rs → rs ≡ ranks (total g) g → old ≡ flags → IsUrgentFlags g flags → IsPlaced qs (m - u) old new → all ≡ new
+    → numbers ≡ members (length all) (marked all) → u ≡ urgent g → m ≡ g.set.workers → u ≤ m → IsPfRow g numbers
+collected g m u rs qs flags old new all numbers h same is seen urgent placed left collects u_is m_is le =
+    let Seen : List Bool → Type 0 = λ f. IsUrgentFlags g f in
+    let R : List ℕ → Type 0 = λ row. IsPfRow g row in
+    subst R (sym (collects ∙ ap (λ f. members (length f) (marked f)) left)) (placed_is_pf g m u qs old new h (same ∙ is) placed (subst Seen (sym seen) urgent) u_is m_is le)
 
 pub returns-in-Some : goal.returns-in-Some
 returns-in-Some c =
+    let g = c.args.ledger.now in
+    let left = flags_left c.place_best.new.flags c.sort_out.new.flags.items c.deref.result.now c.sort_out.new.flags.len (c.place_best.auto.flags ∙ ap length c.deref_mut.ensures.value) c.sort_out.new.flags.ok.0 c.deref.ensures.value in
+    let pf = collected g c.workers-m.result c.in-Ok.urgent c.sort_out.new.found.items c.deref_mut-2.result.now c.sort_out.new.flags.items c.deref_mut.result.now c.place_best.new.flags c.deref.result.now c.collect.new.numbers.items
+    c.total-total.ensures.ledger c.deref_mut-2.ensures.value c.in-Ok.ensures.ranks c.deref_mut.ensures.value c.in-Ok.ensures.flags c.place_best.ensures left c.in-Ok-collect.ensures c.in-Ok.ensures.number c.workers-m.ensures c.if-urgent-m.false in
+    let R : List ℕ → Type 0 = λ row. IsPfRow g row in
     record {
-      pf = record {
-        set = pick c.args.ledger.now c.pivot_for-least.result;
-        pf = picks_from c.args.ledger.now c.pivot_for-least.result c.deref_mut.result.now c.workers-m.result c.urgent_count-urgent.result c.total-total.ensures.ledger (c.deref_mut.ensures.value ∙ c.in-Ok-rank_contending.ensures) c.pivot_for-least.ensures c.urgent_count-urgent.ensures.number c.workers-m.ensures c.if-urgent-m.false;
-        is = c.in-Some.ensures.1 ∙ c.deref-4.ensures.value ∙ c.in-Ok-pick_all.ensures;
-      };
+      pf = subst R (sym (c.in-Some.ensures.1 ∙ c.deref-2.ensures.value)) pf;
       slot = omega (arith, c.slot.ensures, c.if-slot-ge-LAST_SLOT.false);
     }
 
 pub prove-unreachable-requires : goal.prove-unreachable-requires
 prove-unreachable-requires c =
     let g = c.args.ledger.now in
-    let none : IsRow c.deref-4.result.now → ⊥ = c.in-None.ensures in
-    let few = c.total-total.ensures.ledger.set.workers.1 in
-    none (subst IsRow (sym (c.deref-4.ensures.value ∙ c.in-Ok-pick_all.ensures)) (pf_is_row g (pick g c.pivot_for-least.result) (picks_from c.args.ledger.now c.pivot_for-least.result c.deref_mut.result.now c.workers-m.result c.urgent_count-urgent.result c.total-total.ensures.ledger (c.deref_mut.ensures.value ∙ c.in-Ok-rank_contending.ensures) c.pivot_for-least.ensures c.urgent_count-urgent.ensures.number c.workers-m.ensures c.if-urgent-m.false) few))
+    let left = flags_left c.place_best.new.flags c.sort_out.new.flags.items c.deref.result.now c.sort_out.new.flags.len (c.place_best.auto.flags ∙ ap length c.deref_mut.ensures.value) c.sort_out.new.flags.ok.0 c.deref.ensures.value in
+    let pf = collected g c.workers-m.result c.in-Ok.urgent c.sort_out.new.found.items c.deref_mut-2.result.now c.sort_out.new.flags.items c.deref_mut.result.now c.place_best.new.flags c.deref.result.now c.collect.new.numbers.items
+    c.total-total.ensures.ledger c.deref_mut-2.ensures.value c.in-Ok.ensures.ranks c.deref_mut.ensures.value c.in-Ok.ensures.flags c.place_best.ensures left c.in-Ok-collect.ensures c.in-Ok.ensures.number c.workers-m.ensures c.if-urgent-m.false in
+    let none : IsRow c.deref-2.result.now → ⊥ = c.in-None.ensures in
+    none (subst IsRow (sym c.deref-2.ensures.value) (pf_is_row g c.collect.new.numbers.items pf c.total-total.ensures.ledger.set.workers.1))

@@ -1,0 +1,219 @@
+//! The proved crates beside plain Rust programs of the same rules, in one run: slots a second of PF's choice, and steps a
+//! second of rule 110. Built and run by `bench/run`, which names the proved program `pfx_bench`. Only std is used.
+
+use std::cmp::Ordering;
+use std::process::Command;
+use std::time::Instant;
+
+// PF's choice
+
+struct Task {
+    e: u32,
+    p: u32,
+    lag: i32,
+    phase: u32,
+}
+
+#[derive(Clone, Copy)]
+struct Rank {
+    phase: u32,
+    e: u32,
+    p: u32,
+    id: u16,
+}
+
+fn steps(e: u32, x: u32) -> u32 {
+    x.div_ceil(e)
+}
+
+/// The order of two strings of symbols, by the gaps between the symbols that aren't minus.
+fn compare_gaps(mut a: (u32, u32, u32), mut b: (u32, u32, u32)) -> Ordering {
+    let mut turned = false;
+    let answer = loop {
+        let ((mut e, p, mut r), (mut f, q, mut s)) = (a, b);
+        if p < 2 * e && q < 2 * f && r > 0 && s > 0 {
+            (e, r, f, s, turned) = (p - e, p - r, q - f, q - s, !turned);
+        }
+        let (i, j) = (steps(e, p - r), steps(f, q - s));
+        if i != j {
+            break j.cmp(&i);
+        }
+        let (v, w) = (r + e * i - p, s + f * j - q);
+        if v == 0 || w == 0 {
+            break (v != 0).cmp(&(w != 0));
+        }
+        let (x, y) = (steps(e, p), steps(f, q));
+        if x != y {
+            break y.cmp(&x);
+        }
+        (a, b) = ((e * x - p, e, v), (f * y - q, f, w));
+    };
+    if turned { answer.reverse() } else { answer }
+}
+
+fn compare(a: &Rank, b: &Rank) -> Ordering {
+    let equal = (a.e, a.p, a.phase) == (b.e, b.p, b.phase);
+    let front = if equal {
+        Ordering::Equal
+    } else {
+        compare_gaps((a.e, a.p, (a.phase + a.e) % a.p), (b.e, b.p, (b.phase + b.e) % b.p))
+    };
+    front.then(b.id.cmp(&a.id))
+}
+
+fn plan(m: usize, weights: &[(u32, u32)], slots: u64) -> u64 {
+    let mut tasks: Vec<Task> = filled(m, weights).iter().map(|w| Task { e: w.0, p: w.1, lag: 0, phase: 0 }).collect();
+    let (mut row, mut ranks, mut sum) = (Vec::new(), Vec::new(), 0u64);
+    for _ in 0..slots {
+        row.clear();
+        ranks.clear();
+        for (x, task) in tasks.iter().enumerate() {
+            let symbol = (task.phase + task.e).cmp(&task.p);
+            match (task.lag.signum(), symbol) {
+                (1, Ordering::Equal | Ordering::Greater) => row.push(x as u16),
+                (-1, Ordering::Equal | Ordering::Less) => {}
+                _ => ranks.push(Rank { phase: task.phase, e: task.e, p: task.p, id: x as u16 }),
+            }
+        }
+        let places = m - row.len();
+        if places > 0 {
+            let at = ranks.len() - places;
+            ranks.select_nth_unstable_by(at, compare);
+            row.extend(ranks[at..].iter().map(|r| r.id));
+            row.sort_unstable();
+        }
+        let mut next = row.iter().copied().peekable();
+        for (x, task) in tasks.iter_mut().enumerate() {
+            task.lag += task.e as i32;
+            if next.next_if_eq(&(x as u16)).is_some() {
+                task.lag -= task.p as i32;
+            }
+            task.phase += task.e;
+            if task.phase >= task.p {
+                task.phase -= task.p;
+            }
+        }
+        for x in &row {
+            sum = sum.wrapping_mul(31).wrapping_add(u64::from(*x)).wrapping_add(1);
+        }
+    }
+    sum
+}
+
+/// The weights with idle tasks behind them.
+fn filled(m: usize, weights: &[(u32, u32)]) -> Vec<(u32, u32)> {
+    fn gcd(a: u64, b: u64) -> u64 {
+        if b == 0 { a } else { gcd(b, a % b) }
+    }
+    let hyper = weights.iter().fold(1u64, |l, w| l / gcd(l, u64::from(w.1)) * u64::from(w.1));
+    let taken: u64 = weights.iter().map(|w| u64::from(w.0) * (hyper / u64::from(w.1))).sum();
+    let mut rest = m as u64 * hyper - taken;
+    let mut all = weights.to_vec();
+    while rest > 0 {
+        let e = rest.min(hyper - 1);
+        all.push((e as u32, hyper as u32));
+        rest -= e;
+    }
+    all
+}
+
+const LONGEST: u32 = 1 << 20;
+
+fn share(p: u32, part: f64) -> (u32, u32) {
+    (((f64::from(p) * part) as u32).max(1), p)
+}
+
+/// The measured sets: name, workers, weights.
+fn sets() -> Vec<(&'static str, usize, Vec<(u32, u32)>)> {
+    vec![
+        ("3 tasks of 2/3 on 2", 2, vec![(2, 3); 3]),
+        ("16 tasks on 4", 4, (0..16).map(|i| share(720720 / (1 + i), 0.24)).collect()),
+        ("128 tasks on 16", 16, (0..128).map(|i| share(8 << (i % 18), 0.123)).collect()),
+        ("1024 tasks on 64", 64, (0..1024).map(|i| share(720720 / (1 + i % 16), 0.0611)).collect()),
+        ("hard: 2 long periods on 2", 2, vec![(LONGEST - 1, LONGEST), (LONGEST / 2 - 1, LONGEST / 2)]),
+        ("hard: 64 near 1 on 64", 64, (0..64).map(|i| (LONGEST - 1 - 2 * i, LONGEST)).collect()),
+        ("hard: 128 near 1/2 on 64", 64, (0..128).map(|i| (LONGEST / 2 - 1 - 2 * i, LONGEST)).collect()),
+        ("hard: 1024 near 1/16 on 64", 64, (0..1024).map(|i| (65535 - 2 * i, LONGEST)).collect()),
+    ]
+}
+
+// Rule 110, cell by cell
+
+fn rule(count: u64, width: usize) -> u64 {
+    let mut cells = vec![0u8; width];
+    cells[width - 1] = 1;
+    for _ in 0..count {
+        let old = cells.clone();
+        for i in 0..width {
+            let place = 4 * old[(i + width - 1) % width] + 2 * old[i] + old[(i + 1) % width];
+            cells[i] = 110 >> place & 1;
+        }
+    }
+    let mut bytes = [0u8; 128];
+    bytes[0] = 2;
+    bytes[5] = 110;
+    bytes[6..8].copy_from_slice(&(width as u16).to_le_bytes());
+    for (i, cell) in cells.iter().enumerate() {
+        bytes[8 + i / 8] |= cell << (7 - i % 8);
+    }
+    bytes.iter().fold(0u64, |sum, b| sum.wrapping_mul(31).wrapping_add(u64::from(*b)).wrapping_add(1))
+}
+
+// Measuring
+
+/// The sum and the seconds of the proved program.
+fn proved(program: &str, words: &[String]) -> (u64, f64) {
+    let ran = Command::new(program).args(words).output().expect("the proved program runs");
+    assert!(ran.status.success(), "{}", String::from_utf8_lossy(&ran.stderr));
+    let number = |text: &[u8]| String::from_utf8_lossy(text).trim().parse::<u64>().expect("a number");
+    (number(&ran.stdout), number(&ran.stderr) as f64 / 1e9)
+}
+
+/// Both programs' least seconds of three runs each, taken in turn, with the same result.
+fn both(count: u64, plain: impl Fn(u64) -> u64, program: &str, words: &[String]) -> (f64, f64) {
+    let (mut least_plain, mut least_proved) = (f64::MAX, f64::MAX);
+    for _ in 0..3 {
+        let start = Instant::now();
+        let sum = std::hint::black_box(plain(count));
+        least_plain = least_plain.min(start.elapsed().as_secs_f64());
+        let (other, seconds) = proved(program, words);
+        assert_eq!(sum, other, "both programs make the same");
+        least_proved = least_proved.min(seconds);
+    }
+    (least_plain, least_proved)
+}
+
+/// How many it takes for a run of about a quarter of a second.
+fn calibrated(plain: impl Fn(u64) -> u64) -> u64 {
+    let mut count = 64;
+    loop {
+        let start = Instant::now();
+        std::hint::black_box(plain(count));
+        if start.elapsed().as_secs_f64() > 0.25 {
+            return count;
+        }
+        count *= 2;
+    }
+}
+
+fn main() {
+    let program = std::env::args().nth(1).expect("the path of pfx_bench");
+    println!("{:<28} {:>14} {:>14} {:>7}", "PF's choice", "Rust slots/s", "pfx slots/s", "ratio");
+    for (name, m, weights) in sets() {
+        let run = |slots| plan(m, &weights, slots);
+        let count = calibrated(run);
+        let mut words = vec!["plan".to_string(), count.to_string(), m.to_string()];
+        words.extend(weights.iter().map(|w| format!("{}/{}", w.0, w.1)));
+        let (a, b) = both(count, run, &program, &words);
+        println!("{name:<28} {:>14.0} {:>14.0} {:>7.2}", count as f64 / a, count as f64 / b, a / b);
+    }
+    println!();
+    println!("{:<28} {:>14} {:>14} {:>7}", "rule 110", "Rust us/step", "pfx us/step", "ratio");
+    for width in [64usize, 512] {
+        let run = |count| rule(count, width);
+        let count = calibrated(run);
+        let words = ["rule".to_string(), count.to_string(), width.to_string()];
+        let (a, b) = both(count, run, &program, &words);
+        println!("{:<28} {:>14.3} {:>14.3} {:>7.2}", format!("{width} cells, cell by cell"), a * 1e6 / count as f64, b * 1e6 / count as f64, a / b);
+    }
+}

@@ -1,0 +1,115 @@
+//! What `bench/run` measures of the proved crates.
+//!
+//! `pfx_bench plan SLOTS WORKERS E/P E/P ..` plans that many slots of a set, and `pfx_bench rule STEPS WIDTH` takes that
+//! many steps of rule 110 on a ring. Each prints a sum over what it made, by which another program's result is compared,
+//! and on standard error how many nanoseconds it took.
+#![tactic(auto)]
+
+use pfx_choice::{Chooser, give};
+use pfx_columns::Columns;
+use pfx_jobs::job::Job;
+use pfx_kinds::any::AnyJob;
+use pfx_weights::{Row, TaskSet};
+use std::alloc::Global;
+use std::env;
+use std::process::ExitCode;
+use std::test::Fail;
+use std::time::Instant;
+
+/// One more row in the sum over all rows.
+fn mixed(sum: u64, row: &Row) -> u64 {
+    let mut sum = sum;
+    for x in row {
+        sum = sum
+            .wrapping_mul(31)
+            .wrapping_add(u64::from(*x))
+            .wrapping_add(1);
+    }
+    sum
+}
+
+/// The weight that a word `E/P` names.
+fn weight(word: &str) -> Result<(u32, u32), Fail> {
+    let (e, p) = word.split_once('/').ok_or("a weight is E/P")?;
+    Ok((e.parse::<u32>()?, p.parse::<u32>()?))
+}
+
+/// The sum over the rows of the first slots of a set.
+fn plan(alloc: Global, ledger: &mut Columns, slots: u64) -> Result<u64, Fail> {
+    let mut chooser = Chooser::new(alloc);
+    let mut sum = 0;
+    for _slot in 0..slots {
+        let row = chooser.choose(ledger)?;
+        give(ledger, &row);
+        sum = mixed(sum, &row);
+    }
+    Ok(sum)
+}
+
+/// The sum over the bytes of a job after its steps.
+fn run(job: &mut AnyJob, steps: u64) -> u64 {
+    for _step in 0..steps {
+        if !job.is_done() {
+            job.step();
+        }
+    }
+    let mut bytes = [0; 128];
+    job.encode(&mut bytes);
+    let mut sum = 0u64;
+    for byte in &bytes {
+        sum = sum
+            .wrapping_mul(31)
+            .wrapping_add(u64::from(*byte))
+            .wrapping_add(1);
+    }
+    sum
+}
+
+/// Rule 110 on a ring of this width, with one cell set.
+fn rule(alloc: Global, steps: u64, width: usize) -> Result<AnyJob, Fail> {
+    let mut text = String::new(alloc);
+    text.push_str("110:")?;
+    for _cell in 1..width {
+        text.push('0')?;
+    }
+    text.push('1')?;
+    Ok(AnyJob::start("rule", steps, text.as_bytes())?)
+}
+
+fn measure(rt: &HostRuntime, words: &[String]) -> Result<(), Fail> {
+    let alloc = rt.alloc();
+    let [_program, mode, count, rest @ ..] = words else {
+        return Err("plan SLOTS WORKERS E/P .. or rule STEPS WIDTH")?;
+    };
+    let count = count.parse::<u64>()?;
+    let [number, weights @ ..] = rest else {
+        return Err("a number of workers or cells")?;
+    };
+    if mode.as_str() == "rule" {
+        let mut job = rule(alloc, count, number.parse::<usize>()?)?;
+        let start = Instant::now(rt)?;
+        let sum = run(&mut job, count);
+        let took = start.elapsed(rt)?;
+        println!(rt; "{sum}")?;
+        eprintln!(rt; "{}", took.as_nanos())?;
+        return Ok(());
+    }
+    let mut tasks = Vec::new(alloc);
+    for word in weights {
+        tasks.push(weight(word.as_str())?)?;
+    }
+    let set = TaskSet::new(alloc, number.parse::<u32>()?, &tasks)?;
+    let mut ledger = Columns::zero(alloc, &set)?;
+    let start = Instant::now(rt)?;
+    let sum = plan(alloc, &mut ledger, count)?;
+    let took = start.elapsed(rt)?;
+    println!(rt; "{sum}")?;
+    eprintln!(rt; "{}", took.as_nanos())?;
+    Ok(())
+}
+
+fn main(rt: HostRuntime) -> Result<ExitCode, Fail> {
+    let words = env::args(&rt)?.collect::<Vec<String>>(rt.alloc())?;
+    measure(&rt, words.as_slice())?;
+    Ok(ExitCode::from(0))
+}
