@@ -1,5 +1,5 @@
 //! One step of a ring of cells, 64 cells at a time.
-ghost use Rattle.std.specs.Prelude.{◌≡◌, ℕ, ◌+◌, ◌*◌, ◌-◌, ◌/◌, ◌%◌, ◌<◌, ◌≤◌, IsTrue, cond, nat_lt, slice_index};
+ghost use Rattle.std.specs.Prelude.{◌≡◌, ℕ, ◌+◌, ◌*◌, ◌-◌, ◌<◌, ◌≤◌, IsTrue, cond, nat_lt};
 ghost use Rattle.std.specs.Int.{bit_at};
 ghost use Rattle.pfx_kinds.specs.Cells.{next_cells};
 ghost use Rattle.pfx_kinds.specs.Rings.{pick, IsRing};

@@ -1,8 +1,8 @@
-ghost use Rattle.std.specs.Prelude.{◌≡◌, ◌<◌, ◌≤◌, ◌+◌, ◌*◌, ℕ, IsTrue, MatchResult, Ok, Err, cond, nat_eq, slice_index, length};
-ghost use Rattle.pfx_kinds.specs.Cells.{cell_at, digits, packed};
-ghost use Rattle.pfx_kinds.specs.Starts.{rule_start, drawn, is_cell, is_ring};
+ghost use Rattle.std.specs.Prelude.{◌≡◌, ◌<◌, ◌≤◌, IsTrue, MatchResult, Ok, Err, length};
 ghost use Rattle.std.specs.List.{list_all};
+ghost use Rattle.pfx_kinds.specs.Cells.{cell_at, digits, packed};
 ghost use Rattle.pfx_kinds.specs.Rules.{rule_fits, is_clear_past};
+ghost use Rattle.pfx_kinds.specs.Starts.{rule_start, drawn, is_cell, is_ring};
 
 use crate::ring::next_cells;
 use crate::start::{StartFault, at_colon, decimal_within, is_count_of_steps};

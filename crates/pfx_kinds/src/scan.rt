@@ -1,7 +1,7 @@
-ghost use Rattle.std.specs.Prelude.{◌≡◌, ◌+◌, ◌<◌, ◌≤◌, ◌^◌, ◌-◌, ◌++◌, IsTrue, MatchResult, Ok, Err, length, replicate};
-ghost use Rattle.pfx_kinds.specs.Starts.{scan_start, scan_of, is_printable, is_search};
+ghost use Rattle.std.specs.Prelude.{◌≡◌, ◌+◌, ◌<◌, ◌≤◌, ◌-◌, ◌++◌, IsTrue, MatchResult, Ok, Err, length, replicate};
 ghost use Rattle.std.specs.List.{list_all};
-ghost use Rattle.pfx_kinds.specs.Scans.{scan_fits, scan_numbers_fit, are_zeros, places_of};
+ghost use Rattle.pfx_kinds.specs.Scans.{scan_fits, scan_numbers_fit, are_zeros};
+ghost use Rattle.pfx_kinds.specs.Starts.{scan_start, scan_of, is_printable, is_search};
 
 use crate::start::{StartFault, at_colon};
 use byteorder::{ByteOrder, LittleEndian};

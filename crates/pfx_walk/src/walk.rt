@@ -1,4 +1,4 @@
-ghost use Rattle.std.specs.Prelude.{◌≡◌, ◌<◌, ◌^◌, IsTrue};
+ghost use Rattle.std.specs.Prelude.{◌≡◌, IsTrue};
 ghost use Rattle.pfx_walk.specs.Walks.{walk_fits, drawn, moved};
 
 use byteorder::{ByteOrder, LittleEndian};
