@@ -1,7 +1,8 @@
 //! The program `pfx`.
 //!
 //! It does what its words ask for, over the system's own files. Where that fails it prints one fault line on standard
-//! error and ends with the fault's exit status. Help and version end with 0, words that it doesn't take with 2.
+//! error and ends with the fault's exit status: 3 where the set or the plan is refused, 5 where memory ran out, 8 where a
+//! file or an output failed. Help and version end with 0, words that it doesn't take with 2.
 #![tactic(auto)]
 
 ghost use Rattle.std.specs.Prelude.{◌≡◌, ◌⊎◌};
@@ -64,6 +65,14 @@ fn failed(rt: &HostRuntime, fault: Fault) -> u8
     fault.status()
 }
 
+// Says what is wrong with the words, where no parse does.
+fn refused(rt: &HostRuntime, why: &str) -> u8
+    ensures { result ≡ 2 }
+{
+    let _ = eprintln!(rt; "error: {why}\n\nFor more information, try '--help'.");
+    USAGE
+}
+
 // Answers words that ask for nothing to be done: by the help, the version or what was expected.
 fn answered(rt: &HostRuntime, error: &Error) -> u8 {
     if error.kind() == ErrorKind::OutOfMemory {
@@ -78,7 +87,7 @@ fn answered(rt: &HostRuntime, error: &Error) -> u8 {
 fn done(rt: &HostRuntime, alloc: Global, words: &[&str]) -> u8 {
     let request = match read_words(alloc, words) {
         Ok(Some(request)) => request,
-        Ok(None) => return USAGE,
+        Ok(None) => return refused(rt, "the words ask for nothing"),
         Err(error) => return answered(rt, &error),
     };
     let done = match request {
@@ -103,10 +112,7 @@ fn main(rt: HostRuntime) -> ExitCode {
         Err(error) if error.kind() == io::ErrorKind::OutOfMemory => {
             return ExitCode::from(failed(&rt, Fault::NoMemory));
         }
-        Err(_) => {
-            let _ = eprintln!(rt; "error: a word is no UTF-8 text");
-            return ExitCode::from(USAGE);
-        }
+        Err(_) => return ExitCode::from(refused(&rt, "a word isn't UTF-8 text")),
     };
     let mut words = Vec::new(alloc);
     for word in given.iter() {
