@@ -110,59 +110,61 @@ fn says_why_there_is_no_row(rt: HostRuntime) -> Result<(), Fail> {
     Ok(())
 }
 
+/// The first of so many slots of a set in which the choice and the plain program differ.
+fn differs(alloc: Global, m: u32, tasks: &[(u32, u32)], slots: u32) -> Result<Option<u64>, Fail> {
+    let mut ledger = start(alloc, m, tasks)?;
+    let mut chooser = Chooser::new(alloc);
+    for _slot in 0..slots {
+        let expected = plain::plain_row(alloc, &ledger)?;
+        let row = chooser.choose(&ledger)?;
+        if row.as_slice() != expected.as_slice() {
+            return Ok(Some(ledger.slot()));
+        }
+        give(&mut ledger, &row);
+    }
+    Ok(None)
+}
+
 #[test]
 fn agrees_with_the_plain_program(rt: HostRuntime) -> Result<(), Fail> {
     let alloc = rt.alloc();
-    let sets: [(u32, &[(u32, u32)], u32); 7] = [
-        (2, &[(2, 3), (2, 3), (2, 3)], 9),
-        (1, &[(1, 2), (1, 3)], 12),
-        (2, &[(4, 5)], 15),
-        (3, &[(5, 12), (7, 18), (1, 9), (11, 12), (1, 2)], 72),
-        (
-            4,
-            &[
-                (1, 7),
-                (2, 7),
-                (3, 7),
-                (4, 7),
-                (5, 7),
-                (6, 7),
-                (1, 14),
-                (13, 14),
-            ],
-            56,
-        ),
-        (2, &[(719, 720), (359, 360), (1, 720)], 200),
-        (
-            5,
-            &[
-                (3, 8),
-                (5, 8),
-                (7, 16),
-                (9, 16),
-                (31, 32),
-                (1, 32),
-                (15, 64),
-                (49, 64),
-                (1, 2),
-            ],
-            128,
-        ),
+    assert_eq!(rt; differs(alloc, 2, &[(2, 3), (2, 3), (2, 3)], 9)?, None);
+    assert_eq!(rt; differs(alloc, 1, &[(1, 2), (1, 3)], 12)?, None);
+    assert_eq!(rt; differs(alloc, 2, &[(4, 5)], 15)?, None);
+    let mixed = [(5, 12), (7, 18), (1, 9), (11, 12), (1, 2)];
+    assert_eq!(rt; differs(alloc, 3, &mixed, 72)?, None);
+    assert_eq!(rt;
+        differs(alloc, 2, &[(719, 720), (359, 360), (1, 720)], 200)?,
+        None
+    );
+    Ok(())
+}
+
+#[test]
+fn agrees_on_eight_and_nine_tasks(rt: HostRuntime) -> Result<(), Fail> {
+    let alloc = rt.alloc();
+    let eight = [
+        (1, 7),
+        (2, 7),
+        (3, 7),
+        (4, 7),
+        (5, 7),
+        (6, 7),
+        (1, 14),
+        (13, 14),
     ];
-    for (m, tasks, slots) in sets {
-        let mut ledger = start(alloc, m, tasks)?;
-        let mut chooser = Chooser::new(alloc);
-        for _slot in 0..slots {
-            let expected = plain::plain_row(alloc, &ledger)?;
-            let row = chooser.choose(&ledger)?;
-            assert_eq!(rt;
-                row.as_slice(),
-                expected.as_slice(),
-                "{tasks:?} at {}",
-                ledger.slot()
-            );
-            give(&mut ledger, &row);
-        }
-    }
+    assert_eq!(rt; differs(alloc, 4, &eight, 56)?, None);
+    let nine = [
+        (3, 8),
+        (5, 8),
+        (7, 16),
+        (9, 16),
+        (31, 32),
+        (1, 32),
+        (15, 64),
+        (49, 64),
+        (1, 2),
+    ];
+    assert_eq!(rt; differs(alloc, 5, &nine, 128)?, None);
     Ok(())
 }

@@ -40,23 +40,12 @@ fn goes_on_by_rows(rt: HostRuntime) -> Result<(), Fail> {
         ),
         (2, 3, 3, 3)
     );
-    // Each row, and the lags after it.
+    // Each row, and the lags and classes after it.
+    let (c, u, t) = (Class::Contending, Class::Urgent, Class::Tnegru);
     let slots: [([u16; 2], [i32; 3], [Class; 3]); 3] = [
-        (
-            [0, 1],
-            [-1, -1, 2],
-            [Class::Contending, Class::Contending, Class::Urgent],
-        ),
-        (
-            [0, 2],
-            [-2, 1, 1],
-            [Class::Tnegru, Class::Urgent, Class::Urgent],
-        ),
-        (
-            [1, 2],
-            [0, 0, 0],
-            [Class::Contending, Class::Contending, Class::Contending],
-        ),
+        ([0, 1], [-1, -1, 2], [c, c, u]),
+        ([0, 2], [-2, 1, 1], [t, u, u]),
+        ([1, 2], [0, 0, 0], [c, c, c]),
     ];
     for (numbers, expected, kinds) in slots {
         let row = Row::new(&numbers).ok_or("a row")?;
@@ -124,50 +113,31 @@ fn takes_given_allocations(rt: HostRuntime) -> Result<(), Fail> {
     let sixths: &[(u32, u32)] = &[(1, 3), (1, 3), (1, 6), (1, 6)];
     let thirds: &[(u32, u32)] = &[(2, 3), (2, 3), (5, 6), (5, 6)];
     let late = 1 << 39;
-    let rows: [(u32, &[(u32, u32)], u64, [u64; 4], Result<(), LedgerFault>); 8] = [
-        (1, sixths, 2, [0, 0, 1, 1], Ok(())),
-        (
-            1,
-            sixths,
-            2,
-            [0, 0, 2, 0],
-            Err(LedgerFault::OutOfRange { task: 2 }),
-        ),
-        (1, sixths, 2, [0, 0, 1, 0], Err(LedgerFault::WrongSum)),
-        (3, thirds, 2, [2, 2, 1, 1], Ok(())),
-        (1, sixths, 6, [2, 2, 1, 1], Ok(())),
-        (
-            1,
-            sixths,
-            6,
-            [2, 2, 1, u64::MAX],
-            Err(LedgerFault::OutOfRange { task: 3 }),
-        ),
-        (
-            1,
-            sixths,
-            6,
-            [0, 4, 1, 1],
-            Err(LedgerFault::OutOfRange { task: 0 }),
-        ),
-        (
-            3,
-            thirds,
-            late,
-            [late, 0, 0, 0],
-            Err(LedgerFault::OutOfRange { task: 0 }),
-        ),
+    // The first task that is out of range, if there is one.
+    let rows: [(u32, &[(u32, u32)], u64, [u64; 4], Option<u16>); 7] = [
+        (1, sixths, 2, [0, 0, 1, 1], None),
+        (1, sixths, 2, [0, 0, 2, 0], Some(2)),
+        (3, thirds, 2, [2, 2, 1, 1], None),
+        (1, sixths, 6, [2, 2, 1, 1], None),
+        (1, sixths, 6, [2, 2, 1, u64::MAX], Some(3)),
+        (1, sixths, 6, [0, 4, 1, 1], Some(0)),
+        (3, thirds, late, [late, 0, 0, 0], Some(0)),
     ];
-    for (m, tasks, slot, allocs, expected) in rows {
+    for (m, tasks, slot, allocs, first) in rows {
         let set = TaskSet::new(alloc, m, tasks)?;
         assert_eq!(rt; set.total(), 4);
+        let expected = match first {
+            Some(task) => Err(LedgerFault::OutOfRange { task }),
+            None => Ok(()),
+        };
         let got = Columns::from_allocations(alloc, &set, slot, &allocs);
         assert_eq!(rt; got.map(|_| ()), expected, "{allocs:?} at {slot}");
-        let first = match expected {
-            Err(LedgerFault::OutOfRange { task }) => Some(task),
-            _ => None,
-        };
         assert_eq!(rt; lag_check(&set, slot, &allocs), first);
     }
+    let set = TaskSet::new(alloc, 1, sixths)?;
+    assert_eq!(rt; set.total(), 4);
+    let got = Columns::from_allocations(alloc, &set, 2, &[0, 0, 1, 0]);
+    assert_eq!(rt; got.map(|_| ()), Err(LedgerFault::WrongSum));
+    assert_eq!(rt; lag_check(&set, 2, &[0, 0, 1, 0]), None);
     Ok(())
 }
