@@ -1,0 +1,94 @@
+-- Accepted commands keep a state a state.
+use Rattle.std.specs.Prelude.{◌≡◌, ℕ, ◌+◌, ◌<◌, ◌^◌, if◌then◌else◌, List, [], ◌∷◌, ◌++◌, length, nat_lt, Option, Some, None, Result, Ok, Err, refl}
+use Rattle.std.proofs.Common.{suc, sym, ◌∙◌, ap, subst, append_assoc, append-nil, inl, inr}
+use Rattle.std.proofs.lemmas.Bool.{cond-true, cond-false, cases_lt, lt-ltb, le-ltb}
+use Rattle.std.proofs.lemmas.Option.{none-some}
+use Rattle.std.specs.List.Sorted.{IsStrictlyIncreasing}
+use Rattle.pfx_weights.specs.Rows.{is_in}
+use Rattle.pfx_columns.specs.Ledgers.{Ledger, IsLedger, after}
+use Rattle.pfx_columns.proofs.Shown.{ledger_after}
+use Rattle.pfx_choice.specs.Choices.{IsChosen}
+use Rattle.pfx_choice.specs.PfRows.{chosen}
+use Rattle.pfx_choice.specs.declared.faults.ChoiceFault.{ChoiceFault}
+use Rattle.pfx_choice.proofs.Choosing.{row_fair}
+use Rattle.pfx_choice.proofs.PfFunction.{pf_function}
+use Rattle.pfx_choice.proofs.Planning.{pf_full}
+use Rattle.pfx_jobs.specs.Kind.{Kind, Laws}
+use Rattle.pfx_machine.specs.Faults.{machine_fault}
+use Rattle.pfx_machine.specs.Plain.{Plain, IsState}
+use Rattle.pfx_machine.specs.Happenings.{Happening, given, taken, ran, row_or_none}
+use Rattle.pfx_machine.specs.Outcome.{outcome}
+use Rattle.pfx_machine.specs.Refusals.{refusal, command_fault, slot_fault}
+use Rattle.pfx_machine.specs.Sessions.{AllAccepted, IsAcceptable}
+use Rattle.pfx_machine.specs.Steps.{jobs_step, ledger_step, state_step, happening_in}
+use Rattle.pfx_machine.specs.declared.command.Command.{Command}
+use Rattle.pfx_machine.specs.declared.command.Command.TheVariants.{Submit, Slot, Withdraw}
+use Rattle.pfx_machine.specs.declared.faults.MachineFault.{MachineFault}
+use Rattle.pfx_machine.specs.declared.faults.MachineFault.TheVariants.{NumberLimit}
+use Rattle.pfx_machine.proofs.Compose.{outcome-none}
+use Rattle.pfx_machine.proofs.Snoc.{outcome-snoc}
+
+-- a row that the function chooses is chosen
+pub chosen_is : (g : Ledger) (row : List ℕ) → chosen g ≡ Ok row → IsChosen g row
+chosen_is g row h = ((pf_function g).chosen_rows row).1 h
+
+-- the ledger after a chosen row
+pub ledger_after_row : (g : Ledger) (row : List ℕ) → IsLedger g → IsChosen g row → IsLedger (after g (is_in row))
+ledger_after_row g row h c = ledger_after g row h (pf_full g row h c.pf) c.slot (row_fair g row h c.pf)
+
+pub length-step : {J : Type 0} (K : Kind J) (i : ℕ) (h : Happening J) (jobs : List (Option J)) → length (jobs_step K i h jobs) ≡ length jobs
+length-step K i h [] = refl
+length-step K i h (o ∷ jobs) = ap suc (length-step K (i + 1) h jobs)
+
+below_limit : (n : ℕ) (o : Option MachineFault) → (if nat_lt (n + 1) (2 ^ 48) then o else Some NumberLimit) ≡ None → (n + 1 < 2 ^ 48) × (o ≡ None)
+below_limit n o h = elim (cases_lt (n + 1) (2 ^ 48)) [
+  | inl less ↦ (less, sym (cond-true _ o (Some NumberLimit) (lt-ltb (n + 1) (2 ^ 48) less)) ∙ h)
+  | inr more ↦ absurd (none-some NumberLimit (sym (sym (cond-false _ o (Some NumberLimit) (le-ltb (n + 1) (2 ^ 48) more)) ∙ h)))
+]
+
+slot_row : (r : Result (List ℕ) ChoiceFault) → slot_fault r ≡ None → r ≡ Ok (row_or_none r)
+slot_row (Ok row) h = refl
+slot_row (Err fault) h = absurd (none-some (machine_fault fault) (sym h))
+
+step_ledger : {J : Type 0} (K : Kind J) (s : Plain J) (c : Command J) → IsState s → command_fault K s c ≡ None → IsLedger (ledger_step s.ledger (happening_in s c))
+step_ledger K s (Submit task job) h accepted = h.ledger
+step_ledger K s (Withdraw task) h accepted = h.ledger
+step_ledger K s Slot h accepted =
+    let row = row_or_none (chosen s.ledger) in
+    ledger_after_row s.ledger row h.ledger (chosen_is s.ledger row (slot_row (chosen s.ledger) accepted))
+
+same_real : {J : Type 0} (g : Ledger) (h : Happening J) → (ledger_step g h).set.real ≡ g.set.real
+same_real g (given task job) = refl
+same_real g (taken task) = refl
+same_real g (ran slot row) = refl
+
+pub state_goes_on : {J : Type 0} (K : Kind J) (s : Plain J) (c : Command J) → IsState s → refusal K s c ≡ None → IsState (state_step K s (happening_in s c))
+state_goes_on K s c h accepted =
+    let parts = below_limit s.number (command_fault K s c) accepted in
+    record {
+      number = parts.0;
+      ledger = step_ledger K s c h parts.1;
+      jobs = length-step K 0 (happening_in s c) s.jobs ∙ (h.jobs ∙ sym (same_real s.ledger (happening_in s c)));
+    }
+
+states_behind : {J : Type 0} (K : Kind J) (L : Laws K) (B : Plain J) (before H G : List (Command J)) → IsState (outcome K B before) → AllAccepted K B before (H ++ G) → IsState (outcome K B (before ++ H))
+states_behind K L B before [] G h all = subst (λ xs. IsState (outcome K B xs)) (sym (append-nil before)) h
+states_behind K L B before (c ∷ H) G h all =
+    let next : IsState (outcome K B (before ++ c ∷ [])) = subst IsState (sym (outcome-snoc K L B before c)) (state_goes_on K (outcome K B before) c h all.0) in
+    subst (λ xs. IsState (outcome K B xs)) (append_assoc before (c ∷ []) H) (states_behind K L B (before ++ c ∷ []) H G next all.1)
+
+pub prefix_is_state : {J : Type 0} (K : Kind J) (L : Laws K) (B : Plain J) → IsState B → (H G : List (Command J)) → IsAcceptable K B (H ++ G) → IsState (outcome K B H)
+prefix_is_state K L B h H G all = states_behind K L B [] H G (subst IsState (sym (outcome-none K B)) h) all
+
+-- the state after a chosen row
+pub row_goes_on : {J : Type 0} (K : Kind J) (s : Plain J) (row : List ℕ) (jobs : List (Option J)) (ledger : Ledger) → IsState s → s.number + 1 < 2 ^ 48 →
+    chosen s.ledger ≡ Ok row → length jobs ≡ length s.jobs → ledger ≡ after s.ledger (is_in row) → IsState (record { number = s.number + 1; ledger = ledger; jobs = jobs })
+row_goes_on K s row jobs ledger h below is long given_is = record {
+  number = below;
+  ledger = subst IsLedger (sym given_is) (ledger_after_row s.ledger row h.ledger (chosen_is s.ledger row is));
+  jobs = long ∙ (h.jobs ∙ sym (ap (λ (g : Ledger). g.set.real) given_is));
+}
+
+-- a chosen row rises
+pub chosen_rises : (g : Ledger) (row : List ℕ) → IsLedger g → chosen g ≡ Ok row → IsStrictlyIncreasing row
+chosen_rises g row h is = (pf_full g row h (chosen_is g row is).pf).rising.1

@@ -1,0 +1,11 @@
+pub mod Compose
+pub mod Dealt
+pub mod Keeping
+pub mod Places
+pub mod PlainLemmas
+pub mod Rising
+pub mod RunLemmas
+pub mod Serving
+pub mod SessionLemmas
+pub mod Snoc
+mod Examples

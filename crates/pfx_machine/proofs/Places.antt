@@ -1,0 +1,61 @@
+-- A job given or taken is a write at the task's place.
+use Rattle.std.specs.Prelude.{◌≡◌, ℕ, ◌+◌, ◌<◌, List, [], ◌∷◌, Option, Some, None, Ok, refl, slice_set}
+use Rattle.std.proofs.Common.{zero, suc, sym, ◌∙◌, ap, ap₂, arith, eq-eqb}
+use Rattle.std.proofs.lemmas.Bool.{cond-true, cond-false, ne_eqb}
+use Rattle.pfx_jobs.specs.Kind.{Kind}
+use Rattle.pfx_weights.specs.Rows.{is_in}
+use Rattle.pfx_columns.specs.Ledgers.{Ledger, after}
+use Rattle.pfx_choice.specs.PfRows.{chosen}
+use Rattle.pfx_machine.specs.Plain.{Plain}
+use Rattle.pfx_machine.specs.Happenings.{given, taken, ran, row_or_none}
+use Rattle.pfx_machine.specs.Steps.{jobs_step, served, state_step, happening_in}
+use Rattle.pfx_machine.specs.declared.command.Command.TheVariants.{Slot}
+use Rattle.pfx_machine.proofs.Serving.{served-slot}
+
+given_before : {J : Type 0} (K : Kind J) (t i : ℕ) (job : J) (jobs : List (Option J)) → t < i → jobs_step K i (given t job) jobs ≡ jobs
+given_before K t i job [] h = refl
+given_before K t i job (o ∷ jobs) h = ap₂ ◌∷◌ (cond-false _ _ _ (ne_eqb t i (λ e. omega arith))) (given_before K t (i + 1) job jobs (omega arith))
+
+given_from : {J : Type 0} (K : Kind J) (t i k : ℕ) (job : J) (jobs : List (Option J)) → t ≡ i + k → jobs_step K i (given t job) jobs ≡ slice_set jobs k (Some job)
+given_from K t i k job [] e = refl
+given_from K t i zero job (o ∷ jobs) e = ap₂ ◌∷◌ (cond-true _ _ _ (eq-eqb t i (omega arith))) (given_before K t (i + 1) job jobs (omega arith))
+given_from K t i (suc k) job (o ∷ jobs) e = ap₂ ◌∷◌ (cond-false _ _ _ (ne_eqb t i (λ (f : t ≡ i). omega arith))) (given_from K t (i + 1) k job jobs (omega arith))
+
+pub jobs_step-given : {J : Type 0} (K : Kind J) (t : ℕ) (job : J) (jobs : List (Option J)) → jobs_step K 0 (given t job) jobs ≡ slice_set jobs t (Some job)
+jobs_step-given K t job jobs = given_from K t 0 t job jobs (omega arith)
+
+taken_before : {J : Type 0} (K : Kind J) (t i : ℕ) (jobs : List (Option J)) → t < i → jobs_step K i (taken t) jobs ≡ jobs
+taken_before K t i [] h = refl
+taken_before K t i (o ∷ jobs) h = ap₂ ◌∷◌ (cond-false _ _ _ (ne_eqb t i (λ e. omega arith))) (taken_before K t (i + 1) jobs (omega arith))
+
+taken_from : {J : Type 0} (K : Kind J) (t i k : ℕ) (jobs : List (Option J)) → t ≡ i + k → jobs_step K i (taken t) jobs ≡ slice_set jobs k None
+taken_from K t i k [] e = refl
+taken_from K t i zero (o ∷ jobs) e = ap₂ ◌∷◌ (cond-true _ _ _ (eq-eqb t i (omega arith))) (taken_before K t (i + 1) jobs (omega arith))
+taken_from K t i (suc k) (o ∷ jobs) e = ap₂ ◌∷◌ (cond-false _ _ _ (ne_eqb t i (λ (f : t ≡ i). omega arith))) (taken_from K t (i + 1) k jobs (omega arith))
+
+pub jobs_step-taken : {J : Type 0} (K : Kind J) (t : ℕ) (jobs : List (Option J)) → jobs_step K 0 (taken t) jobs ≡ slice_set jobs t None
+jobs_step-taken K t jobs = taken_from K t 0 t jobs (omega arith)
+
+-- the whole state after a command, by what changed
+
+pub state_step-given : {J : Type 0} (K : Kind J) (s : Plain J) (t : ℕ) (job : J) →
+    record { number = s.number + 1; ledger = s.ledger; jobs = slice_set s.jobs t (Some job) } ≡ state_step K s (given t job)
+state_step-given K s t job =
+    let jobs = sym (jobs_step-given K t job s.jobs) in
+    λ i. record { number = s.number + 1; ledger = s.ledger; jobs = jobs i }
+
+pub state_step-taken : {J : Type 0} (K : Kind J) (s : Plain J) (t : ℕ) →
+    record { number = s.number + 1; ledger = s.ledger; jobs = slice_set s.jobs t None } ≡ state_step K s (taken t)
+state_step-taken K s t =
+    let jobs = sym (jobs_step-taken K t s.jobs) in
+    λ i. record { number = s.number + 1; ledger = s.ledger; jobs = jobs i }
+
+pub state_step-row : {J : Type 0} (K : Kind J) (s : Plain J) (row : List ℕ) (jobs : List (Option J)) (ledger : Ledger) →
+    chosen s.ledger ≡ Ok row → jobs ≡ served K row s.jobs → ledger ≡ after s.ledger (is_in row) →
+    record { number = s.number + 1; ledger = ledger; jobs = jobs } ≡ state_step K s (happening_in s Slot)
+state_step-row K s row jobs ledger is served_is given_is =
+    let row_is : row ≡ row_or_none (chosen s.ledger) = sym (ap row_or_none is) in
+    let ledgers : ledger ≡ after s.ledger (is_in (row_or_none (chosen s.ledger))) = given_is ∙ ap (λ r. after s.ledger (is_in r)) row_is in
+    let jobs_are : jobs ≡ jobs_step K 0 (ran s.ledger.slot (row_or_none (chosen s.ledger))) s.jobs =
+    served_is ∙ (served-slot K 0 s.ledger.slot row s.jobs ∙ ap (λ r. jobs_step K 0 (ran s.ledger.slot r) s.jobs) row_is) in
+    λ i. record { number = s.number + 1; ledger = ledgers i; jobs = jobs_are i }

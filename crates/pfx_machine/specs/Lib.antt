@@ -1,0 +1,11 @@
+pub mod Board
+pub mod Faults
+pub mod Happenings
+pub mod Outcome
+pub mod Plain
+pub mod Refusals
+pub mod Rising
+pub mod Runs
+pub mod Sessions
+pub mod Slots
+pub mod Steps

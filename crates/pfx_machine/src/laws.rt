@@ -1,0 +1,33 @@
+//! What holds of every list of commands, each the contract of a function without a body.
+
+ghost use Rattle.std.specs.Prelude.{◌≡◌, ℕ, List, ◌++◌, Option};
+ghost use Rattle.pfx_machine.specs.Plain.{Plain, IsState};
+ghost use Rattle.pfx_machine.specs.Happenings.{happenings};
+ghost use Rattle.pfx_machine.specs.Outcome.{outcome, quanta_of};
+ghost use Rattle.pfx_machine.specs.Rising.{RisesFrom};
+ghost use Rattle.pfx_machine.specs.Sessions.{IsAcceptable};
+ghost use Rattle.pfx_machine.specs.Runs.{accepted};
+ghost use Rattle.pfx_machine.specs.declared.command.Command.{Command};
+
+use pfx_jobs::job::Job;
+
+/// Commands from the outcome of earlier ones give the outcome of all of them.
+pub fn outcomes_compose<J: Job>()
+    ensures { (B : Plain J) (H G : List (Command J)) → outcome J.kind (outcome J.kind B H) G ≡ outcome J.kind B (H ++ G) }
+{}
+
+/// At every prefix of an acceptable list from a state, the outcome is a state: above all every lag lies strictly between
+/// minus one and one. (That each job is its start stepped once for each of its quanta is how the outcome is said.)
+pub fn prefixes_are_states<J: Job>()
+    ensures { (B : Plain J) → IsState B → (H G : List (Command J)) → IsAcceptable J.kind B (H ++ G) → IsState (outcome J.kind B H) }
+{}
+
+/// What `run` accepts of a list is acceptable.
+pub fn accepted_is_acceptable<J: Job>()
+    ensures { (B : Plain J) (H : List (Command J)) → IsAcceptable J.kind B (accepted J.kind B H) }
+{}
+
+/// The quanta of a job are different slots, none before the start: no slot steps a job twice.
+pub fn quanta_are_apart<J: Job>()
+    ensures { (B : Plain J) (H : List (Command J)) (task : ℕ) (before : Option J) → RisesFrom B.ledger.slot (quanta_of J.kind task before (happenings B H)) }
+{}

@@ -1,0 +1,35 @@
+//! The machine: commands, and the state after them.
+//!
+//! Commands give a task a job (`Submit`), run one slot (`Slot`) or take a task's job away (`Withdraw`). Their meaning is
+//! said over whole lists of commands from a start, and never by the machine's own loop:
+//!
+//! - the rows of a list: for each Slot PF's row over the rows before it;
+//! - the quanta of a job: its span runs from the command that gave it to the next one that changes its task's job, or to
+//!   the end; its quanta are the first slots of the span whose row holds its task, as many as it had steps left;
+//! - the state of a job: its start, stepped once for each quantum;
+//! - the outcome of a list: the last number, the ledger after the rows, each task's job, and each command's reply.
+//!
+//! `State` is that outcome, kept a command at a time: after `apply` it is the outcome of the list with the command added.
+//! A slot may also be opened, its quanta run elsewhere and in any order, and sealed, with the same result. `run` takes a
+//! whole list. At every moment every lag lies strictly between minus one and one.
+#![tactic(auto)]
+
+mod board;
+mod command;
+mod faults;
+pub mod laws;
+mod plain;
+mod runs;
+mod slot;
+mod state;
+
+pub use board::{Board, JobStatus, TaskLine};
+pub use command::{Command, Reply};
+pub use faults::MachineFault;
+pub use plain::{Happening, plain_job, plain_slots};
+pub use runs::{Answer, run};
+pub use slot::run_all;
+pub use state::State;
+
+#[cfg(test)]
+mod tests;

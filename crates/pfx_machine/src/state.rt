@@ -1,0 +1,306 @@
+//! The machine's state.
+
+ghost use Rattle.std.specs.Prelude.{◌≡◌, ◌+◌, ◌<◌, ◌≤◌, ◌^◌, ◌++◌, [], ◌∷◌, List, length, map, replicate, slice_get, Some, None, Ok, MatchResult, IfOk, OnOk, OnErr};
+ghost use Rattle.std.specs.Option.{option_copied};
+ghost use Rattle.pfx_columns.specs.Ledgers.{start};
+ghost use Rattle.pfx_choice.specs.PfRows.{chosen};
+ghost use Rattle.pfx_machine.specs.Plain.{Plain, IsState, empty};
+ghost use Rattle.pfx_machine.specs.Outcome.{outcome};
+ghost use Rattle.pfx_machine.specs.Steps.{state_step, happening_in};
+ghost use Rattle.pfx_machine.specs.Refusals.{submit_fault, withdraw_fault, refusal, reply, IsFaultOf};
+ghost use Rattle.pfx_machine.specs.Slots.{deal, deals_in};
+ghost use Rattle.pfx_machine.specs.declared.command.Command.{Command};
+
+use crate::faults::fault_of_choice;
+use crate::slot::{deal_all, serve_all, write_back};
+use crate::{Command, MachineFault, Reply};
+use pfx_choice::{Chooser, give};
+use pfx_columns::Columns;
+use pfx_jobs::job::Job;
+use pfx_jobs::quantum::{Done, Quantum};
+use pfx_weights::{Row, TaskSet};
+use std::alloc::{AllocError, Global};
+use std::marker::Model;
+
+/// The greatest command number.
+const LAST_NUMBER: u64 = (1 << 48) - 1;
+
+/// A ledger, a job or none for each real task, and the number of the last command.
+///
+/// The ledger is fair, the number is below 2^48, and there is a place for a job for each real task.
+#[derive(Drop)]
+pub struct State<J: Job> {
+    number: u64,
+    ledger: Columns,
+    jobs: Vec<Option<J>>,
+    chooser: Chooser,
+}
+
+impl<J: Job> Model for State<J> {
+    ghost use Rattle.pfx_machine.specs.Plain.{Plain, IsState};
+
+    ghost Value = { Plain J };
+
+    ghost view = { λ s. record { number = s.number; ledger = s.ledger; jobs = s.jobs.items } };
+
+    ghost invariant = { λ s. IsState (record { number = s.number; ledger = s.ledger; jobs = s.jobs.items }) };
+}
+
+/// Why a job can't be given to a task.
+fn fault_of_submit<J: Job>(jobs: &[Option<J>], task: u16) -> Option<MachineFault>
+    ensures { result ≡ submit_fault J.kind task (slice_get jobs.now task) }
+{
+    match jobs.get(usize::from(task)) {
+        None => Some(MachineFault::NoSuchTask { task }),
+        Some(None) => None,
+        Some(Some(job)) => {
+            if job.is_done() {
+                None
+            } else {
+                Some(MachineFault::TaskBusy { task })
+            }
+        }
+    }
+}
+
+/// Why a task's job can't be taken away.
+fn fault_of_withdraw<J: Job>(jobs: &[Option<J>], task: u16) -> Option<MachineFault>
+    ensures { result ≡ withdraw_fault task (slice_get jobs.now task) }
+{
+    match jobs.get(usize::from(task)) {
+        None => Some(MachineFault::NoSuchTask { task }),
+        Some(None) => Some(MachineFault::NoJob { task }),
+        Some(Some(_)) => None,
+    }
+}
+
+fn copy_one<J: Job>(place: &Option<J>) -> Option<J>
+    ensures { result ≡ place.now }
+{
+    match place {
+        Some(job) => Some(job.copy_of()),
+        None => None,
+    }
+}
+
+fn copy_jobs<J: Job>(alloc: Global, jobs: &[Option<J>]) -> Result<Vec<Option<J>>, AllocError>
+    ensures { IfOk result (λ copies. copies.items ≡ jobs.now) }
+{
+    let mut copies = Vec::with_capacity(alloc, jobs.len())?;
+    for place in jobs {
+        copies.push(copy_one(place))?;
+    }
+    Ok(copies)
+}
+
+fn no_jobs<J: Job>(alloc: Global, number: usize) -> Result<Vec<Option<J>>, AllocError>
+    ensures { IfOk result (λ jobs. jobs.items ≡ replicate number None) }
+{
+    let mut jobs = Vec::with_capacity(alloc, number)?;
+    for _task in 0..number {
+        jobs.push(None)?;
+    }
+    Ok(jobs)
+}
+
+impl<J: Job> State<J> {
+    /// The state of a set before its first command: number 0, slot 0, no allocations and no jobs.
+    ///
+    /// An error comes only where a growth of memory was refused.
+    pub fn new(alloc: Global, set: &TaskSet) -> Result<State<J>, AllocError>
+        ensures { IfOk result (λ s. s ≡ empty set.now) }
+    {
+        let ledger = Columns::zero(alloc, set)?;
+        let jobs = no_jobs(alloc, set.real())?;
+        let _total = ledger.total();
+        Ok(State {
+            number: 0,
+            ledger,
+            jobs,
+            chooser: Chooser::new(alloc),
+        })
+    }
+
+    /// The state of a ledger, with the number of the last command and a job or none for each real task.
+    pub fn from_parts(alloc: Global, number: u64, ledger: Columns, jobs: Vec<Option<J>>) -> State<J>
+        requires number { number < 2 ^ 48 }
+        requires jobs { length jobs.items ≡ ledger.set.real }
+        ensures number { result.number ≡ number }
+        ensures ledger { result.ledger ≡ ledger }
+        ensures jobs { result.jobs ≡ jobs.items }
+    {
+        let _total = ledger.total();
+        State {
+            number,
+            ledger,
+            jobs,
+            chooser: Chooser::new(alloc),
+        }
+    }
+
+    /// The number of the last command, 0 before the first.
+    pub fn number(&self) -> u64
+        ensures number { result ≡ self.now.number }
+
+        // The ledger is fair, the number is below 2^48, and there is a place for a job for each real task.
+        ensures state { IsState self.now }
+    {
+        self.number
+    }
+
+    /// The ledger: the set, the slot to come, and each task's allocations, lag and phase.
+    pub fn columns(&self) -> &Columns
+        ensures { result.now ≡ self.now.ledger }
+    {
+        &self.ledger
+    }
+
+    /// The job of a real task, as it is now.
+    pub fn job(&self, task: u16) -> Option<&J>
+        requires { task < length self.now.jobs }
+        ensures { slice_get self.now.jobs task ≡ Some (option_copied result) }
+    {
+        let jobs = &self.jobs;
+        jobs[usize::from(task)].as_ref()
+    }
+
+    /// The jobs of all real tasks, by task number.
+    pub fn jobs(&self) -> &[Option<J>]
+        ensures { result.now ≡ self.now.jobs }
+    {
+        &self.jobs
+    }
+
+    /// An equal state. An error comes only where a growth of memory was refused.
+    pub fn copy_of(&self, alloc: Global) -> Result<State<J>, AllocError>
+        ensures { IfOk result (λ copy. copy ≡ self.now) }
+    {
+        let ledger = self.ledger.copy_of(alloc)?;
+        let jobs = copy_jobs(alloc, &self.jobs)?;
+        Ok(State {
+            number: self.number,
+            ledger,
+            jobs,
+            chooser: Chooser::new(alloc),
+        })
+    }
+
+    /// One step of the machine.
+    fn accept(&mut self, command: Command<J>) -> Result<Reply, MachineFault>
+        ensures exact { MatchResult result (λ _. refusal J.kind self.old command ≡ None) (λ fault. IsFaultOf J.kind self.old command fault) }
+        ensures reply { IfOk result (λ said. said ≡ reply self.old command) }
+        ensures step { OnOk result (self.new ≡ state_step J.kind self.old (happening_in self.old command)) }
+        ensures kept { OnErr result (self.new ≡ self.old) }
+    {
+        if self.number >= LAST_NUMBER {
+            return Err(MachineFault::NumberLimit);
+        }
+        match command {
+            Command::Submit { task, job } => {
+                if let Some(fault) = fault_of_submit(&self.jobs, task) {
+                    return Err(fault);
+                }
+                self.jobs[usize::from(task)] = Some(job);
+                self.number += 1;
+                Ok(Reply::Submitted { task })
+            }
+            Command::Withdraw { task } => {
+                if let Some(fault) = fault_of_withdraw(&self.jobs, task) {
+                    return Err(fault);
+                }
+                self.jobs[usize::from(task)] = None;
+                self.number += 1;
+                Ok(Reply::Withdrawn { task })
+            }
+            Command::Slot => match self.chooser.choose(&self.ledger) {
+                Err(fault) => Err(fault_of_choice(fault)),
+                Ok(row) => Ok(self.run_row(row)),
+            },
+        }
+    }
+
+    /// The slot of a chosen row.
+    fn run_row(&mut self, row: Row) -> Reply
+        requires number { self.old.number + 1 < 2 ^ 48 }
+        requires row { chosen self.old.ledger ≡ Ok row }
+        ensures reply { result ≡ reply self.old Command.Slot }
+        ensures step { self.new ≡ state_step J.kind self.old (happening_in self.old Command.Slot) }
+    {
+        let slot = self.ledger.slot();
+        serve_all(&mut self.jobs, &row);
+        give(&mut self.ledger, &row);
+        self.number += 1;
+        Reply::Ran { slot, row }
+    }
+
+    /// A whole command, on one thread.
+    ///
+    /// Where the state is the outcome of commands from some start, it is afterwards the outcome of these and this one. A
+    /// command is refused by the first of these that holds, and then nothing changes: NumberLimit; for a Submit
+    /// NoSuchTask, TaskBusy; for a Withdraw NoSuchTask, NoJob; for a Slot SlotLimit, TooManyUrgent, TooFewEligible.
+    /// NoMemory comes only for a Slot, and only where a growth of memory was refused.
+    pub fn apply(&mut self, command: Command<J>) -> Result<Reply, MachineFault>
+        ensures exact { MatchResult result (λ _. refusal J.kind self.old command ≡ None) (λ fault. IsFaultOf J.kind self.old command fault) }
+        ensures reply { IfOk result (λ said. said ≡ reply self.old command) }
+        ensures outcome { OnOk result ((B : Plain J) (H : List (Command J)) → self.old ≡ outcome J.kind B H → self.new ≡ outcome J.kind B (H ++ command ∷ [])) }
+        ensures kept { OnErr result (self.new ≡ self.old) }
+    {
+        self.accept(command)
+    }
+
+    /// The row of the next slot, and a quantum for each of its tasks with an unfinished job, in rising task order. The
+    /// state stays as it is. It is refused as a Slot is, in the same order.
+    pub fn open_slot(&mut self, alloc: Global) -> Result<(Row, Vec<Quantum<J>>), MachineFault>
+        ensures row { IfOk result (λ opened. chosen self.old.ledger ≡ Ok opened.0) }
+        ensures number { OnOk result (self.old.number + 1 < 2 ^ 48) }
+        ensures quanta { IfOk result (λ opened. map (λ q. deal q.number q.slot q.task q.before) opened.1.items ≡ deals_in J.kind self.old opened.0) }
+        ensures exact { MatchResult result (λ _. refusal J.kind self.old Command.Slot ≡ None) (λ fault. IsFaultOf J.kind self.old Command.Slot fault) }
+        ensures same { self.new ≡ self.old }
+    {
+        if self.number >= LAST_NUMBER {
+            return Err(MachineFault::NumberLimit);
+        }
+        match self.chooser.choose(&self.ledger) {
+            Err(fault) => Err(fault_of_choice(fault)),
+            Ok(row) => match deal_all(
+                alloc,
+                self.number + 1,
+                self.ledger.slot(),
+                &row,
+                &self.jobs,
+            ) {
+                Err(_) => Err(MachineFault::NoMemory),
+                Ok(quanta) => Ok((row, quanta)),
+            },
+        }
+    }
+
+    /// Ends a slot that was opened: each quantum's result goes into its task's job. It takes no memory.
+    ///
+    /// The row and the results are those of the slot that `open_slot` gives at this state, in the same order. The reply
+    /// and the state are those of `apply` of a Slot.
+    pub fn seal(&mut self, row: Row, dones: Vec<Done<J>>) -> Reply
+        requires number { self.old.number + 1 < 2 ^ 48 }
+        requires row { chosen self.old.ledger ≡ Ok row }
+        requires results { map (λ d. deal d.number d.slot d.task d.before) dones.items ≡ deals_in J.kind self.old row }
+        ensures reply { result ≡ reply self.old Command.Slot }
+        ensures outcome { (B : Plain J) (H : List (Command J)) → self.old ≡ outcome J.kind B H → self.new ≡ outcome J.kind B (H ++ Command.Slot ∷ []) }
+    {
+        self.close_row(row, dones)
+    }
+
+    /// The slot of a chosen row, by the results of its quanta.
+    fn close_row(&mut self, row: Row, dones: Vec<Done<J>>) -> Reply
+        requires number { self.old.number + 1 < 2 ^ 48 }
+        requires row { chosen self.old.ledger ≡ Ok row }
+        requires results { map (λ d. deal d.number d.slot d.task d.before) dones.items ≡ deals_in J.kind self.old row }
+        ensures reply { result ≡ reply self.old Command.Slot }
+        ensures step { self.new ≡ state_step J.kind self.old (happening_in self.old Command.Slot) }
+    {
+        let slot = self.ledger.slot();
+        write_back(&mut self.jobs, dones);
+        give(&mut self.ledger, &row);
+        self.number += 1;
+        Reply::Ran { slot, row }
+    }
+}
