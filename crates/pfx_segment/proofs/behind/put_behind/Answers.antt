@@ -1,0 +1,71 @@
+use Rattle.std.proofs.Common.{◌+◌, ◌≤◌, length, arith}
+use Rattle.pfx_segment.specs.Segment.{Appended}
+use Rattle.pfx_segment.proofs.Appends.{written, synced, gate_torn}
+use Rattle.pfx_segment.proofs.behind.put_behind.Goals as goal
+
+pub returns-in_err-write_at-clause-leaves : goal.returns-in_err-write_at-clause-leaves
+returns-in_err-write_at-clause-leaves g c honest =
+    let view = g.D.Disk.view in
+    let inside : c.args.gate + 1 ≤ length (view c.args.disk.now).contents = omega (arith, c.requires.inside honest) in
+    written c.args.gate c.args.bytes.now (view c.args.disk.now) (view c.write_at.new.self) (view c.write_at.new.self) honest inside (c.write_at.ensures.leaves honest)
+
+pub returns-in_err-sync-clause-leaves : goal.returns-in_err-sync-clause-leaves
+returns-in_err-sync-clause-leaves g c honest =
+    let view = g.D.Disk.view in
+    let a = view c.args.disk.now in
+    let b1 = view c.write_at.new.self in
+    let b2 = view c.sync.new.self in
+    let gate = c.args.gate in
+    let frame = c.args.bytes.now in
+    let inside : gate + 1 ≤ length a.contents = omega (arith, c.requires.inside honest) in
+    let l1 = c.write_at.ensures.leaves honest in
+    synced gate frame a b1 b2 honest inside (Appended gate frame) c.write_at.ensures.time.later (written gate frame a b1 b2 honest inside l1) (c.sync.ensures.leaves l1.honest)
+
+pub returns-in_err-write_at-2-clause-leaves : goal.returns-in_err-write_at-2-clause-leaves
+returns-in_err-write_at-2-clause-leaves g c honest =
+    let view = g.D.Disk.view in
+    let a = view c.args.disk.now in
+    let b1 = view c.write_at.new.self in
+    let b2 = view c.sync.new.self in
+    let b3 = view c.write_at-2.new.self in
+    let gate = c.args.gate in
+    let frame = c.args.bytes.now in
+    let inside : gate + 1 ≤ length a.contents = omega (arith, c.requires.inside honest) in
+    let l1 = c.write_at.ensures.leaves honest in
+    let l2 = c.sync.ensures.leaves l1.honest in
+    let l3 = c.write_at-2.ensures.leaves l2.honest in
+    gate_torn gate frame a b1 b2 honest inside b3 c.write_at.ensures.time.later c.sync.ensures.time.later l1 (c.in_ok-write_at.ensures.written honest) l2 (c.in_ok-sync.ensures.durable l1.honest) l3
+
+pub returns-in_err-sync-2-clause-leaves : goal.returns-in_err-sync-2-clause-leaves
+returns-in_err-sync-2-clause-leaves g c honest =
+    let view = g.D.Disk.view in
+    let a = view c.args.disk.now in
+    let b1 = view c.write_at.new.self in
+    let b2 = view c.sync.new.self in
+    let b3 = view c.write_at-2.new.self in
+    let b4 = view c.sync-2.new.self in
+    let gate = c.args.gate in
+    let frame = c.args.bytes.now in
+    let inside : gate + 1 ≤ length a.contents = omega (arith, c.requires.inside honest) in
+    let l1 = c.write_at.ensures.leaves honest in
+    let l2 = c.sync.ensures.leaves l1.honest in
+    let l3 = c.write_at-2.ensures.leaves l2.honest in
+    let so_far = gate_torn gate frame a b1 b2 honest inside b3 c.write_at.ensures.time.later c.sync.ensures.time.later l1 (c.in_ok-write_at.ensures.written honest) l2 (c.in_ok-sync.ensures.durable l1.honest) l3 in
+    synced gate frame a b3 b4 honest inside (Appended gate frame) (omega (arith, c.write_at.ensures.time.later, c.sync.ensures.time.later, c.write_at-2.ensures.time.later)) so_far (c.sync-2.ensures.leaves l3.honest)
+
+pub returns-clause-leaves : goal.returns-clause-leaves
+returns-clause-leaves g c honest =
+    let view = g.D.Disk.view in
+    let a = view c.args.disk.now in
+    let b1 = view c.write_at.new.self in
+    let b2 = view c.sync.new.self in
+    let b3 = view c.write_at-2.new.self in
+    let b4 = view c.sync-2.new.self in
+    let gate = c.args.gate in
+    let frame = c.args.bytes.now in
+    let inside : gate + 1 ≤ length a.contents = omega (arith, c.requires.inside honest) in
+    let l1 = c.write_at.ensures.leaves honest in
+    let l2 = c.sync.ensures.leaves l1.honest in
+    let l3 = c.write_at-2.ensures.leaves l2.honest in
+    let so_far = gate_torn gate frame a b1 b2 honest inside b3 c.write_at.ensures.time.later c.sync.ensures.time.later l1 (c.in_ok-write_at.ensures.written honest) l2 (c.in_ok-sync.ensures.durable l1.honest) l3 in
+    synced gate frame a b3 b4 honest inside (Appended gate frame) (omega (arith, c.write_at.ensures.time.later, c.sync.ensures.time.later, c.write_at-2.ensures.time.later)) so_far (c.sync-2.ensures.leaves l3.honest)
