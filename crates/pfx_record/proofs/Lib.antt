@@ -1,0 +1,10 @@
+mod Again
+mod Bodies
+mod Examples
+mod Fronts
+mod Heads
+mod Places
+mod Rising
+mod Rows
+mod Single
+mod Spellings

@@ -1,0 +1,6 @@
+pub mod Batches
+pub mod Begins
+pub mod Effect
+pub mod Numbers
+pub mod Reading
+pub mod Records

@@ -1,0 +1,71 @@
+-- What reading finds, and where it stops.
+use Rattle.std.specs.Prelude.{◌≡◌, ◌≤◌, ◌<◌, ◌⊎◌, ℕ, ◌+◌, ◌^◌, List, length, take, drop, IsTrue, ⊤}
+use Rattle.pfx_jobs.specs.Kind.{Kind}
+use Rattle.pfx_record.specs.Begins.{Begins}
+use Rattle.pfx_record.specs.Records.{Plain, record_fits, record_bytes, records_bytes}
+use Rattle.pfx_record.specs.Batches.{PlainBatch, all_fit, batch_bytes, batch_fits, counts_fit, head_bytes}
+use Rattle.pfx_record.specs.declared.faults.BatchFault.{BatchFault}
+use Rattle.pfx_record.specs.declared.faults.BatchFault.TheVariants.{Damaged, NoMemory}
+use Rattle.pfx_record.specs.declared.faults.Part.{Part}
+use Rattle.pfx_record.specs.declared.faults.Part.TheVariants.{Frame, Record}
+
+-- the bytes begin with this record, which takes so many of them
+pub record IsRecord {J : Type 0} (K : Kind J) (workers : ℕ) (bytes : List ℕ) (read : Plain J) (taken : ℕ) : Type 0 where
+  pub fits : IsTrue (record_fits workers read)
+  pub begins : Begins bytes (record_bytes K read)
+  pub long : taken ≡ length (record_bytes K read)
+
+-- the bytes begin with no record
+abbrev pub NoRecord : {J : Type 0} → Kind J → ℕ → List ℕ → Type 0
+NoRecord {J} K workers bytes = (other : Plain J) → IsTrue (record_fits workers other) → Begins bytes (record_bytes K other) → ⊥
+
+-- the bytes begin with this batch, which takes so many of them
+pub record IsBatch {J : Type 0} (K : Kind J) (workers : ℕ) (bytes : List ℕ) (read : PlainBatch J) (taken : ℕ) : Type 0 where
+  pub fits : IsTrue (batch_fits workers read)
+  pub begins : Begins bytes (batch_bytes K read)
+  pub long : taken ≡ length (batch_bytes K read)
+
+-- the bytes begin with no batch
+abbrev pub NoBatch : {J : Type 0} → Kind J → ℕ → List ℕ → Type 0
+NoBatch {J} K workers bytes = (other : PlainBatch J) → IsTrue (batch_fits workers other) → Begins bytes (batch_bytes K other) → ⊥
+
+-- the bytes begin with this head of a frame, and are as long as the frame is
+pub record IsHead (workers : ℕ) (bytes : List ℕ) (len first count : ℕ) : Type 0 where
+  pub short : len < 2 ^ 32
+  pub begins : Begins bytes (head_bytes len first count)
+  pub counts : IsTrue (counts_fit workers first count)
+  pub whole : 15 + len ≤ length bytes
+
+-- the bytes behind the head, as many as it says
+abbrev pub body_of : ℕ → List ℕ → List ℕ
+body_of len bytes = take len (drop 15 bytes)
+
+-- Behind the head stand these records, and then no further one though one is missing, or bytes that are left over.
+pub record StopsBehind {J : Type 0} (K : Kind J) (workers : ℕ) (body : List ℕ) (count : ℕ) (read : List (Plain J)) : Type 0 where
+  pub fit : IsTrue (all_fit workers read)
+  pub begins : Begins body (records_bytes K read)
+  pub next : ((length read < count) × NoRecord K workers (drop (length (records_bytes K read)) body))
+      ⊎ ((length read ≡ count) × (length (records_bytes K read) < length body))
+
+-- why bytes begin with no batch: there is no head, at place 0; or the records behind it stop, at this place
+abbrev pub IsDamaged : {J : Type 0} → Kind J → ℕ → List ℕ → ℕ → Part → Type 0
+IsDamaged K workers bytes at Frame = (at ≡ 0) × ((len first count : ℕ) → IsHead workers bytes len first count → ⊥)
+IsDamaged {J} K workers bytes at Record = (len first count : ℕ) × (read : List (Plain J)) × IsHead workers bytes len first count
+    × StopsBehind K workers (body_of len bytes) count read × (at ≡ 15 + length (records_bytes K read))
+
+-- this holds of the place and the part at fault, unless memory was refused
+abbrev pub OnDamage : BatchFault → (ℕ → Part → Type 0) → Type 0
+OnDamage (Damaged at what) P = P at what
+OnDamage NoMemory P = ⊤
+
+-- the records that were read, where they fill the body
+pub record AreRecords {J : Type 0} (K : Kind J) (workers : ℕ) (body : List ℕ) (count : ℕ) (read : List (Plain J)) : Type 0 where
+  pub fit : IsTrue (all_fit workers read)
+  pub begins : Begins body (records_bytes K read)
+  pub number : length read ≡ count
+  pub whole : length (records_bytes K read) ≡ length body
+
+-- the records stop at this place of the frame
+abbrev pub StopAt : {J : Type 0} → Kind J → ℕ → List ℕ → ℕ → ℕ → Part → Type 0
+StopAt K workers body count at Frame = ⊥
+StopAt {J} K workers body count at Record = (read : List (Plain J)) × StopsBehind K workers body count read × (at ≡ 15 + length (records_bytes K read))

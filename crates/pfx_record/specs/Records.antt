@@ -1,0 +1,57 @@
+-- Records as contracts see them, and their bytes.
+use Rattle.std.specs.Prelude.{ℕ, ◌+◌, ◌^◌, Bool, true, ◌&&◌, ◌==◌, nat_lt, nat_le, List, [], ◌∷◌, ◌++◌, length, map, Option, Some, None}
+use Rattle.pfx_jobs.specs.Kind.{Kind}
+use Rattle.pfx_record.specs.Begins.{joined}
+use Rattle.pfx_record.specs.Numbers.{number_bytes}
+use Rattle.pfx_record.specs.declared.record.Place.{Place}
+use Rattle.pfx_record.specs.declared.record.Record.{Record}
+use Rattle.pfx_record.specs.declared.record.Record.TheVariants.{Submit, Slot, Withdraw}
+
+-- a task got a job; or the tasks of a row ran, each with its job's state after the step if it took one; or a job was
+-- taken away
+pub data Plain (J : Type 0) : Type 0 where
+  submitted : (task : ℕ) (job : J) → Plain J
+  ran : (row : List (Place J)) → Plain J
+  withdrawn : (task : ℕ) → Plain J
+
+-- what a record says
+abbrev pub plain : {J : Type 0} → Record J → Plain J
+plain (Submit task job) = submitted task job
+plain (Slot row) = ran row.items
+plain (Withdraw task) = withdrawn task
+
+-- the tasks of a row
+abbrev pub tasks_of : {J : Type 0} → List (Place J) → List ℕ
+tasks_of row = map (λ place. place.task) row
+
+-- each task is below 2 ^ 16, the first is at least this one, and each of the others above the one before
+abbrev pub rises_from : ℕ → List ℕ → Bool
+rises_from low [] = true
+rises_from low (task ∷ tasks) = nat_le low task && (nat_lt task (2 ^ 16) && rises_from (task + 1) tasks)
+
+-- the record has a spelling where the rows have so many tasks
+abbrev pub record_fits : {J : Type 0} → ℕ → Plain J → Bool
+record_fits workers (submitted task job) = nat_lt task (2 ^ 16)
+record_fits workers (ran row) = (length row == workers) && rises_from 0 (tasks_of row)
+record_fits workers (withdrawn task) = nat_lt task (2 ^ 16)
+
+-- the flag 1 and the state, or the flag 0
+abbrev pub state_bytes : {J : Type 0} → Kind J → Option J → List ℕ
+state_bytes K None = 0 ∷ []
+state_bytes K (Some state) = 1 ∷ K.spelling state
+
+-- a task of a row and its state
+abbrev pub place_bytes : {J : Type 0} → Kind J → Place J → List ℕ
+place_bytes K place = number_bytes 2 place.task ++ state_bytes K place.state
+
+abbrev pub row_bytes : {J : Type 0} → Kind J → List (Place J) → List ℕ
+row_bytes K row = joined (place_bytes K) row
+
+-- the tag, and what it is followed by
+abbrev pub record_bytes : {J : Type 0} → Kind J → Plain J → List ℕ
+record_bytes K (submitted task job) = 1 ∷ (number_bytes 2 task ++ K.spelling job)
+record_bytes K (ran row) = 2 ∷ row_bytes K row
+record_bytes K (withdrawn task) = 3 ∷ number_bytes 2 task
+
+abbrev pub records_bytes : {J : Type 0} → Kind J → List (Plain J) → List ℕ
+records_bytes K records = joined (record_bytes K) records

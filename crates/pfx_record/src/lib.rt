@@ -1,0 +1,38 @@
+//! Records of accepted commands, batches of them, and their one spelling in bytes.
+//!
+//! Numbers are unsigned and little endian. A batch is spelled as the bytes of its frame: an open gate, 0xC3 (1 byte), the
+//! length of the records (4), the number of the first command (8), how many commands there are (2), and the records:
+//!
+//! | Record | Bytes |
+//! |---|---|
+//! | a job given | 1; the task (2); the job's encoding (128) |
+//! | a slot | 2; for each task of its row, strictly rising: the task (2), and 1 and the job's encoding (128), or 0 |
+//! | a job taken away | 3; the task (2) |
+//!
+//! What is kept:
+//! 1. a batch has 1 to 16 commands, with numbers from 1 to 2^48 - 1, and all its rows have as many tasks as there are
+//!    workers, 1 to 64;
+//! 2. a batch has one spelling, no two have the same, and none begins with that of another;
+//! 3. what is written is just that spelling, and takes no memory; what is read is the batch whose spelling the bytes
+//!    begin with, and bytes that begin with none are refused, with the place of the first fault.
+//!
+//! Spellings are read with the number of workers, which they don't tell. Only form is tested: whether commands are ones
+//! that a state accepts is for those who know the state.
+#![tactic(auto)]
+
+mod batch;
+mod faults;
+pub mod laws;
+mod numbers;
+mod read;
+mod read_record;
+mod record;
+#[cfg(test)]
+mod tests;
+mod write;
+
+pub use batch::{Batch, fits};
+pub use faults::{BatchFault, Part};
+pub use read::read_batch;
+pub use record::{Place, Record};
+pub use write::{batch_len, write_batch};

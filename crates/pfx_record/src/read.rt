@@ -1,0 +1,120 @@
+// Reading a batch.
+ghost use Rattle.std.specs.Prelude.{◌≡◌, ◌≤◌, ◌<◌, ◌+◌, ◌^◌, ℕ, length, drop, map, IfOk, IfErr, IfSome, IfNone, IsTrue};
+ghost use Rattle.pfx_record.specs.Batches.{batch_of};
+ghost use Rattle.pfx_record.specs.Records.{plain};
+ghost use Rattle.pfx_record.specs.Reading.{AreRecords, IsBatch, IsDamaged, IsHead, NoBatch, OnDamage, StopAt};
+
+use crate::batch::{Batch, counts_fit};
+use crate::faults::{BatchFault, Part};
+use crate::numbers::{OPEN, u16_at, u32_at, u64_at};
+use crate::read_record::read_record;
+use crate::record::Record;
+use pfx_jobs::job::Job;
+use std::alloc::Global;
+
+// The head of a frame: how long its records are, the number of its first command, and how many it has.
+#[derive(Drop)]
+struct Head {
+    len: u32,
+    first: u64,
+    count: u16,
+}
+
+// The head that bytes begin with, if they are as long as the frame.
+fn read_head(workers: u32, bytes: &[u8]) -> Option<Head>
+    ensures found { IfSome result (λ head. IsHead workers bytes.now head.len head.first head.count) }
+    ensures none { IfNone result ((len first count : ℕ) → IsHead workers bytes.now len first count → ⊥) }
+{
+    if bytes.len() < 15 {
+        return None;
+    }
+    if bytes[0] != OPEN {
+        return None;
+    }
+    let len = u32_at(bytes, 1);
+    let first = u64_at(bytes, 5);
+    let count = u16_at(bytes, 13);
+    if bytes.len() - 15 < len as usize {
+        return None;
+    }
+    if !counts_fit(workers, first, u64::from(count)) {
+        return None;
+    }
+    Some(Head { len, first, count })
+}
+
+// So many records, which fill the body.
+fn read_records<J: Job>(
+    alloc: Global,
+    workers: u32,
+    count: u16,
+    body: &[u8],
+) -> Result<Vec<Record<J>>, BatchFault>
+    requires few { workers ≤ 64 }
+    requires short { 15 + length body.now < 2 ^ 64 }
+    ensures found { IfOk result (λ records.
+        AreRecords J.kind workers body.now count (map plain records.items)) }
+    ensures stops { IfErr result (λ fault. OnDamage fault (StopAt J.kind workers body.now count)) }
+{
+    let mut records = Vec::with_capacity(alloc, usize::from(count))?;
+    let mut at = 0;
+    for i in 0..count {
+        match read_record(alloc, workers, &body[at..])? {
+            None => {
+                return Err(BatchFault::Damaged {
+                    at: 15 + at,
+                    what: Part::Record,
+                });
+            }
+            Some((record, taken)) => {
+                at += taken;
+                records.push_reserved(record);
+            }
+        }
+    }
+    if at < body.len() {
+        return Err(BatchFault::Damaged {
+            at: 15 + at,
+            what: Part::Record,
+        });
+    }
+    Ok(records)
+}
+
+/// The batch that bytes begin with, where rows have so many tasks, and how many bytes it takes.
+///
+/// `Damaged` says that the bytes begin with no batch. Its place is 0, with `Frame`, where they begin with no head of a
+/// frame or are shorter than it says; else, with `Record`, that of the first record that is faulty or missing, or of
+/// the first byte that is left over behind the last one.
+pub fn read_batch<J: Job>(
+    alloc: Global,
+    workers: u32,
+    bytes: &[u8],
+) -> Result<(Batch<J>, usize), BatchFault>
+    ensures found { IfOk result (λ read.
+        IsBatch J.kind workers bytes.now (batch_of read.0.first read.0.records.items) read.1) }
+    ensures workers { IfOk result (λ read. read.0.workers ≡ workers) }
+    ensures none { IfErr result (λ fault. OnDamage fault (λ at what. NoBatch J.kind workers bytes.now)) }
+    ensures place { IfErr result (λ fault. OnDamage fault (IsDamaged J.kind workers bytes.now)) }
+{
+    match read_head(workers, bytes) {
+        None => Err(BatchFault::Damaged {
+            at: 0,
+            what: Part::Frame,
+        }),
+        Some(head) => {
+            let end = 15 + head.len as usize;
+            match read_records(alloc, workers, head.count, &bytes[15..end]) {
+                Err(fault) => Err(fault),
+                Ok(records) => {
+                    let batch = Batch {
+                        workers,
+                        first: head.first,
+                        records,
+                    };
+                    Ok((batch, end))
+                }
+            }
+        }
+    }
+}

@@ -1,0 +1,21 @@
+use pfx_jobs::job::Job;
+
+/// A task of a slot's row.
+#[derive(Drop)]
+pub struct Place<J> {
+    /// The task's number.
+    pub task: u16,
+    /// The state of its job after the step, where it took one.
+    pub state: Option<J>,
+}
+
+/// What an accepted command did.
+#[derive(Drop)]
+pub enum Record<J> {
+    /// The task got the job.
+    Submit { task: u16, job: J },
+    /// The tasks of this row ran.
+    Slot { row: Vec<Place<J>> },
+    /// The task's job was taken away.
+    Withdraw { task: u16 },
+}

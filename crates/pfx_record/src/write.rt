@@ -1,0 +1,155 @@
+// Writing a batch.
+ghost use Rattle.std.specs.Prelude.{◌≡◌, ◌≤◌, ◌<◌, ◌+◌, ◌*◌, ◌^◌, ◌++◌, ◌∷◌, [], length, map, vec_len, vec_capacity, IsTrue};
+ghost use Rattle.pfx_record.specs.Batches.{batch_bytes, batch_of, all_fit};
+ghost use Rattle.pfx_record.specs.Records.{place_bytes, plain, record_bytes, record_fits, records_bytes, row_bytes, state_bytes};
+
+use crate::batch::Batch;
+use crate::numbers::{OPEN, push_u16, push_u32, push_u64};
+use crate::record::{Place, Record};
+use pfx_jobs::job::Job;
+
+// What the pushes write stands behind what was there, and takes no memory where there is room.
+fn push_byte(out: &mut Vec<u8>, byte: u8)
+    requires { vec_len out.old + 1 ≤ vec_capacity out.old }
+    ensures items { out.new.items ≡ out.old.items ++ byte ∷ [] }
+    ensures len { vec_len out.new ≡ vec_len out.old + 1 }
+    ensures room { vec_capacity out.old ≤ vec_capacity out.new }
+{
+    out.push_reserved(byte);
+}
+
+fn push_job<J: Job>(out: &mut Vec<u8>, job: &J)
+    requires { vec_len out.old + 128 ≤ vec_capacity out.old }
+    ensures items { out.new.items ≡ out.old.items ++ J.kind.spelling job.now }
+    ensures len { vec_len out.new ≡ vec_len out.old + 128 }
+    ensures room { vec_capacity out.old ≤ vec_capacity out.new }
+{
+    let mut bytes = [0; 128];
+    job.encode(&mut bytes);
+    let _ = out.extend_from_slice(&bytes);
+}
+
+fn push_place<J: Job>(out: &mut Vec<u8>, place: &Place<J>)
+    requires { vec_len out.old + length (place_bytes J.kind place.now) ≤ vec_capacity out.old }
+    ensures items { out.new.items ≡ out.old.items ++ place_bytes J.kind place.now }
+    ensures room { vec_capacity out.old ≤ vec_capacity out.new }
+{
+    push_u16(out, place.task);
+    match &place.state {
+        None => push_byte(out, 0),
+        Some(job) => {
+            push_byte(out, 1);
+            push_job(out, job);
+        }
+    }
+}
+
+fn push_row<J: Job>(out: &mut Vec<u8>, row: &[Place<J>])
+    requires { vec_len out.old + length (row_bytes J.kind row.now) ≤ vec_capacity out.old }
+    ensures items { out.new.items ≡ out.old.items ++ row_bytes J.kind row.now }
+    ensures room { vec_capacity out.old ≤ vec_capacity out.new }
+{
+    for place in row {
+        push_place(out, place);
+    }
+}
+
+fn push_record<J: Job>(out: &mut Vec<u8>, entry: &Record<J>)
+    requires { vec_len out.old + length (record_bytes J.kind (plain entry.now)) ≤ vec_capacity out.old }
+    ensures items { out.new.items ≡ out.old.items ++ record_bytes J.kind (plain entry.now) }
+    ensures room { vec_capacity out.old ≤ vec_capacity out.new }
+{
+    match entry {
+        Record::Submit { task, job } => {
+            push_byte(out, 1);
+            push_u16(out, *task);
+            push_job(out, job);
+        }
+        Record::Slot { row } => {
+            push_byte(out, 2);
+            push_row(out, row);
+        }
+        Record::Withdraw { task } => {
+            push_byte(out, 3);
+            push_u16(out, *task);
+        }
+    }
+}
+
+fn push_records<J: Job>(out: &mut Vec<u8>, records: &[Record<J>])
+    requires { vec_len out.old + length (records_bytes J.kind (map plain records.now)) ≤ vec_capacity out.old }
+    ensures items { out.new.items ≡ out.old.items ++ records_bytes J.kind (map plain records.now) }
+    ensures room { vec_capacity out.old ≤ vec_capacity out.new }
+{
+    for entry in records {
+        push_record(out, entry);
+    }
+}
+
+fn place_len<J: Job>(place: &Place<J>) -> usize
+    ensures value { result ≡ length (place_bytes J.kind place.now) }
+    ensures bound { result ≤ 131 }
+{
+    match &place.state {
+        None => 3,
+        Some(_) => 131,
+    }
+}
+
+fn row_len<J: Job>(row: &[Place<J>]) -> usize
+    requires { length (row_bytes J.kind row.now) < 2 ^ 32 }
+    ensures { result ≡ length (row_bytes J.kind row.now) }
+{
+    let mut len = 0;
+    for place in row {
+        len += place_len(place);
+    }
+    len
+}
+
+fn record_len<J: Job>(entry: &Record<J>) -> usize
+    requires { length (record_bytes J.kind (plain entry.now)) < 2 ^ 32 }
+    ensures { result ≡ length (record_bytes J.kind (plain entry.now)) }
+{
+    match entry {
+        Record::Submit { task: _, job: _ } => 131,
+        Record::Slot { row } => 1 + row_len(row),
+        Record::Withdraw { task: _ } => 3,
+    }
+}
+
+fn records_len<J: Job>(records: &[Record<J>]) -> usize
+    requires { length (records_bytes J.kind (map plain records.now)) < 2 ^ 32 }
+    ensures { result ≡ length (records_bytes J.kind (map plain records.now)) }
+{
+    let mut len = 0;
+    for entry in records {
+        len += record_len(entry);
+    }
+    len
+}
+
+/// How many bytes the batch's spelling has.
+pub fn batch_len<J: Job>(batch: &Batch<J>) -> usize
+    ensures value { result ≡ length (batch_bytes J.kind (batch_of batch.now.first batch.now.records.items)) }
+    ensures bound { result ≤ 31 + 2096 * batch.now.workers }
+{
+    15 + records_len(&batch.records)
+}
+
+/// Appends the batch's spelling to a vector that has room for it, and takes no memory.
+#[tactic(auto, unfolding(crate::specs::Batches::batch_bytes))]
+pub fn write_batch<J: Job>(batch: &Batch<J>, out: &mut Vec<u8>)
+    requires { vec_len out.old + length (batch_bytes J.kind (batch_of batch.now.first batch.now.records.items))
+        ≤ vec_capacity out.old }
+    ensures spelled { out.new.items ≡ out.old.items
+        ++ batch_bytes J.kind (batch_of batch.now.first batch.now.records.items) }
+    ensures room { vec_capacity out.old ≤ vec_capacity out.new }
+{
+    let len = records_len(&batch.records);
+    push_byte(out, OPEN);
+    push_u32(out, len as u32);
+    push_u64(out, batch.first);
+    push_u16(out, batch.records.len() as u16);
+    push_records(out, &batch.records);
+}
