@@ -1,0 +1,4 @@
+pub mod Calls
+pub mod Fitting
+pub mod Holding
+pub mod Tending
