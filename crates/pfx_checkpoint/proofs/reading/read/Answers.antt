@@ -1,0 +1,41 @@
+use Rattle.std.proofs.Common.{◌<◌, ◌^◌, length, sym, ◌∙◌, ap, subst}
+use Rattle.pfx_columns.specs.Ledgers.{Ledger, IsLedger}
+use Rattle.pfx_checkpoint.specs.Found.{jobs_at}
+use Rattle.pfx_checkpoint.proofs.Readings.{allocs_long, jobs_long, none_number, none_slot, reads_fault, parts_are, reads_compared}
+use Rattle.pfx_checkpoint.proofs.reading.read.Goals as goal
+
+pub returns-then-number : goal.returns-then-number
+returns-then-number g c = none_number g.J.Job.kind c.args.set.now c.args.bytes.now c.number_at-number.result c.number_at-number.ensures c.if-number.true
+
+pub returns-then-slot : goal.returns-then-slot
+returns-then-slot g c = none_slot g.J.Job.kind c.args.set.now c.args.bytes.now c.number_at-slot.result c.number_at-slot.ensures c.if-slot.true
+
+pub ledger_of-requires-clause-number : goal.ledger_of-requires-clause-number
+ledger_of-requires-clause-number g c =
+    ap length (c.deref.ensures.value ∙ c.in-Ok.ensures) ∙ allocs_long c.args.set.now.real (length c.args.set.now.weights) c.args.bytes.now
+
+pub from_parts-requires-clause-jobs : goal.from_parts-requires-clause-jobs
+from_parts-requires-clause-jobs g c =
+    ap length c.in-Ok-jobs_at.ensures
+    ∙ (jobs_long g.J.Job.kind c.real.result c.args.bytes.now
+    ∙ (c.real.ensures ∙ sym (ap (λ (l : Ledger). l.set.real) c.in-Ok-ledger_of.ensures.0)))
+
+pub returns-in-Ok-ledger_of : goal.returns-in-Ok-ledger_of
+returns-in-Ok-ledger_of g c =
+    let K = g.J.Job.kind in
+    let set = c.args.set.now in
+    let bytes = c.args.bytes.now in
+    let s = c.from_parts.result in
+    let slot = c.number_at-slot.result in
+    let allocs = c.deref.ensures.value ∙ c.in-Ok.ensures in
+    let jobs = c.in-Ok-jobs_at.ensures ∙ ap (λ n. jobs_at K n bytes) c.real.ensures in
+    let is = parts_are K set bytes s c.number_at-number.result slot c.deref.result.now c.in-Ok-jobs_at.jobs.items c.in-Ok-ledger_of.ledger
+    c.number_at-number.ensures c.number_at-slot.ensures allocs jobs c.in-Ok-ledger_of.ensures.0
+    c.from_parts.ensures.number c.from_parts.ensures.ledger c.from_parts.ensures.jobs in
+    let below : s.number < 2 ^ 48 = subst (λ n. n < 2 ^ 48) (sym c.from_parts.ensures.number) c.if-number.false in
+    reads_compared K set bytes s c.compare.result is below (subst IsLedger (sym c.from_parts.ensures.ledger) c.in-Ok-ledger_of.ensures.1) c.compare.ensures
+
+pub returns : goal.returns
+returns g c =
+    reads_fault g.J.Job.kind c.args.set.now c.args.bytes.now c.number_at-slot.result c.deref.result.now c.in-Err.fault c.total-total.ensures.filled
+    c.number_at-slot.ensures (c.deref.ensures.value ∙ c.in-Ok.ensures) c.in-Err.ensures
