@@ -1,9 +1,11 @@
 -- Rows that show what the table and the line mean.
 use Rattle.std.proofs.Common.{◌≡◌, codes, refl}
 use Rattle.std.specs.Fmt.{digits}
+use Rattle.pfx_fault.specs.declared.parts.Part.TheVariants as part
+use Rattle.pfx_fault.specs.declared.parts.Cause.TheVariants as cause
 use Rattle.pfx_fault.specs.declared.refusals.Fault.TheVariants as fault
 use Rattle.pfx_fault.specs.Refusals.{status_of}
-use Rattle.pfx_fault.specs.Line.{fault_text, fault_line}
+use Rattle.pfx_fault.specs.Line.{fault_text, fault_line, refused_text}
 
 pub no_field : fault_line fault.BadSet ≡ codes "pfx: error 10 BadSet\n"
 unfolding digits
@@ -17,11 +19,32 @@ pub two_fields : fault_text (fault.TooFewEligible 1 64) ≡ codes "22 TooFewElig
 unfolding digits
 two_fields = refl
 
+pub a_part : fault_text (fault.Damaged 906 part.Frame) ≡ codes "52 Damaged at=906 what=Frame"
+unfolding digits
+a_part = refl
+
+pub a_cause : fault_text (fault.StoreFailed 4 cause.Device) ≡ codes "61 StoreFailed marked=4 cause=Device"
+unfolding digits
+a_cause = refl
+
+pub a_command : refused_text (fault.TaskBusy 0) ≡ codes "refused 32 TaskBusy task=0"
+unfolding digits
+a_command = refl
+
 pub a_set_ends_with_3 : status_of fault.Overload ≡ 3
 a_set_ends_with_3 = refl
 
-pub a_plan_ends_with_3 : status_of fault.WrongSum ≡ 3
+pub a_plan_ends_with_3 : status_of fault.BadLedger ≡ 3
 a_plan_ends_with_3 = refl
+
+pub a_store_ends_with_4 : status_of fault.NotAStore ≡ 4
+a_store_ends_with_4 = refl
+
+pub a_full_session_ends_with_4 : status_of fault.SessionFull ≡ 4
+a_full_session_ends_with_4 = refl
+
+pub a_script_ends_with_7 : status_of (fault.BadScript 1) ≡ 7
+a_script_ends_with_7 = refl
 
 pub input_ends_with_8 : status_of fault.InputFailed ≡ 8
 input_ends_with_8 = refl

@@ -7,7 +7,7 @@ use Rattle.pfx_fault.specs.declared.refusals.Fault.{Fault}
 -- ` name=value` for each field
 abbrev pub fields_text : List Field → List ℕ
 fields_text [] = []
-fields_text (f ∷ rest) = codes " " ++ f.name ++ codes "=" ++ decimal f.value ++ fields_text rest
+fields_text (f ∷ rest) = codes " " ++ f.name ++ codes "=" ++ f.value ++ fields_text rest
 
 -- the number, the name and the fields
 abbrev pub refusal_text : Refusal → List ℕ
@@ -20,3 +20,7 @@ fault_text f = refusal_text (refusal f)
 -- as `pfx: error 14 BadWeight task=2`, and a line feed
 abbrev pub fault_line : Fault → List ℕ
 fault_line f = codes "pfx: error " ++ fault_text f ++ codes "\n"
+
+-- as `refused 32 TaskBusy task=0`
+abbrev pub refused_text : Fault → List ℕ
+refused_text f = codes "refused " ++ fault_text f

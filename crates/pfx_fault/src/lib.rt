@@ -3,15 +3,17 @@
 //!
 //! What it keeps true: the numbers, names and fields are those of one table, `refusal` of
 //! `specs/Refusals.antt`; the line is exactly `pfx: error`, the number, the name and ` field=value`
-//! for each field in the table's order, ended by one line feed; the exit status follows from the
-//! number alone.
+//! for each field in the table's order, ended by one line feed; a refused command is shown by the same
+//! words behind `refused`; the exit status follows from the number alone.
 #![tactic(auto)]
 
 mod line;
+mod parts;
 mod refusals;
 
 pub use line::put_fault;
-pub use refusals::Fault;
+pub use parts::{Cause, Part};
+pub use refusals::{Fault, Refused};
 
 #[cfg(test)]
 mod tests;

@@ -2,8 +2,9 @@
 
 ghost use Rattle.std.specs.Prelude.{Some, ◌≡◌};
 ghost use Rattle.pfx_fault.specs.Refusals.{refusal, number_of, name_of, status_of};
-ghost use Rattle.pfx_fault.specs.Line.{fields_text, fault_text};
+ghost use Rattle.pfx_fault.specs.Line.{fields_text, fault_text, refused_text};
 
+use crate::parts::{Cause, Part};
 use std::error::Error;
 use std::fmt;
 use std::fmt::{Display, Formatter};
@@ -28,6 +29,10 @@ pub enum Fault {
     HyperperiodTooLarge { task: u16 },
     /// The weights sum to more than the workers.
     Overload,
+    /// The segment can't hold a greatest batch; this is the least size in bytes.
+    SegmentTooSmall { least: u32 },
+    /// The segment is above 16,777,216 bytes.
+    SegmentTooLarge,
     /// More tasks have to run in the slot than there are workers.
     TooManyUrgent { urgent: u32, m: u32 },
     /// Fewer tasks may run in the slot than there are workers.
@@ -38,7 +43,43 @@ pub enum Fault {
     OutOfRange { task: u16 },
     /// The allocations don't sum to the workers' slots.
     WrongSum,
-    /// The set can't be opened or read.
+    /// The text isn't a ledger of the set: a slot below 2^40 and an allocation for each task.
+    BadLedger,
+    /// The task isn't one of the set's real tasks.
+    NoSuchTask { task: u16 },
+    /// The task has an unfinished job.
+    TaskBusy { task: u16 },
+    /// The task has no job.
+    NoJob { task: u16 },
+    /// The last number that a command can have is reached.
+    NumberLimit,
+    /// There is no kind of job of this name.
+    BadKind,
+    /// The goal is out of the kind's range.
+    BadGoal,
+    /// The data isn't in the kind's form.
+    BadData,
+    /// The file isn't a store.
+    NotAStore,
+    /// This part of the store file, at this offset, is damaged.
+    Damaged { at: u64, what: Part },
+    /// The disk failed in this call.
+    Device,
+    /// The disk failed in an earlier call; the store is to be opened again.
+    Broken,
+    /// The store is of another version than 1.
+    WrongVersion { version: u8 },
+    /// A store can't be made in a file that isn't empty.
+    NotEmpty,
+    /// The frame doesn't fit into its segment.
+    NoRoom,
+    /// The store has failed, with the commands up to this number kept.
+    StoreFailed { marked: u64, cause: Cause },
+    /// 1,048,576 commands were accepted in this run.
+    SessionFull,
+    /// The script's record at this place, counted from 1, has no form of a record.
+    BadScript { at: u64 },
+    /// A file can't be opened or read.
     InputFailed,
     /// The output can't be written.
     OutputFailed,
@@ -59,11 +100,31 @@ impl Fault {
             Fault::BadWeight { .. } => 14,
             Fault::HyperperiodTooLarge { .. } => 16,
             Fault::Overload => 17,
+            Fault::SegmentTooSmall { .. } => 19,
+            Fault::SegmentTooLarge => 20,
             Fault::TooManyUrgent { .. } => 21,
             Fault::TooFewEligible { .. } => 22,
             Fault::SlotLimit => 23,
             Fault::OutOfRange { .. } => 24,
             Fault::WrongSum => 25,
+            Fault::BadLedger => 26,
+            Fault::NoSuchTask { .. } => 31,
+            Fault::TaskBusy { .. } => 32,
+            Fault::NoJob { .. } => 33,
+            Fault::NumberLimit => 34,
+            Fault::BadKind => 41,
+            Fault::BadGoal => 42,
+            Fault::BadData => 43,
+            Fault::NotAStore => 51,
+            Fault::Damaged { .. } => 52,
+            Fault::Device => 53,
+            Fault::Broken => 54,
+            Fault::WrongVersion { .. } => 55,
+            Fault::NotEmpty => 56,
+            Fault::NoRoom => 57,
+            Fault::StoreFailed { .. } => 61,
+            Fault::SessionFull => 64,
+            Fault::BadScript { .. } => 71,
             Fault::InputFailed => 72,
             Fault::OutputFailed => 73,
             Fault::NoMemory => 90,
@@ -82,25 +143,48 @@ impl Fault {
             Fault::BadWeight { .. } => "BadWeight",
             Fault::HyperperiodTooLarge { .. } => "HyperperiodTooLarge",
             Fault::Overload => "Overload",
+            Fault::SegmentTooSmall { .. } => "SegmentTooSmall",
+            Fault::SegmentTooLarge => "SegmentTooLarge",
             Fault::TooManyUrgent { .. } => "TooManyUrgent",
             Fault::TooFewEligible { .. } => "TooFewEligible",
             Fault::SlotLimit => "SlotLimit",
             Fault::OutOfRange { .. } => "OutOfRange",
             Fault::WrongSum => "WrongSum",
+            Fault::BadLedger => "BadLedger",
+            Fault::NoSuchTask { .. } => "NoSuchTask",
+            Fault::TaskBusy { .. } => "TaskBusy",
+            Fault::NoJob { .. } => "NoJob",
+            Fault::NumberLimit => "NumberLimit",
+            Fault::BadKind => "BadKind",
+            Fault::BadGoal => "BadGoal",
+            Fault::BadData => "BadData",
+            Fault::NotAStore => "NotAStore",
+            Fault::Damaged { .. } => "Damaged",
+            Fault::Device => "Device",
+            Fault::Broken => "Broken",
+            Fault::WrongVersion { .. } => "WrongVersion",
+            Fault::NotEmpty => "NotEmpty",
+            Fault::NoRoom => "NoRoom",
+            Fault::StoreFailed { .. } => "StoreFailed",
+            Fault::SessionFull => "SessionFull",
+            Fault::BadScript { .. } => "BadScript",
             Fault::InputFailed => "InputFailed",
             Fault::OutputFailed => "OutputFailed",
             Fault::NoMemory => "NoMemory",
         }
     }
 
-    /// The exit status with which the program ends: 3 where the set or the plan is refused, 8 where
-    /// a file or an output failed, 5 where memory ran out.
+    /// The exit status with which the program ends: 3 where a set or a plan is refused, 4 where a
+    /// command or the store is, 7 where the script has no form, 8 where a file or an output failed,
+    /// 5 where memory ran out.
     pub fn status(&self) -> u8
         ensures { result ≡ status_of self.now }
     {
         match self.number() {
             0..=26 => 3,
-            27..=73 => 8,
+            27..=70 => 4,
+            71 => 7,
+            72..=73 => 8,
             _ => 5,
         }
     }
@@ -116,6 +200,18 @@ impl Display for Fault {
     }
 }
 
+/// A refusal of one command, after which the commands go on: shown as `refused 32 TaskBusy task=0`.
+#[derive(Clone, Copy, Debug, PartialEq, Eq)]
+pub struct Refused(pub Fault);
+
+impl Display for Refused {
+    ghost output = { λ refused. Some (refused_text refused.0) };
+
+    fn fmt<W: fmt::Write>(&self, f: &mut Formatter<W>) -> fmt::Result {
+        write!(f, "refused {}", self.0)
+    }
+}
+
 // The fields of a refusal, as ` task=2`.
 #[derive(Clone, Copy)]
 struct Fields(Fault);
@@ -127,9 +223,17 @@ impl Display for Fields {
         match self.0 {
             Fault::BadWeight { task }
             | Fault::HyperperiodTooLarge { task }
-            | Fault::OutOfRange { task } => write!(f, " task={task}"),
+            | Fault::OutOfRange { task }
+            | Fault::NoSuchTask { task }
+            | Fault::TaskBusy { task }
+            | Fault::NoJob { task } => write!(f, " task={task}"),
+            Fault::SegmentTooSmall { least } => write!(f, " least={least}"),
             Fault::TooManyUrgent { urgent, m } => write!(f, " urgent={urgent} m={m}"),
             Fault::TooFewEligible { eligible, m } => write!(f, " eligible={eligible} m={m}"),
+            Fault::Damaged { at, what } => write!(f, " at={at} what={what}"),
+            Fault::WrongVersion { version } => write!(f, " version={version}"),
+            Fault::StoreFailed { marked, cause } => write!(f, " marked={marked} cause={cause}"),
+            Fault::BadScript { at } => write!(f, " at={at}"),
             _ => Ok(()),
         }
     }

@@ -1,116 +1,147 @@
-//! The refusals as a reader of standard error sees them.
+//! The refusals as a reader of the output sees them.
 
 use super::*;
 
-// A refusal, its number and its name, the exit status and the line, as the formats page has them.
-const LINES: [(Fault, u8, &str, u8, &str); 15] = [
-    (Fault::BadSet, 10, "BadSet", 3, "pfx: error 10 BadSet\n"),
-    (Fault::NoTasks, 11, "NoTasks", 3, "pfx: error 11 NoTasks\n"),
-    (
-        Fault::TooManyTasks,
-        12,
-        "TooManyTasks",
-        3,
-        "pfx: error 12 TooManyTasks\n",
-    ),
-    (
-        Fault::BadWorkers,
-        13,
-        "BadWorkers",
-        3,
-        "pfx: error 13 BadWorkers\n",
-    ),
-    (
-        Fault::BadWeight { task: 0 },
-        14,
-        "BadWeight",
-        3,
-        "pfx: error 14 BadWeight task=0\n",
-    ),
+// A refusal, the exit status and the text, as the table of refusals has them.
+const ROWS: [(Fault, u8, &str); 38] = [
+    (Fault::BadSet, 3, "10 BadSet"),
+    (Fault::NoTasks, 3, "11 NoTasks"),
+    (Fault::TooManyTasks, 3, "12 TooManyTasks"),
+    (Fault::BadWorkers, 3, "13 BadWorkers"),
+    (Fault::BadWeight { task: 0 }, 3, "14 BadWeight task=0"),
     (
         Fault::HyperperiodTooLarge { task: 1023 },
-        16,
-        "HyperperiodTooLarge",
         3,
-        "pfx: error 16 HyperperiodTooLarge task=1023\n",
+        "16 HyperperiodTooLarge task=1023",
     ),
+    (Fault::Overload, 3, "17 Overload"),
     (
-        Fault::Overload,
-        17,
-        "Overload",
+        Fault::SegmentTooSmall { least: 4233 },
         3,
-        "pfx: error 17 Overload\n",
+        "19 SegmentTooSmall least=4233",
     ),
+    (Fault::SegmentTooLarge, 3, "20 SegmentTooLarge"),
     (
         Fault::TooManyUrgent { urgent: 3, m: 2 },
-        21,
-        "TooManyUrgent",
         3,
-        "pfx: error 21 TooManyUrgent urgent=3 m=2\n",
+        "21 TooManyUrgent urgent=3 m=2",
     ),
     (
         Fault::TooFewEligible {
             eligible: 63,
             m: 64,
         },
-        22,
-        "TooFewEligible",
         3,
-        "pfx: error 22 TooFewEligible eligible=63 m=64\n",
+        "22 TooFewEligible eligible=63 m=64",
+    ),
+    (Fault::SlotLimit, 3, "23 SlotLimit"),
+    (Fault::OutOfRange { task: 7 }, 3, "24 OutOfRange task=7"),
+    (Fault::WrongSum, 3, "25 WrongSum"),
+    (Fault::BadLedger, 3, "26 BadLedger"),
+    (
+        Fault::NoSuchTask { task: 65535 },
+        4,
+        "31 NoSuchTask task=65535",
+    ),
+    (Fault::TaskBusy { task: 0 }, 4, "32 TaskBusy task=0"),
+    (Fault::NoJob { task: 1 }, 4, "33 NoJob task=1"),
+    (Fault::NumberLimit, 4, "34 NumberLimit"),
+    (Fault::BadKind, 4, "41 BadKind"),
+    (Fault::BadGoal, 4, "42 BadGoal"),
+    (Fault::BadData, 4, "43 BadData"),
+    (Fault::NotAStore, 4, "51 NotAStore"),
+    (
+        Fault::Damaged {
+            at: 906,
+            what: Part::Frame,
+        },
+        4,
+        "52 Damaged at=906 what=Frame",
     ),
     (
-        Fault::SlotLimit,
-        23,
-        "SlotLimit",
-        3,
-        "pfx: error 23 SlotLimit\n",
+        Fault::Damaged {
+            at: 0,
+            what: Part::Header,
+        },
+        4,
+        "52 Damaged at=0 what=Header",
     ),
     (
-        Fault::OutOfRange { task: 7 },
-        24,
-        "OutOfRange",
-        3,
-        "pfx: error 24 OutOfRange task=7\n",
+        Fault::Damaged {
+            at: 17280,
+            what: Part::Length,
+        },
+        4,
+        "52 Damaged at=17280 what=Length",
+    ),
+    (Fault::Device, 4, "53 Device"),
+    (Fault::Broken, 4, "54 Broken"),
+    (
+        Fault::WrongVersion { version: 9 },
+        4,
+        "55 WrongVersion version=9",
+    ),
+    (Fault::NotEmpty, 4, "56 NotEmpty"),
+    (Fault::NoRoom, 4, "57 NoRoom"),
+    (
+        Fault::StoreFailed {
+            marked: 4,
+            cause: Cause::Device,
+        },
+        4,
+        "61 StoreFailed marked=4 cause=Device",
     ),
     (
-        Fault::WrongSum,
-        25,
-        "WrongSum",
-        3,
-        "pfx: error 25 WrongSum\n",
+        Fault::StoreFailed {
+            marked: 0,
+            cause: Cause::Memory,
+        },
+        4,
+        "61 StoreFailed marked=0 cause=Memory",
     ),
+    (Fault::SessionFull, 4, "64 SessionFull"),
     (
-        Fault::InputFailed,
-        72,
-        "InputFailed",
-        8,
-        "pfx: error 72 InputFailed\n",
+        Fault::BadScript {
+            at: 18446744073709551615,
+        },
+        7,
+        "71 BadScript at=18446744073709551615",
     ),
-    (
-        Fault::OutputFailed,
-        73,
-        "OutputFailed",
-        8,
-        "pfx: error 73 OutputFailed\n",
-    ),
-    (
-        Fault::NoMemory,
-        90,
-        "NoMemory",
-        5,
-        "pfx: error 90 NoMemory\n",
-    ),
+    (Fault::InputFailed, 8, "72 InputFailed"),
+    (Fault::OutputFailed, 8, "73 OutputFailed"),
+    (Fault::NoMemory, 5, "90 NoMemory"),
 ];
 
 #[test]
 fn prints_each_refusal(rt: HostRuntime) -> anyhow::Result<()> {
-    for (fault, number, name, status, line) in LINES {
+    for (fault, status, text) in ROWS {
         let mut written = Vec::new(rt.alloc());
         put_fault(&mut written, fault)?;
+        let line = format!(in rt.alloc(); "pfx: error {text}\n")?;
         assert_eq!(rt; written.as_slice(), line.as_bytes());
-        assert_eq!(rt; fault.number(), number);
-        assert_eq!(rt; fault.name(), name);
-        assert_eq!(rt; fault.status(), status);
+        let shown = format!(in rt.alloc(); "{}", Refused(fault))?;
+        let refused = format!(in rt.alloc(); "refused {text}")?;
+        assert_eq!(rt; shown.as_str(), refused.as_str());
+        let front = format!(in rt.alloc(); "{} {}", fault.number(), fault.name())?;
+        assert!(rt; text.starts_with(front.as_str()), "{text}");
+        assert_eq!(rt; fault.status(), status, "{text}");
+    }
+    Ok(())
+}
+
+#[test]
+fn names_each_part(rt: HostRuntime) -> anyhow::Result<()> {
+    let rows = [
+        (Part::Header, "Header"),
+        (Part::Length, "Length"),
+        (Part::Checkpoint, "Checkpoint"),
+        (Part::Segment, "Segment"),
+        (Part::Frame, "Frame"),
+        (Part::Record, "Record"),
+    ];
+    for (part, name) in rows {
+        let shown = format!(in rt.alloc(); "{part}")?;
+        assert_eq!(rt; shown.as_str(), name);
     }
     Ok(())
 }
