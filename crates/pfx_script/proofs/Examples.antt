@@ -1,0 +1,53 @@
+-- Rows that show the records of a script, and what they ask for.
+use Rattle.std.proofs.Common.{◌≡◌, codes, refl, [], ◌∷◌, Some, None}
+use Rattle.std.specs.Char.{encode_utf8}
+use Rattle.std.specs.Str.{is_utf8, chars}
+use Rattle.csv.specs.Records.{field_at}
+use Rattle.csv.proofs.OnLiterals.{csv_on_literals}
+use Rattle.pfx_numerals.specs.Numerals.{number_in}
+use Rattle.pfx_script.specs.Verbs.{submit, slot, withdraw, settle, status, verb_of}
+use Rattle.pfx_script.specs.Records.{script_records}
+
+pub two_records : script_records (codes "settle,,,,\n\nslot,,\"\",3,\n") ≡ (codes "settle" ∷ [] ∷ [] ∷ [] ∷ [] ∷ []) ∷ (codes "slot" ∷ [] ∷ [] ∷ codes "3" ∷ [] ∷ []) ∷ []
+unfolding csv_on_literals
+two_records = refl
+
+pub submits : verb_of (codes "submit" ∷ codes "07" ∷ codes "count" ∷ [] ∷ codes "10" ∷ []) ≡ Some (submit 7 (codes "count") 0 (codes "10"))
+unfolding verb_of number_in field_at is_utf8 chars encode_utf8
+submits = refl
+
+pub runs_slots : verb_of (codes "slot" ∷ [] ∷ [] ∷ codes "1048576" ∷ [] ∷ []) ≡ Some (slot 1048576)
+unfolding verb_of number_in field_at is_utf8 chars encode_utf8
+runs_slots = refl
+
+pub runs_a_slot : verb_of (codes "slot" ∷ [] ∷ [] ∷ [] ∷ [] ∷ []) ≡ Some (slot 1)
+unfolding verb_of number_in field_at is_utf8 chars encode_utf8
+runs_a_slot = refl
+
+pub too_many_slots : verb_of (codes "slot" ∷ [] ∷ [] ∷ codes "1048577" ∷ [] ∷ []) ≡ None
+unfolding verb_of number_in field_at is_utf8 chars encode_utf8
+too_many_slots = refl
+
+pub withdraws : verb_of (codes "withdraw" ∷ codes "65535" ∷ [] ∷ [] ∷ [] ∷ []) ≡ Some (withdraw 65535)
+unfolding verb_of number_in field_at is_utf8 chars encode_utf8
+withdraws = refl
+
+pub no_such_number : verb_of (codes "withdraw" ∷ codes "65536" ∷ [] ∷ [] ∷ [] ∷ []) ≡ None
+unfolding verb_of number_in field_at is_utf8 chars encode_utf8
+no_such_number = refl
+
+pub settles : verb_of (codes "settle" ∷ [] ∷ [] ∷ [] ∷ [] ∷ []) ≡ Some settle
+unfolding verb_of number_in field_at is_utf8 chars encode_utf8
+settles = refl
+
+pub shows : verb_of (codes "status" ∷ [] ∷ [] ∷ [] ∷ [] ∷ []) ≡ Some status
+unfolding verb_of number_in field_at is_utf8 chars encode_utf8
+shows = refl
+
+pub four_fields : verb_of (codes "settle" ∷ [] ∷ [] ∷ [] ∷ []) ≡ None
+unfolding verb_of number_in field_at is_utf8 chars encode_utf8
+four_fields = refl
+
+pub a_field_too_many : verb_of (codes "settle" ∷ codes "0" ∷ [] ∷ [] ∷ [] ∷ []) ≡ None
+unfolding verb_of number_in field_at is_utf8 chars encode_utf8
+a_field_too_many = refl

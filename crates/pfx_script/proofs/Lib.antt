@@ -1,0 +1,4 @@
+pub mod Texts
+pub mod NextRecords
+pub mod Taking
+pub mod Examples

@@ -1,0 +1,19 @@
+//! Scripts: records of five fields, each of which asks for one thing to be done.
+//!
+//! What it keeps true: the records of a script are those of its bytes as CSV without a header line, read one at a time
+//! in the memory of one record; the verb of a record is one stated function of its fields, `verb_of` of
+//! `specs/Verbs.antt`; a script ends early exactly at its first record that is no text, or where its reader or the
+//! memory fails.
+#![tactic(auto)]
+
+mod faults;
+mod fields;
+mod records;
+mod verbs;
+
+pub use faults::ReadFault;
+pub use records::Script;
+pub use verbs::{Verb, read_verb};
+
+#[cfg(test)]
+mod tests;

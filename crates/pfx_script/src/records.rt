@@ -1,0 +1,103 @@
+//! The records of a script, one at a time.
+
+ghost use Rattle.std.specs.Prelude.{◌≡◌, ◌+◌, true, Some, IfOk, IfErr, OnOk, option_map};
+ghost use Rattle.csv.specs.Records.{fields_of, AllText};
+ghost use Rattle.csv.specs.Reading.{error_kind, source_of, reader_state, has_failed, strip_bom};
+ghost use Rattle.csv.specs.declared.parser.State.TheVariants as st;
+ghost use Rattle.pfx_script.specs.Records.{unread, ReadsScripts, Reads, ReadFails, Reports};
+
+use crate::ReadFault;
+use csv::{ErrorKind, Reader, ReaderBuilder, StringRecord};
+use std::alloc::Global;
+use std::io::Read;
+use std::marker::Model;
+
+/// A script that is being read, in the memory of one record at a time.
+///
+/// It is seen as the list of the records that are left, where the bytes of its reader are known, and the number of
+/// those that were read.
+#[derive(Drop)]
+pub struct Script<R: Read + Drop> {
+    reader: Reader<R>,
+    place: u64,
+    failed: bool,
+}
+
+impl<R: Read + Drop> Model for Script<R> {
+    ghost use Rattle.std.specs.Prelude.{◌≡◌, false, None, if◌then◌else◌};
+    ghost use Rattle.pfx_script.specs.Records.{Records, records_left, ReadsScripts};
+
+    ghost Value = { Records };
+
+    ghost view = { λ s. record { left = if s.failed then None else records_left R.remaining s.reader; place = s.place } };
+
+    ghost invariant = { λ s. s.failed ≡ false → ReadsScripts s.reader };
+}
+
+// A reader of records of any lengths, with no header line.
+fn records_of<R: Read + Drop>(alloc: Global, input: R) -> Reader<R>
+    ensures reads { ReadsScripts result }
+    ensures state { reader_state result ≡ st.StartRecord }
+    ensures source { source_of R.remaining result ≡ option_map strip_bom (R.remaining input) }
+{
+    ReaderBuilder::new()
+        .has_headers(false)
+        .flexible(true)
+        .from_reader(alloc, input)
+}
+
+fn read_fault(error: &csv::Error, at: u64) -> ReadFault
+    ensures { Reports (error_kind error.now) at result }
+{
+    match error.kind() {
+        ErrorKind::Io(_) => ReadFault::InputFailed,
+        ErrorKind::OutOfMemory => ReadFault::NoMemory,
+        _ => ReadFault::BadScript { at },
+    }
+}
+
+impl<R: Read + Drop> Script<R> {
+    /// The script that a reader gives. A byte order mark in front is passed over.
+    pub fn new(alloc: Global, input: R) -> Script<R>
+        ensures { result ≡ unread (R.remaining input) }
+    {
+        Script {
+            reader: records_of(alloc, input),
+            place: 0,
+            failed: false,
+        }
+    }
+
+    /// How many records were read.
+    pub fn place(&self) -> u64
+        ensures { result ≡ self.now.place }
+    {
+        self.place
+    }
+
+    /// Reads the next record into `row`: `true` where there is one, `false` at the script's end.
+    ///
+    /// `BadScript` comes where the next record is no UTF-8 text, with its place; `InputFailed` where the reader fails,
+    /// `NoMemory` where a growth was refused. After these the script is read no further.
+    pub fn next(&mut self, row: &mut StringRecord) -> Result<bool, ReadFault>
+        ensures reads { IfOk result (λ found. Reads self.old found (fields_of row.new) self.new) }
+        ensures text { OnOk result (AllText (fields_of row.new)) }
+        ensures fails { IfErr result (λ e. ReadFails self.old e) }
+    {
+        if self.failed || self.place == u64::MAX {
+            return Err(ReadFault::InputFailed);
+        }
+        match self.reader.read_record(row) {
+            Ok(found) => {
+                if found {
+                    self.place += 1;
+                }
+                Ok(found)
+            }
+            Err(error) => {
+                self.failed = true;
+                Err(read_fault(&error, self.place + 1))
+            }
+        }
+    }
+}
