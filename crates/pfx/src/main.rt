@@ -1,8 +1,8 @@
 //! The program `pfx`.
 //!
 //! It does what its words ask for, over the system's own files. Where that fails it prints one fault line on standard
-//! error and ends with the fault's exit status: 3 where the set or the plan is refused, 5 where memory ran out, 8 where a
-//! file or an output failed. Help and version end with 0, words that it doesn't take with 2.
+//! error and ends with the fault's exit status: 3 where the set, the ledger or the plan is refused, 5 where memory ran
+//! out, 8 where a file or an output failed. Help and version end with 0, words that it doesn't take with 2.
 #![tactic(auto)]
 
 ghost use Rattle.std.specs.Prelude.{◌≡◌, ◌⊎◌};
@@ -34,11 +34,12 @@ fn fault_of(error: &io::Error, other: Fault) -> Fault
     }
 }
 
-// `pfx plan SET SLOTS`.
+// `pfx plan SET SLOTS --at LEDGER`.
 fn plan<R: Runtime + AllocGlobal>(
     rt: &R,
     alloc: Global,
     set: &str,
+    at: Option<&str>,
     slots: u32,
 ) -> Result<(), Fault> {
     let mut input = match File::open(rt, set) {
@@ -48,7 +49,7 @@ fn plan<R: Runtime + AllocGlobal>(
     let Ok(mut output) = BufWriter::new(alloc, io::writer(rt)) else {
         return Err(Fault::NoMemory);
     };
-    let planned = run_plan(alloc, &mut input, &mut output, u64::from(slots));
+    let planned = run_plan(alloc, &mut input, at, &mut output, u64::from(slots));
     let flushed = output.flush();
     planned?;
     match flushed {
@@ -91,7 +92,7 @@ fn done(rt: &HostRuntime, alloc: Global, words: &[&str]) -> u8 {
         Err(error) => return answered(rt, &error),
     };
     let done = match request {
-        Request::Plan { set, slots } => plan(rt, alloc, set, slots),
+        Request::Plan { set, slots, at } => plan(rt, alloc, set, at, slots),
     };
     match done {
         Ok(()) => 0,

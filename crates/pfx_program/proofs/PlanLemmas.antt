@@ -1,22 +1,25 @@
 -- How far a plan has come, and what it leaves where it ends.
-use Rattle.std.proofs.Common.{◌≡◌, ◌<◌, ◌≤◌, ℕ, suc, ◌+◌, ◌-◌, List, [], ◌++◌, Option, Some, None, Ok, Err, IfSome, refl, sym, ap, ◌∙◌, inl, inr, arith, append_assoc, append-nil, option_map}
+use Rattle.std.proofs.Common.{◌≡◌, ◌<◌, ◌≤◌, ℕ, suc, ◌+◌, ◌-◌, List, [], ◌++◌, Option, Some, None, Ok, Err, IfSome, refl, sym, ap, ◌∙◌, ◌⊎◌, inl, inr, arith, append_assoc, append-nil, option_map}
 use Rattle.std.specs.Io.KnownBytes.{Appends}
 use Rattle.csv.proofs.WriteFacts.{appends-more}
 use Rattle.pfx_weights.specs.Rows.{is_in}
 use Rattle.pfx_weights.specs.Sets.{FilledSet, Accepts}
 use Rattle.pfx_weights.specs.declared.faults.SetFault.{SetFault}
 use Rattle.pfx_weights.specs.declared.faults.SetFault.TheVariants as setfault
-use Rattle.pfx_columns.specs.Ledgers.{Ledger, start, after}
+use Rattle.pfx_columns.specs.declared.faults.LedgerFault.{LedgerFault}
+use Rattle.pfx_columns.specs.declared.faults.LedgerFault.TheVariants as ledgerfault
+use Rattle.pfx_columns.specs.Ledgers.{Ledger, after}
 use Rattle.pfx_choice.specs.PfRows.{chosen, AnswersFunction}
 use Rattle.pfx_choice.specs.declared.faults.ChoiceFault.{ChoiceFault}
 use Rattle.pfx_choice.specs.declared.faults.ChoiceFault.TheVariants as choicefault
 use Rattle.pfx_fault.specs.declared.refusals.Fault.{Fault}
 use Rattle.pfx_fault.specs.declared.refusals.Fault.TheVariants as fault
 use Rattle.pfx_set_text.specs.SetFile.{SetFile, FileTask, weights_of, set_of_bytes}
-use Rattle.pfx_program.specs.Faults.{fault_of_set, fault_of_choice}
+use Rattle.pfx_program.specs.Faults.{fault_of_set, fault_of_ledger, fault_of_choice}
+use Rattle.pfx_program.specs.Ledger.{Begins, RefusesGiven, given}
 use Rattle.pfx_program.specs.Lines.{Lines, no_lines, before, slot_line, plan_lines}
 use Rattle.pfx_program.proofs.Appends.{keeps-same, appends-nothing, appends-kept}
-use Rattle.pfx_program.specs.Plan.{IsPlanText, Prints, Leaves, IsInputFault, ReadFails, StartFails, SlotFails}
+use Rattle.pfx_program.specs.Plan.{IsPlanned, IsSetRefused, IsLedgerRefused, IsPlanText, Prints, Leaves, IsInputFault, ReadFails, StartFails, SetFails, LedgerFails, SlotFails}
 
 -- ---- lines
 
@@ -94,25 +97,30 @@ all_lines tasks g now slots slot old new below h =
 
 -- ---- the file's set
 
--- the bytes are a file whose set is accepted, and its ledger at slot 0 is this one
-pub record HasSet (bytes : List ℕ) (file : SetFile) (first : Ledger) : Type 0 where
+-- the bytes are a file whose set is accepted, and its plan begins with this ledger
+pub record HasSet (bytes : List ℕ) (at : Option (List ℕ)) (file : SetFile) (first : Ledger) : Type 0 where
   pub read : set_of_bytes bytes ≡ Some file
   pub set : FilledSet
   pub accepted : Accepts file.workers (weights_of file) set
-  pub is : first ≡ start set
+  pub begins : Begins set at first
 
-plan_is : (bytes : List ℕ) (file : SetFile) (first : Ledger) (slots : ℕ) (lines : Lines) (text : List ℕ) (end : Option Fault) → HasSet bytes file first
-    → plan_lines file.tasks first slots ≡ lines → text ≡ lines.text → end ≡ option_map fault_of_choice lines.stop → IsPlanText bytes slots text end
-plan_is bytes file first slots lines text end h is same stop =
-    let found : plan_lines file.tasks (start h.set) slots ≡ lines = rw (← h.is) is in
-    rw h.read (inl (record { set = h.set; accepted = h.accepted; lines = same ∙ sym (ap (λ (l : Lines). l.text) found); stop = stop ∙ sym (ap (λ (l : Lines). option_map fault_of_choice l.stop) found) }))
+plan_is : (bytes : List ℕ) (at : Option (List ℕ)) (file : SetFile) (first : Ledger) (slots : ℕ) (lines : Lines) (text : List ℕ) (end : Option Fault) → HasSet bytes at file first
+    → plan_lines file.tasks first slots ≡ lines → text ≡ lines.text → end ≡ option_map fault_of_choice lines.stop → IsPlanText bytes at slots text end
+plan_is bytes at file first slots lines text end h is same stop = rw h.read (inl (record {
+  set = h.set;
+  accepted = h.accepted;
+  first = first;
+  begins = h.begins;
+  lines = same ∙ sym (ap (λ (l : Lines). l.text) is);
+  stop = stop ∙ sym (ap (λ (l : Lines). option_map fault_of_choice l.stop) is);
+}))
 
 -- ---- ends
 
-pub ends : (bytes : List ℕ) (file : SetFile) (first : Ledger) (now : Ledger) (slots slot : ℕ) (old new : Option (List ℕ)) → HasSet bytes file first → slot ≡ slots
-    → Progress file.tasks first now slots slot old new → Prints bytes slots old new None
-ends bytes file first now slots slot old new has last h =
-    (h.front, plan_is bytes file first slots (whole_lines h.front) h.front None has (rw (← last) (so_far file.tasks first now slots slot old new h)) refl refl, h.written)
+pub ends : (bytes : List ℕ) (at : Option (List ℕ)) (file : SetFile) (first : Ledger) (now : Ledger) (slots slot : ℕ) (old new : Option (List ℕ)) → HasSet bytes at file first → slot ≡ slots
+    → Progress file.tasks first now slots slot old new → Prints bytes at slots old new None
+ends bytes at file first now slots slot old new has last h =
+    (h.front, plan_is bytes at file first slots (whole_lines h.front) h.front None has (rw (← last) (so_far file.tasks first now slots slot old new h)) refl refl, h.written)
 
 never_input : (why : ChoiceFault) → fault.InputFailed ≡ fault_of_choice why → ⊥
 never_input choicefault.SlotLimit e = cc
@@ -121,11 +129,11 @@ never_input (choicefault.TooFewEligible eligible m) e = cc
 never_input choicefault.NoMemory e = cc
 
 -- a slot whose line wasn't written ends the plan
-pub fails : (bytes : List ℕ) (file : SetFile) (first : Ledger) (now : Ledger) (slots slot : ℕ) (old new newer : Option (List ℕ)) (e : Fault) → HasSet bytes file first → slot < slots
-    → Progress file.tasks first now slots slot old new → SlotFails file.tasks now new newer e → Leaves bytes slots old newer (Err e)
-fails bytes file first now slots slot old new newer fault.NoMemory has below h failed =
-    inl (slot, h.within, (h.front, plan_is bytes file first slot (whole_lines h.front) h.front None has (so_far file.tasks first now slots slot old new h) refl refl, appends-kept old new newer h.front h.written failed))
-fails bytes file first now slots slot old new newer fault.OutputFailed has below h failed =
+pub fails : (bytes : List ℕ) (at : Option (List ℕ)) (file : SetFile) (first : Ledger) (now : Ledger) (slots slot : ℕ) (old new newer : Option (List ℕ)) (e : Fault) → HasSet bytes at file first → slot < slots
+    → Progress file.tasks first now slots slot old new → SlotFails file.tasks now new newer e → Leaves bytes at slots old newer (Err e)
+fails bytes at file first now slots slot old new newer fault.NoMemory has below h failed =
+    inl (slot, h.within, (h.front, plan_is bytes at file first slot (whole_lines h.front) h.front None has (so_far file.tasks first now slots slot old new h) refl refl, appends-kept old new newer h.front h.written failed))
+fails bytes at file first now slots slot old new newer fault.OutputFailed has below h failed =
     let (row, is, cut) = failed in
     let (front, rest, same, wrote) = cut in
     let line = slot_line file.tasks now.slot row in
@@ -135,15 +143,15 @@ fails bytes file first now slots slot old new newer fault.OutputFailed has below
       h.front ++ front,
       rest ++ left.text,
       option_map fault_of_choice left.stop,
-      plan_is bytes file first slots (before h.front (before line left)) ((h.front ++ front) ++ (rest ++ left.text)) (option_map fault_of_choice left.stop) has all text refl,
+      plan_is bytes at file first slots (before h.front (before line left)) ((h.front ++ front) ++ (rest ++ left.text)) (option_map fault_of_choice left.stop) has all text refl,
       appends-more old new newer h.front front h.written wrote,
     )
-fails bytes file first now slots slot old new newer fault.InputFailed has below h failed = absurd (never_input failed.0 failed.2)
-fails bytes file first now slots slot old new newer other has below h failed =
+fails bytes at file first now slots slot old new newer fault.InputFailed has below h failed = absurd (never_input failed.0 failed.2)
+fails bytes at file first now slots slot old new newer other has below h failed =
     let (why, is, same, kept) = failed in
     let all = all_lines file.tasks first now slots slot old new below h ∙ ap (before h.front) (stop_lines file.tasks now why (slots - slot - 1) is) in (
       h.front,
-      plan_is bytes file first slots (before h.front (stopped why)) h.front (Some other) has all (sym (append-nil h.front)) (ap Some same),
+      plan_is bytes at file first slots (before h.front (stopped why)) h.front (Some other) has all (sym (append-nil h.front)) (ap Some same),
       appends-kept old new newer h.front h.written kept,
     )
 
@@ -153,16 +161,16 @@ pub if_some : {A : Type 0} (o : Option A) (P Q : A → Type 0) → IfSome o P �
 if_some None P Q h f = tt
 if_some (Some x) P Q h f = f x h
 
-pub no_input : (input : Option (List ℕ)) (slots : ℕ) (old : Option (List ℕ)) (e : Fault) → IsInputFault e → IfSome input (λ bytes. Leaves bytes slots old old (Err e))
-no_input None slots old e h = tt
-no_input (Some bytes) slots old fault.InputFailed h = keeps-same old
-no_input (Some bytes) slots old fault.NoMemory h = inr (keeps-same old)
-no_input (Some bytes) slots old other h = absurd h
+pub no_input : (input at : Option (List ℕ)) (slots : ℕ) (old : Option (List ℕ)) (e : Fault) → IsInputFault e → IfSome input (λ bytes. Leaves bytes at slots old old (Err e))
+no_input None at slots old e h = tt
+no_input (Some bytes) at slots old fault.InputFailed h = keeps-same old
+no_input (Some bytes) at slots old fault.NoMemory h = inr (keeps-same old)
+no_input (Some bytes) at slots old other h = absurd h
 
-pub no_set : (bytes : List ℕ) (slots : ℕ) (old : Option (List ℕ)) (e : Fault) → ReadFails bytes e → Leaves bytes slots old old (Err e)
-no_set bytes slots old fault.BadSet h = ([], rw h (refl, refl), appends-nothing old)
-no_set bytes slots old fault.NoMemory h = inr (keeps-same old)
-no_set bytes slots old other h = absurd h
+pub no_set : (bytes : List ℕ) (at : Option (List ℕ)) (slots : ℕ) (old : Option (List ℕ)) (e : Fault) → ReadFails bytes e → Leaves bytes at slots old old (Err e)
+no_set bytes at slots old fault.BadSet h = ([], rw h (refl, refl), appends-nothing old)
+no_set bytes at slots old fault.NoMemory h = inr (keeps-same old)
+no_set bytes at slots old other h = absurd h
 
 never_outside : (why : SetFault) → (fault.InputFailed ≡ fault_of_set why → ⊥) × (fault.OutputFailed ≡ fault_of_set why → ⊥)
 never_outside setfault.NoTasks = (λ e. cc, λ e. cc)
@@ -173,13 +181,33 @@ never_outside (setfault.HyperperiodTooLarge task) = (λ e. cc, λ e. cc)
 never_outside setfault.Overload = (λ e. cc, λ e. cc)
 never_outside setfault.NoMemory = (λ e. cc, λ e. cc)
 
-pub no_start : (bytes : List ℕ) (file : SetFile) (slots : ℕ) (old : Option (List ℕ)) (e : Fault) → set_of_bytes bytes ≡ Some file → StartFails file e → Leaves bytes slots old old (Err e)
-no_start bytes file slots old fault.NoMemory read h = inr (keeps-same old)
-no_start bytes file slots old fault.InputFailed read h = absurd ((never_outside h.0).0 h.3)
-no_start bytes file slots old fault.OutputFailed read h = absurd ((never_outside h.0).1 h.3)
-no_start bytes file slots old other read h =
+never_given : (o : Option Ledger) → (RefusesGiven o fault.InputFailed → ⊥) × (RefusesGiven o fault.OutputFailed → ⊥)
+never_given None = (λ e. cc, λ e. cc)
+never_given (Some g) = (λ h. (never_ledger h.0).0 h.3, λ h. (never_ledger h.0).1 h.3)
+  where
+    never_ledger : (why : LedgerFault) → (fault.InputFailed ≡ fault_of_ledger why → ⊥) × (fault.OutputFailed ≡ fault_of_ledger why → ⊥)
+    never_ledger (ledgerfault.OutOfRange task) = (λ e. cc, λ e. cc)
+    never_ledger ledgerfault.WrongSum = (λ e. cc, λ e. cc)
+    never_ledger ledgerfault.NoMemory = (λ e. cc, λ e. cc)
+
+-- a set or a ledger that is refused has no line
+refused_text : (file : SetFile) (at : Option (List ℕ)) (slots : ℕ) (f : Fault) → SetFails file f ⊎ LedgerFails file at f
+    → IsPlanned file at slots [] (Some f) ⊎ (IsSetRefused file [] (Some f) ⊎ IsLedgerRefused file at [] (Some f))
+refused_text file at slots f (inl h) =
     let (why, refused, not_memory, same) = h in
-    ([], rw read (inr (record { why = why; refused = refused; not_memory = not_memory; no_line = refl; stop = ap Some same })), appends-nothing old)
+    inr (inl (record { why = why; refused = refused; not_memory = not_memory; no_line = refl; stop = ap Some same }))
+refused_text file at slots f (inr h) =
+    let (set, accepted, refused) = h in
+    inr (inr (record { set = set; accepted = accepted; why = f; refused = refused; no_line = refl; stop = refl }))
+
+pub no_start : (bytes : List ℕ) (at : Option (List ℕ)) (file : SetFile) (slots : ℕ) (old : Option (List ℕ)) (e : Fault) → set_of_bytes bytes ≡ Some file → StartFails file at e
+    → Leaves bytes at slots old old (Err e)
+no_start bytes at file slots old fault.NoMemory read h = inr (keeps-same old)
+no_start bytes at file slots old fault.InputFailed read (inl h) = absurd ((never_outside h.0).0 h.3)
+no_start bytes at file slots old fault.InputFailed read (inr h) = absurd ((never_given (given h.0 h.2.text)).0 h.2.refused)
+no_start bytes at file slots old fault.OutputFailed read (inl h) = absurd ((never_outside h.0).1 h.3)
+no_start bytes at file slots old fault.OutputFailed read (inr h) = absurd ((never_given (given h.0 h.2.text)).1 h.2.refused)
+no_start bytes at file slots old other read h = ([], rw read (refused_text file at slots other h), appends-nothing old)
 
 -- ---- a slot that has no row
 

@@ -1,8 +1,16 @@
--- The program's fault for each refusal of a task set and of a slot.
+-- The program's fault for each refusal of a task set, of a ledger, of a slot, of a job's start and of a command.
 use Rattle.pfx_weights.specs.declared.faults.SetFault.{SetFault}
 use Rattle.pfx_weights.specs.declared.faults.SetFault.TheVariants as setfault
+use Rattle.pfx_columns.specs.declared.faults.LedgerFault.{LedgerFault}
+use Rattle.pfx_columns.specs.declared.faults.LedgerFault.TheVariants as ledgerfault
 use Rattle.pfx_choice.specs.declared.faults.ChoiceFault.{ChoiceFault}
 use Rattle.pfx_choice.specs.declared.faults.ChoiceFault.TheVariants as choicefault
+use Rattle.pfx_kinds.specs.declared.start.StartFault.{StartFault}
+use Rattle.pfx_kinds.specs.declared.start.StartFault.TheVariants as startfault
+use Rattle.pfx_machine.specs.declared.faults.MachineFault.{MachineFault}
+use Rattle.pfx_machine.specs.declared.faults.MachineFault.TheVariants as machinefault
+use Rattle.pfx_script.specs.declared.faults.ReadFault.{ReadFault}
+use Rattle.pfx_script.specs.declared.faults.ReadFault.TheVariants as readfault
 use Rattle.pfx_fault.specs.declared.refusals.Fault.{Fault}
 use Rattle.pfx_fault.specs.declared.refusals.Fault.TheVariants as fault
 
@@ -16,9 +24,38 @@ fault_of_set (setfault.HyperperiodTooLarge task) = fault.HyperperiodTooLarge tas
 fault_of_set setfault.Overload = fault.Overload
 fault_of_set setfault.NoMemory = fault.NoMemory
 
+-- the fault of allocations that are no ledger
+abbrev pub fault_of_ledger : LedgerFault → Fault
+fault_of_ledger (ledgerfault.OutOfRange task) = fault.OutOfRange task
+fault_of_ledger ledgerfault.WrongSum = fault.WrongSum
+fault_of_ledger ledgerfault.NoMemory = fault.NoMemory
+
 -- the fault of a slot that has no row
 abbrev pub fault_of_choice : ChoiceFault → Fault
 fault_of_choice choicefault.SlotLimit = fault.SlotLimit
 fault_of_choice (choicefault.TooManyUrgent urgent m) = fault.TooManyUrgent urgent m
 fault_of_choice (choicefault.TooFewEligible eligible m) = fault.TooFewEligible eligible m
 fault_of_choice choicefault.NoMemory = fault.NoMemory
+
+-- the fault of a job that can't be started
+abbrev pub fault_of_start : StartFault → Fault
+fault_of_start startfault.BadKind = fault.BadKind
+fault_of_start startfault.BadGoal = fault.BadGoal
+fault_of_start startfault.BadData = fault.BadData
+
+-- the fault of a command that is refused
+abbrev pub fault_of_machine : MachineFault → Fault
+fault_of_machine machinefault.NumberLimit = fault.NumberLimit
+fault_of_machine (machinefault.NoSuchTask task) = fault.NoSuchTask task
+fault_of_machine (machinefault.TaskBusy task) = fault.TaskBusy task
+fault_of_machine (machinefault.NoJob task) = fault.NoJob task
+fault_of_machine machinefault.SlotLimit = fault.SlotLimit
+fault_of_machine (machinefault.TooManyUrgent urgent m) = fault.TooManyUrgent urgent m
+fault_of_machine (machinefault.TooFewEligible eligible m) = fault.TooFewEligible eligible m
+fault_of_machine machinefault.NoMemory = fault.NoMemory
+
+-- the fault of a script that is read no further
+abbrev pub fault_of_read : ReadFault → Fault
+fault_of_read (readfault.BadScript at) = fault.BadScript at
+fault_of_read readfault.InputFailed = fault.InputFailed
+fault_of_read readfault.NoMemory = fault.NoMemory

@@ -2,17 +2,29 @@
 //!
 //! What it keeps true: what `run_plan` writes is the plan of the bytes that its reader gives, `IsPlanText` of
 //! `specs/Plan.antt`: the set that the bytes are, or the refusal of bytes that are none or of a set that can't be
-//! served; then, from the set's start on, a line for each slot with the row of proportionate progress that the ledger
-//! of the rows before it has, up to the first slot that has none. A plan that ends early has written whole lines, and
-//! where the writer itself fails, a beginning of the plan's text.
+//! served; then, from the set's start or from a given ledger on, a line for each slot with the row of proportionate
+//! progress that the ledger of the rows before it has, up to the first slot that has none. A plan that ends early has
+//! written whole lines, and where the writer itself fails, a beginning of the plan's text.
+//!
+//! What `run_script` writes is a function of its script's bytes and of the state that its engine begins with,
+//! `script_output` of `specs/Script.antt`: a line for each command and each refusal, boards, and the last number, up
+//! to the first record without form. Where the reader, the writer, the memory or the engine fails, it is a beginning
+//! of that. An engine is anything that carries commands out as the machine does: a `State` in memory is one.
 #![tactic(auto)]
 
+mod answers;
+mod engine;
 mod faults;
+mod ledger;
 mod lines;
+mod memory;
 mod output;
 mod plan;
+mod run;
 
+pub use engine::{CallFault, Engine};
 pub use plan::run_plan;
+pub use run::run_script;
 
 #[cfg(test)]
 mod tests;

@@ -1,11 +1,12 @@
 //! `pfx plan`.
 
-ghost use Rattle.std.specs.Prelude.{◌≡◌, Some, IfSome, IfOk, IfErr, OnOk, map};
+ghost use Rattle.std.specs.Prelude.{◌≡◌, Some, IfSome, IfOk, IfErr, OnOk, map, option_map};
 ghost use Rattle.pfx_set_text.specs.SetFile.{set_of_bytes};
 ghost use Rattle.pfx_set_text.specs.Views.{task_view, set_view};
 ghost use Rattle.pfx_program.specs.Plan.{Leaves, IsInputFault, ReadFails, IsStart, StartFails, SlotPrinted, SlotFails};
 
 use crate::faults::{choice_fault, set_fault};
+use crate::ledger::begin;
 use crate::lines::line_of;
 use crate::output::put;
 use pfx_choice::{Chooser, give};
@@ -39,20 +40,16 @@ fn set_from(alloc: Global, bytes: &[u8]) -> Result<SetText, Fault>
     }
 }
 
-fn started(alloc: Global, file: &SetText) -> Result<Columns, Fault>
-    ensures ok { IfOk result (IsStart (set_view file.now)) }
-    ensures err { IfErr result (StartFails (set_view file.now)) }
+fn started(alloc: Global, file: &SetText, at: Option<&str>) -> Result<Columns, Fault>
+    ensures ok { IfOk result (IsStart (set_view file.now) (option_map (λ s. s.now) at.entry)) }
+    ensures err { IfErr result (StartFails (set_view file.now) (option_map (λ s. s.now) at.entry)) }
 {
     let Ok(weights) = file.weights(alloc) else {
         return Err(Fault::NoMemory);
     };
-    let set = match TaskSet::new(alloc, file.workers, weights.as_slice()) {
-        Ok(set) => set,
-        Err(fault) => return Err(set_fault(fault)),
-    };
-    match Columns::zero(alloc, &set) {
-        Ok(columns) => Ok(columns),
-        Err(_) => Err(Fault::NoMemory),
+    match TaskSet::new(alloc, file.workers, weights.as_slice()) {
+        Ok(set) => begin(alloc, &set, at),
+        Err(fault) => Err(set_fault(fault)),
     }
 }
 
@@ -83,8 +80,12 @@ fn put_slot<W: Write>(
     }
 }
 
-/// Writes the plan of the first `slots` slots of the set that the reader gives: for each slot a line of CSV, its
-/// number and the names of the tasks of its row, where idle task `j` is `*j`.
+/// Writes the plan of `slots` slots of the set that the reader gives: for each slot a line of CSV, its number and the
+/// names of the tasks of its row, where idle task `j` is `*j`.
+///
+/// The plan begins at slot 0, or with the ledger that `at` gives as `T:A,A,..`: at slot T, a number below 2^40, with
+/// the allocation A of each task, idle ones too, each in 1 to 13 decimal digits. Another text is refused as
+/// `BadLedger`, then lags out of range and a wrong sum as `OutOfRange` and `WrongSum`; refusals of the set come first.
 ///
 /// The answer is the plan's end: `Ok` after all its lines, and else the fault that stopped it, with the lines before
 /// it written. `InputFailed` comes where the reader fails, with nothing written; `OutputFailed` where the writer does,
@@ -92,15 +93,16 @@ fn put_slot<W: Write>(
 pub fn run_plan<R: Read, W: Write>(
     alloc: Global,
     input: &mut R,
+    at: Option<&str>,
     output: &mut W,
     slots: u64,
 ) -> Result<(), Fault>
-    ensures { IfSome (R.remaining input.old)
-        (λ bytes. Leaves bytes slots (W.contents output.old) (W.contents output.new) result) }
+    ensures { IfSome (R.remaining input.old) (λ bytes. Leaves bytes (option_map (λ s. s.now) at.entry) slots
+        (W.contents output.old) (W.contents output.new) result) }
 {
     let bytes = read_all(alloc, input)?;
     let file = set_from(alloc, bytes.as_slice())?;
-    let mut columns = started(alloc, &file)?;
+    let mut columns = started(alloc, &file, at)?;
     let mut chooser = Chooser::new(alloc);
     for _ in 0..slots {
         put_slot(

@@ -1,5 +1,7 @@
 //! Plans of whole set files, and what a failing reader or writer leaves.
 
+mod scripts;
+
 use super::*;
 use pfx_fault::Fault;
 use std::alloc::Global;
@@ -31,10 +33,27 @@ task = [{name = \"a\", e = 2, p = 3}, {name = \"b\", e = 2, p = 3},
     {name = \"c\", e = 5, p = 6}, {name = \"d\", e = 5, p = 6}]
 ";
 
+const QUARTERS_AND_EIGHTHS: &str = "workers = 1
+task = [{name = \"a\", e = 1, p = 4}, {name = \"b\", e = 1, p = 4}, {name = \"c\", e = 1, p = 4},
+    {name = \"d\", e = 1, p = 8}, {name = \"e\", e = 1, p = 8}]
+";
+
+const THIRDS_AND_SIXTHS: &str = "workers = 1
+task = [{name = \"a\", e = 1, p = 3}, {name = \"b\", e = 1, p = 3},
+    {name = \"c\", e = 1, p = 6}, {name = \"d\", e = 1, p = 6}]
+";
+
 // What is written, and the fault at its end.
 fn planned(alloc: Global, set: &str, slots: u64) -> (Vec<u8>, Result<(), Fault>) {
     let mut written = Vec::new(alloc);
-    let end = run_plan(alloc, &mut set.as_bytes(), &mut written, slots);
+    let end = run_plan(alloc, &mut set.as_bytes(), None, &mut written, slots);
+    (written, end)
+}
+
+// The same from a ledger's text on.
+fn planned_at(alloc: Global, set: &str, at: &str, slots: u64) -> (Vec<u8>, Result<(), Fault>) {
+    let mut written = Vec::new(alloc);
+    let end = run_plan(alloc, &mut set.as_bytes(), Some(at), &mut written, slots);
     (written, end)
 }
 
@@ -58,6 +77,97 @@ fn prints_the_rows(rt: HostRuntime) -> anyhow::Result<()> {
         let (written, end) = planned(rt.alloc(), set, slots);
         end?;
         assert_eq!(rt; written.as_slice(), want.as_bytes(), "{set}");
+    }
+    Ok(())
+}
+
+#[test]
+fn goes_on_from_a_ledger(rt: HostRuntime) -> anyhow::Result<()> {
+    // The rows of a plain program, apart from this one, that follows the definitions.
+    let rows = [
+        (THIRDS, "0:0,0,0", 2, "0,a,b\n1,a,c\n"),
+        (THIRDS, "2:2,1,1", 2, "2,b,c\n3,a,b\n"),
+        (HALF_AND_THIRD, "6:3,2,1", 1, "6,x\n"),
+        (HALF_AND_THIRD, "0000000000006:03,2,1", 2, "6,x\n7,y\n"),
+        (FOUR_ON_THREE, "2:2,2,1,1", 0, ""),
+    ];
+    for (set, at, slots, want) in rows {
+        let (written, end) = planned_at(rt.alloc(), set, at, slots);
+        end?;
+        assert_eq!(rt; written.as_slice(), want.as_bytes(), "{at}");
+    }
+    Ok(())
+}
+
+#[test]
+fn ends_early_from_a_ledger(rt: HostRuntime) -> anyhow::Result<()> {
+    let (urgent, eligible) = (2, 2);
+    let rows = [
+        (
+            QUARTERS_AND_EIGHTHS,
+            "2:0,0,0,1,1",
+            "2,a\n",
+            Fault::TooManyUrgent { urgent, m: 1 },
+        ),
+        (
+            FOUR_ON_THREE,
+            "2:2,2,1,1",
+            "",
+            Fault::TooFewEligible { eligible, m: 3 },
+        ),
+        (
+            HALF_ON_TWO,
+            "1099511627775:549755813887,549755813888,549755813887,549755813888",
+            "",
+            Fault::SlotLimit,
+        ),
+        (
+            HALF_ON_TWO,
+            "1099511627774:549755813887,549755813887,549755813887,549755813887",
+            "1099511627774,x,*0\n",
+            Fault::SlotLimit,
+        ),
+    ];
+    for (set, at, want, fault) in rows {
+        let (written, end) = planned_at(rt.alloc(), set, at, 6);
+        assert_eq!(rt; end, Err(fault), "{at}");
+        assert_eq!(rt; written.as_slice(), want.as_bytes(), "{at}");
+    }
+    Ok(())
+}
+
+#[test]
+fn refuses_a_ledger(rt: HostRuntime) -> anyhow::Result<()> {
+    let out_of_range = Fault::OutOfRange { task: 2 };
+    let rows = [
+        (THIRDS_AND_SIXTHS, "2:0,0,2,0", out_of_range),
+        (THIRDS_AND_SIXTHS, "2:0,0,1,0", Fault::WrongSum),
+        (HALF_AND_THIRD, "6:3,2", Fault::BadLedger),
+        (HALF_AND_THIRD, "6:3,2,1,0", Fault::BadLedger),
+        (HALF_AND_THIRD, "", Fault::BadLedger),
+        (HALF_AND_THIRD, "6", Fault::BadLedger),
+        (HALF_AND_THIRD, "6:", Fault::BadLedger),
+        (HALF_AND_THIRD, ":3,2,1", Fault::BadLedger),
+        (HALF_AND_THIRD, "6:3,2,1,", Fault::BadLedger),
+        (HALF_AND_THIRD, "6:3,,1", Fault::BadLedger),
+        (HALF_AND_THIRD, "6:3,2,-1", Fault::BadLedger),
+        (HALF_AND_THIRD, "+6:3,2,1", Fault::BadLedger),
+        (HALF_AND_THIRD, "6: 3,2,1", Fault::BadLedger),
+        (HALF_AND_THIRD, "6:3:2,1", Fault::BadLedger),
+        (HALF_AND_THIRD, "6,3,2,1", Fault::BadLedger),
+        (HALF_AND_THIRD, "00000000000006:3,2,1", Fault::BadLedger),
+        (HALF_AND_THIRD, "6:3,2,00000000000001", Fault::BadLedger),
+        (HALF_AND_THIRD, "1099511627776:3,2,1", Fault::BadLedger),
+        ("workers = 1", "6", Fault::NoTasks),
+        ("workers = ", "6", Fault::BadSet),
+    ];
+    for (set, at, fault) in rows {
+        let (written, end) = planned_at(rt.alloc(), set, at, 1);
+        if end == Err(Fault::NoMemory) {
+            return Err(Fault::NoMemory.into());
+        }
+        assert_eq!(rt; end, Err(fault), "{at}");
+        assert!(rt; written.is_empty(), "{at}");
     }
     Ok(())
 }
@@ -121,7 +231,7 @@ fn reader_fails_in_the_middle(rt: HostRuntime) -> anyhow::Result<()> {
         left: THIRDS.as_bytes(),
     };
     let mut written = Vec::new(rt.alloc());
-    let end = run_plan(rt.alloc(), &mut input, &mut written, 4);
+    let end = run_plan(rt.alloc(), &mut input, None, &mut written, 4);
     if end == Err(Fault::NoMemory) {
         return Err(Fault::NoMemory.into());
     }
@@ -164,7 +274,7 @@ fn writer_fails_in_the_middle(rt: HostRuntime) -> anyhow::Result<()> {
         len: 0,
         interrupts: false,
     };
-    let end = run_plan(rt.alloc(), &mut THIRDS.as_bytes(), &mut output, 4);
+    let end = run_plan(rt.alloc(), &mut THIRDS.as_bytes(), None, &mut output, 4);
     if end == Err(Fault::NoMemory) {
         return Err(Fault::NoMemory.into());
     }

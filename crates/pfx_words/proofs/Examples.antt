@@ -1,5 +1,5 @@
 -- Rows that show which words the command takes, and what they ask for.
-use Rattle.std.proofs.Common.{◌≡◌, codes, refl, [], ◌∷◌, List, Some, true}
+use Rattle.std.proofs.Common.{◌≡◌, codes, refl, [], ◌∷◌, List, Some, None, true}
 use Rattle.clap.specs.Walk.{Text}
 use Rattle.clap.specs.Takes.{takes}
 use Rattle.clap.specs.Faults.{fault_of}
@@ -15,7 +15,7 @@ pfx words = codes "pfx" ∷ words
 abbrev first_four : List Text
 first_four = pfx (codes "plan" ∷ codes "a.toml" ∷ codes "4" ∷ [])
 
-pub asks_for_a_plan : asked first_four ≡ Some (plan (codes "a.toml") 4)
+pub asks_for_a_plan : asked first_four ≡ Some (plan (codes "a.toml") 4 None)
 unfolding clap_on_literals asked
 asks_for_a_plan = refl
 
@@ -23,9 +23,38 @@ pub takes_a_plan : takes pfx_app first_four ≡ true
 unfolding clap_on_literals
 takes_a_plan = refl
 
-pub asks_for_most_slots : asked (pfx (codes "plan" ∷ codes "--" ∷ codes "-a" ∷ codes "1048576" ∷ [])) ≡ Some (plan (codes "-a") 1048576)
+pub asks_for_most_slots : asked (pfx (codes "plan" ∷ codes "--" ∷ codes "-a" ∷ codes "1048576" ∷ [])) ≡ Some (plan (codes "-a") 1048576 None)
 unfolding clap_on_literals asked
 asks_for_most_slots = refl
+
+-- ---- a ledger to begin with
+
+-- `plan` with a ledger behind its words
+abbrev from_two : List Text
+from_two = pfx (codes "plan" ∷ codes "a.toml" ∷ codes "4" ∷ codes "--at" ∷ codes "2:2,1,1" ∷ [])
+
+pub asks_for_a_ledger : asked from_two ≡ Some (plan (codes "a.toml") 4 (Some (codes "2:2,1,1")))
+unfolding clap_on_literals asked
+asks_for_a_ledger = refl
+
+pub takes_a_ledger : takes pfx_app from_two ≡ true
+unfolding clap_on_literals
+takes_a_ledger = refl
+
+-- its text is passed on as it is, of any form
+pub passes_any_text : asked (pfx (codes "plan" ∷ codes "--at=,:x" ∷ codes "a.toml" ∷ codes "4" ∷ [])) ≡ Some (plan (codes "a.toml") 4 (Some (codes ",:x")))
+unfolding clap_on_literals asked
+passes_any_text = refl
+
+pub no_ledger : fault_of pfx_app (pfx (codes "plan" ∷ codes "a.toml" ∷ codes "4" ∷ codes "--at" ∷ [])) ≡ kind.InvalidValue ∷ []
+unfolding clap_on_literals
+no_ledger = refl
+
+pub two_ledgers : fault_of pfx_app (pfx (codes "plan" ∷ codes "a.toml" ∷ codes "4" ∷ codes "--at=0:0" ∷ codes "--at=0:0" ∷ [])) ≡ kind.ArgumentConflict ∷ []
+unfolding clap_on_literals
+two_ledgers = refl
+
+-- ---- words that are refused
 
 pub too_many_slots : fault_of pfx_app (pfx (codes "plan" ∷ codes "a.toml" ∷ codes "1048577" ∷ [])) ≡ kind.ValueValidation ∷ []
 unfolding clap_on_literals

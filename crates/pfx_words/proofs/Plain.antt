@@ -45,11 +45,11 @@ asked_steps : (program set slots : Text) → asked (program ∷ codes "plan" ∷
 unfolding clap_on_literals asked
 asked_steps program set slots = refl
 
-asked_held : (set : Text) (d : ℕ) (ds : Text) → (d == 45) ≡ false → asked_in (Some (codes "plan", finished plan_built.rules (after_both set (d ∷ ds)).held)) ≡ plan_of (Some set) (number_of (d ∷ ds))
+asked_held : (set : Text) (d : ℕ) (ds : Text) → (d == 45) ≡ false → asked_in (Some (codes "plan", finished plan_built.rules (after_both set (d ∷ ds)).held)) ≡ plan_of (Some set) (number_of (d ∷ ds)) None
 unfolding clap_on_literals
 asked_held set d ds f = rw f refl
 
-asked_plain : (program set : Text) (d : ℕ) (ds : Text) → starts_with_minus set ≡ false → (d == 45) ≡ false → asked (program ∷ codes "plan" ∷ set ∷ (d ∷ ds) ∷ []) ≡ plan_of (Some set) (number_of (d ∷ ds))
+asked_plain : (program set : Text) (d : ℕ) (ds : Text) → starts_with_minus set ≡ false → (d == 45) ≡ false → asked (program ∷ codes "plan" ∷ set ∷ (d ∷ ds) ∷ []) ≡ plan_of (Some set) (number_of (d ∷ ds)) None
 asked_plain program set d ds e f =
     asked_steps program set (d ∷ ds) ∙ ap (λ (w : Walk). asked_in (Some (codes "plan", finished plan_built.rules w.held))) (plan_walk set (d ∷ ds) e f) ∙ asked_held set d ds f
 
@@ -113,6 +113,6 @@ pub plain_plan_taken : (program set slots : Text) → starts_with_minus set ≡ 
 plain_plan_taken program set [] e h = absurd (omega (arith, h.0.0))
 plain_plan_taken program set (d ∷ ds) e h = takes_plain program set (d ∷ ds) e (no_sign d ds h.0).0 (slots_pass d ds h)
 
-pub plain_plan_asked : (program set slots : Text) → starts_with_minus set ≡ false → IsSlots slots → asked (program ∷ codes "plan" ∷ set ∷ slots ∷ []) ≡ Some (plan set (digits_value 10 slots))
+pub plain_plan_asked : (program set slots : Text) → starts_with_minus set ≡ false → IsSlots slots → asked (program ∷ codes "plan" ∷ set ∷ slots ∷ []) ≡ Some (plan set (digits_value 10 slots) None)
 plain_plan_asked program set [] e h = absurd (omega (arith, h.0.0))
-plain_plan_asked program set (d ∷ ds) e h = asked_plain program set d ds e (no_sign d ds h.0).0 ∙ ap (plan_of (Some set)) (number_written d ds h)
+plain_plan_asked program set (d ∷ ds) e h = asked_plain program set d ds e (no_sign d ds h.0).0 ∙ ap (λ n. plan_of (Some set) n None) (number_written d ds h)

@@ -15,9 +15,17 @@ required id = record (new_rule id) { required = true }
 abbrev pub slots : Rule
 slots = record (required (codes "SLOTS")) { parser = Some (vp.Signed (pos 0) (pos 1048576)) }
 
+-- a ledger to begin with, as the value of `--at`
+abbrev pub at_ledger : Rule
+at_ledger = record (new_rule (codes "at")) { long = Some (codes "at"); value_names = 1 }
+
 -- `plan SET SLOTS`
+abbrev pub plan_words : App
+plan_words = with_rule (with_rule (new_app (codes "plan")) (required (codes "SET"))) slots
+
+-- and `--at LEDGER`, which may be left out
 abbrev pub plan_app : App
-plan_app = with_rule (with_rule (new_app (codes "plan")) (required (codes "SET"))) slots
+plan_app = with_rule plan_words at_ledger
 
 -- `pfx`: one of its subcommands has to follow, and each of them tells the version too
 abbrev pub bare_app : App

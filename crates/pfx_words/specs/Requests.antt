@@ -1,5 +1,5 @@
 -- What the words of a command line ask for.
-use Rattle.std.specs.Prelude.{ℕ, Bool, ◌&&◌, ◌≤◌, nat_lt, if◌then◌else◌, codes, List, length, Option, Some, None, option_and_then}
+use Rattle.std.specs.Prelude.{ℕ, Bool, ◌&&◌, ◌≤◌, nat_lt, if◌then◌else◌, codes, List, length, Option, Some, None, option_map, option_and_then}
 use Rattle.std.specs.Char.{digit_value}
 use Rattle.std.specs.List.{list_all}
 use Rattle.std.specs.Str.{bytes_eq}
@@ -12,11 +12,11 @@ use Rattle.pfx_words.specs.declared.request.Request.TheVariants as request
 
 -- a request, with its texts
 pub data Asked : Type 0 where
-  plan : Text → ℕ → Asked
+  plan : Text → ℕ → Option Text → Asked
 
 -- the request that a value of the code is
 abbrev pub asked_by : Request → Asked
-asked_by (request.Plan set slots) = plan set.now slots
+asked_by (request.Plan set slots at) = plan set.now slots (option_map (λ s. s.now) at)
 
 -- one digit or more, of a number of 32 bits
 abbrev pub is_number : Text → Bool
@@ -33,15 +33,15 @@ text_at id rows = first_of id rows
 abbrev pub number_at : Text → List Row → Option ℕ
 number_at id rows = option_and_then number_of (one_of id rows)
 
--- a plan, if both its words are there
-abbrev pub plan_of : Option Text → Option ℕ → Option Asked
-plan_of (Some set) (Some slots) = Some (plan set slots)
-plan_of (Some set) None = None
-plan_of None slots = None
+-- a plan, if both its words are there, with the ledger to begin with, if there is one
+abbrev pub plan_of : Option Text → Option ℕ → Option Text → Option Asked
+plan_of (Some set) (Some slots) at = Some (plan set slots at)
+plan_of (Some set) None at = None
+plan_of None slots at = None
 
 -- the plan that is asked for by what was found
 abbrev pub plan_in : List Row → Option Asked
-plan_in rows = plan_of (text_at (codes "SET") rows) (number_at (codes "SLOTS") rows)
+plan_in rows = plan_of (text_at (codes "SET") rows) (number_at (codes "SLOTS") rows) (text_at (codes "at") rows)
 
 -- what a subcommand asks for, by its name and what was found for its arguments
 abbrev pub asked_in : Option (Text × List Row) → Option Asked

@@ -1,6 +1,6 @@
 //! Laws of the definitions: what they say of words as users write them.
 
-ghost use Rattle.std.specs.Prelude.{◌≡◌, ◌∷◌, [], Some, true, false, codes};
+ghost use Rattle.std.specs.Prelude.{◌≡◌, ◌∷◌, [], Some, None, true, false, codes};
 ghost use Rattle.std.specs.Str.Parse.{digits_value, starts_with_minus};
 ghost use Rattle.clap.specs.Takes.{takes};
 ghost use Rattle.pfx_words.specs.Commands.{pfx_app};
@@ -13,5 +13,5 @@ pub fn plain_plan(program: &str, set: &str, slots: &str)
     requires slots { IsSlots slots.now }
     ensures taken { takes pfx_app (program.now ∷ codes "plan" ∷ set.now ∷ slots.now ∷ []) ≡ true }
     ensures asked { asked (program.now ∷ codes "plan" ∷ set.now ∷ slots.now ∷ [])
-        ≡ Some (plan set.now (digits_value 10 slots.now)) }
+        ≡ Some (plan set.now (digits_value 10 slots.now) None) }
 {}

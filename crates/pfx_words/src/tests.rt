@@ -21,10 +21,42 @@ fn reads_a_plan(rt: HostRuntime) -> anyhow::Result<()> {
     ];
     for (words, set, slots) in rows {
         let request = read_words(rt.alloc(), words)?;
+        let at = None;
         assert!(rt;
-            request == Some(Request::Plan { set, slots }),
+            request == Some(Request::Plan { set, slots, at }),
             "{request:?}"
         );
+    }
+    Ok(())
+}
+
+#[test]
+fn passes_a_ledger_on(rt: HostRuntime) -> anyhow::Result<()> {
+    // The ledger's text comes as it is, lawful or not.
+    let rows = [
+        (
+            ["pfx", "plan", "a.toml", "4", "--at", "2:2,1,1"].as_slice(),
+            "2:2,1,1",
+        ),
+        (
+            ["pfx", "plan", "a.toml", "--at=2:2,1,1", "4"].as_slice(),
+            "2:2,1,1",
+        ),
+        (
+            ["pfx", "plan", "--at", "=x", "--", "a.toml", "4"].as_slice(),
+            "=x",
+        ),
+        (["pfx", "plan", "--at=", "a.toml", "4"].as_slice(), ""),
+        (["pfx", "plan", "--at=-1:", "a.toml", "4"].as_slice(), "-1:"),
+    ];
+    for (words, at) in rows {
+        let request = read_words(rt.alloc(), words)?;
+        let want = Request::Plan {
+            set: "a.toml",
+            slots: 4,
+            at: Some(at),
+        };
+        assert!(rt; request == Some(want), "{request:?}");
     }
     Ok(())
 }
@@ -83,13 +115,35 @@ fn says_what_was_expected(rt: HostRuntime) -> anyhow::Result<()> {
 }
 
 #[test]
+fn takes_one_ledger(rt: HostRuntime) -> anyhow::Result<()> {
+    let rows = [
+        (
+            ["pfx", "plan", "a.toml", "4", "--at"].as_slice(),
+            "a value is required for '--at <T:A,A,..>' but none was supplied",
+        ),
+        (
+            ["pfx", "plan", "a.toml", "4", "--at", "0:0", "--at", "0:0"].as_slice(),
+            "the argument '--at <T:A,A,..>' cannot be used multiple times",
+        ),
+    ];
+    for (words, part) in rows {
+        assert!(rt; is_answered(rt.alloc(), words, 2, part)?, "{part}");
+    }
+    Ok(())
+}
+
+#[test]
 fn answers_with_help_and_version(rt: HostRuntime) -> anyhow::Result<()> {
     let rows = [
         (["pfx", "--help"].as_slice(), "Usage: pfx <COMMAND>"),
         (["pfx", "-h"].as_slice(), "  plan  Print which tasks run"),
         (
             ["pfx", "plan", "--help"].as_slice(),
-            "Usage: pfx plan <SET> <SLOTS>",
+            "Usage: pfx plan [OPTIONS] <SET> <SLOTS>",
+        ),
+        (
+            ["pfx", "plan", "-h"].as_slice(),
+            "      --at <T:A,A,..>  Begin at slot T",
         ),
         (
             ["pfx", "help", "plan"].as_slice(),

@@ -1,4 +1,4 @@
-use Rattle.std.proofs.Common.{rules, ◌≡◌, ◌∙◌, Err, arith}
+use Rattle.std.proofs.Common.{rules, ◌≡◌, ◌∙◌, Err, option_map, arith}
 use Rattle.pfx_set_text.specs.Views.{set_view}
 use Rattle.pfx_program.proofs.PlanLemmas.{starts, goes_on, ends, fails, if_some, no_input, no_set, no_start}
 use Rattle.pfx_program.proofs.plan.run_plan.Goals as goal
@@ -6,19 +6,19 @@ use Rattle.pfx_program.proofs.plan.run_plan.Goals as goal
 pub returns-in_err-bytes : goal.returns-in_err-bytes
 returns-in_err-bytes g c =
     let same : c.from_residual.result ≡ Err c.in_err-bytes.field-0.0 = search rules in
-    rw same (no_input (g.R.Read.remaining c.args.input.now) c.args.slots (g.W.Write.contents c.args.output.now) c.in_err-bytes.field-0.0 c.in_err-bytes.ensures.err)
+    rw same (no_input (g.R.Read.remaining c.args.input.now) (option_map (λ s. s.now) c.args.at) c.args.slots (g.W.Write.contents c.args.output.now) c.in_err-bytes.field-0.0 c.in_err-bytes.ensures.err)
 
 pub returns-in_err-file : goal.returns-in_err-file
 returns-in_err-file g c =
     let same : c.from_residual-in_err-file.result ≡ Err c.in_err-file.field-0.0 = search rules in
     if_some (g.R.Read.remaining c.args.input.now) _ _ c.in_ok-bytes.ensures.ok
-    (λ bytes read. rw same (no_set bytes c.args.slots (g.W.Write.contents c.args.output.now) c.in_err-file.field-0.0 (rw (c.as_slice.ensures.value ∙ read) at c.in_err-file.ensures.err)))
+    (λ bytes read. rw same (no_set bytes (option_map (λ s. s.now) c.args.at) c.args.slots (g.W.Write.contents c.args.output.now) c.in_err-file.field-0.0 (rw (c.as_slice.ensures.value ∙ read) at c.in_err-file.ensures.err)))
 
 pub returns-in_err-columns : goal.returns-in_err-columns
 returns-in_err-columns g c =
     let same : c.from_residual-in_err-columns.result ≡ Err c.in_err-columns.field-0.0 = search rules in
     if_some (g.R.Read.remaining c.args.input.now) _ _ c.in_ok-bytes.ensures.ok
-    (λ bytes read. rw same (no_start bytes (set_view c.in_ok-file.file) c.args.slots (g.W.Write.contents c.args.output.now) c.in_err-columns.field-0.0
+    (λ bytes read. rw same (no_start bytes (option_map (λ s. s.now) c.args.at) (set_view c.in_ok-file.file) c.args.slots (g.W.Write.contents c.args.output.now) c.in_err-columns.field-0.0
     (rw (c.as_slice.ensures.value ∙ read) at c.in_ok-file.ensures.ok) c.in_err-columns.ensures.err))
 
 pub loop-init : goal.loop-init
@@ -33,16 +33,16 @@ loop-preserved g c =
 pub returns-in_err-put_slot : goal.returns-in_err-put_slot
 returns-in_err-put_slot g c =
     let same : c.from_residual-in_err-put_slot.result ≡ Err c.in_err-put_slot.field-0.0 = search rules in
-    let (set, accepted, is) = c.in_ok-columns.ensures.ok in
+    let (set, accepted, begins) = c.in_ok-columns.ensures.ok in
     if_some (g.R.Read.remaining c.args.input.now) _ _ c.in_ok-bytes.ensures.ok
-    (λ bytes read. rw same (fails bytes (set_view c.in_ok-file.file) c.in_ok-columns.columns c.loop.columns c.args.slots c.loop.counter
+    (λ bytes read. rw same (fails bytes (option_map (λ s. s.now) c.args.at) (set_view c.in_ok-file.file) c.in_ok-columns.columns c.loop.columns c.args.slots c.loop.counter
     (g.W.Write.contents c.args.output.now) (g.W.Write.contents c.loop.output) (g.W.Write.contents c.put_slot.new.output) c.in_err-put_slot.field-0.0
-    (record { read = rw (c.as_slice.ensures.value ∙ read) at c.in_ok-file.ensures.ok; set = set; accepted = accepted; is = is }) (omega arith) c.loop.invariant
+    (record { read = rw (c.as_slice.ensures.value ∙ read) at c.in_ok-file.ensures.ok; set = set; accepted = accepted; begins = begins }) (omega arith) c.loop.invariant
     (rw c.as_slice-in-loop.ensures.value at c.in_err-put_slot.ensures.err)))
 
 pub returns : goal.returns
 returns g c =
-    let (set, accepted, is) = c.in_ok-columns.ensures.ok in
+    let (set, accepted, begins) = c.in_ok-columns.ensures.ok in
     if_some (g.R.Read.remaining c.args.input.now) _ _ c.in_ok-bytes.ensures.ok
-    (λ bytes read. ends bytes (set_view c.in_ok-file.file) c.in_ok-columns.columns c.loop.columns c.args.slots c.loop.counter (g.W.Write.contents c.args.output.now) (g.W.Write.contents c.loop.output)
-    (record { read = rw (c.as_slice.ensures.value ∙ read) at c.in_ok-file.ensures.ok; set = set; accepted = accepted; is = is }) (omega arith) c.loop.invariant)
+    (λ bytes read. ends bytes (option_map (λ s. s.now) c.args.at) (set_view c.in_ok-file.file) c.in_ok-columns.columns c.loop.columns c.args.slots c.loop.counter (g.W.Write.contents c.args.output.now) (g.W.Write.contents c.loop.output)
+    (record { read = rw (c.as_slice.ensures.value ∙ read) at c.in_ok-file.ensures.ok; set = set; accepted = accepted; begins = begins }) (omega arith) c.loop.invariant)

@@ -1,5 +1,6 @@
-use Rattle.std.proofs.Common.{rules, ◌≡◌, ◌∙◌, Err, ap, ap₂, refl}
+use Rattle.std.proofs.Common.{rules, ◌≡◌, ◌∙◌, Err, ap, ap₂, refl, sym}
 use Rattle.clap.specs.Takes.{takes}
+use Rattle.clap.specs.Faults.{fault_of, is_simple_and_free}
 use Rattle.clap.specs.Simple.{is_simple, subcommand_of}
 use Rattle.pfx_words.specs.Requests.{asked, asked_in}
 use Rattle.pfx_words.proofs.program.read_words.Goals as goal
@@ -13,3 +14,6 @@ pub returns-clause-ok : goal.returns-clause-ok
 unfolding asked
 returns-clause-ok c =
     c.request_in.ensures ∙ ap asked_in ((c.in_ok-matches.ensures.matches (ap is_simple c.in_ok-command.ensures.0)).1 ∙ ap₂ subcommand_of c.in_ok-command.ensures.0 refl)
+
+pub returns-clause-faults : goal.returns-clause-faults
+returns-clause-faults c = ap₂ fault_of (sym c.in_ok-command.ensures.0) refl ∙ c.in_ok-matches.ensures.kinds (ap is_simple_and_free c.in_ok-command.ensures.0)
