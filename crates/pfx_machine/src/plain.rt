@@ -36,27 +36,18 @@ fn after_one<J: Job>(task: u16, job: Option<J>, happening: &Happening<J>) -> Opt
     ensures { result ≡ job_step J.kind task happening.now job }
 {
     match happening {
-        Happening::Given { task: other, job: given } => {
+        Happening::Given {
+            task: other,
+            job: given,
+        } => {
             if *other == task {
                 Some(given.copy_of())
             } else {
                 job
             }
         }
-        Happening::Taken { task: other } => {
-            if *other == task {
-                None
-            } else {
-                job
-            }
-        }
-        Happening::Ran { row, .. } => {
-            if row.holds(task) {
-                once(job)
-            } else {
-                job
-            }
-        }
+        Happening::Taken { task: other } => { if *other == task { None } else { job } }
+        Happening::Ran { row, .. } => { if row.holds(task) { once(job) } else { job } }
     }
 }
 

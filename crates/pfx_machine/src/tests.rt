@@ -28,7 +28,9 @@ fn count(task: u16, goal: u64) -> Result<Command<AnyJob>, Fail> {
 /// The byte of a task's encoded job, 0 where it has none.
 fn job_byte(state: &State<AnyJob>, task: u16, at: usize) -> u8 {
     let mut bytes = [0; 128];
-    if usize::from(task) < state.jobs().len() && let Some(job) = state.job(task) {
+    if usize::from(task) < state.jobs().len()
+        && let Some(job) = state.job(task)
+    {
         job.encode(&mut bytes);
     }
     match bytes.get(at) {
@@ -46,7 +48,12 @@ fn ledger_at(alloc: Global, set: &TaskSet, slot: u64, allocs: &[u64]) -> Result<
 }
 
 /// The state of a ledger, where only task 0 may have a job.
-fn state_at(alloc: Global, number: u64, ledger: Columns, first: Option<AnyJob>) -> Result<State<AnyJob>, Fail> {
+fn state_at(
+    alloc: Global,
+    number: u64,
+    ledger: Columns,
+    first: Option<AnyJob>,
+) -> Result<State<AnyJob>, Fail> {
     let mut jobs = Vec::new(alloc);
     jobs.push(first)?;
     for _task in 1..ledger.real() {
@@ -70,7 +77,12 @@ fn row_of(reply: &Reply) -> &[u16] {
 fn steps_the_jobs_of_each_row(rt: HostRuntime) -> Result<(), Fail> {
     let mut state = thirds(rt.alloc())?;
     let job = AnyJob::start("rule", 3, b"110:00000001")?;
-    assert!(rt; matches!(state.apply(Command::Submit { task: 0, job }), Ok(Reply::Submitted { task: 0 })));
+    assert!(rt;
+        matches!(
+            state.apply(Command::Submit { task: 0, job }),
+            Ok(Reply::Submitted { task: 0 })
+        )
+    );
     let rows: [(&[u16], u8, u8); 5] = [
         (&[0, 1], 2, 0b0000_0011),
         (&[0, 2], 1, 0b0000_0111),
@@ -93,15 +105,27 @@ fn steps_the_jobs_of_each_row(rt: HostRuntime) -> Result<(), Fail> {
 fn refuses_by_name(rt: HostRuntime) -> Result<(), Fail> {
     let mut state = thirds(rt.alloc())?;
     state.apply(count(0, 2)?)?;
-    assert_eq!(rt; state.apply(count(0, 2)?).err(), Some(MachineFault::TaskBusy { task: 0 }));
+    assert_eq!(rt;
+        state.apply(count(0, 2)?).err(),
+        Some(MachineFault::TaskBusy { task: 0 })
+    );
     assert_eq!(rt; state.number(), 1);
     state.apply(Command::Withdraw { task: 0 })?;
     assert_eq!(rt; state.number(), 2);
     state.apply(count(0, 1)?)?;
     assert_eq!(rt; state.number(), 3);
-    assert_eq!(rt; state.apply(count(3, 1)?).err(), Some(MachineFault::NoSuchTask { task: 3 }));
-    assert_eq!(rt; state.apply(Command::Withdraw { task: 3 }).err(), Some(MachineFault::NoSuchTask { task: 3 }));
-    assert_eq!(rt; state.apply(Command::Withdraw { task: 1 }).err(), Some(MachineFault::NoJob { task: 1 }));
+    assert_eq!(rt;
+        state.apply(count(3, 1)?).err(),
+        Some(MachineFault::NoSuchTask { task: 3 })
+    );
+    assert_eq!(rt;
+        state.apply(Command::Withdraw { task: 3 }).err(),
+        Some(MachineFault::NoSuchTask { task: 3 })
+    );
+    assert_eq!(rt;
+        state.apply(Command::Withdraw { task: 1 }).err(),
+        Some(MachineFault::NoJob { task: 1 })
+    );
     // A finished job makes room for another, and can be taken away.
     state.apply(Command::Slot)?;
     state.apply(count(0, 7)?)?;
@@ -118,13 +142,19 @@ fn refuses_at_the_limits(rt: HostRuntime) -> Result<(), Fail> {
     let ledger = ledger_at(alloc, &set, last, &[1 << 39, (1 << 39) - 1])?;
     let job = AnyJob::start("count", 1, b"")?;
     let mut state = state_at(alloc, (1 << 48) - 2, ledger, Some(job))?;
-    assert_eq!(rt; state.apply(Command::Slot).err(), Some(MachineFault::SlotLimit));
+    assert_eq!(rt;
+        state.apply(Command::Slot).err(),
+        Some(MachineFault::SlotLimit)
+    );
     state.apply(Command::Withdraw { task: 0 })?;
     assert_eq!(rt; state.number(), (1 << 48) - 1);
     for command in [Command::Slot, Command::Withdraw { task: 9 }, count(0, 1)?] {
         assert_eq!(rt; state.apply(command).err(), Some(MachineFault::NumberLimit));
     }
-    assert_eq!(rt; state.open_slot(alloc).err(), Some(MachineFault::NumberLimit));
+    assert_eq!(rt;
+        state.open_slot(alloc).err(),
+        Some(MachineFault::NumberLimit)
+    );
     Ok(())
 }
 
@@ -147,13 +177,22 @@ fn refuses_a_ledger_that_cannot_go_on(rt: HostRuntime) -> Result<(), Fail> {
 }
 
 /// Whether the quanta give the same results in falling order as in rising order.
-fn order_is_free(alloc: Global, quanta: &[Quantum<AnyJob>], dones: &[Done<AnyJob>]) -> Result<bool, Fail> {
+fn order_is_free(
+    alloc: Global,
+    quanta: &[Quantum<AnyJob>],
+    dones: &[Done<AnyJob>],
+) -> Result<bool, Fail> {
     let mut backwards: Vec<Done<AnyJob>> = Vec::new(alloc);
     for quantum in quanta.iter().rev() {
         if quantum.before.is_done() {
             return Ok(false);
         }
-        let again = Quantum::new(quantum.number, quantum.slot, quantum.task, quantum.before.copy_of());
+        let again = Quantum::new(
+            quantum.number,
+            quantum.slot,
+            quantum.task,
+            quantum.before.copy_of(),
+        );
         backwards.push(again.run())?;
     }
     for (one, other) in backwards.iter().rev().zip(dones) {
@@ -169,7 +208,12 @@ fn copies(alloc: Global, quanta: &[Quantum<AnyJob>]) -> Result<Vec<Quantum<AnyJo
     let mut all = Vec::new(alloc);
     for quantum in quanta {
         if !quantum.before.is_done() {
-            all.push(Quantum::new(quantum.number, quantum.slot, quantum.task, quantum.before.copy_of()))?;
+            all.push(Quantum::new(
+                quantum.number,
+                quantum.slot,
+                quantum.task,
+                quantum.before.copy_of(),
+            ))?;
         }
     }
     Ok(all)
@@ -217,9 +261,21 @@ fn shows_a_board(rt: HostRuntime) -> Result<(), Fail> {
     state.apply(Command::Slot)?;
     let board = state.board(alloc)?;
     assert_eq!(rt; (board.number, board.slot, board.lines.len()), (3, 1, 3));
-    let wanted = [(1, -1, JobStatus::Done), (1, -1, JobStatus::None), (0, 2, JobStatus::Open)];
+    let wanted = [
+        (1, -1, JobStatus::Done),
+        (1, -1, JobStatus::None),
+        (0, 2, JobStatus::Open),
+    ];
     for (line, (got, lag, job)) in board.lines.iter().zip(wanted) {
-        assert_eq!(rt; *line, TaskLine { alloc: got, lag, period: 3, job });
+        assert_eq!(rt;
+            *line,
+            TaskLine {
+                alloc: got,
+                lag,
+                period: 3,
+                job
+            }
+        );
     }
     Ok(())
 }

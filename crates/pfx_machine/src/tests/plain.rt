@@ -42,7 +42,12 @@ fn some_command(seed: u32, real: u16) -> Result<Command<AnyJob>, Fail> {
 }
 
 /// PF's row at the ledger of the slots before it, made anew.
-fn plain_row(alloc: Global, set: &TaskSet, happened: &[Happening<AnyJob>], slot: u64) -> Result<Row, Fail> {
+fn plain_row(
+    alloc: Global,
+    set: &TaskSet,
+    happened: &[Happening<AnyJob>],
+    slot: u64,
+) -> Result<Row, Fail> {
     let mut allocs = Vec::new(alloc);
     for task in 0..set.total() {
         allocs.push(plain_slots(task as u16, happened) as u64)?;
@@ -83,7 +88,13 @@ fn slots_agree(state: &State<AnyJob>, happened: &[Happening<AnyJob>]) -> bool {
 }
 
 /// What a command does where it is accepted.
-fn given_by(alloc: Global, set: &TaskSet, happened: &[Happening<AnyJob>], slot: u64, command: &Command<AnyJob>) -> Result<Happening<AnyJob>, Fail> {
+fn given_by(
+    alloc: Global,
+    set: &TaskSet,
+    happened: &[Happening<AnyJob>],
+    slot: u64,
+    command: &Command<AnyJob>,
+) -> Result<Happening<AnyJob>, Fail> {
     Ok(match command {
         Command::Submit { task, job } => Happening::Given {
             task: *task,
@@ -100,14 +111,21 @@ fn given_by(alloc: Global, set: &TaskSet, happened: &[Happening<AnyJob>], slot: 
 /// Whether a reply to a slot has the row that happened.
 fn row_agrees(reply: &Reply, given: &Happening<AnyJob>) -> bool {
     match (reply, given) {
-        (Reply::Ran { row, .. }, Happening::Ran { row: plain, .. }) => row.as_slice() == plain.as_slice(),
+        (Reply::Ran { row, .. }, Happening::Ran { row: plain, .. }) => row.as_slice()
+            == plain.as_slice(),
         (Reply::Ran { .. }, _) => false,
         _ => true,
     }
 }
 
 /// Gives a command to the state, and says whether the plain programs agree with what is answered and left.
-fn agrees_after(alloc: Global, set: &TaskSet, state: &mut State<AnyJob>, happened: &mut Vec<Happening<AnyJob>>, command: Command<AnyJob>) -> Result<bool, Fail> {
+fn agrees_after(
+    alloc: Global,
+    set: &TaskSet,
+    state: &mut State<AnyJob>,
+    happened: &mut Vec<Happening<AnyJob>>,
+    command: Command<AnyJob>,
+) -> Result<bool, Fail> {
     let given = given_by(alloc, set, happened, state.columns().slot(), &command)?;
     let before = state.number();
     match state.apply(command) {
@@ -123,7 +141,11 @@ fn agrees_after(alloc: Global, set: &TaskSet, state: &mut State<AnyJob>, happene
             }
         }
     }
-    Ok(state.number() == happened.len() as u64 && slots_agree(state, happened) && jobs_agree(state, happened))
+    Ok(
+        state.number() == happened.len() as u64
+            && slots_agree(state, happened)
+            && jobs_agree(state, happened),
+    )
 }
 
 /// Whether the machine and the plain programs agree all along a list of 40 commands.
