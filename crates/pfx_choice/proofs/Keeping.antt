@@ -129,21 +129,21 @@ module _ (g : Ledger) (shape : Shape g) where
       let len = same_lengths (column x rs) (column y rs) zs ws q.4 in
       let z_len : length zs ≡ length rs = len.0 ∙ length-column x rs in
       let w_len : length ws ≡ length rs = len.1 ∙ length-column x rs in
-      let r2 = upd x true (upd y false r) in
+      let swapped = upd x true (upd y false r) in
       let inner = put y ws rs in
       let i_len : length inner ≡ length rs = length-put y ws rs w_len in
-      let rs2 = put x zs inner in
+      let swapped_rest = put x zs inner in
       let Col : ℕ → List Bool → Type 0 = λ i cs. IsFairColumn (task g i).e (task g i).p (task g i).alloc g.slot cs in
-      let new = r2 ∷ rs2 in
+      let new = swapped ∷ swapped_rest in
       let ne2 : y ≢ x = λ s. ne (sym s) in
       let at_x : column x new ≡ true ∷ zs =
-      ap (λ c. c ∷ column x rs2) (upd-same x true (upd y false r) x refl)
+      ap (λ c. c ∷ column x swapped_rest) (upd-same x true (upd y false r) x refl)
       ∙ ap (λ cs. true ∷ cs) (column-put_same x zs inner (z_len ∙ sym i_len)) in
       let at_y : column y new ≡ false ∷ ws =
-      ap (λ c. c ∷ column y rs2) (upd-other x true (upd y false r) y ne2 ∙ upd-same y false r y refl)
+      ap (λ c. c ∷ column y swapped_rest) (upd-other x true (upd y false r) y ne2 ∙ upd-same y false r y refl)
       ∙ ap (λ cs. false ∷ cs) (column-put_other x y zs inner (z_len ∙ sym i_len) ne2 ∙ column-put_same y ws rs w_len) in
       let at : (z : ℕ) → z ≢ x → z ≢ y → column z new ≡ r z ∷ column z rs = λ z not_x not_y.
-      ap (λ c. c ∷ column z rs2) (upd-other x true (upd y false r) z not_x ∙ upd-other y false r z not_y)
+      ap (λ c. c ∷ column z swapped_rest) (upd-other x true (upd y false r) z not_x ∙ upd-other y false r z not_y)
       ∙ ap (λ cs. r z ∷ cs) (column-put_other x z zs inner (z_len ∙ sym i_len) not_x ∙ column-put_other y z ws rs w_len not_y) in
       let Fair : ℕ → Type 0 = λ i. Col i (column i new) in
       let x_fair : Fair x = subst (Col x) (sym at_x) q.2 in
@@ -151,7 +151,7 @@ module _ (g : Ledger) (shape : Shape g) where
       let a : one (r x) ≡ 0 = ap one out_x in
       let b : one (r y) ≡ 1 = ap one in_y in
       record {
-        rows = rs2;
+        rows = swapped_rest;
         same = length-put x zs inner (z_len ∙ sym i_len) ∙ i_len;
         fair = record {
           fair = λ z m. elim (cases_eq z x) [
@@ -276,16 +276,16 @@ module _ (g : Ledger) (shape : Shape g) (s : ℕ → Bool) (pf : IsPf g s) where
       let y_class = y_contends y r rs q.below q.out_r q.in_s h in
       let beats = pf.beats x y o.below q.below x_class y_class o.in_s q.out_r in
       let e : Exchanged g x y r rs = exchanged g shape x y r rs o.below q.below x_class y_class (no_less (slice_cmp symbol_cmp (substring_in g x) (substring_in g y)) (nat_cmp y x) beats) o.out_r q.in_s h in
-      let r2 = upd x true (upd y false r) in
-      let fewer : count (total g) (missing s r) ≡ count (total g) (missing s r2) + 1 =
-      count-more (total g) (missing s r2) (missing s r) x o.below
-      (missing_out s r2 x (upd-same x true (upd y false r) x refl))
+      let swapped = upd x true (upd y false r) in
+      let fewer : count (total g) (missing s r) ≡ count (total g) (missing s swapped) + 1 =
+      count-more (total g) (missing s swapped) (missing s r) x o.below
+      (missing_out s swapped x (upd-same x true (upd y false r) x refl))
       (missing_in s r x o.in_s o.out_r)
       (λ z l ne. elim (cases_eq z y) [
-        | inl same ↦ missing_none s r z (r z) refl (ap s same ∙ q.out_r) ∙ sym (missing_none s r2 z (r2 z) refl (ap s same ∙ q.out_r))
+        | inl same ↦ missing_none s r z (r z) refl (ap s same ∙ q.out_r) ∙ sym (missing_none s swapped z (swapped z) refl (ap s same ∙ q.out_r))
         | inr not_y ↦ ap (λ b. if b then false else s z) (sym (upd-other x true (upd y false r) z ne ∙ upd-other y false r z not_y))
       ]) in
-      let k = again r2 e.rows (omega arith) e.fair in
+      let k = again swapped e.rows (omega arith) e.fair in
       record { rows = k.rows; same = k.same ∙ e.same; fair = k.fair }
 
   kept_in : (d : ℕ) (r : ℕ → Bool) (rs : List (ℕ → Bool)) → count (total g) (missing s r) ≤ d → IsFairSets g (r ∷ rs) → Kept g s rs

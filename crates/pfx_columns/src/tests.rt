@@ -27,10 +27,10 @@ fn classes(alloc: Global, ledger: &Columns) -> Result<Vec<Class>, AllocError> {
 }
 
 #[test]
-fn goes_on_by_rows(rt: HostRuntime) -> Result<(), Fail> {
+fn shows_its_set(rt: HostRuntime) -> Result<(), Fail> {
     let alloc = rt.alloc();
     let set = TaskSet::new(alloc, 2, &[(2, 3), (2, 3), (2, 3)])?;
-    let mut ledger = Columns::zero(alloc, &set)?;
+    let ledger = Columns::zero(alloc, &set)?;
     assert_eq!(rt;
         (
             ledger.workers(),
@@ -40,6 +40,14 @@ fn goes_on_by_rows(rt: HostRuntime) -> Result<(), Fail> {
         ),
         (2, 3, 3, 3)
     );
+    Ok(())
+}
+
+#[test]
+fn goes_on_by_rows(rt: HostRuntime) -> Result<(), Fail> {
+    let alloc = rt.alloc();
+    let set = TaskSet::new(alloc, 2, &[(2, 3), (2, 3), (2, 3)])?;
+    let mut ledger = Columns::zero(alloc, &set)?;
     // Each row, and the lags and classes after it.
     let (c, u, t) = (Class::Contending, Class::Urgent, Class::Tnegru);
     let slots: [([u16; 2], [i32; 3], [Class; 3]); 3] = [

@@ -22,20 +22,20 @@ pub record RuleFacts (left width : ℕ) (cells : List ℕ) : Type 0 where
 
 pub rule_facts : (left width : ℕ) (cells : List ℕ) → IsTrue (rule_fits left width cells) → RuleFacts left width cells
 rule_facts left width cells h =
-    let t1 = both-true _ _ h in
-    let t2 = both-true _ _ t1.0 in
-    let t3 = both-true _ _ t2.0 in
-    let t4 = both-true _ _ t3.0 in
-    let h2 : IsTrue (nat_eq (length cells) 64) = t2.1 in
-    let h3 : IsTrue (nat_lt width 513) = t3.1 in
-    let h4 : IsTrue (nat_lt 2 width) = t4.1 in
-    let h5 : IsTrue (nat_lt left (2 ^ 32)) = t4.0 in
+    let all_tests = both-true _ _ h in
+    let most_tests = both-true _ _ all_tests.0 in
+    let some_tests = both-true _ _ most_tests.0 in
+    let two_tests = both-true _ _ some_tests.0 in
+    let h2 : IsTrue (nat_eq (length cells) 64) = most_tests.1 in
+    let h3 : IsTrue (nat_lt width 513) = some_tests.1 in
+    let h4 : IsTrue (nat_lt 2 width) = two_tests.1 in
+    let h5 : IsTrue (nat_lt left (2 ^ 32)) = two_tests.0 in
     record {
       left_small = grind (arith, nat_tests);
       wide = grind (arith, nat_tests);
       narrow = grind (arith, nat_tests);
       long = grind (arith, nat_tests);
-      clear = t1.1;
+      clear = all_tests.1;
     }
 
 pub rule_facts-fit : (left width : ℕ) (cells : List ℕ) → RuleFacts left width cells → IsTrue (rule_fits left width cells)

@@ -17,15 +17,15 @@ pub record ScanNumbers (left a b found : ℕ) : Type 0 where
 
 pub scan_numbers : (left a b found : ℕ) → IsTrue (scan_numbers_fit left a b found) → ScanNumbers left a b found
 scan_numbers left a b found h =
-    let t1 = both-true _ _ h in
-    let t2 = both-true _ _ t1.0 in
-    let t3 = both-true _ _ t2.0 in
-    let t4 = both-true _ _ t3.0 in
-    let h1 : IsTrue (nat_lt (found + left) (places_of a b + 1)) = t1.1 in
-    let h2 : IsTrue (nat_lt b (a + 1)) = t2.1 in
-    let h3 : IsTrue (nat_lt a 65) = t3.1 in
-    let h4 : IsTrue (nat_lt b 17) = t4.1 in
-    let h5 : IsTrue (nat_lt 0 b) = t4.0 in
+    let all_tests = both-true _ _ h in
+    let most_tests = both-true _ _ all_tests.0 in
+    let some_tests = both-true _ _ most_tests.0 in
+    let two_tests = both-true _ _ some_tests.0 in
+    let h1 : IsTrue (nat_lt (found + left) (places_of a b + 1)) = all_tests.1 in
+    let h2 : IsTrue (nat_lt b (a + 1)) = most_tests.1 in
+    let h3 : IsTrue (nat_lt a 65) = some_tests.1 in
+    let h4 : IsTrue (nat_lt b 17) = two_tests.1 in
+    let h5 : IsTrue (nat_lt 0 b) = two_tests.0 in
     record {
       some = grind (arith, nat_tests);
       short = grind (arith, nat_tests);
@@ -51,16 +51,16 @@ pub record ScanLists (a b : ℕ) (text needle : List ℕ) : Type 0 where
 
 pub scan_lists : (a b : ℕ) (text needle : List ℕ) → IsTrue (scan_lists_fit a b text needle) → ScanLists a b text needle
 scan_lists a b text needle h =
-    let t1 = both-true _ _ h in
-    let t2 = both-true _ _ t1.0 in
-    let t3 = both-true _ _ t2.0 in
-    let h3 : IsTrue (nat_eq (length text) 64) = t3.0 in
-    let h4 : IsTrue (nat_eq (length needle) 16) = t3.1 in
+    let all_tests = both-true _ _ h in
+    let most_tests = both-true _ _ all_tests.0 in
+    let some_tests = both-true _ _ most_tests.0 in
+    let h3 : IsTrue (nat_eq (length text) 64) = some_tests.0 in
+    let h4 : IsTrue (nat_eq (length needle) 16) = some_tests.1 in
     record {
       text_long = grind (arith, nat_tests);
       needle_long = grind (arith, nat_tests);
-      text_clear = t2.1;
-      needle_clear = t1.1;
+      text_clear = most_tests.1;
+      needle_clear = all_tests.1;
     }
 
 pub scan_lists-of : (left a b found : ℕ) (text needle : List ℕ) → IsTrue (scan_fits left a b found text needle) → ScanLists a b text needle

@@ -1,12 +1,12 @@
 -- A list of commands of which some are refused, one more command at a time.
-use Rattle.std.specs.Prelude.{◌≡◌, List, [], ◌∷◌, ◌++◌, Option, Some, None, Result, Ok, Err, OnErr, refl}
-use Rattle.std.proofs.Common.{sym, ◌∙◌, ap, ap₂, append_assoc}
+use Rattle.std.specs.Prelude.{◌≡◌, List, [], ◌∷◌, ◌++◌, Option, Some, None, Result, Ok, Err, OnErr, map, refl}
+use Rattle.std.proofs.Common.{sym, ◌∙◌, ap, ap₂, append_assoc, append-nil}
 use Rattle.pfx_jobs.specs.Kind.{Kind}
 use Rattle.pfx_machine.specs.Plain.{Plain}
 use Rattle.pfx_machine.specs.Outcome.{outcome}
-use Rattle.pfx_machine.specs.Refusals.{refusal}
-use Rattle.pfx_machine.specs.Runs.{with_accepted, accepted_behind, accepted, answer, answers_behind, answers}
-use Rattle.pfx_machine.specs.Sessions.{IsAcceptable}
+use Rattle.pfx_machine.specs.Refusals.{refusal, reply}
+use Rattle.pfx_machine.specs.Runs.{with_accepted, accepted_behind, accepted, answer_by, answer, answers_behind, answers}
+use Rattle.pfx_machine.specs.Sessions.{AllAccepted, IsAcceptable, replies_behind, replies}
 use Rattle.pfx_machine.specs.declared.command.Command.{Command}
 use Rattle.pfx_machine.specs.declared.faults.MachineFault.{MachineFault}
 use Rattle.pfx_machine.specs.declared.command.Reply.{Reply}
@@ -55,3 +55,24 @@ split_next all yielded x rest left is step = is ∙ (ap (λ xs. yielded ++ xs) s
 pub on_err : {T E : Type 0} (r : Result T E) (P : Type 0) → P → OnErr r P
 on_err (Ok x) P h = tt
 on_err (Err e) P h = h
+
+-- a list that is acceptable is accepted whole, and each command is answered by its reply
+
+accepted_whole : {J : Type 0} (K : Kind J) (B : Plain J) (before H : List (Command J)) → AllAccepted K B before H → accepted_behind K B before H ≡ before ++ H
+accepted_whole K B before [] all = sym (append-nil before)
+accepted_whole K B before (c ∷ H) all =
+    ap (λ o. accepted_behind K B (with_accepted before c o) H) all.0
+    ∙ (accepted_whole K B (before ++ c ∷ []) H all.1 ∙ append_assoc before (c ∷ []) H)
+
+answered_whole : {J : Type 0} (K : Kind J) (B : Plain J) (before H : List (Command J)) → AllAccepted K B before H →
+    answers_behind K B before H ≡ map Ok (replies_behind K B before H)
+answered_whole K B before [] all = refl
+answered_whole K B before (c ∷ H) all =
+    ap₂ ◌∷◌ (ap (answer_by (reply (outcome K B before) c)) all.0)
+    (ap (λ o. answers_behind K B (with_accepted before c o) H) all.0 ∙ answered_whole K B (before ++ c ∷ []) H all.1)
+
+pub acceptable_whole : {J : Type 0} (K : Kind J) (B : Plain J) (H : List (Command J)) → IsAcceptable K B H → accepted K B H ≡ H
+acceptable_whole K B H all = accepted_whole K B [] H all
+
+pub acceptable_answers : {J : Type 0} (K : Kind J) (B : Plain J) (H : List (Command J)) → IsAcceptable K B H → answers K B H ≡ map Ok (replies K B H)
+acceptable_answers K B H all = answered_whole K B [] H all

@@ -1,12 +1,12 @@
 //! What holds of every list of commands, each the contract of a function without a body.
 
-ghost use Rattle.std.specs.Prelude.{◌≡◌, ℕ, List, ◌++◌, Option};
+ghost use Rattle.std.specs.Prelude.{◌≡◌, ℕ, List, ◌++◌, map, Option, Ok};
 ghost use Rattle.pfx_machine.specs.Plain.{Plain, IsState};
 ghost use Rattle.pfx_machine.specs.Happenings.{happenings};
 ghost use Rattle.pfx_machine.specs.Outcome.{outcome, quanta_of};
 ghost use Rattle.pfx_machine.specs.Rising.{RisesFrom};
-ghost use Rattle.pfx_machine.specs.Sessions.{IsAcceptable};
-ghost use Rattle.pfx_machine.specs.Runs.{accepted};
+ghost use Rattle.pfx_machine.specs.Sessions.{IsAcceptable, replies};
+ghost use Rattle.pfx_machine.specs.Runs.{accepted, answers};
 ghost use Rattle.pfx_machine.specs.declared.command.Command.{Command};
 
 use pfx_jobs::job::Job;
@@ -25,6 +25,13 @@ pub fn prefixes_are_states<J: Job>()
 /// What `run` accepts of a list is acceptable.
 pub fn accepted_is_acceptable<J: Job>()
     ensures { (B : Plain J) (H : List (Command J)) → IsAcceptable J.kind B (accepted J.kind B H) }
+{}
+
+/// An acceptable list is accepted whole, and each of its commands is answered by its reply: what `run` answers is then the
+/// outcome and the replies of the whole list.
+pub fn acceptable_lists_are_accepted<J: Job>()
+    ensures accepted { (B : Plain J) (H : List (Command J)) → IsAcceptable J.kind B H → accepted J.kind B H ≡ H }
+    ensures answers { (B : Plain J) (H : List (Command J)) → IsAcceptable J.kind B H → answers J.kind B H ≡ map Ok (replies J.kind B H) }
 {}
 
 /// The quanta of a job are different slots, none before the start: no slot steps a job twice.
