@@ -40,13 +40,13 @@ pub length-step : {J : Type 0} (K : Kind J) (i : ℕ) (h : Happening J) (jobs : 
 length-step K i h [] = refl
 length-step K i h (o ∷ jobs) = ap suc (length-step K (i + 1) h jobs)
 
-below_limit : (n : ℕ) (o : Option MachineFault) → (if nat_lt (n + 1) (2 ^ 48) then o else Some NumberLimit) ≡ None → (n + 1 < 2 ^ 48) × (o ≡ None)
+pub below_limit : (n : ℕ) (o : Option MachineFault) → (if nat_lt (n + 1) (2 ^ 48) then o else Some NumberLimit) ≡ None → (n + 1 < 2 ^ 48) × (o ≡ None)
 below_limit n o h = elim (cases_lt (n + 1) (2 ^ 48)) [
   | inl less ↦ (less, sym (cond-true _ o (Some NumberLimit) (lt-ltb (n + 1) (2 ^ 48) less)) ∙ h)
   | inr more ↦ absurd (none-some NumberLimit (sym (sym (cond-false _ o (Some NumberLimit) (le-ltb (n + 1) (2 ^ 48) more)) ∙ h)))
 ]
 
-slot_row : (r : Result (List ℕ) ChoiceFault) → slot_fault r ≡ None → r ≡ Ok (row_or_none r)
+pub slot_row : (r : Result (List ℕ) ChoiceFault) → slot_fault r ≡ None → r ≡ Ok (row_or_none r)
 slot_row (Ok row) h = refl
 slot_row (Err fault) h = absurd (none-some (machine_fault fault) (sym h))
 

@@ -1,8 +1,9 @@
 //! The machine's state.
 
-ghost use Rattle.std.specs.Prelude.{◌≡◌, ◌+◌, ◌<◌, ◌≤◌, ◌^◌, ◌++◌, [], ◌∷◌, List, length, map, replicate, slice_get, Some, None, Ok, MatchResult, IfOk, OnOk, OnErr};
+ghost use Rattle.std.specs.Prelude.{◌≡◌, ◌↔◌, ◌+◌, ◌<◌, ◌≤◌, ◌^◌, ◌++◌, [], ◌∷◌, List, length, map, replicate, slice_get, slice_set, Some, None, Ok, IsTrue, IsFalse, MatchResult, IfOk, OnOk, OnErr};
 ghost use Rattle.std.specs.Option.{option_copied};
-ghost use Rattle.pfx_columns.specs.Ledgers.{start};
+ghost use Rattle.pfx_weights.specs.Rows.{is_in, IsFullRow};
+ghost use Rattle.pfx_columns.specs.Ledgers.{start, after, IsFair};
 ghost use Rattle.pfx_choice.specs.PfRows.{chosen};
 ghost use Rattle.pfx_machine.specs.Plain.{Plain, IsState, empty};
 ghost use Rattle.pfx_machine.specs.Outcome.{outcome};
@@ -169,6 +170,46 @@ impl<J: Job> State<J> {
         ensures { result.now ≡ self.now.jobs }
     {
         &self.jobs
+    }
+
+    /// Puts a job, or none, at the place of a real task.
+    pub fn put_job(&mut self, task: u16, job: Option<J>)
+        requires { task < length self.old.jobs }
+        ensures { self.new ≡ record self.old { jobs = slice_set self.old.jobs task job } }
+    {
+        self.jobs[usize::from(task)] = job;
+    }
+
+    /// Gives each task of the row a slot, and goes to the next one. No job is stepped and no number taken. Where the row
+    /// doesn't give each worker one of the set's tasks, the slot limit is reached, or a lag would be out of range,
+    /// nothing changes.
+    pub fn pass_row(&mut self, row: &Row) -> bool
+        ensures right { IsTrue result ↔ (IsFullRow self.old.ledger.set.workers (length self.old.ledger.set.weights) row.now)
+            × (self.old.ledger.slot + 1 < 2 ^ 40) × IsFair (after self.old.ledger (is_in row.now)) }
+        ensures passed { IsTrue result → self.new ≡ record self.old { ledger = after self.old.ledger (is_in row.now) } }
+        ensures kept { IsFalse result → self.new ≡ self.old }
+    {
+        if !self.ledger.fits(row) {
+            return false;
+        }
+        if self.ledger.slot() + 1 >= 1 << 40 {
+            return false;
+        }
+        match self.ledger.advance(row) {
+            Ok(()) => {
+                let _total = self.ledger.total();
+                true
+            }
+            Err(_) => false,
+        }
+    }
+
+    /// Takes the next number.
+    pub fn count(&mut self)
+        requires { self.old.number + 1 < 2 ^ 48 }
+        ensures { self.new ≡ record self.old { number = self.old.number + 1 } }
+    {
+        self.number = self.number + 1;
     }
 
     /// An equal state. An error comes only where a growth of memory was refused.

@@ -1,10 +1,10 @@
-mod Again
-mod Bodies
-mod Examples
-mod Fronts
-mod Heads
-mod Places
-mod Rising
-mod Rows
-mod Single
-mod Spellings
+pub mod Again
+pub mod Bodies
+pub mod Examples
+pub mod Fronts
+pub mod Heads
+pub mod Places
+pub mod Rising
+pub mod Rows
+pub mod Single
+pub mod Spellings

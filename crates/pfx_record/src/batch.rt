@@ -52,8 +52,9 @@ fn row_fits<J>(workers: u32, row: &[Place<J>]) -> bool
     true
 }
 
-// Whether a record has a spelling where rows have so many tasks.
-fn record_fits<J>(workers: u32, entry: &Record<J>) -> bool
+/// Whether a record has a spelling where rows have so many tasks: its tasks are below 2^16, and a row has that many, in
+/// strictly rising order.
+pub fn record_fits<J>(workers: u32, entry: &Record<J>) -> bool
     ensures { result ≡ record_fits workers (plain entry.now) }
 {
     match entry {
@@ -63,7 +64,7 @@ fn record_fits<J>(workers: u32, entry: &Record<J>) -> bool
     }
 }
 
-// Whether so many rows and commands are in range.
+/// Whether so many rows and commands are in range: 1 to 64 workers, 1 to 16 commands, numbers from 1 to 2^48 - 1.
 pub fn counts_fit(workers: u32, first: u64, count: u64) -> bool
     ensures { result ≡ counts_fit workers first count }
 {

@@ -31,7 +31,7 @@ mod record;
 mod tests;
 mod write;
 
-pub use batch::{Batch, fits};
+pub use batch::{Batch, fits, record_fits};
 pub use faults::{BatchFault, Part};
 pub use read::read_batch;
 pub use record::{Place, Record};

@@ -28,6 +28,7 @@ fn fills_with_idle_tasks(rt: HostRuntime) -> Result<(), Fail> {
     ];
     for (m, tasks, hyper, idle) in rows {
         let set = TaskSet::new(alloc, m, tasks)?;
+        set.is_of_its_tasks();
         assert_eq!(rt;
             (set.workers(), set.real(), set.hyper()),
             (m, tasks.len(), hyper)

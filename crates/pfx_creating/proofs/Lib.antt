@@ -1,0 +1,4 @@
+pub mod Creations
+pub mod NewBytes
+pub mod NewStores
+mod GatedToys

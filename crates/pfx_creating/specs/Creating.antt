@@ -1,0 +1,43 @@
+-- A new file, as it is written onto an empty disk.
+use Rattle.std.specs.Prelude.{◌≡◌, ◌≤◌, ◌⊎◌, ℕ, ◌+◌, ◌*◌, ◌/◌, ◌%◌, min, List, [], ◌∷◌, length, drop}
+use Rattle.pfx_disk.specs.Gates.{IsClosed}
+use Rattle.pfx_recovery.specs.Layout.{Layout, IsClosedAt}
+use Rattle.pfx_creating.specs.declared.pieces.TheConstants.{PIECE}
+
+-- the number 1 in eight bytes, the lowest first
+abbrev pub number_one : List ℕ
+number_one = 1 ∷ 0 ∷ 0 ∷ 0 ∷ 0 ∷ 0 ∷ 0 ∷ 0 ∷ []
+
+-- how long a file with this header, this body of a slot and segments of this length is
+abbrev pub len_of : List ℕ → List ℕ → ℕ → ℕ
+len_of head body segment = length head + 2 * (1 + length body) + 2 * segment
+
+-- the layout has these lengths
+pub record HasLengths (L : Layout) (head body : List ℕ) (segment : ℕ) : Type 0 where
+  pub of_head : length head ≡ L.head
+  pub of_body : length body ≡ L.body
+  pub of_segment : segment ≡ L.segment
+
+-- how many pieces n bytes are
+abbrev pub pieces : ℕ → ℕ
+pieces n = n / PIECE + min 1 (n % PIECE)
+
+-- the file with a closed gate for its first byte
+abbrev pub unopened : List ℕ → List ℕ
+unopened file = 0 ∷ drop 1 file
+
+-- a byte at most, or a closed gate for the first byte: no store's file yet
+abbrev pub IsUnmade : List ℕ → Type 0
+IsUnmade image = (length image ≤ 1) ⊎ IsClosedAt 0 image
+
+-- what was empty is no store's file yet
+abbrev pub Beginning : List ℕ → List ℕ → Type 0
+Beginning old new = old ≡ [] → IsUnmade new
+
+-- what was empty is no store's file yet, or this one, whole
+abbrev pub Creating : List ℕ → List ℕ → List ℕ → Type 0
+Creating file old new = old ≡ [] → IsUnmade new ⊎ (new ≡ file)
+
+-- a first gate that was closed is closed
+abbrev pub StaysClosed : List ℕ → List ℕ → Type 0
+StaysClosed old new = IsClosed 0 old → IsClosed 0 new

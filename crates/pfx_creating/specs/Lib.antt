@@ -1,0 +1,4 @@
+pub mod Attempts
+pub mod Creating
+pub mod GatedToy
+pub mod NewPlaces

@@ -1,0 +1,55 @@
+-- Records at a state: which are right there, and the state behind them.
+use Rattle.std.specs.Prelude.{ℕ, ◌==◌, ◌&&◌, nat_lt, if◌then◌else◌, not, Bool, true, false, List, [], ◌∷◌, slice_get, Option, Some, None}
+use Rattle.std.specs.List.{list_all}
+use Rattle.pfx_jobs.specs.Kind.{Kind}
+use Rattle.pfx_columns.specs.Ledgers.{ledger_at, total}
+use Rattle.pfx_machine.specs.Plain as machine
+use Rattle.pfx_checkpoint.specs.Fitting.{fits}
+use Rattle.pfx_record.specs.Effect.{Standing, recorded_one}
+use Rattle.pfx_record.specs.Records.{Plain, submitted, ran, withdrawn, record_fits}
+use Rattle.pfx_record.specs.declared.record.Place.{Place}
+
+-- a state without its set of tasks
+abbrev pub standing_of : {J : Type 0} → machine.Plain J → Standing J
+standing_of s = record { number = s.number; slot = s.ledger.slot; allocations = s.ledger.allocs; jobs = s.jobs }
+
+-- the state behind a record, which is taken as it stands
+abbrev pub after_record : {J : Type 0} → machine.Plain J → Plain J → machine.Plain J
+after_record s done =
+    let next = recorded_one (standing_of s) done in
+    record { number = next.number; ledger = ledger_at s.ledger.set next.slot next.allocations; jobs = next.jobs }
+
+-- by a task's place in the list of jobs: it is a real one without an unfinished job; it has a job; it has an unfinished one
+abbrev pub is_free : {J : Type 0} → Kind J → Option (Option J) → Bool
+is_free K None = false
+is_free K (Some None) = true
+is_free K (Some (Some s)) = K.left s == 0
+
+abbrev pub has_job : {J : Type 0} → Option (Option J) → Bool
+has_job None = false
+has_job (Some None) = false
+has_job (Some (Some s)) = true
+
+abbrev pub is_busy : {J : Type 0} → Kind J → Option (Option J) → Bool
+is_busy K None = false
+is_busy K (Some None) = false
+is_busy K (Some (Some s)) = not (K.left s == 0)
+
+-- a place of a row has a state exactly where its task has an unfinished job
+abbrev pub is_flagged : {J : Type 0} → Kind J → List (Option J) → Place J → Bool
+is_flagged K jobs place = elim place.state [ Some state ↦ is_busy K (slice_get jobs place.task) | None ↦ not (is_busy K (slice_get jobs place.task)) ]
+
+-- of so many tasks with these jobs, a job can be given, a row run, or a job taken away
+abbrev pub is_apt : {J : Type 0} → Kind J → ℕ → List (Option J) → Plain J → Bool
+is_apt K total jobs (submitted task job) = is_free K (slice_get jobs task)
+is_apt K total jobs (ran row) = list_all (λ place. nat_lt place.task total && is_flagged K jobs place) row
+is_apt K total jobs (withdrawn task) = has_job (slice_get jobs task)
+
+-- the record is right at a state: it has a spelling, the state lets it pass, and what is behind it is a state
+abbrev pub is_right : {J : Type 0} → Kind J → machine.Plain J → Plain J → Bool
+is_right K s done = record_fits s.ledger.set.workers done && (is_apt K (total s.ledger) s.jobs done && fits (after_record s done))
+
+-- the state behind records, where each is right behind those before it
+abbrev pub applied : {J : Type 0} → Kind J → machine.Plain J → List (Plain J) → Option (machine.Plain J)
+applied K s [] = Some s
+applied K s (done ∷ records) = if is_right K s done then applied K (after_record s done) records else None

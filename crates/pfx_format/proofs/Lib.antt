@@ -1,0 +1,4 @@
+pub mod Batches
+pub mod Keeping
+pub mod Leading
+pub mod Nexts

@@ -1,0 +1,58 @@
+//! What holds of the bytes of headers, each the contract of a function without a body.
+
+ghost use Rattle.std.specs.Prelude.{◌≡◌, ◌≢◌, ◌↔◌, ◌<◌, ◌≤◌, ◌++◌, ℕ, List, [], length, take, slice_index, All, Some, Ok, Err};
+ghost use Rattle.pfx_disk.specs.declared.gates.TheConstants.{GATE_OPEN};
+ghost use Rattle.pfx_recovery.specs.Refusals.{Refusal, IsOfHeader, NotAStore};
+ghost use Rattle.pfx_weights.specs.Sets.{FilledSet, IsFilled, Accepts};
+ghost use Rattle.pfx_header.specs.Sets.{set_of};
+ghost use Rattle.pfx_header.specs.Headers.{Header, IsHeader, IsSegmentSize, header_len, header_bytes, read_header};
+ghost use Rattle.pfx_header.specs.declared.sizes.TheConstants.{HEADER_MOST};
+
+/// The set that is read is the one that is accepted of its workers and tasks, and there is none where none is.
+pub fn sets_are_the_accepted_ones()
+    ensures { (m : ℕ) (tasks : List (ℕ × ℕ)) (s : FilledSet) → (set_of m tasks ≡ Some s) ↔ Accepts m tasks s }
+{}
+
+/// What is read is a header, whose set is filled and whose bytes are all there.
+pub fn what_is_read_is_a_header()
+    ensures whole { (bytes : List ℕ) (h : Header) → read_header bytes ≡ Ok h → header_len h.set ≤ length bytes }
+    ensures filled { (bytes : List ℕ) (h : Header) → read_header bytes ≡ Ok h → IsFilled h.set }
+    ensures header { (bytes : List ℕ) (h : Header) → read_header bytes ≡ Ok h → IsHeader h }
+{}
+
+/// A set that is accepted and a segment within its limits are a header, and it is read from its bytes, whatever stands
+/// behind them.
+pub fn what_is_written_is_read()
+    ensures header { (m : ℕ) (tasks : List (ℕ × ℕ)) (h : Header) → Accepts m tasks h.set → IsSegmentSize m h.segment → IsHeader h }
+    ensures read { (h : Header) (rest : List ℕ) → IsHeader h → read_header (header_bytes h ++ rest) ≡ Ok h }
+    ensures long { (h : Header) → IsHeader h → length (header_bytes h) ≡ header_len h.set }
+{}
+
+/// Bytes are read as a header exactly where it is one and they begin with its bytes.
+pub fn bytes_are_read_as_they_are_written()
+    ensures read { (bytes : List ℕ) (h : Header) → All (λ b. b < 256) bytes → read_header bytes ≡ Ok h → take (header_len h.set) bytes ≡ header_bytes h }
+    ensures exact { (bytes : List ℕ) (h : Header) → All (λ b. b < 256) bytes
+        → (read_header bytes ≡ Ok h) ↔ (IsHeader h × (take (header_len h.set) bytes ≡ header_bytes h)) }
+{}
+
+/// A header is read from its own bytes alone.
+pub fn header_is_read_alone()
+    ensures { (bytes other : List ℕ) (h : Header) → read_header bytes ≡ Ok h
+        → take (header_len h.set) other ≡ take (header_len h.set) bytes → read_header other ≡ Ok h }
+{}
+
+/// The first `HEADER_MOST` bytes of a file are enough.
+pub fn front_is_enough()
+    ensures { (bytes : List ℕ) → read_header (take HEADER_MOST bytes) ≡ read_header bytes }
+{}
+
+/// What is refused is refused as a header.
+pub fn what_is_refused_is_of_the_header()
+    ensures { (bytes : List ℕ) (refusal : Refusal) → read_header bytes ≡ Err refusal → IsOfHeader refusal }
+{}
+
+/// No bytes, and bytes behind a closed gate, are no store.
+pub fn closed_gate_is_no_store()
+    ensures none { read_header [] ≡ Err NotAStore }
+    ensures closed { (bytes : List ℕ) → slice_index bytes 0 ≢ GATE_OPEN → read_header bytes ≡ Err NotAStore }
+{}

@@ -1,0 +1,5 @@
+mod Appends
+mod Behinds
+mod Made
+mod Slots
+mod Standings

@@ -1,0 +1,30 @@
+-- The bodies of slots.
+use Rattle.std.specs.Prelude.{◌≡◌, ◌≢◌, ℕ, List, length, Option, Some, None, refl}
+use Rattle.std.proofs.Common.{sym, ◌∙◌, ap, subst}
+use Rattle.pfx_checkpoint.specs.Found.{read_state}
+use Rattle.pfx_checkpoint.specs.Spelling.{place_of, state_bytes, state_len}
+use Rattle.pfx_checkpoint.proofs.Fronts.{length-front}
+use Rattle.pfx_checkpoint.proofs.Readings.{frozen_read, only_states}
+use Rattle.pfx_columns.specs.Ledgers.{total}
+use Rattle.pfx_jobs.specs.Kind.{Kind, Laws}
+use Rattle.pfx_machine.specs.Plain.{Plain, IsState}
+use Rattle.pfx_weights.specs.Sets.{FilledSet, IsFilled}
+
+none_of : {A : Type 0} (o : Option A) → ((a : A) → o ≡ Some a → ⊥) → None ≡ o
+none_of None h = refl
+none_of (Some a) h = absurd (h a refl)
+
+-- the bytes of a state are as many as its set says
+pub state_long : {J : Type 0} (K : Kind J) (L : Laws K) (s : Plain J) → IsState s → length (state_bytes K s) ≡ state_len s.ledger.set
+unfolding state_bytes
+state_long K L s h = length-front K L s (total s.ledger) ∙ ap (λ n. place_of n (total s.ledger)) h.jobs
+
+-- bytes of another length are no state of the set
+pub other_length : {J : Type 0} (K : Kind J) (L : Laws K) (set : FilledSet) (bytes : List ℕ) → IsFilled set → length bytes ≢ state_len set → None ≡ read_state K set bytes
+other_length K L set bytes filled other = none_of _ (λ s is.
+    let only = only_states K set bytes s filled is in
+    other (ap length (sym only.2) ∙ (state_long K L s only.0 ∙ ap state_len only.1)))
+
+-- a frozen state of the set is read
+pub spelled_read : {J : Type 0} (K : Kind J) (L : Laws K) (set : FilledSet) (s : Plain J) (bytes : List ℕ) → IsState s → s.ledger.set ≡ set → bytes ≡ state_bytes K s → read_state K set bytes ≡ Some s
+spelled_read K L set s bytes h same is = ap (read_state K set) is ∙ (ap (λ t. read_state K t (state_bytes K s)) (sym same) ∙ frozen_read K L s h)

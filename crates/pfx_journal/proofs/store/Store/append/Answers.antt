@@ -1,0 +1,103 @@
+use Rattle.std.proofs.Common.{◌≡◌, ◌+◌, ◌<◌, ◌^◌, ◌++◌, ◌∷◌, [], ℕ, List, length, map, sym, ◌∙◌, ap, arith, subst}
+use Rattle.std.specs.Prelude.{Some}
+use Rattle.pfx_checkpoint.specs.Spelling.{state_bytes}
+use Rattle.pfx_disk.specs.declared.gates.TheConstants.{GATE_OPEN}
+use Rattle.pfx_effect.specs.Applying.{applied}
+use Rattle.pfx_format.specs.Format.{format}
+use Rattle.pfx_format.specs.Frames.{state_after}
+use Rattle.pfx_format.proofs.Keeping.{format_laws}
+use Rattle.pfx_machine.specs.Plain.{Plain}
+use Rattle.pfx_record.specs.Batches.{PlainBatch, batch_bytes, batch_of}
+use Rattle.pfx_record.specs.Records.{plain}
+use Rattle.pfx_recovery.specs.Store.{Replays, with_frame}
+use Rattle.pfx_store.specs.Holding.{Holds, IsStart, KeepsAll, Survives}
+use Rattle.pfx_store.specs.Tending.{made_room}
+use Rattle.pfx_store.proofs.Keeping.{keeps_then}
+use Rattle.pfx_journal.specs.Standing.{IsReady, Stands}
+use Rattle.pfx_journal.proofs.Appends.{batch_leads}
+use Rattle.pfx_journal.proofs.Standings.{keeps_appended, keeps_more, keeps_still, stands_behind}
+use Rattle.pfx_journal.proofs.store.Store.append.Goals as goal
+
+pub returns-then-self-clause-keeps : goal.returns-then-self-clause-keeps
+returns-then-self-clause-keeps g c stands start all replays = keeps_more g.J.Job.kind start all _ (g.D.Disk.view c.args.self.now.file.disk) (g.D.Disk.view c.args.self.now.file.disk) (keeps_still g.J.Job.kind start all (g.D.Disk.view c.args.self.now.file.disk))
+
+pub returns-in_err-make_room-clause-keeps : goal.returns-in_err-make_room-clause-keeps
+returns-in_err-make_room-clause-keeps g c stands start all replays = keeps_more g.J.Job.kind start all _ (g.D.Disk.view c.args.self.now.file.disk) (g.D.Disk.view c.make_room.new.self.file.disk) (c.make_room.ensures.keeps stands start all replays)
+
+pub returns-in_err-append_or_turn-clause-keeps : goal.returns-in_err-append_or_turn-clause-keeps
+returns-in_err-append_or_turn-clause-keeps g c stands start all replays =
+    let K = g.J.Job.kind in
+    let L = g.met.J.Job.laws in
+    let V = g.D.Disk.view in
+    let b : PlainBatch g.row.J.Denot = batch_of c.args.batch.now.first c.args.batch.now.records.items in
+    let mid = c.make_room.new.self in
+    let same : mid.state ≡ c.args.self.now.state = c.make_room.ensures.state in
+    let standing : Stands K mid.file.places mid.state c.deref.result.now (V mid.file.disk) = subst (λ (l : List ℕ). Stands K mid.file.places mid.state l (V mid.file.disk)) (sym c.deref.ensures.value) (c.in_ok-make_room.ensures.stands stands) in
+    let body = c.behind_gate.ensures.pending.0 in
+    let opens : batch_bytes K b ≡ GATE_OPEN ∷ body = c.behind_gate.ensures.pending.1 in
+    let begins : IsStart (format K) (mid.state.number + 1) c.start_behind-start.result = record { long = c.start_behind-start.ensures.long; number = c.start_behind-start.ensures.number ∙ ap (λ n. n + 1) c.number.ensures.number; closed = c.start_behind-start.ensures.closed } in
+    let right : applied K mid.state b.records ≡ Some c.requires.right.0 = subst (λ (s : Plain g.row.J.Denot). applied K s b.records ≡ Some c.requires.right.0) (sym same) c.requires.right.1 in
+    let leads : state_after K mid.state (GATE_OPEN ∷ body) ≡ Some c.requires.right.0 = subst (λ (f : List ℕ). state_after K mid.state f ≡ Some c.requires.right.0) opens (batch_leads K L mid.state c.requires.right.0 c.args.batch.now.workers b c.args.batch.now.fits (c.requires.workers ∙ ap (λ (s : Plain g.row.J.Denot). s.ledger.set.workers) (sym same)) (c.requires.first ∙ ap (λ (s : Plain g.row.J.Denot). s.number + 1) (sym same)) right) in
+    let there : Replays (format K) start all mid.state = subst (λ (s : Plain g.row.J.Denot). Replays (format K) start all s) (sym same) replays in
+    keeps_appended K start all (batch_bytes K b) (GATE_OPEN ∷ body) (V c.args.self.now.file.disk) (V mid.file.disk) (V c.append_or_turn.new.self.disk) c.make_room.ensures.goes.later (c.make_room.ensures.keeps stands start all replays) opens
+    (c.append_or_turn.ensures.keeps (format K) (format_laws K L) standing.header standing.parts mid.state standing.holds standing.middle begins body c.requires.right.0 c.behind_gate.ensures.pending.2 leads start all there)
+
+
+pub returns-clause-stands : goal.returns-clause-stands
+returns-clause-stands g c stands =
+    let K = g.J.Job.kind in
+    let L = g.met.J.Job.laws in
+    let V = g.D.Disk.view in
+    let b : PlainBatch g.row.J.Denot = batch_of c.args.batch.now.first c.args.batch.now.records.items in
+    let mid = c.make_room.new.self in
+    let same : mid.state ≡ c.args.self.now.state = c.make_room.ensures.state in
+    let standing : Stands K mid.file.places mid.state c.deref.result.now (V mid.file.disk) = subst (λ (l : List ℕ). Stands K mid.file.places mid.state l (V mid.file.disk)) (sym c.deref.ensures.value) (c.in_ok-make_room.ensures.stands stands) in
+    let body = c.behind_gate.ensures.pending.0 in
+    let opens : batch_bytes K b ≡ GATE_OPEN ∷ body = c.behind_gate.ensures.pending.1 in
+    let begins : IsStart (format K) (mid.state.number + 1) c.start_behind-start.result = record { long = c.start_behind-start.ensures.long; number = c.start_behind-start.ensures.number ∙ ap (λ n. n + 1) c.number.ensures.number; closed = c.start_behind-start.ensures.closed } in
+    let right : applied K mid.state b.records ≡ Some c.take_over.new.state = c.take_over.ensures.taken in
+    let leads : state_after K mid.state (GATE_OPEN ∷ body) ≡ Some c.take_over.new.state = subst (λ (f : List ℕ). state_after K mid.state f ≡ Some c.take_over.new.state) opens (batch_leads K L mid.state c.take_over.new.state c.args.batch.now.workers b c.args.batch.now.fits (c.requires.workers ∙ ap (λ (s : Plain g.row.J.Denot). s.ledger.set.workers) (sym same)) (c.requires.first ∙ ap (λ (s : Plain g.row.J.Denot). s.number + 1) (sym same)) right) in
+    let n = length c.behind_gate.result.now in
+    let ready : IsReady K n mid.file.places mid.state c.deref.result.now = rw (c.deref.ensures.value, c.behind_gate.ensures.len, ← c.batch_len-len.ensures.value) c.in_ok-make_room.ensures.ready in
+    subst (λ (l : List ℕ). Stands K c.append_or_turn.new.self.places c.take_over.new.state l (V c.append_or_turn.new.self.disk)) c.deref.ensures.value
+    (stands_behind K L n mid.file.places c.append_or_turn.new.self.places mid.state c.take_over.new.state c.deref.result.now (GATE_OPEN ∷ body) (V mid.file.disk) (V c.append_or_turn.new.self.disk) standing c.number.ensures.state c.take_over.ensures.set ready
+    (c.in_ok-append_or_turn.ensures.holds (format K) (format_laws K L) standing.header standing.parts mid.state standing.holds standing.middle begins body c.take_over.new.state c.behind_gate.ensures.pending.2 leads))
+
+
+pub returns-clause-keeps : goal.returns-clause-keeps
+returns-clause-keeps g c stands start all replays =
+    let K = g.J.Job.kind in
+    let L = g.met.J.Job.laws in
+    let V = g.D.Disk.view in
+    let b : PlainBatch g.row.J.Denot = batch_of c.args.batch.now.first c.args.batch.now.records.items in
+    let mid = c.make_room.new.self in
+    let same : mid.state ≡ c.args.self.now.state = c.make_room.ensures.state in
+    let standing : Stands K mid.file.places mid.state c.deref.result.now (V mid.file.disk) = subst (λ (l : List ℕ). Stands K mid.file.places mid.state l (V mid.file.disk)) (sym c.deref.ensures.value) (c.in_ok-make_room.ensures.stands stands) in
+    let body = c.behind_gate.ensures.pending.0 in
+    let opens : batch_bytes K b ≡ GATE_OPEN ∷ body = c.behind_gate.ensures.pending.1 in
+    let begins : IsStart (format K) (mid.state.number + 1) c.start_behind-start.result = record { long = c.start_behind-start.ensures.long; number = c.start_behind-start.ensures.number ∙ ap (λ n. n + 1) c.number.ensures.number; closed = c.start_behind-start.ensures.closed } in
+    let right : applied K mid.state b.records ≡ Some c.requires.right.0 = subst (λ (s : Plain g.row.J.Denot). applied K s b.records ≡ Some c.requires.right.0) (sym same) c.requires.right.1 in
+    let leads : state_after K mid.state (GATE_OPEN ∷ body) ≡ Some c.requires.right.0 = subst (λ (f : List ℕ). state_after K mid.state f ≡ Some c.requires.right.0) opens (batch_leads K L mid.state c.requires.right.0 c.args.batch.now.workers b c.args.batch.now.fits (c.requires.workers ∙ ap (λ (s : Plain g.row.J.Denot). s.ledger.set.workers) (sym same)) (c.requires.first ∙ ap (λ (s : Plain g.row.J.Denot). s.number + 1) (sym same)) right) in
+    let there : Replays (format K) start all mid.state = subst (λ (s : Plain g.row.J.Denot). Replays (format K) start all s) (sym same) replays in
+    keeps_appended K start all (batch_bytes K b) (GATE_OPEN ∷ body) (V c.args.self.now.file.disk) (V mid.file.disk) (V c.append_or_turn.new.self.disk) c.make_room.ensures.goes.later (c.make_room.ensures.keeps stands start all replays) opens
+    (c.append_or_turn.ensures.keeps (format K) (format_laws K L) standing.header standing.parts mid.state standing.holds standing.middle begins body c.requires.right.0 c.behind_gate.ensures.pending.2 leads start all there)
+
+
+pub returns-clause-acknowledged : goal.returns-clause-acknowledged
+returns-clause-acknowledged g c stands start all replays =
+    let K = g.J.Job.kind in
+    let L = g.met.J.Job.laws in
+    let V = g.D.Disk.view in
+    let b : PlainBatch g.row.J.Denot = batch_of c.args.batch.now.first c.args.batch.now.records.items in
+    let mid = c.make_room.new.self in
+    let same : mid.state ≡ c.args.self.now.state = c.make_room.ensures.state in
+    let standing : Stands K mid.file.places mid.state c.deref.result.now (V mid.file.disk) = subst (λ (l : List ℕ). Stands K mid.file.places mid.state l (V mid.file.disk)) (sym c.deref.ensures.value) (c.in_ok-make_room.ensures.stands stands) in
+    let body = c.behind_gate.ensures.pending.0 in
+    let opens : batch_bytes K b ≡ GATE_OPEN ∷ body = c.behind_gate.ensures.pending.1 in
+    let begins : IsStart (format K) (mid.state.number + 1) c.start_behind-start.result = record { long = c.start_behind-start.ensures.long; number = c.start_behind-start.ensures.number ∙ ap (λ n. n + 1) c.number.ensures.number; closed = c.start_behind-start.ensures.closed } in
+    let right : applied K mid.state b.records ≡ Some c.requires.right.0 = subst (λ (s : Plain g.row.J.Denot). applied K s b.records ≡ Some c.requires.right.0) (sym same) c.requires.right.1 in
+    let leads : state_after K mid.state (GATE_OPEN ∷ body) ≡ Some c.requires.right.0 = subst (λ (f : List ℕ). state_after K mid.state f ≡ Some c.requires.right.0) opens (batch_leads K L mid.state c.requires.right.0 c.args.batch.now.workers b c.args.batch.now.fits (c.requires.workers ∙ ap (λ (s : Plain g.row.J.Denot). s.ledger.set.workers) (sym same)) (c.requires.first ∙ ap (λ (s : Plain g.row.J.Denot). s.number + 1) (sym same)) right) in
+    let there : Replays (format K) start all mid.state = subst (λ (s : Plain g.row.J.Denot). Replays (format K) start all s) (sym same) replays in
+    subst (λ (f : List ℕ). (image : List ℕ) → (V c.append_or_turn.new.self.disk).since (V c.append_or_turn.new.self.disk).clock image → Survives (format K) start (all ++ f ∷ []) (length all + 1) image) (sym opens)
+    (c.in_ok-append_or_turn.ensures.acknowledged (format K) (format_laws K L) standing.header standing.parts mid.state standing.holds standing.middle begins body c.requires.right.0 c.behind_gate.ensures.pending.2 leads start all there)
+

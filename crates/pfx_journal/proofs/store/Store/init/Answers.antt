@@ -1,0 +1,9 @@
+use Rattle.pfx_machine.specs.Plain.{empty}
+use Rattle.pfx_journal.proofs.Made.{still_none}
+use Rattle.pfx_journal.proofs.store.Store.init.Goals as goal
+
+pub returns-in-Err-SegmentTooSmall-clause-recovers : goal.returns-in-Err-SegmentTooSmall-clause-recovers
+returns-in-Err-SegmentTooSmall-clause-recovers g c honest = still_none g.J.Job.kind (empty c.args.set.now) (g.D.Disk.view c.args.disk)
+
+pub returns-in-Err-SegmentTooLarge-clause-recovers : goal.returns-in-Err-SegmentTooLarge-clause-recovers
+returns-in-Err-SegmentTooLarge-clause-recovers g c honest = still_none g.J.Job.kind (empty c.args.set.now) (g.D.Disk.view c.args.disk)

@@ -1,0 +1,13 @@
+-- Which fault comes where a store isn't made.
+use Rattle.std.specs.Prelude.{◌≡◌, ◌<◌, ℕ}
+use Rattle.pfx_header.specs.Headers.{IsSegmentSize, least_segment, longest_segment}
+use Rattle.pfx_journal.specs.declared.making.InitFault.{InitFault}
+use Rattle.pfx_journal.specs.declared.making.InitFault.TheVariants.{SegmentTooSmall, SegmentTooLarge, NotEmpty, Device, NoMemory}
+
+-- a segment of this length is below the limits of m workers, or above them; every other fault comes within them
+abbrev pub IsSizeFault : ℕ → ℕ → InitFault → Type 0
+IsSizeFault m segment (SegmentTooSmall least) = (least ≡ least_segment m) × (segment < least)
+IsSizeFault m segment SegmentTooLarge = longest_segment < segment
+IsSizeFault m segment NotEmpty = IsSegmentSize m segment
+IsSizeFault m segment Device = IsSegmentSize m segment
+IsSizeFault m segment NoMemory = IsSegmentSize m segment

@@ -1,0 +1,104 @@
+// Opening a store.
+ghost use Rattle.std.specs.Prelude.{◌≡◌, ◌≤◌, ◌+◌, ◌*◌, ℕ, List, length, false, Vec, vec_capacity, Some, Ok, Err, IfOk, IfErr, MatchResult};
+ghost use Rattle.std.specs.declared.alloc.Global.{Global};
+ghost use Rattle.pfx_disk.specs.Disk.{IsHonest, HasFailed};
+ghost use Rattle.pfx_format.specs.Format.{format, layout};
+ghost use Rattle.pfx_opening.specs.Answers.{IsRefusal};
+ghost use Rattle.pfx_opening.specs.Finding.{IsOpened};
+ghost use Rattle.pfx_opening.specs.Looking.{Looks};
+ghost use Rattle.pfx_recovery.specs.Recovery.{recovered};
+ghost use Rattle.pfx_store.specs.Fitting.{Fits};
+ghost use Rattle.pfx_journal.specs.Standing.{Stands};
+
+use crate::format::{FileFormat, FileHeader};
+use crate::store::Store;
+use pfx_checkpoint::state_len;
+use pfx_disk::Disk;
+use pfx_jobs::job::Job;
+use pfx_machine::State;
+use pfx_opening::{OpenFault, Opened, open};
+use pfx_store::StoreFile;
+use std::alloc::{AllocError, Global};
+
+// How many bytes the longest frame takes, with the closed gate behind it.
+pub(crate) fn longest_frame(workers: u32) -> usize
+    ensures { result ≡ 32 + 2096 * workers }
+{
+    32 + 2096 * workers as usize
+}
+
+// The body of the checkpoint in progress, or room for one.
+fn body_of(alloc: Global, middle: Option<Vec<u8>>, len: usize) -> Result<Vec<u8>, AllocError>
+    ensures long { IfOk result (λ body. length body.items ≡ len) }
+    ensures kept { (v : Vec ℕ Global) → middle ≡ Some v → length v.items ≡ len → IfOk result (λ body. body.items ≡ v.items) }
+{
+    match middle {
+        Some(body) if body.len() == len => Ok(body),
+        _ => vec![in alloc; 0; len],
+    }
+}
+
+// The store of a file, with its room.
+fn furnished<D: Disk, J: Job>(
+    alloc: Global,
+    file: StoreFile<D>,
+    header: &FileHeader,
+    state: State<J>,
+    middle: Option<Vec<u8>>,
+) -> Result<Store<D, J>, (OpenFault, D)>
+    requires sized { Fits (layout header.now) file.places }
+    requires set { state.ledger.set ≡ header.now.set }
+    ensures file { IfOk result (λ store. store.file ≡ file) }
+    ensures state { IfOk result (λ store. store.state ≡ state) }
+    ensures found { (bytes : List ℕ) → IsOpened (format J.kind) header.now bytes file.places state middle (D.view file.disk)
+        → IfOk result (λ store. recovered (format J.kind) bytes ≡ Ok store.state) }
+    ensures stands { (bytes : List ℕ) → IsOpened (format J.kind) header.now bytes file.places state middle (D.view file.disk)
+        → IfOk result (λ store. Stands J.kind store.file.places store.state store.spelled.items (D.view store.file.disk)) }
+    ensures fault { IfErr result (λ e. (e.0 ≡ OpenFault.NoMemory) × (e.1 ≡ file.disk)) }
+{
+    let set = header.set();
+    let Ok(spelled) = body_of(alloc, middle, state_len(set)) else {
+        return Err((OpenFault::NoMemory, file.into_disk()));
+    };
+    let Ok(frame) = Vec::with_capacity(alloc, longest_frame(set.workers())) else {
+        return Err((OpenFault::NoMemory, file.into_disk()));
+    };
+    Ok(Store {
+        file,
+        state,
+        spelled,
+        frame,
+    })
+}
+
+impl<D: Disk, J: Job> Store<D, J> {
+    /// Opens the store of a file: a sync, and then reads alone. With a fault the disk comes back.
+    ///
+    /// `Refused` names the first test that the file doesn't pass. `Device` comes only where the disk failed, and `NoMemory`
+    /// where a growth of memory was refused.
+    pub fn open(alloc: Global, disk: D) -> Result<Store<D, J>, (OpenFault, D)>
+        ensures found { IsHonest (D.view disk) → IfOk result (λ store.
+            recovered (format J.kind) (D.view disk).contents ≡ Ok store.state) }
+        ensures refused { IsHonest (D.view disk) → IfErr result (λ e. IsRefusal e.0 (λ refusal.
+            recovered (format J.kind) (D.view disk).contents ≡ Err refusal)) }
+        ensures device { IfErr result (λ e. e.0 ≡ OpenFault.Device → HasFailed (D.view disk) (D.view e.1)) }
+        ensures looks { MatchResult result
+            (λ store. Looks (D.view disk) (D.view store.file.disk)) (λ e. Looks (D.view disk) (D.view e.1)) }
+        ensures whole { IfOk result (λ store. store.file.broken ≡ false) }
+        ensures stands { IsHonest (D.view disk) → IfOk result (λ store.
+            Stands J.kind store.file.places store.state store.spelled.items (D.view store.file.disk)) }
+    {
+        match open::<FileFormat<J>, D>(alloc, disk) {
+            Err(fault) => Err(fault),
+            Ok(opened) => {
+                let Opened {
+                    file,
+                    header,
+                    state,
+                    middle,
+                } = opened;
+                furnished(alloc, file, &header, state, middle)
+            }
+        }
+    }
+}

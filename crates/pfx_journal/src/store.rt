@@ -1,0 +1,203 @@
+// The durable store: a state, and the file that keeps it.
+ghost use Rattle.std.specs.Prelude.{◌≡◌, ◌≤◌, ◌<◌, ◌+◌, ◌*◌, ◌^◌, ◌++◌, ◌∷◌, [], ℕ, List, length, map, take, slice_index, vec_capacity, Some, OnOk, OnErr, IfOk, IsErrOf};
+ghost use Rattle.byteorder.specs.Endian.{little_number};
+ghost use Rattle.pfx_checkpoint.specs.Spelling.{state_len};
+ghost use Rattle.pfx_disk.specs.Disk.{IsHonest};
+ghost use Rattle.pfx_effect.specs.Applying.{applied};
+ghost use Rattle.pfx_format.specs.Format.{format};
+ghost use Rattle.pfx_machine.specs.Plain.{Plain};
+ghost use Rattle.pfx_record.specs.Batches.{batch_bytes, batch_of};
+ghost use Rattle.pfx_record.specs.Records.{plain};
+ghost use Rattle.pfx_recovery.specs.Store.{Replays};
+ghost use Rattle.pfx_store.specs.Calls.{Works, GoesOn};
+ghost use Rattle.pfx_store.specs.Fitting.{SameParts};
+ghost use Rattle.pfx_store.specs.Holding.{KeepsAll, Survives};
+ghost use Rattle.pfx_journal.specs.Standing.{IsBehind, IsReady, Stands};
+
+use crate::format::FileHeader;
+use byteorder::{ByteOrder, LittleEndian};
+use pfx_checkpoint::freeze;
+use pfx_disk::Disk;
+use pfx_effect::apply_all;
+use pfx_jobs::job::Job;
+use pfx_machine::State;
+use pfx_record::{Batch, batch_len, write_batch};
+use pfx_store::{StoreFault, StoreFile};
+
+/// What is durable: every command up to this number, at this tick of the disk's clock.
+#[derive(Clone, Copy, Debug, PartialEq, Eq)]
+pub struct Mark {
+    /// The number of the last command.
+    pub number: u64,
+    /// The disk's clock when that was known.
+    pub clock: u64,
+}
+
+/// A state, and the file on a disk that keeps it.
+#[derive(Drop)]
+pub struct Store<D: Disk, J: Job> {
+    /// The file.
+    pub file: StoreFile<D>,
+    /// The state that the file stands for.
+    pub state: State<J>,
+    /// The body of the slot that the checkpoint in progress writes.
+    pub spelled: Vec<u8>,
+    /// Room for the longest frame.
+    pub frame: Vec<u8>,
+    ghost long: { length spelled.items ≡ file.places.body },
+    ghost body: { file.places.body ≡ state_len state.ledger.set },
+    ghost fits: { 41 + 2096 * state.ledger.set.workers ≤ file.places.segment_len },
+    ghost room: { 32 + 2096 * state.ledger.set.workers ≤ vec_capacity frame },
+}
+
+// The bytes behind the gate of a segment whose first command comes behind this number.
+fn start_behind(number: u64) -> [u8; 9]
+    requires { number < 2 ^ 48 }
+    ensures long { length result ≡ 9 }
+    ensures number { little_number 8 (take 8 result) ≡ number + 1 }
+    ensures closed { slice_index result 8 ≡ 0 }
+{
+    let mut start = [0; 9];
+    LittleEndian::write_u64(&mut start[..8], number + 1);
+    start
+}
+
+// Spells a frame, with the closed gate of the next one behind it.
+fn spell_frame<J: Job>(batch: &Batch<J>, frame: &mut Vec<u8>)
+    requires { 32 + 2096 * batch.now.workers ≤ vec_capacity frame.old }
+    ensures items { frame.new.items ≡ batch_bytes J.kind (batch_of batch.now.first batch.now.records.items) ++ 0 ∷ [] }
+    ensures room { vec_capacity frame.old ≤ vec_capacity frame.new }
+{
+    let _len = batch_len(batch);
+    frame.clear();
+    write_batch(batch, frame);
+    frame.push_reserved(0);
+}
+
+// What stands behind a frame's gate: the rest of its spelling, and the closed gate of the next one.
+fn behind_gate<'a, J: Job>(batch: &Batch<J>, frame: &'a [u8]) -> &'a [u8]
+    requires { frame.now ≡ batch_bytes J.kind (batch_of batch.now.first batch.now.records.items) ++ 0 ∷ [] }
+    ensures pending { IsBehind (batch_bytes J.kind (batch_of batch.now.first batch.now.records.items)) result.now }
+    ensures len { length result.now ≡ length (batch_bytes J.kind (batch_of batch.now.first batch.now.records.items)) }
+    ensures some { 0 < length result.now }
+{
+    let _len = batch_len(batch);
+    &frame[1..]
+}
+
+// Takes a batch over that is right at the state.
+fn take_over<J: Job>(state: &mut State<J>, batch: &Batch<J>)
+    requires { (t : Plain J) × (applied J.kind state.old (map plain batch.now.records.items) ≡ Some t) }
+    ensures taken { applied J.kind state.old (map plain batch.now.records.items) ≡ Some state.new }
+    ensures set { state.new.ledger.set ≡ state.old.ledger.set }
+{
+    let _taken = apply_all(state, &batch.records);
+}
+
+impl<D: Disk, J: Job> Store<D, J> {
+    /// The state: that of every command up to the last mark.
+    pub fn state(&self) -> &State<J>
+        ensures { result.now ≡ self.now.state }
+    {
+        &self.state
+    }
+
+    /// Whether the disk has failed in an earlier call: then the store does nothing any more, and has to be opened again.
+    pub fn is_broken(&self) -> bool
+        ensures { result ≡ self.now.file.broken }
+    {
+        self.file.broken
+    }
+
+    /// The disk.
+    pub fn into_disk(self) -> D
+        ensures { result ≡ self.file.disk }
+    {
+        self.file.into_disk()
+    }
+
+    // Where a frame of n bytes has no room: ends the checkpoint in progress, and spells the state for the next one.
+    fn make_room(&mut self, n: usize) -> Result<(), StoreFault>
+        ensures works { Works (D.view self.old.file.disk) (D.view self.new.file.disk) self.old.file.broken self.new.file.broken result }
+        ensures goes { GoesOn (D.view self.old.file.disk) (D.view self.new.file.disk) }
+        ensures honest { IsHonest (D.view self.new.file.disk) → IsHonest (D.view self.old.file.disk) }
+        ensures kept { IsHonest (D.view self.old.file.disk) → IsHonest (D.view self.new.file.disk) }
+        ensures room { ¬ IsErrOf result StoreFault.NoRoom }
+        ensures state { self.new.state ≡ self.old.state }
+        ensures frame { self.new.frame ≡ self.old.frame }
+        ensures parts { SameParts self.old.file.places self.new.file.places }
+        ensures ready { OnOk result (IsReady J.kind n self.new.file.places self.new.state self.new.spelled.items) }
+        ensures stands { Stands J.kind self.old.file.places self.old.state self.old.spelled.items (D.view self.old.file.disk)
+            → OnOk result (Stands J.kind self.new.file.places self.new.state self.new.spelled.items (D.view self.new.file.disk)) }
+        ensures keeps { Stands J.kind self.old.file.places self.old.state self.old.spelled.items (D.view self.old.file.disk)
+            → (start : Plain J) → (all : List (List ℕ)) → Replays (format J.kind) start all self.old.state
+            → KeepsAll (format J.kind) start all all (D.view self.old.file.disk) (D.view self.new.file.disk) }
+    {
+        if self.file.broken {
+            return Err(StoreFault::Broken);
+        }
+        if self.file.has_room(n) {
+            return Ok(());
+        }
+        self.file.end_checkpoint::<FileHeader, State<J>>(&self.spelled)?;
+        freeze(&self.state, &mut self.spelled);
+        Ok(())
+    }
+
+    /// Appends a batch: from the mark on it is durable. Where its frame doesn't fit, the checkpoint in progress is ended
+    /// first, if there is one, and the file turned to its other segment. It takes no memory.
+    ///
+    /// The batch begins with the next number, has rows of the state's workers, and is right at the state. `Device` breaks
+    /// the store, and it keeps its state; a broken store answers `Broken` and does nothing.
+    pub fn append(&mut self, batch: &Batch<J>) -> Result<Mark, StoreFault>
+        requires workers { batch.now.workers ≡ self.old.state.ledger.set.workers }
+        requires first { batch.now.first ≡ self.old.state.number + 1 }
+        requires right { (t : Plain J) × (applied J.kind self.old.state (map plain batch.now.records.items) ≡ Some t) }
+        ensures works { Works (D.view self.old.file.disk) (D.view self.new.file.disk) self.old.file.broken self.new.file.broken result }
+        ensures goes { GoesOn (D.view self.old.file.disk) (D.view self.new.file.disk) }
+        ensures honest { IsHonest (D.view self.new.file.disk) → IsHonest (D.view self.old.file.disk) }
+        ensures kept { IsHonest (D.view self.old.file.disk) → IsHonest (D.view self.new.file.disk) }
+        ensures room { ¬ IsErrOf result StoreFault.NoRoom }
+        ensures broken { IsErrOf result StoreFault.Broken → self.new ≡ self.old }
+        ensures same { OnErr result (self.new.state ≡ self.old.state) }
+        ensures state { OnOk result (applied J.kind self.old.state (map plain batch.now.records.items) ≡ Some self.new.state) }
+        ensures mark { IfOk result (λ mark. (mark.number ≡ self.new.state.number)
+            × (mark.clock ≡ (D.view self.new.file.disk).clock)) }
+
+        // The store goes on behind the batch.
+        ensures stands { Stands J.kind self.old.file.places self.old.state self.old.spelled.items (D.view self.old.file.disk)
+            → OnOk result (Stands J.kind self.new.file.places self.new.state self.new.spelled.items (D.view self.new.file.disk)) }
+
+        // At every moment of the call, whatever it answers, what survived before survives, with the batch or without.
+        ensures keeps { Stands J.kind self.old.file.places self.old.state self.old.spelled.items (D.view self.old.file.disk)
+            → (start : Plain J) → (all : List (List ℕ)) → Replays (format J.kind) start all self.old.state
+            → KeepsAll (format J.kind) start all (all ++ batch_bytes J.kind (batch_of batch.now.first batch.now.records.items) ∷ [])
+            (D.view self.old.file.disk) (D.view self.new.file.disk) }
+
+        // From the return on, each image has the batch.
+        ensures acknowledged { Stands J.kind self.old.file.places self.old.state self.old.spelled.items (D.view self.old.file.disk)
+            → (start : Plain J) → (all : List (List ℕ)) → Replays (format J.kind) start all self.old.state
+            → OnOk result ((image : List ℕ) → (D.view self.new.file.disk).since (D.view self.new.file.disk).clock image
+            → Survives (format J.kind) start (all ++ batch_bytes J.kind (batch_of batch.now.first batch.now.records.items) ∷ [])
+            (length all + 1) image) }
+    {
+        if self.file.broken {
+            return Err(StoreFault::Broken);
+        }
+        let len = batch_len(batch);
+        self.make_room(len)?;
+        spell_frame(batch, &mut self.frame);
+        let start = start_behind(self.state.number());
+        self.file
+            .append_or_turn::<FileHeader, State<J>>(
+                &self.spelled,
+                &start,
+                behind_gate(batch, &self.frame),
+            )?;
+        take_over(&mut self.state, batch);
+        Ok(Mark {
+            number: self.state.number(),
+            clock: self.file.disk.clock(),
+        })
+    }
+}

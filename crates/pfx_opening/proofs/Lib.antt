@@ -1,0 +1,5 @@
+pub mod Looking
+pub mod Numbers
+pub mod Giving
+pub mod Walking
+pub mod Stages

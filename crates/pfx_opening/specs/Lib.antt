@@ -1,0 +1,8 @@
+pub mod Answers
+pub mod Choosing
+pub mod Finding
+pub mod Formats
+pub mod Looking
+pub mod Walking
+pub mod ToyCodec
+pub mod ToyLaws

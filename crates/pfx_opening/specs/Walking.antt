@@ -1,0 +1,31 @@
+-- The frames of a segment, as they were read, and the places of a file that was read.
+use Rattle.std.specs.Prelude.{◌≡◌, ◌<◌, ◌+◌, ℕ, List, Bool, false, Result, Ok}
+use Rattle.pfx_recovery.specs.Layout.{Layout, first_gate, segment_end}
+use Rattle.pfx_recovery.specs.Refusals as means
+use Rattle.pfx_segment.specs.Frames.{size}
+use Rattle.pfx_segment.specs.Reading.{views}
+use Rattle.pfx_store.specs.Fitting.{Fits}
+use Rattle.pfx_store.specs.declared.places.Places.{Places}
+use Rattle.pfx_opening.specs.declared.frames.Walked.{Walked}
+
+-- these frames were read, and this is the last one's number
+abbrev pub IsWalk : Walked → Result (List (List ℕ) × ℕ) means.Refusal → Type 0
+IsWalk walked read = read ≡ Ok (views walked.frames.items, walked.last)
+
+-- they stand in this segment, with the gate behind them
+pub record StandIn (L : Layout) (second : Bool) (walked : Walked) : Type 0 where
+  pub gate : walked.gate ≡ first_gate L second + size (views walked.frames.items)
+  pub inside : walked.gate < segment_end L second
+
+-- These are the slot and the segment in use, how the gates of the others stand, and the next frame's gate; and no
+-- checkpoint is begun.
+pub record AreInUse (L : Layout) (in_slot other_slot is_turned second other_segment : Bool) (next : ℕ) (places : Places) : Type 0 where
+  pub fits : Fits L places
+  pub slot : places.slot ≡ in_slot
+  pub slot_open : places.slot_open ≡ other_slot
+  pub turned : places.turned ≡ is_turned
+  pub segment : places.segment ≡ second
+  pub segment_open : places.segment_open ≡ other_segment
+  pub gate : places.gate ≡ next
+  pub end : places.end ≡ segment_end L second
+  pub unbegun : places.begun ≡ false
