@@ -62,7 +62,7 @@ module _ {J : Type 0} (K : Kind J) (L : Laws K) where
       let r = rises low place.task (tasks_of row) h in
       let split : row_bytes K (place ∷ row) ++ rest ≡ place_bytes K place ++ (row_bytes K row ++ rest) = append_assoc (place_bytes K place) (row_bytes K row) rest in
       let others : row_at K (length row) (drop (length (place_bytes K place)) (row_bytes K (place ∷ row) ++ rest)) ≡ Some row =
-        ap (λ l. row_at K (length row) (drop (length (place_bytes K place)) l)) split ∙ (ap (row_at K (length row)) (drop-append_seam (place_bytes K place) (row_bytes K row ++ rest)) ∙ row_there row (place.task + 1) rest r.others) in
+      ap (λ l. row_at K (length row) (drop (length (place_bytes K place)) l)) split ∙ (ap (row_at K (length row)) (drop-append_seam (place_bytes K place) (row_bytes K row ++ rest)) ∙ row_there row (place.task + 1) rest r.others) in
       if_some_is _ place _ (ap (place_at K) split ∙ place_there place (row_bytes K row ++ rest) r.small) ∙ if_some_is _ row (λ more. Some (place ∷ more)) others
 
   record_there : (workers : ℕ) (done : Plain J) (rest : List ℕ) → IsTrue (record_fits workers done) → record_at K workers (record_bytes K done ++ rest) ≡ Some done
@@ -70,7 +70,7 @@ module _ {J : Type 0} (K : Kind J) (L : Laws K) where
       let split : (number_bytes 2 task ++ K.spelling job) ++ rest ≡ number_bytes 2 task ++ (K.spelling job ++ rest) = append_assoc (number_bytes 2 task) (K.spelling job) rest in
       let number : little_number 2 ((number_bytes 2 task ++ K.spelling job) ++ rest) ≡ task = ap (little_number 2) split ∙ number_there 2 task (K.spelling job ++ rest) (ltb-true task (2 ^ 16) h) in
       let there : K.decoded (take 128 (drop 2 ((number_bytes 2 task ++ K.spelling job) ++ rest))) ≡ Some job =
-        ap (λ l. K.decoded (take 128 (drop 2 l))) split ∙ (ap (λ l. K.decoded (take 128 l)) (behind (number_bytes 2 task) (K.spelling job ++ rest) 2 (length-number_bytes 2 task)) ∙ job_there job rest) in
+      ap (λ l. K.decoded (take 128 (drop 2 l))) split ∙ (ap (λ l. K.decoded (take 128 l)) (behind (number_bytes 2 task) (K.spelling job ++ rest) 2 (length-number_bytes 2 task)) ∙ job_there job rest) in
       if_some_is _ job _ there ∙ ap (λ n. Some (submitted n job)) number
   record_there workers (ran row) rest h =
       let parts = both (length row == workers) (rises_from 0 (tasks_of row)) h in
@@ -84,7 +84,7 @@ module _ {J : Type 0} (K : Kind J) (L : Laws K) where
       let parts = both (record_fits workers done) (all_fit workers records) h in
       let split : records_bytes K (done ∷ records) ++ rest ≡ record_bytes K done ++ (records_bytes K records ++ rest) = append_assoc (record_bytes K done) (records_bytes K records) rest in
       let others : records_at K workers (length records) (drop (length (record_bytes K done)) (records_bytes K (done ∷ records) ++ rest)) ≡ Some records =
-        ap (λ l. records_at K workers (length records) (drop (length (record_bytes K done)) l)) split ∙ (ap (records_at K workers (length records)) (drop-append_seam (record_bytes K done) (records_bytes K records ++ rest)) ∙ records_there workers records rest parts.1) in
+      ap (λ l. records_at K workers (length records) (drop (length (record_bytes K done)) l)) split ∙ (ap (records_at K workers (length records)) (drop-append_seam (record_bytes K done) (records_bytes K records ++ rest)) ∙ records_there workers records rest parts.1) in
       if_some_is _ done _ (ap (record_at K workers) split ∙ record_there workers done (records_bytes K records ++ rest) parts.0) ∙ if_some_is _ records (λ more. Some (done ∷ more)) others
 
   -- a spelling is a head of 15 bytes and the records
@@ -122,7 +122,7 @@ module _ {J : Type 0} (K : Kind J) (L : Laws K) where
       let head = head_there workers batch h in
       let body = records_bytes K batch.records in
       let found : records_at K workers (count_in bytes) (drop 15 bytes) ≡ Some batch.records =
-        ap₂ (records_at K workers) head.count (head.body ∙ sym (append-nil body)) ∙ records_there workers batch.records [] (both (counts_fit workers batch.first (length batch.records)) (all_fit workers batch.records) h).1 in
+      ap₂ (records_at K workers) head.count (head.body ∙ sym (append-nil body)) ∙ records_there workers batch.records [] (both (counts_fit workers batch.first (length batch.records)) (all_fit workers batch.records) h).1 in
       let same : begun bytes batch.records ≡ batch = λ i. record { first = head.first i; records = batch.records } in
       if_some_is _ batch.records (checked K workers bytes) found
       ∙ (ap (λ (b : PlainBatch J). if batch_fits workers b && bytes_eq bytes (batch_bytes K b) then Some b else None) same

@@ -34,15 +34,15 @@ module _ {J : Type 0} (K : Kind J) (s : Plain J) (frame : List ℕ) where
   module _ (L : Laws K) where
     pub no_batch : NoBatch K s.ledger.set.workers frame → None ≡ state_after K s frame
     no_batch h = none_found (none_of _ (λ batch found.
-      let spelled = batch_spelled K L s.ledger.set.workers frame batch found in
-      h batch spelled.0 (record { rest = []; is = spelled.1 ∙ sym (append-nil (batch_bytes K batch)) })))
+        let spelled = batch_spelled K L s.ledger.set.workers frame batch found in
+        h batch spelled.0 (record { rest = []; is = spelled.1 ∙ sym (append-nil (batch_bytes K batch)) })))
 
     -- a batch that is shorter than the frame: then the frame is none
     pub too_long : (batch : PlainBatch J) (taken : ℕ) → IsBatch K s.ledger.set.workers frame batch taken → taken ≢ length frame → None ≡ state_after K s frame
     too_long batch taken h other = none_found (none_of _ (λ found is.
-      let spelled = batch_spelled K L s.ledger.set.workers frame found is in
-      let same = one_batch K L s.ledger.set.workers frame batch found h.fits spelled.0 h.begins (record { rest = []; is = spelled.1 ∙ sym (append-nil (batch_bytes K found)) }) in
-      other (h.long ∙ ap length (sym (spelled.1 ∙ ap (batch_bytes K) same)))))
+        let spelled = batch_spelled K L s.ledger.set.workers frame found is in
+        let same = one_batch K L s.ledger.set.workers frame batch found h.fits spelled.0 h.begins (record { rest = []; is = spelled.1 ∙ sym (append-nil (batch_bytes K found)) }) in
+        other (h.long ∙ ap length (sym (spelled.1 ∙ ap (batch_bytes K) same)))))
 
     whole : (batch : PlainBatch J) (taken : ℕ) → IsBatch K s.ledger.set.workers frame batch taken → taken ≡ length frame → batch_in K s.ledger.set.workers frame ≡ Some batch
     whole batch taken h same =

@@ -58,9 +58,9 @@ module _ {J : Type 0} (K : Kind J) (L : Laws K) (n : ℕ) (old new : Places) (s 
   keeps_middle h p state set middle ready = elim (cases_lt (old.gate + n) old.end) [
     | inl less ↦ subst (λ (q : Parts (Plain J)). q.turned ≡ true → read_state K h.set spelled ≡ Some q.middle) (sym (room_there n old p s less)) middle
     | inr more ↦ elim ready [
-        | inl room ↦ absurd (omega (arith, more, room))
-        | inr is ↦ subst (λ (q : Parts (Plain J)). q.turned ≡ true → read_state K h.set spelled ≡ Some q.middle) (sym (room_made n old p s (λ room. omega (arith, more, room)))) (λ turned. spelled_read K L h.set s spelled state set is.1)
-      ]
+      | inl room ↦ absurd (omega (arith, more, room))
+      | inr is ↦ subst (λ (q : Parts (Plain J)). q.turned ≡ true → read_state K h.set spelled ≡ Some q.middle) (sym (room_made n old p s (λ room. omega (arith, more, room)))) (λ turned. spelled_read K L h.set s spelled state set is.1)
+    ]
   ]
 
   pub stands_behind : (st : Stands K old s spelled before) → IsState s → t.ledger.set ≡ s.ledger.set → IsReady K n old s spelled →

@@ -3,8 +3,8 @@ ghost use Rattle.std.specs.Prelude.{◌≡◌};
 ghost use Rattle.pfx_format.specs.Format.{format, IsSetOf};
 ghost use Rattle.pfx_header.specs.declared.sizes.TheConstants.{HEADER_MOST};
 
-use pfx_format::{number_after, number_of, state_after};
 use pfx_checkpoint::{CheckpointFault, freeze, read, state_len};
+use pfx_format::{number_after, number_of, state_after};
 use pfx_header::{HEADER_MOST, HeaderFault, header_len, read_header};
 use pfx_jobs::job::Job;
 use pfx_machine::State;
@@ -126,11 +126,7 @@ impl<J: Job> Format for FileFormat<J> {
         number_after(last, frame)
     }
 
-    fn apply(
-        alloc: Global,
-        state: State<J>,
-        frame: &[u8],
-    ) -> Result<Option<State<J>>, AllocError> {
+    fn apply(alloc: Global, state: State<J>, frame: &[u8]) -> Result<Option<State<J>>, AllocError> {
         state_after(alloc, state, frame)
     }
 

@@ -139,7 +139,8 @@ impl<D: Disk, J: Job> Store<D, J> {
         if self.file.has_room(n) {
             return Ok(());
         }
-        self.file.end_checkpoint::<FileHeader, State<J>>(&self.spelled)?;
+        self.file
+            .end_checkpoint::<FileHeader, State<J>>(&self.spelled)?;
         freeze(&self.state, &mut self.spelled);
         Ok(())
     }

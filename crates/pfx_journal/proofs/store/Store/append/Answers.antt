@@ -42,7 +42,6 @@ returns-in_err-append_or_turn-clause-keeps g c stands start all replays =
     keeps_appended K start all (batch_bytes K b) (GATE_OPEN ∷ body) (V c.args.self.now.file.disk) (V mid.file.disk) (V c.append_or_turn.new.self.disk) c.make_room.ensures.goes.later (c.make_room.ensures.keeps stands start all replays) opens
     (c.append_or_turn.ensures.keeps (format K) (format_laws K L) standing.header standing.parts mid.state standing.holds standing.middle begins body c.requires.right.0 c.behind_gate.ensures.pending.2 leads start all there)
 
-
 pub returns-clause-stands : goal.returns-clause-stands
 returns-clause-stands g c stands =
     let K = g.J.Job.kind in
@@ -63,7 +62,6 @@ returns-clause-stands g c stands =
     (stands_behind K L n mid.file.places c.append_or_turn.new.self.places mid.state c.take_over.new.state c.deref.result.now (GATE_OPEN ∷ body) (V mid.file.disk) (V c.append_or_turn.new.self.disk) standing c.number.ensures.state c.take_over.ensures.set ready
     (c.in_ok-append_or_turn.ensures.holds (format K) (format_laws K L) standing.header standing.parts mid.state standing.holds standing.middle begins body c.take_over.new.state c.behind_gate.ensures.pending.2 leads))
 
-
 pub returns-clause-keeps : goal.returns-clause-keeps
 returns-clause-keeps g c stands start all replays =
     let K = g.J.Job.kind in
@@ -82,7 +80,6 @@ returns-clause-keeps g c stands start all replays =
     keeps_appended K start all (batch_bytes K b) (GATE_OPEN ∷ body) (V c.args.self.now.file.disk) (V mid.file.disk) (V c.append_or_turn.new.self.disk) c.make_room.ensures.goes.later (c.make_room.ensures.keeps stands start all replays) opens
     (c.append_or_turn.ensures.keeps (format K) (format_laws K L) standing.header standing.parts mid.state standing.holds standing.middle begins body c.requires.right.0 c.behind_gate.ensures.pending.2 leads start all there)
 
-
 pub returns-clause-acknowledged : goal.returns-clause-acknowledged
 returns-clause-acknowledged g c stands start all replays =
     let K = g.J.Job.kind in
@@ -100,4 +97,3 @@ returns-clause-acknowledged g c stands start all replays =
     let there : Replays (format K) start all mid.state = subst (λ (s : Plain g.row.J.Denot). Replays (format K) start all s) (sym same) replays in
     subst (λ (f : List ℕ). (image : List ℕ) → (V c.append_or_turn.new.self.disk).since (V c.append_or_turn.new.self.disk).clock image → Survives (format K) start (all ++ f ∷ []) (length all + 1) image) (sym opens)
     (c.in_ok-append_or_turn.ensures.acknowledged (format K) (format_laws K L) standing.header standing.parts mid.state standing.holds standing.middle begins body c.requires.right.0 c.behind_gate.ensures.pending.2 leads start all there)
-
