@@ -1,0 +1,70 @@
+// What a durable command costs beside the device's own work, on one file system.
+use std::fs::OpenOptions;
+use std::io::{BufRead, BufReader, Write};
+use std::os::unix::fs::FileExt;
+use std::path::Path;
+use std::process::{Command, Stdio};
+use std::time::Instant;
+
+const COMMANDS: usize = 2000;
+
+fn show(name: &str, mut micros: Vec<u128>) -> u128 {
+    micros.sort_unstable();
+    let p50 = micros[micros.len() / 2];
+    let p99 = micros[micros.len() * 99 / 100];
+    println!("{name:<28} p50 {p50:>7} us   p99 {p99:>7} us");
+    p50
+}
+
+// The bare pattern: the bytes behind a gate, a sync, the gate, a sync.
+fn bare(room: &Path) -> Vec<u128> {
+    let path = room.join("bare");
+    let file = OpenOptions::new().read(true).write(true).create(true).truncate(true).open(path).unwrap();
+    file.write_all_at(&vec![0; 2_098_049], 0).unwrap();
+    file.sync_all().unwrap();
+    let frame = [7; 22];
+    (0..COMMANDS as u64)
+        .map(|i| {
+            let gate = 906 + 22 * i;
+            let start = Instant::now();
+            file.write_all_at(&frame, gate + 1).unwrap();
+            file.sync_data().unwrap();
+            file.write_all_at(&[0xC3], gate).unwrap();
+            file.sync_data().unwrap();
+            start.elapsed().as_micros()
+        })
+        .collect()
+}
+
+// The program: the time from one command's line to the next one's.
+fn run(pfx: &str, set: &str, room: &Path) -> Vec<u128> {
+    let store = room.join("store");
+    let script = room.join("script.csv");
+    std::fs::write(&script, format!("slot,,,{COMMANDS},\n")).unwrap();
+    let made = Command::new(pfx).arg("init").arg(set).arg(&store).stdout(Stdio::null()).status().unwrap();
+    assert!(made.success());
+    let mut child = Command::new(pfx).arg("run").arg(&store).arg(&script).stdout(Stdio::piped()).spawn().unwrap();
+    let mut lines = BufReader::new(child.stdout.take().unwrap()).lines();
+    let mut micros = Vec::new();
+    let mut last: Option<Instant> = None;
+    while let Some(Ok(line)) = lines.next() {
+        let now = Instant::now();
+        if line.contains(" ran ") {
+            if let Some(before) = last {
+                micros.push((now - before).as_micros());
+            }
+            last = Some(now);
+        }
+    }
+    assert!(child.wait().unwrap().success());
+    micros
+}
+
+fn main() {
+    let words: Vec<String> = std::env::args().collect();
+    let room = Path::new(&words[3]);
+    let device = show("write, sync, write, sync", bare(room));
+    let program = show("a command of pfx run", run(&words[1], &words[2], room));
+    println!("ratio of the medians         {:.2}", program as f64 / device as f64);
+    std::io::stdout().flush().unwrap();
+}
