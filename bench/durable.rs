@@ -20,7 +20,9 @@ fn show(name: &str, mut micros: Vec<u128>) -> u128 {
 fn bare(room: &Path) -> Vec<u128> {
     let path = room.join("bare");
     let file = OpenOptions::new().read(true).write(true).create(true).truncate(true).open(path).unwrap();
-    file.write_all_at(&vec![0; 2_098_049], 0).unwrap();
+    for piece in 0..512 {
+        file.write_all_at(&[0; 4096], 4096 * piece).unwrap();
+    }
     file.sync_all().unwrap();
     let frame = [7; 22];
     (0..COMMANDS as u64)
@@ -63,8 +65,9 @@ fn run(pfx: &str, set: &str, room: &Path) -> Vec<u128> {
 fn main() {
     let words: Vec<String> = std::env::args().collect();
     let room = Path::new(&words[3]);
-    let device = show("write, sync, write, sync", bare(room));
+    let before = show("write, sync, write, sync", bare(room));
     let program = show("a command of pfx run", run(&words[1], &words[2], room));
-    println!("ratio of the medians         {:.2}", program as f64 / device as f64);
+    let after = show("write, sync, write, sync", bare(room));
+    println!("ratio of the medians         {:.2}", 2.0 * program as f64 / (before + after) as f64);
     std::io::stdout().flush().unwrap();
 }

@@ -1,62 +1,30 @@
 //! The program `pfx`.
 //!
 //! It does what its words ask for, over the system's own files. Where that fails it prints one fault line on standard
-//! error and ends with the fault's exit status: 3 where the set, the ledger or the plan is refused, 5 where memory ran
-//! out, 8 where a file or an output failed. Help and version end with 0, words that it doesn't take with 2.
+//! error and ends with the fault's exit status: 3 where the set, the ledger, the plan or the script is refused, 4 where the
+//! store is or its disk failed, 5 where memory ran out, 8 where a file or an output failed. Help and version end with 0,
+//! words that it doesn't take with 2.
 #![tactic(auto)]
 
-ghost use Rattle.std.specs.Prelude.{◌≡◌, ◌⊎◌};
+ghost use Rattle.std.specs.Prelude.{◌≡◌};
 ghost use Rattle.pfx_fault.specs.Refusals.{status_of};
 
+mod files;
+mod plan;
+mod store;
+
+use crate::plan::plan;
+use crate::store::{init, run, status};
 use clap::Error;
 use clap::error::ErrorKind;
 use pfx_fault::{Fault, put_fault};
-use pfx_program::run_plan;
 use pfx_words::{Request, read_words};
 use std::alloc::Global;
-use std::fs::File;
-use std::io::{BufWriter, Write};
 use std::process::ExitCode;
-use std::rt::Runtime;
 use std::{env, io};
 
 /// The exit status of words that the program doesn't take.
 const USAGE: u8 = 2;
-
-// Want of memory is a fault of its own; any other error is this one.
-fn fault_of(error: &io::Error, other: Fault) -> Fault
-    ensures { (result ≡ other) ⊎ (result ≡ Fault.NoMemory) }
-{
-    if error.kind() == io::ErrorKind::OutOfMemory {
-        Fault::NoMemory
-    } else {
-        other
-    }
-}
-
-// `pfx plan SET SLOTS --at LEDGER`.
-fn plan<R: Runtime + AllocGlobal>(
-    rt: &R,
-    alloc: Global,
-    set: &str,
-    at: Option<&str>,
-    slots: u32,
-) -> Result<(), Fault> {
-    let mut input = match File::open(rt, set) {
-        Ok(file) => file,
-        Err(error) => return Err(fault_of(&error, Fault::InputFailed)),
-    };
-    let Ok(mut output) = BufWriter::new(alloc, io::writer(rt)) else {
-        return Err(Fault::NoMemory);
-    };
-    let planned = run_plan(alloc, &mut input, at, &mut output, u64::from(slots));
-    let flushed = output.flush();
-    planned?;
-    match flushed {
-        Ok(()) => Ok(()),
-        Err(error) => Err(fault_of(&error, Fault::OutputFailed)),
-    }
-}
 
 // Prints the fault's line. Where standard error fails too, the status still tells.
 fn failed(rt: &HostRuntime, fault: Fault) -> u8
@@ -93,6 +61,9 @@ fn done(rt: &HostRuntime, alloc: Global, words: &[&str]) -> u8 {
     };
     let done = match request {
         Request::Plan { set, slots, at } => plan(rt, alloc, set, at, slots),
+        Request::Init { set, file } => init(rt, alloc, set, file),
+        Request::Run { file, script, .. } => run(rt, alloc, file, script),
+        Request::Status { file } => status(rt, alloc, file),
     };
     match done {
         Ok(()) => 0,

@@ -1,4 +1,5 @@
 pub mod Answers
+pub mod Created
 pub mod Faults
 pub mod Ledger
 pub mod Lines
@@ -6,3 +7,4 @@ pub mod Output
 pub mod Plan
 pub mod Running
 pub mod Script
+pub mod Sets

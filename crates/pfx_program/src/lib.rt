@@ -13,6 +13,7 @@
 #![tactic(auto)]
 
 mod answers;
+mod created;
 mod engine;
 mod faults;
 mod ledger;
@@ -21,10 +22,13 @@ mod memory;
 mod output;
 mod plan;
 mod run;
+mod set;
 
+pub use created::created_line;
 pub use engine::{CallFault, Engine};
 pub use plan::run_plan;
-pub use run::run_script;
+pub use run::{run_script, run_status};
+pub use set::read_task_set;
 
 #[cfg(test)]
 mod tests;

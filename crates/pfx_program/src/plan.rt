@@ -17,7 +17,7 @@ use pfx_weights::TaskSet;
 use std::alloc::Global;
 use std::io::{ErrorKind, Read, Write};
 
-fn read_all<R: Read>(alloc: Global, input: &mut R) -> Result<Vec<u8>, Fault>
+pub(crate) fn read_all<R: Read>(alloc: Global, input: &mut R) -> Result<Vec<u8>, Fault>
     ensures ok { IfOk result (λ v. IfSome (R.remaining input.old) (λ bytes. v.items ≡ bytes)) }
     ensures err { IfErr result IsInputFault }
 {
@@ -29,7 +29,7 @@ fn read_all<R: Read>(alloc: Global, input: &mut R) -> Result<Vec<u8>, Fault>
     }
 }
 
-fn set_from(alloc: Global, bytes: &[u8]) -> Result<SetText, Fault>
+pub(crate) fn set_from(alloc: Global, bytes: &[u8]) -> Result<SetText, Fault>
     ensures ok { IfOk result (λ s. set_of_bytes bytes.now ≡ Some (set_view s)) }
     ensures err { IfErr result (ReadFails bytes.now) }
 {

@@ -164,7 +164,9 @@ fn run_settle<W: Write, E: Engine>(
     }
 }
 
-fn run_status<W: Write, E: Engine>(
+/// Prints the board of the engine's state, once every accepted command is kept: `board 4 slot 3`, and a line for each
+/// task. Any fault is the writer's, the memory's or the engine's: a beginning of the board is printed then.
+pub fn run_status<W: Write, E: Engine>(
     alloc: Global,
     output: &mut W,
     engine: &mut E,

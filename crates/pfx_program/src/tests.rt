@@ -1,6 +1,7 @@
 //! Plans of whole set files, and what a failing reader or writer leaves.
 
 mod scripts;
+mod shown;
 
 use super::*;
 use pfx_fault::Fault;

@@ -6,7 +6,7 @@ use Rattle.clap.specs.Faults.{fault_of}
 use Rattle.clap.specs.declared.error.kind.ErrorKind.TheVariants as kind
 use Rattle.clap.proofs.OnLiterals.{clap_on_literals}
 use Rattle.pfx_words.specs.Commands.{pfx_app}
-use Rattle.pfx_words.specs.Requests.{plan, asked}
+use Rattle.pfx_words.specs.Requests.{plan, init, run, status, asked}
 
 -- `pfx` and these words
 abbrev pfx : List Text → List Text
@@ -54,6 +54,57 @@ pub two_ledgers : fault_of pfx_app (pfx (codes "plan" ∷ codes "a.toml" ∷ cod
 unfolding clap_on_literals
 two_ledgers = refl
 
+-- ---- stores
+
+abbrev new_store : List Text
+new_store = pfx (codes "init" ∷ codes "a.toml" ∷ codes "a.pfx" ∷ [])
+
+pub asks_for_a_store : asked new_store ≡ Some (init (codes "a.toml") (codes "a.pfx"))
+unfolding clap_on_literals asked
+asks_for_a_store = refl
+
+pub takes_a_store : takes pfx_app new_store ≡ true
+unfolding clap_on_literals
+takes_a_store = refl
+
+abbrev run_script : List Text
+run_script = pfx (codes "run" ∷ codes "a.pfx" ∷ codes "a.csv" ∷ [])
+
+pub asks_for_a_run : asked run_script ≡ Some (run (codes "a.pfx") (codes "a.csv") None)
+unfolding clap_on_literals asked
+asks_for_a_run = refl
+
+pub takes_a_run : takes pfx_app run_script ≡ true
+unfolding clap_on_literals
+takes_a_run = refl
+
+-- with a number of workers, the least and the greatest, behind the words or before them
+abbrev run_by_none : List Text
+run_by_none = pfx (codes "run" ∷ codes "a.pfx" ∷ codes "a.csv" ∷ codes "--workers" ∷ codes "0" ∷ [])
+
+pub asks_for_no_workers : asked run_by_none ≡ Some (run (codes "a.pfx") (codes "a.csv") (Some 0))
+unfolding clap_on_literals asked
+asks_for_no_workers = refl
+
+pub takes_no_workers : takes pfx_app run_by_none ≡ true
+unfolding clap_on_literals
+takes_no_workers = refl
+
+pub asks_for_most_workers : asked (pfx (codes "run" ∷ codes "--workers=64" ∷ codes "a.pfx" ∷ codes "a.csv" ∷ [])) ≡ Some (run (codes "a.pfx") (codes "a.csv") (Some 64))
+unfolding clap_on_literals asked
+asks_for_most_workers = refl
+
+abbrev show_store : List Text
+show_store = pfx (codes "status" ∷ codes "a.pfx" ∷ [])
+
+pub asks_for_a_board : asked show_store ≡ Some (status (codes "a.pfx"))
+unfolding clap_on_literals asked
+asks_for_a_board = refl
+
+pub takes_a_board : takes pfx_app show_store ≡ true
+unfolding clap_on_literals
+takes_a_board = refl
+
 -- ---- words that are refused
 
 pub too_many_slots : fault_of pfx_app (pfx (codes "plan" ∷ codes "a.toml" ∷ codes "1048577" ∷ [])) ≡ kind.ValueValidation ∷ []
@@ -75,3 +126,35 @@ help_of_plan = refl
 pub version_of_plan : fault_of pfx_app (pfx (codes "plan" ∷ codes "-V" ∷ [])) ≡ kind.DisplayVersion ∷ []
 unfolding clap_on_literals
 version_of_plan = refl
+
+pub no_file_to_make : fault_of pfx_app (pfx (codes "init" ∷ codes "a.toml" ∷ [])) ≡ kind.MissingRequiredArgument ∷ []
+unfolding clap_on_literals
+no_file_to_make = refl
+
+pub no_script : fault_of pfx_app (pfx (codes "run" ∷ codes "a.pfx" ∷ [])) ≡ kind.MissingRequiredArgument ∷ []
+unfolding clap_on_literals
+no_script = refl
+
+pub no_file_to_show : fault_of pfx_app (pfx (codes "status" ∷ [])) ≡ kind.MissingRequiredArgument ∷ []
+unfolding clap_on_literals
+no_file_to_show = refl
+
+pub two_files_to_show : fault_of pfx_app (pfx (codes "status" ∷ codes "a.pfx" ∷ codes "b.pfx" ∷ [])) ≡ kind.UnknownArgument ∷ []
+unfolding clap_on_literals
+two_files_to_show = refl
+
+pub too_many_workers : fault_of pfx_app (pfx (codes "run" ∷ codes "a.pfx" ∷ codes "a.csv" ∷ codes "--workers" ∷ codes "65" ∷ [])) ≡ kind.ValueValidation ∷ []
+unfolding clap_on_literals
+too_many_workers = refl
+
+pub workers_in_words : fault_of pfx_app (pfx (codes "run" ∷ codes "a.pfx" ∷ codes "a.csv" ∷ codes "--workers" ∷ codes "two" ∷ [])) ≡ kind.ValueValidation ∷ []
+unfolding clap_on_literals
+workers_in_words = refl
+
+pub workers_twice : fault_of pfx_app (pfx (codes "run" ∷ codes "a.pfx" ∷ codes "a.csv" ∷ codes "--workers=2" ∷ codes "--workers=2" ∷ [])) ≡ kind.ArgumentConflict ∷ []
+unfolding clap_on_literals
+workers_twice = refl
+
+pub workers_of_a_store : fault_of pfx_app (pfx (codes "init" ∷ codes "a.toml" ∷ codes "a.pfx" ∷ codes "--workers=2" ∷ [])) ≡ kind.UnknownArgument ∷ []
+unfolding clap_on_literals
+workers_of_a_store = refl

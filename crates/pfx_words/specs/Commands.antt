@@ -27,13 +27,33 @@ plan_words = with_rule (with_rule (new_app (codes "plan")) (required (codes "SET
 abbrev pub plan_app : App
 plan_app = with_rule plan_words at_ledger
 
+-- `init SET FILE`
+abbrev pub init_app : App
+init_app = with_rule (with_rule (new_app (codes "init")) (required (codes "SET"))) (required (codes "FILE"))
+
+-- a number of workers: 0 to 64, as the value of `--workers`
+abbrev pub workers : Rule
+workers = record (new_rule (codes "workers")) { long = Some (codes "workers"); value_names = 1; parser = Some (vp.Signed (pos 0) (pos 64)) }
+
+-- `run FILE SCRIPT`
+abbrev pub run_words : App
+run_words = with_rule (with_rule (new_app (codes "run")) (required (codes "FILE"))) (required (codes "SCRIPT"))
+
+-- and `--workers N`, which may be left out
+abbrev pub run_app : App
+run_app = with_rule run_words workers
+
+-- `status FILE`
+abbrev pub status_app : App
+status_app = with_rule (new_app (codes "status")) (required (codes "FILE"))
+
 -- `pfx`: one of its subcommands has to follow, and each of them tells the version too
 abbrev pub bare_app : App
 bare_app = on_top (λ s. record s { subcommand_required = true; has_version = true; propagate_version = true }) (new_app (codes "pfx"))
 
 -- `pfx` with its subcommands
 abbrev pub pfx_app : App
-pfx_app = with_subcommand bare_app plan_app.top
+pfx_app = with_subcommand (with_subcommand (with_subcommand (with_subcommand bare_app plan_app.top) init_app.top) run_app.top) status_app.top
 
 -- the command is this one, with no global argument
 abbrev pub IsCommand : Command → App → Type 0

@@ -13,10 +13,16 @@ use Rattle.pfx_words.specs.declared.request.Request.TheVariants as request
 -- a request, with its texts
 pub data Asked : Type 0 where
   plan : Text → ℕ → Option Text → Asked
+  init : Text → Text → Asked
+  run : Text → Text → Option ℕ → Asked
+  status : Text → Asked
 
 -- the request that a value of the code is
 abbrev pub asked_by : Request → Asked
 asked_by (request.Plan set slots at) = plan set.now slots (option_map (λ s. s.now) at)
+asked_by (request.Init set file) = init set.now file.now
+asked_by (request.Run file script workers) = run file.now script.now workers
+asked_by (request.Status file) = status file.now
 
 -- one digit or more, of a number of 32 bits
 abbrev pub is_number : Text → Bool
@@ -43,10 +49,40 @@ plan_of None slots at = None
 abbrev pub plan_in : List Row → Option Asked
 plan_in rows = plan_of (text_at (codes "SET") rows) (number_at (codes "SLOTS") rows) (text_at (codes "at") rows)
 
--- what a subcommand asks for, by its name and what was found for its arguments
+-- a new store, if both its words are there
+abbrev pub init_of : Option Text → Option Text → Option Asked
+init_of (Some set) (Some file) = Some (init set file)
+init_of (Some set) None = None
+init_of None file = None
+
+abbrev pub init_in : List Row → Option Asked
+init_in rows = init_of (text_at (codes "SET") rows) (text_at (codes "FILE") rows)
+
+-- a run, if both its words are there, with the number of workers, if there is one
+abbrev pub run_of : Option Text → Option Text → Option ℕ → Option Asked
+run_of (Some file) (Some script) workers = Some (run file script workers)
+run_of (Some file) None workers = None
+run_of None script workers = None
+
+abbrev pub run_in : List Row → Option Asked
+run_in rows = run_of (text_at (codes "FILE") rows) (text_at (codes "SCRIPT") rows) (number_at (codes "workers") rows)
+
+-- a look at a store, if its word is there
+abbrev pub status_in : List Row → Option Asked
+status_in rows = option_map status (text_at (codes "FILE") rows)
+
+-- what the subcommand of this name asks for, by what was found for its arguments
+abbrev pub asked_of : Text → List Row → Option Asked
+asked_of name rows =
+    if bytes_eq name (codes "plan") then plan_in rows
+    else (if bytes_eq name (codes "init") then init_in rows
+    else (if bytes_eq name (codes "run") then run_in rows
+    else (if bytes_eq name (codes "status") then status_in rows
+    else None)))
+
 abbrev pub asked_in : Option (Text × List Row) → Option Asked
 asked_in None = None
-asked_in (Some used) = if bytes_eq used.0 (codes "plan") then plan_in used.1 else None
+asked_in (Some used) = asked_of used.0 used.1
 
 -- what the words ask for: of the subcommand that they name, with the arguments that follow it
 unfoldable pub asked : List Text → Option Asked
@@ -55,3 +91,7 @@ asked words = asked_in (subcommand_of pfx_app words)
 -- the text is a count of slots in digits: 0 to 1,048,576
 abbrev pub IsSlots : Text → Type 0
 IsSlots text = IsNumeral 10 text × (digits_value 10 text ≤ 1048576)
+
+-- the text is a number of workers in digits: 0 to 64
+abbrev pub IsWorkers : Text → Type 0
+IsWorkers text = IsNumeral 10 text × (digits_value 10 text ≤ 64)

@@ -8,10 +8,13 @@
 #![tactic(auto)]
 
 mod arguments;
+mod init;
 pub mod laws;
 mod plan;
 mod program;
 mod request;
+mod run;
+mod status;
 
 pub use program::read_words;
 pub use request::Request;

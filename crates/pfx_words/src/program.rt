@@ -11,7 +11,10 @@ ghost use Rattle.pfx_words.specs.Commands.{bare_app, pfx_app, IsCommand};
 ghost use Rattle.pfx_words.specs.Requests.{asked_by, asked_in, asked};
 
 use crate::Request;
+use crate::init::{init_command, init_request};
 use crate::plan::{plan_command, plan_request};
+use crate::run::{run_command, run_request};
+use crate::status::{status_command, status_request};
 use clap::error::ErrorKind;
 use clap::{ArgMatches, Command, Error};
 use std::alloc::{AllocError, Global};
@@ -21,10 +24,14 @@ const ABOUT: &str = "Share workers among long jobs by proportionate progress";
 const LONG: &str = "Share workers among long jobs by proportionate progress
 
 A set file names the workers and the tasks. A task of weight e/p gets e of every p slots, and is
-never a whole slot ahead of its share or behind it.";
+never a whole slot ahead of its share or behind it. A store is a file that keeps the jobs of the tasks
+and the slots that each task got.";
 
 const EXAMPLE: &str = "Example:
-  pfx plan examples/thirds.toml 4    the first four slots of three tasks of weight 2/3";
+  pfx plan examples/thirds.toml 4               the first four slots of three tasks of weight 2/3
+  pfx init examples/thirds.toml thirds.pfx      a new store of these tasks
+  pfx run thirds.pfx examples/thirds.csv        a script of commands, run on the store
+  pfx status thirds.pfx                         where its tasks and jobs stand";
 
 fn bare_command<'a>(alloc: Global) -> Command<'a>
     ensures { IsCommand result bare_app }
@@ -41,17 +48,23 @@ fn bare_command<'a>(alloc: Global) -> Command<'a>
 fn pfx_command<'a>(alloc: Global) -> Result<Command<'a>, AllocError>
     ensures { IfOk result (λ c. IsCommand c pfx_app) }
 {
-    bare_command(alloc).subcommand(plan_command(alloc)?)
+    bare_command(alloc)
+        .subcommand(plan_command(alloc)?)?
+        .subcommand(init_command(alloc)?)?
+        .subcommand(run_command(alloc)?)?
+        .subcommand(status_command(alloc)?)
 }
 
 fn request_in<'a>(matches: &ArgMatches<'a>) -> Option<Request<'a>>
     ensures { option_map asked_by result ≡ asked_in (subcommand_rows_of matches.now) }
 {
     let (name, inner) = matches.subcommand()?;
-    if name == "plan" {
-        plan_request(inner)
-    } else {
-        None
+    match name {
+        "plan" => plan_request(inner),
+        "init" => init_request(inner),
+        "run" => run_request(inner),
+        "status" => status_request(inner),
+        _ => None,
     }
 }
 

@@ -12,4 +12,26 @@ pub enum Request<'a> {
         /// The ledger to begin with, as `T:A,A,..`; without one the plan begins at slot 0.
         at: Option<&'a str>,
     },
+    /// Make a new store from a set.
+    Init {
+        /// The path of the set file.
+        set: &'a str,
+        /// The path of the store's file.
+        file: &'a str,
+    },
+    /// Run a script of commands on a store.
+    Run {
+        /// The path of the store's file.
+        file: &'a str,
+        /// The path of the script, in CSV.
+        script: &'a str,
+        /// How many workers run the jobs, 0 to 64, where the words say so; 0 is one thread. Today it
+        /// changes nothing: all jobs run on one thread.
+        workers: Option<u32>,
+    },
+    /// Show the board of a store.
+    Status {
+        /// The path of the store's file.
+        file: &'a str,
+    },
 }

@@ -61,6 +61,73 @@ fn passes_a_ledger_on(rt: HostRuntime) -> anyhow::Result<()> {
     Ok(())
 }
 
+#[test]
+fn reads_a_new_store(rt: HostRuntime) -> anyhow::Result<()> {
+    // The words, the path of the set and that of the store.
+    let rows = [
+        (
+            ["pfx", "init", "a.toml", "a.pfx"].as_slice(),
+            "a.toml",
+            "a.pfx",
+        ),
+        (["pfx", "init", "", "b c"].as_slice(), "", "b c"),
+        (["pfx", "init", "init", "help"].as_slice(), "init", "help"),
+        (["pfx", "init", "--", "-a", "-b"].as_slice(), "-a", "-b"),
+    ];
+    for (words, set, file) in rows {
+        let request = read_words(rt.alloc(), words)?;
+        assert!(rt; request == Some(Request::Init { set, file }), "{request:?}");
+    }
+    Ok(())
+}
+
+#[test]
+fn reads_a_run(rt: HostRuntime) -> anyhow::Result<()> {
+    let rows = [
+        (["pfx", "run", "a.pfx", "a.csv"].as_slice(), None),
+        (
+            ["pfx", "run", "a.pfx", "a.csv", "--workers", "0"].as_slice(),
+            Some(0),
+        ),
+        (
+            ["pfx", "run", "a.pfx", "--workers=64", "a.csv"].as_slice(),
+            Some(64),
+        ),
+        (
+            ["pfx", "run", "--workers", "007", "--", "a.pfx", "a.csv"].as_slice(),
+            Some(7),
+        ),
+        (
+            ["pfx", "run", "--workers=+2", "a.pfx", "a.csv"].as_slice(),
+            Some(2),
+        ),
+    ];
+    for (words, workers) in rows {
+        let request = read_words(rt.alloc(), words)?;
+        let want = Request::Run {
+            file: "a.pfx",
+            script: "a.csv",
+            workers,
+        };
+        assert!(rt; request == Some(want), "{request:?}");
+    }
+    Ok(())
+}
+
+#[test]
+fn reads_a_status(rt: HostRuntime) -> anyhow::Result<()> {
+    let rows = [
+        (["pfx", "status", "a.pfx"].as_slice(), "a.pfx"),
+        (["pfx", "status", "status"].as_slice(), "status"),
+        (["pfx", "status", "--", "--help"].as_slice(), "--help"),
+    ];
+    for (words, file) in rows {
+        let request = read_words(rt.alloc(), words)?;
+        assert!(rt; request == Some(Request::Status { file }), "{request:?}");
+    }
+    Ok(())
+}
+
 // Whether the words are answered by a text with this part, and this exit status.
 fn is_answered(alloc: Global, words: &[&str], status: i32, part: &str) -> anyhow::Result<bool> {
     match read_words(alloc, words) {
@@ -76,8 +143,14 @@ fn is_answered(alloc: Global, words: &[&str], status: i32, part: &str) -> anyhow
 #[test]
 fn says_what_was_expected(rt: HostRuntime) -> anyhow::Result<()> {
     let rows = [
-        (["pfx"].as_slice(), "[subcommands: plan, help]"),
-        ([].as_slice(), "[subcommands: plan, help]"),
+        (
+            ["pfx"].as_slice(),
+            "[subcommands: plan, init, run, status, help]",
+        ),
+        (
+            [].as_slice(),
+            "[subcommands: plan, init, run, status, help]",
+        ),
         (
             ["pfx", "paln", "a.toml", "4"].as_slice(),
             "a similar subcommand exists: 'plan'",
@@ -133,10 +206,86 @@ fn takes_one_ledger(rt: HostRuntime) -> anyhow::Result<()> {
 }
 
 #[test]
+fn wants_the_words_of_a_store(rt: HostRuntime) -> anyhow::Result<()> {
+    let rows = [
+        (["pfx", "init"].as_slice(), "<SET>\n  <FILE>\n"),
+        (
+            ["pfx", "init", "a.toml"].as_slice(),
+            "<FILE>\n\nUsage: pfx init <SET> <FILE>",
+        ),
+        (
+            ["pfx", "init", "a.toml", "a.pfx", "b.pfx"].as_slice(),
+            "unexpected argument 'b.pfx' found",
+        ),
+        (["pfx", "run"].as_slice(), "<FILE>\n  <SCRIPT>\n"),
+        (
+            ["pfx", "run", "a.pfx"].as_slice(),
+            "<SCRIPT>\n\nUsage: pfx run <FILE> <SCRIPT>",
+        ),
+        (
+            ["pfx", "status"].as_slice(),
+            "<FILE>\n\nUsage: pfx status <FILE>",
+        ),
+        (
+            ["pfx", "status", "a.pfx", "--workers", "2"].as_slice(),
+            "unexpected argument '--workers' found",
+        ),
+        (
+            ["pfx", "statsu", "a.pfx"].as_slice(),
+            "a similar subcommand exists: 'status'",
+        ),
+    ];
+    for (words, part) in rows {
+        assert!(rt; is_answered(rt.alloc(), words, 2, part)?, "{part}");
+    }
+    Ok(())
+}
+
+#[test]
+fn takes_up_to_64_workers(rt: HostRuntime) -> anyhow::Result<()> {
+    // The words behind the two paths, and the answer.
+    let rows = [
+        (["--workers", "65"].as_slice(), "65 is not in 0..=64"),
+        (
+            ["--workers", "4294967296"].as_slice(),
+            "4294967296 is not in 0..=64",
+        ),
+        (
+            ["--workers", "two"].as_slice(),
+            "invalid value 'two' for '--workers <N>'",
+        ),
+        (["--workers="].as_slice(), "for '--workers <N>'"),
+        (["--workers=-1"].as_slice(), "-1 is not in 0..=64"),
+        (
+            ["--workers", "-1"].as_slice(),
+            "unexpected argument '-1' found",
+        ),
+        (
+            ["--workers"].as_slice(),
+            "a value is required for '--workers <N>' but none was supplied",
+        ),
+        (
+            ["--workers", "2", "--workers", "2"].as_slice(),
+            "the argument '--workers <N>' cannot be used multiple times",
+        ),
+    ];
+    for (behind, part) in rows {
+        let mut words = Vec::new(rt.alloc());
+        words.extend_from_slice(&["pfx", "run", "a.pfx", "a.csv"])?;
+        words.extend_from_slice(behind)?;
+        assert!(rt;
+            is_answered(rt.alloc(), words.as_slice(), 2, part)?,
+            "{part}"
+        );
+    }
+    Ok(())
+}
+
+#[test]
 fn answers_with_help_and_version(rt: HostRuntime) -> anyhow::Result<()> {
     let rows = [
         (["pfx", "--help"].as_slice(), "Usage: pfx <COMMAND>"),
-        (["pfx", "-h"].as_slice(), "  plan  Print which tasks run"),
+        (["pfx", "-h"].as_slice(), "  plan    Print which tasks run"),
         (
             ["pfx", "plan", "--help"].as_slice(),
             "Usage: pfx plan [OPTIONS] <SET> <SLOTS>",
@@ -149,11 +298,42 @@ fn answers_with_help_and_version(rt: HostRuntime) -> anyhow::Result<()> {
             ["pfx", "help", "plan"].as_slice(),
             "How many slots to print, 0 to 1048576",
         ),
+        (["pfx", "--help"].as_slice(), "  pfx status thirds.pfx "),
+        (
+            ["pfx", "run", "-h"].as_slice(),
+            "      --workers <N>  How many",
+        ),
         (["pfx", "--version"].as_slice(), "pfx 0.1.0\n"),
+        (["pfx", "status", "-V"].as_slice(), " 0.1.0\n"),
         (["pfx", "plan", "--version"].as_slice(), " 0.1.0\n"),
     ];
     for (words, part) in rows {
         assert!(rt; is_answered(rt.alloc(), words, 0, part)?, "{part}");
+    }
+    Ok(())
+}
+
+#[test]
+fn has_a_help_page_for_each(rt: HostRuntime) -> anyhow::Result<()> {
+    // A subcommand, and a part of its page.
+    let rows = [
+        ("init", "Usage: pfx init <SET> <FILE>\n"),
+        ("init", "  created m=2 real=3 idle=0 hyper=3 size=2098049\n"),
+        ("init", "  pfx init examples/thirds.toml thirds.pfx "),
+        ("run", "Usage: pfx run [OPTIONS] <FILE> <SCRIPT>\n"),
+        ("run", "0 to 64; today all jobs run on one thread\n"),
+        ("run", "  submit,TASK,KIND,GOAL,DATA "),
+        ("run", "  pfx run thirds.pfx examples/thirds.csv "),
+        ("status", "Usage: pfx status <FILE>\n"),
+        ("status", "  0 alloc=1 lag=-1/3 job=none\n"),
+        ("status", "  pfx status thirds.pfx "),
+    ];
+    for (name, part) in rows {
+        let words = ["pfx", name, "--help"];
+        assert!(rt;
+            is_answered(rt.alloc(), words.as_slice(), 0, part)?,
+            "{part}"
+        );
     }
     Ok(())
 }

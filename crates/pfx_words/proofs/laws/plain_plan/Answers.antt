@@ -1,4 +1,4 @@
-use Rattle.pfx_words.proofs.Plain.{plain_plan_taken, plain_plan_asked}
+use Rattle.pfx_words.proofs.PlainPlan.{plain_plan_taken, plain_plan_asked}
 use Rattle.pfx_words.proofs.laws.plain_plan.Goals as goal
 
 pub returns-clause-taken : goal.returns-clause-taken

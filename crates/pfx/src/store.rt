@@ -1,0 +1,68 @@
+//! `pfx init SET FILE`, `pfx run FILE SCRIPT`, `pfx status FILE`.
+
+use crate::files::{disk, fault_of, init_fault, input, open_fault, size_fault};
+use pfx_disk::FileDisk;
+use pfx_engine::DurableEngine;
+use pfx_fault::Fault;
+use pfx_header::check_segment;
+use pfx_journal::Store;
+use pfx_kinds::any::AnyJob;
+use pfx_program::{created_line, read_task_set, run_script, run_status};
+use std::alloc::Global;
+use std::io;
+use std::io::{BufWriter, Write};
+
+/// Makes a store of a set in a file, which is made where it is missing, and prints its line. The set's refusals and the
+/// segment's come before the file is touched.
+pub(crate) fn init(rt: &HostRuntime, alloc: Global, set: &str, file: &str) -> Result<(), Fault> {
+    let (set, segment) = read_task_set(alloc, &mut input(rt, set)?)?;
+    if let Err(fault) = check_segment(&set, segment) {
+        return Err(size_fault(fault));
+    }
+    let store = match Store::<FileDisk, AnyJob>::init(alloc, disk(rt, file, true)?, &set, segment) {
+        Ok(store) => store,
+        Err((fault, _disk)) => return Err(init_fault(fault)),
+    };
+    let Ok(line) = created_line(alloc, &set, store.file.places.len) else {
+        return Err(Fault::NoMemory);
+    };
+    match io::writer(rt).write_all(line.as_bytes()) {
+        Ok(()) => Ok(()),
+        Err(error) => Err(fault_of(&error, Fault::OutputFailed)),
+    }
+}
+
+// The engine over the store of a file.
+fn engine(rt: &HostRuntime, alloc: Global, file: &str) -> Result<DurableEngine<FileDisk>, Fault> {
+    let store = match Store::open(alloc, disk(rt, file, false)?) {
+        Ok(store) => store,
+        Err((fault, _disk)) => return Err(open_fault(fault)),
+    };
+    match DurableEngine::new(alloc, store) {
+        Ok(engine) => Ok(engine),
+        Err(_) => Err(Fault::NoMemory),
+    }
+}
+
+/// Runs a script on the store of a file. Its lines are printed as they come.
+pub(crate) fn run(rt: &HostRuntime, alloc: Global, file: &str, script: &str) -> Result<(), Fault> {
+    let script = input(rt, script)?;
+    let mut engine = engine(rt, alloc, file)?;
+    let mut output = io::writer(rt);
+    run_script(alloc, script, &mut output, &mut engine)
+}
+
+/// Prints the board of the store of a file.
+pub(crate) fn status(rt: &HostRuntime, alloc: Global, file: &str) -> Result<(), Fault> {
+    let mut engine = engine(rt, alloc, file)?;
+    let Ok(mut output) = BufWriter::new(alloc, io::writer(rt)) else {
+        return Err(Fault::NoMemory);
+    };
+    let shown = run_status(alloc, &mut output, &mut engine);
+    let flushed = output.flush();
+    shown?;
+    match flushed {
+        Ok(()) => Ok(()),
+        Err(error) => Err(fault_of(&error, Fault::OutputFailed)),
+    }
+}

@@ -1,0 +1,53 @@
+use Rattle.std.proofs.Common.{◌≡◌, List, [], ◌∷◌, ◌++◌, map, None, sym, ◌∙◌, ap, subst}
+use Rattle.pfx_effect.specs.Recording.{record_of}
+use Rattle.pfx_kinds.specs.AnyKind.{any_kind}
+use Rattle.pfx_kinds.specs.declared.any.AnyJob.{AnyJob}
+use Rattle.pfx_machine.specs.Outcome.{outcome}
+use Rattle.pfx_machine.specs.Plain.{Plain}
+use Rattle.pfx_machine.specs.Refusals.{refusal}
+use Rattle.pfx_machine.proofs.Compose.{outcome-none}
+use Rattle.pfx_record.specs.Records.{plain}
+use Rattle.pfx_engine.specs.Surviving.{IsRecordOf}
+use Rattle.pfx_engine.proofs.Keeps.{keeps_more, worked}
+use Rattle.pfx_engine.proofs.durable.DurableEngine.carry_out.Goals as goal
+
+pub returns-then-is_broken-clause-keeps : goal.returns-then-is_broken-clause-keeps
+returns-then-is_broken-clause-keeps g c stands start H h all at = keeps_more start H c.args.command (g.D.Disk.view c.args.self.now.store.file.disk)
+
+pub returns-in_default-clause-keeps : goal.returns-in_default-clause-keeps
+returns-in_default-clause-keeps g c stands start H h all at = keeps_more start H c.args.command (g.D.Disk.view c.args.self.now.store.file.disk)
+
+pub returns-in-Err-NoMemory-clause-keeps : goal.returns-in-Err-NoMemory-clause-keeps
+returns-in-Err-NoMemory-clause-keeps g c stands start H h all at = keeps_more start H c.args.command (g.D.Disk.view c.args.self.now.store.file.disk)
+
+pub returns-in-Err-clause-keeps : goal.returns-in-Err-clause-keeps
+returns-in-Err-clause-keeps g c stands start H h all at = keeps_more start H c.args.command (g.D.Disk.view c.args.self.now.store.file.disk)
+
+pub invariant_of-self-in-Ok-run_recorded : goal.invariant_of-self-in-Ok-run_recorded
+invariant_of-self-in-Ok-run_recorded g c = record {
+  same = λ whole.
+      let before = sym c.is_broken.ensures ∙ c.if-is_broken.false in
+      let at = c.args.self.now.same before in
+      let done = c.in-Ok-run_recorded.ensures in
+      let mine : IsRecordOf c.args.self.now.store.state c.args.command (map plain c.push_reserved.new.self.items) =
+      (subst (λ (t : Plain AnyJob). refusal any_kind t c.args.command ≡ None) at done.exact, rw (c.push_reserved.ensures.items, c.in-Ok.ensures.items) (ap (λ r. r ∷ []) (done.kept_as ∙ ap (λ (t : Plain AnyJob). record_of any_kind t c.args.command) at))) in
+      done.outcome c.args.self.now.state [] (sym (outcome-none any_kind c.args.self.now.state))
+      ∙ (ap (λ (t : Plain AnyJob). outcome any_kind t (c.args.command ∷ [])) at
+      ∙ sym (worked c.keep.result _ _ _ _ c.keep.ensures.works c.keep.ensures.room before whole (c.keep.ensures.state c.args.command mine)));
+}
+
+pub returns-in-Ok-keep-clause-keeps : goal.returns-in-Ok-keep-clause-keeps
+returns-in-Ok-keep-clause-keeps g c stands start H h all there =
+    let at = c.args.self.now.same (sym c.is_broken.ensures ∙ c.if-is_broken.false) in
+    let done = c.in-Ok-run_recorded.ensures in
+    let mine : IsRecordOf c.args.self.now.store.state c.args.command (map plain c.push_reserved.new.self.items) =
+    (subst (λ (t : Plain AnyJob). refusal any_kind t c.args.command ≡ None) at done.exact, rw (c.push_reserved.ensures.items, c.in-Ok.ensures.items) (ap (λ r. r ∷ []) (done.kept_as ∙ ap (λ (t : Plain AnyJob). record_of any_kind t c.args.command) at))) in
+    c.keep.ensures.keeps stands start H c.args.command h all there mine
+
+pub returns-clause-keeps : goal.returns-clause-keeps
+returns-clause-keeps g c stands start H h all there =
+    let at = c.args.self.now.same (sym c.is_broken.ensures ∙ c.if-is_broken.false) in
+    let done = c.in-Ok-run_recorded.ensures in
+    let mine : IsRecordOf c.args.self.now.store.state c.args.command (map plain c.push_reserved.new.self.items) =
+    (subst (λ (t : Plain AnyJob). refusal any_kind t c.args.command ≡ None) at done.exact, rw (c.push_reserved.ensures.items, c.in-Ok.ensures.items) (ap (λ r. r ∷ []) (done.kept_as ∙ ap (λ (t : Plain AnyJob). record_of any_kind t c.args.command) at))) in
+    c.keep.ensures.keeps stands start H c.args.command h all there mine

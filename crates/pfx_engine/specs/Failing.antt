@@ -1,0 +1,22 @@
+-- What an engine answers where its store has failed.
+use Rattle.std.specs.Prelude.{◌≡◌, ℕ, Bool, if◌then◌else◌, Result, Ok, Err}
+use Rattle.pfx_fault.specs.declared.parts.Cause.TheVariants as cause
+use Rattle.pfx_fault.specs.declared.refusals.Fault.{Fault}
+use Rattle.pfx_fault.specs.declared.refusals.Fault.TheVariants as fault
+use Rattle.pfx_program.specs.declared.engine.CallFault.{CallFault}
+use Rattle.pfx_program.specs.declared.engine.CallFault.TheVariants as callfault
+
+-- the disk failed, with the commands up to this number kept
+abbrev pub stopped_at : ℕ → Fault
+stopped_at marked = fault.StoreFailed marked cause.Device
+
+-- the number of the last command that is kept, where the store isn't broken
+abbrev pub last_kept : Bool → ℕ → Result ℕ Fault
+last_kept broken marked = if broken then Err (stopped_at marked) else Ok marked
+
+-- Why a command wasn't accepted: the machine refuses it, or memory was refused, and then this stayed the same; or the disk
+-- failed, so, behind this number.
+abbrev pub Fails : ℕ → Type 0 → Type 0 → CallFault → Type 0
+Fails marked failed same (callfault.Refused f) = same
+Fails marked failed same (callfault.Failed fault.NoMemory) = same
+Fails marked failed same (callfault.Failed other) = (other ≡ stopped_at marked) × failed

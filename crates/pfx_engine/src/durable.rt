@@ -1,0 +1,207 @@
+//! The engine that keeps each command in a store before it answers it.
+
+ghost use Rattle.std.specs.Prelude.{◌≡◌, ◌+◌, ◌++◌, ◌∷◌, [], List, ℕ, true, false, Ok, Err, IfOk, IfErr, OnOk};
+ghost use Rattle.pfx_disk.specs.Disk.{IsHonest, HasFailed};
+ghost use Rattle.pfx_format.specs.Format.{format};
+ghost use Rattle.pfx_kinds.specs.AnyKind.{any_kind};
+ghost use Rattle.pfx_kinds.specs.declared.any.AnyJob.{AnyJob};
+ghost use Rattle.pfx_machine.specs.Outcome.{outcome};
+ghost use Rattle.pfx_machine.specs.Plain.{Plain, IsState};
+ghost use Rattle.pfx_machine.specs.Runs.{answer};
+ghost use Rattle.pfx_machine.specs.Sessions.{IsAcceptable};
+ghost use Rattle.pfx_machine.specs.declared.command.Command.{Command};
+ghost use Rattle.pfx_program.specs.Running.{IsOfRun, NotAccepted, Shows};
+ghost use Rattle.pfx_recovery.specs.Recovery.{recovered};
+ghost use Rattle.pfx_store.specs.Calls.{GoesOn};
+ghost use Rattle.pfx_journal.specs.Standing.{Stands};
+ghost use Rattle.pfx_engine.specs.Failing.{Fails, last_kept, stopped_at};
+ghost use Rattle.pfx_engine.specs.Surviving.{KeepsAll};
+
+use crate::keeping::keep;
+use pfx_disk::Disk;
+use pfx_effect::{Recorded, run_recorded};
+use pfx_fault::{Cause, Fault};
+use pfx_journal::{Mark, Store};
+use pfx_kinds::any::AnyJob;
+use pfx_machine::{Board, Command, MachineFault, Reply, State};
+use pfx_program::{CallFault, Engine};
+use std::alloc::{AllocError, Global};
+
+/// A store, and a state that commands are run on, which is the store's own while the store isn't broken.
+#[derive(Drop)]
+pub struct DurableEngine<D: Disk> {
+    /// The store.
+    pub store: Store<D, AnyJob>,
+    /// The state that commands are run on.
+    pub state: State<AnyJob>,
+    pub ghost same: { store.file.broken ≡ false → state ≡ store.state },
+}
+
+// The fault of a store whose disk has failed.
+fn stopped<D: Disk>(store: &Store<D, AnyJob>) -> Fault
+    ensures { result ≡ stopped_at store.now.state.number }
+{
+    Fault::StoreFailed {
+        marked: store.state().number(),
+        cause: Cause::Device,
+    }
+}
+
+impl<D: Disk> DurableEngine<D> {
+    /// The engine over a store, at the store's state. Where a growth of memory was refused, the store is given back.
+    pub fn new(
+        alloc: Global,
+        store: Store<D, AnyJob>,
+    ) -> Result<DurableEngine<D>, (AllocError, Store<D, AnyJob>)>
+        ensures store { IfOk result (λ engine. engine.store ≡ store) }
+        ensures state { IfOk result (λ engine. engine.state ≡ store.state) }
+        ensures given_back { IfErr result (λ e. e.1 ≡ store) }
+    {
+        match store.state().copy_of(alloc) {
+            Ok(state) => Ok(DurableEngine { store, state }),
+            Err(fault) => Err((fault, store)),
+        }
+    }
+
+    /// The store.
+    pub fn into_store(self) -> Store<D, AnyJob>
+        ensures { result ≡ self.store }
+    {
+        self.store
+    }
+
+    /// The number of the last command, which is durable as all before it are. Where the disk has failed in an earlier
+    /// call it is `StoreFailed`, with the number of the last command that is known to be durable: the store has to be
+    /// opened again.
+    pub fn last_kept(&self) -> Result<u64, Fault>
+        ensures answer { result ≡ last_kept self.now.store.file.broken self.now.store.state.number }
+        ensures number { IfOk result (λ n. n ≡ self.now.state.number) }
+
+        // Each image that a stop now may leave is recovered to the state.
+        ensures durable { Stands any_kind self.now.store.file.places self.now.store.state self.now.store.spelled.items (D.view self.now.store.file.disk)
+            → OnOk result ((image : List ℕ) → (D.view self.now.store.file.disk).now image → recovered (format any_kind) image ≡ Ok self.now.state) }
+    {
+        if self.store.is_broken() {
+            return Err(stopped(&self.store));
+        }
+        Ok(self.state.number())
+    }
+
+    /// Carries a command out: from the mark that is answered on it is durable.
+    ///
+    /// A command that the machine refuses changes nothing, nor does `NoMemory`. `StoreFailed` breaks the store, and tells
+    /// the number of the last command that was durable before; the command may survive. A broken store does nothing, and
+    /// answers so to every command.
+    pub fn carry_out(
+        &mut self,
+        alloc: Global,
+        command: Command<AnyJob>,
+    ) -> Result<(Mark, Reply), CallFault>
+        ensures number { IfOk result (λ r. r.0.number ≡ self.old.state.number + 1) }
+        ensures clock { IfOk result (λ r. r.0.clock ≡ (D.view self.new.store.file.disk).clock) }
+        ensures reply { IfOk result (λ r. answer any_kind self.old.state command ≡ Ok r.1) }
+        ensures moves { OnOk result (self.new.state ≡ outcome any_kind self.old.state (command ∷ [])) }
+        ensures whole { OnOk result (self.new.store.file.broken ≡ false) }
+        ensures refused { IfErr result (NotAccepted self.old.state command self.new.state) }
+        ensures fails { IfErr result (Fails self.old.store.state.number
+            ((self.new.store.file.broken ≡ true) × (self.old.store.file.broken ≡ false → HasFailed (D.view self.old.store.file.disk) (D.view self.new.store.file.disk)))
+            ((self.new.state ≡ self.old.state) × (self.new.store ≡ self.old.store))) }
+        ensures broken { self.old.store.file.broken ≡ true
+            → (result ≡ Err (CallFault.Failed (stopped_at self.old.store.state.number))) × (self.new.state ≡ self.old.state) × (self.new.store ≡ self.old.store) }
+        ensures goes { GoesOn (D.view self.old.store.file.disk) (D.view self.new.store.file.disk) }
+        ensures honest { IsHonest (D.view self.new.store.file.disk) → IsHonest (D.view self.old.store.file.disk) }
+        ensures kept { IsHonest (D.view self.old.store.file.disk) → IsHonest (D.view self.new.store.file.disk) }
+
+        // The store goes on behind the command.
+        ensures stands { Stands any_kind self.old.store.file.places self.old.store.state self.old.store.spelled.items (D.view self.old.store.file.disk)
+            → OnOk result (Stands any_kind self.new.store.file.places self.new.store.state self.new.store.spelled.items (D.view self.new.store.file.disk)) }
+
+        // From the mark on, each image is recovered to the state behind the command.
+        ensures acknowledged { Stands any_kind self.old.store.file.places self.old.store.state self.old.store.spelled.items (D.view self.old.store.file.disk)
+            → IfOk result (λ r. (image : List ℕ) → (D.view self.new.store.file.disk).since r.0.clock image
+            → recovered (format any_kind) image ≡ Ok self.new.state) }
+
+        // At every moment of the call, whatever it answers, the commands that survived before survive, with this one or
+        // without.
+        ensures keeps { Stands any_kind self.old.store.file.places self.old.store.state self.old.store.spelled.items (D.view self.old.store.file.disk)
+            → (start : Plain AnyJob) → (H : List (Command AnyJob))
+            → IsState start → IsAcceptable any_kind start H → self.old.store.state ≡ outcome any_kind start H
+            → KeepsAll start H (H ++ command ∷ []) (D.view self.old.store.file.disk) (D.view self.new.store.file.disk) }
+    {
+        if self.store.is_broken() {
+            return Err(CallFault::Failed(stopped(&self.store)));
+        }
+        // The growths come first: once the state has moved, only the disk can fail.
+        let Ok(mut records) = Vec::with_capacity(alloc, 1) else {
+            return Err(CallFault::Failed(Fault::NoMemory));
+        };
+        match run_recorded(alloc, &mut self.state, command) {
+            Err(MachineFault::NoMemory) => Err(CallFault::Failed(Fault::NoMemory)),
+            Err(fault) => Err(CallFault::Refused(fault)),
+            Ok(Recorded { reply, entry }) => {
+                records.push_reserved(entry);
+                match keep(&mut self.store, records) {
+                    Ok(mark) => Ok((mark, reply)),
+                    Err(_) => Err(CallFault::Failed(stopped(&self.store))),
+                }
+            }
+        }
+    }
+}
+
+impl<D: Disk> Engine for DurableEngine<D> {
+    ghost state = { λ engine. engine.state };
+
+    fn call(&mut self, alloc: Global, command: Command<AnyJob>) -> Result<(u64, Reply), CallFault>
+        ensures number { IfOk result (λ r. r.0 ≡ self.old.state.number + 1) }
+        ensures reply { IfOk result (λ r. answer any_kind self.old.state command ≡ Ok r.1) }
+        ensures moves { OnOk result (self.new.state ≡ outcome any_kind self.old.state (command ∷ [])) }
+        ensures refused { IfErr result (NotAccepted self.old.state command self.new.state) }
+        ensures fails { IfErr result (Fails self.old.store.state.number (self.new.store.file.broken ≡ true)
+            ((self.new.state ≡ self.old.state) × (self.new.store ≡ self.old.store))) }
+        ensures stands { Stands any_kind self.old.store.file.places self.old.store.state self.old.store.spelled.items (D.view self.old.store.file.disk)
+            → OnOk result (Stands any_kind self.new.store.file.places self.new.store.state self.new.store.spelled.items (D.view self.new.store.file.disk)) }
+
+        // From the return on, each image is recovered to the state behind the command.
+        ensures acknowledged { Stands any_kind self.old.store.file.places self.old.store.state self.old.store.spelled.items (D.view self.old.store.file.disk)
+            → OnOk result ((image : List ℕ) → (D.view self.new.store.file.disk).since (D.view self.new.store.file.disk).clock image
+            → recovered (format any_kind) image ≡ Ok self.new.state) }
+
+        // At every moment of the call, whatever it answers, the commands that survived before survive, with this one or
+        // without.
+        ensures keeps { Stands any_kind self.old.store.file.places self.old.store.state self.old.store.spelled.items (D.view self.old.store.file.disk)
+            → (start : Plain AnyJob) → (H : List (Command AnyJob))
+            → IsState start → IsAcceptable any_kind start H → self.old.store.state ≡ outcome any_kind start H
+            → KeepsAll start H (H ++ command ∷ []) (D.view self.old.store.file.disk) (D.view self.new.store.file.disk) }
+    {
+        match self.carry_out(alloc, command) {
+            Ok((mark, reply)) => Ok((mark.number, reply)),
+            Err(fault) => Err(fault),
+        }
+    }
+
+    fn settled(&mut self, _alloc: Global) -> Result<u64, Fault>
+        ensures answer { result ≡ last_kept self.old.store.file.broken self.old.store.state.number }
+        ensures number { IfOk result (λ n. n ≡ self.old.state.number) }
+        ensures same { self.new ≡ self.old }
+        ensures fails { IfErr result IsOfRun }
+    {
+        self.last_kept()
+    }
+
+    fn status(&mut self, alloc: Global) -> Result<Board, Fault>
+        ensures shows { IfOk result (Shows self.old.state) }
+        ensures broken { self.old.store.file.broken ≡ true → result ≡ Err (stopped_at self.old.store.state.number) }
+        ensures whole { self.old.store.file.broken ≡ false → IfErr result (λ fault. fault ≡ Fault.NoMemory) }
+        ensures same { self.new ≡ self.old }
+        ensures fails { IfErr result IsOfRun }
+    {
+        if let Err(fault) = self.last_kept() {
+            return Err(fault);
+        }
+        match self.state.board(alloc) {
+            Ok(board) => Ok(board),
+            Err(_) => Err(Fault::NoMemory),
+        }
+    }
+}

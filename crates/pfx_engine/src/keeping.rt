@@ -1,0 +1,61 @@
+//! Keeping one command.
+
+ghost use Rattle.std.specs.Prelude.{◌≡◌, ◌++◌, ◌∷◌, [], List, ℕ, length, map, Ok, IfOk, OnOk, OnErr, IsErrOf};
+ghost use Rattle.pfx_disk.specs.Disk.{IsHonest};
+ghost use Rattle.pfx_format.specs.Format.{format};
+ghost use Rattle.pfx_kinds.specs.AnyKind.{any_kind};
+ghost use Rattle.pfx_kinds.specs.declared.any.AnyJob.{AnyJob};
+ghost use Rattle.pfx_machine.specs.Outcome.{outcome};
+ghost use Rattle.pfx_machine.specs.Plain.{Plain, IsState};
+ghost use Rattle.pfx_machine.specs.Sessions.{IsAcceptable};
+ghost use Rattle.pfx_machine.specs.declared.command.Command.{Command};
+ghost use Rattle.pfx_record.specs.Records.{plain};
+ghost use Rattle.pfx_recovery.specs.Recovery.{recovered};
+ghost use Rattle.pfx_store.specs.Calls.{Works, GoesOn};
+ghost use Rattle.pfx_journal.specs.Standing.{Stands};
+ghost use Rattle.pfx_engine.specs.Surviving.{IsRecordOf, KeepsAll};
+
+use pfx_disk::Disk;
+use pfx_journal::{Mark, Store};
+use pfx_kinds::any::AnyJob;
+use pfx_record::{Batch, Record};
+use pfx_store::StoreFault;
+
+/// Appends the record of a command that the store's state accepts, in a batch of its own.
+pub(crate) fn keep<D: Disk>(
+    store: &mut Store<D, AnyJob>,
+    records: Vec<Record<AnyJob>>,
+) -> Result<Mark, StoreFault>
+    requires { (c : Command AnyJob) × IsRecordOf store.old.state c (map plain records.items) }
+    ensures works { Works (D.view store.old.file.disk) (D.view store.new.file.disk) store.old.file.broken store.new.file.broken result }
+    ensures goes { GoesOn (D.view store.old.file.disk) (D.view store.new.file.disk) }
+    ensures honest { IsHonest (D.view store.new.file.disk) → IsHonest (D.view store.old.file.disk) }
+    ensures kept { IsHonest (D.view store.old.file.disk) → IsHonest (D.view store.new.file.disk) }
+    ensures room { ¬ IsErrOf result StoreFault.NoRoom }
+    ensures same { OnErr result (store.new.state ≡ store.old.state) }
+    ensures state { (c : Command AnyJob) → IsRecordOf store.old.state c (map plain records.items)
+        → OnOk result (store.new.state ≡ outcome any_kind store.old.state (c ∷ [])) }
+    ensures mark { IfOk result (λ mark. (mark.number ≡ store.new.state.number)
+        × (mark.clock ≡ (D.view store.new.file.disk).clock)) }
+
+    // The store goes on behind the command.
+    ensures stands { Stands any_kind store.old.file.places store.old.state store.old.spelled.items (D.view store.old.file.disk)
+        → OnOk result (Stands any_kind store.new.file.places store.new.state store.new.spelled.items (D.view store.new.file.disk)) }
+
+    // At every moment of the call, whatever it answers, what survived before survives, with the command or without.
+    ensures keeps { Stands any_kind store.old.file.places store.old.state store.old.spelled.items (D.view store.old.file.disk)
+        → (start : Plain AnyJob) → (H : List (Command AnyJob)) → (c : Command AnyJob)
+        → IsState start → IsAcceptable any_kind start H → store.old.state ≡ outcome any_kind start H
+        → IsRecordOf store.old.state c (map plain records.items)
+        → KeepsAll start H (H ++ c ∷ []) (D.view store.old.file.disk) (D.view store.new.file.disk) }
+
+    // From the return on, each image is recovered to the state behind the command.
+    ensures acknowledged { Stands any_kind store.old.file.places store.old.state store.old.spelled.items (D.view store.old.file.disk)
+        → OnOk result ((image : List ℕ) → (D.view store.new.file.disk).since (D.view store.new.file.disk).clock image
+        → recovered (format any_kind) image ≡ Ok store.new.state) }
+{
+    let workers = store.state().columns().workers();
+    let first = store.state().number() + 1;
+    let batch = Batch::new(workers, first, records);
+    store.append(&batch)
+}

@@ -1,0 +1,23 @@
+//! The engine of a store: commands that are durable before they are answered.
+//!
+//! A `DurableEngine` has a store of jobs of any kind, and a state of its own that commands are run on. For every disk that
+//! behaves as its model says, at every moment and through repeated stops:
+//! 1. a command that is answered is durable: from its mark on, each image that a stop may leave is recovered to the state
+//!    behind it;
+//! 2. whatever a call answers, the commands that survived before it survive, with the call's command or without it: what
+//!    is recovered is the outcome of a beginning of the accepted commands, with every answered one;
+//! 3. a refused command changes neither the state nor the store; nor does a command for which there is no memory;
+//! 4. once the disk has failed, nothing is done and every answer is `StoreFailed`, with the number of the last command
+//!    that is known to be durable.
+//!
+//! It is an `Engine`, so what a script's run prints over it is what `pfx_program` says, and `settled` waits for nothing.
+#![tactic(auto)]
+
+mod durable;
+mod keeping;
+pub mod laws;
+
+pub use durable::DurableEngine;
+
+#[cfg(test)]
+mod tests;

@@ -1,0 +1,80 @@
+//! `pfx run FILE SCRIPT --workers N`.
+
+ghost use Rattle.std.specs.Prelude.{◌≡◌, IfOk, option_map};
+ghost use Rattle.clap.specs.Matches.{found_of};
+ghost use Rattle.clap.specs.Walk.{rows_of};
+ghost use Rattle.pfx_words.specs.Commands.{workers, run_words, run_app, IsArgument, IsCommand};
+ghost use Rattle.pfx_words.specs.Requests.{asked_by, run_in};
+
+use crate::Request;
+use crate::arguments::{number_under, required_word, text_under};
+use clap::{Arg, ArgMatches, Command, value_parser};
+use std::alloc::{AllocError, Global};
+
+const ABOUT: &str = "Run a script of commands on a store";
+
+const LONG: &str = "Run the commands of a script on a store, and keep in its file what they do
+
+The script is CSV without a header line. Each record has five fields: a verb, a task by its number, a
+kind of job, a goal and data. Fields that aren't used are empty.
+
+  submit,TASK,KIND,GOAL,DATA    give the task a job of kind count, rule or scan; an empty goal is 0
+  slot,,,N,                     run N slots, 1 to 1048576, up to the first refusal; 1 if N is empty
+  withdraw,TASK,,,              take the task's job away
+  settle,,,,                    wait until all that was accepted is kept
+  status,,,,                    settle, and show the board (see pfx status --help)
+
+Jobs of kind count and rule take GOAL steps. A count's data are the digits that it begins with, or
+nothing for 0; a rule's are its number, 0 to 255, a colon and 3 to 512 cells, each 0 or 1. A scan has
+no goal, and its data are a needle, 1 to 16 characters, a colon and a text of at most 64.
+
+Commands are numbered as they are accepted, and each prints a line: 1 submitted 0 (command 1, task 0),
+2 ran 0: 0 1 (command 2: in slot 0 ran tasks 0 and 1), 3 withdrawn 0. One that is refused gets no
+number, as in refused 32 TaskBusy task=0, and the script goes on. settle prints settled 3 and the end
+of the script closed 3, with the last number. A record of another form ends the run; what was done
+before it stands.";
+
+const EXAMPLE: &str = "Example:
+  pfx run thirds.pfx examples/thirds.csv    a job of three steps and three slots, then the board";
+
+fn workers_option<'a>(alloc: Global) -> Arg<'a>
+    ensures { IsArgument result workers }
+{
+    Arg::new(alloc, "workers")
+        .long("workers")
+        .value_name("N")
+        .help("How many workers run the jobs, 0 to 64; today all jobs run on one thread")
+        .value_parser(value_parser!(u32).range(0..=64))
+}
+
+// The command without its option.
+fn bare_run<'a>(alloc: Global) -> Result<Command<'a>, AllocError>
+    ensures { IfOk result (λ c. IsCommand c run_words) }
+{
+    let file = required_word(alloc, "FILE").help("The store's file");
+    let script = required_word(alloc, "SCRIPT").help("The script, in CSV");
+    let command = Command::new(alloc, "run")
+        .about(ABOUT)
+        .long_about(LONG)
+        .after_help(EXAMPLE);
+    command.arg(file)?.arg(script)
+}
+
+pub(crate) fn run_command<'a>(alloc: Global) -> Result<Command<'a>, AllocError>
+    ensures { IfOk result (λ c. IsCommand c run_app) }
+{
+    bare_run(alloc)?.arg(workers_option(alloc))
+}
+
+pub(crate) fn run_request<'a>(matches: &ArgMatches<'a>) -> Option<Request<'a>>
+    ensures { option_map asked_by result ≡ run_in (rows_of (found_of matches.now)) }
+{
+    let file = text_under(matches, "FILE")?;
+    let script = text_under(matches, "SCRIPT")?;
+    let workers = number_under(matches, "workers");
+    Some(Request::Run {
+        file,
+        script,
+        workers,
+    })
+}
