@@ -21,7 +21,6 @@ use Rattle.pfx_machine.proofs.Compose.{outcome-none, outcome-outcome}
 use Rattle.pfx_machine.proofs.Keeping.{below_limit, state_goes_on}
 use Rattle.pfx_record.specs.Batches.{PlainBatch, all_fit, batch_bytes, batch_fits, counts_fit}
 use Rattle.pfx_record.specs.Records.{record_fits}
-use Rattle.pfx_record.specs.Records as recorded
 use Rattle.pfx_record.proofs.Rising.{both, of_both}
 use Rattle.pfx_recovery.specs.Codec.{Codec}
 use Rattle.pfx_recovery.specs.Store.{Replays}

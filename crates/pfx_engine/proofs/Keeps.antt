@@ -1,11 +1,10 @@
 -- What survives of frames, as commands.
-use Rattle.std.specs.Prelude.{◌≡◌, ◌≤◌, ℕ, ◌+◌, List, [], ◌∷◌, ◌++◌, length, take, Some, Ok, Err, None, Result, OnOk, IsErrOf, IsTrue, Bool, true, false, refl}
+use Rattle.std.specs.Prelude.{◌≡◌, ℕ, ◌+◌, List, [], ◌∷◌, ◌++◌, take, Some, Ok, Err, None, Result, OnOk, IsErrOf, IsTrue, Bool, false, refl}
 use Rattle.std.proofs.Common.{sym, ◌∙◌, ap, arith, length-append, subst}
 use Rattle.std.proofs.lemmas.Bool.{true≢false}
 use Rattle.std.proofs.lemmas.List.{take-append-le}
 use Rattle.pfx_disk.specs.Disk.{View}
 use Rattle.pfx_effect.specs.Applying.{applied}
-use Rattle.pfx_effect.specs.Recording.{record_of}
 use Rattle.pfx_format.specs.Format.{format}
 use Rattle.pfx_format.specs.Frames.{state_after}
 use Rattle.pfx_format.proofs.Batches.{some_same}

@@ -20,4 +20,6 @@ pub mod laws;
 pub use durable::DurableEngine;
 
 #[cfg(test)]
+mod stops;
+#[cfg(test)]
 mod tests;

@@ -11,12 +11,12 @@ use pfx_weights::TaskSet;
 use std::alloc::Global;
 
 /// An empty disk with room for the file of three tasks, and for so many calls.
-fn empty(alloc: Global, calls: usize) -> anyhow::Result<MemoryDisk> {
+pub(crate) fn empty(alloc: Global, calls: usize) -> anyhow::Result<MemoryDisk> {
     Ok(MemoryDisk::new(alloc, &[], 17_281, calls, 60_000)?)
 }
 
 /// The engine over a store.
-fn over<D: Disk + Drop>(
+pub(crate) fn over<D: Disk + Drop>(
     alloc: Global,
     store: Store<D, AnyJob>,
 ) -> anyhow::Result<DurableEngine<D>> {
@@ -27,7 +27,7 @@ fn over<D: Disk + Drop>(
 }
 
 /// The engine over a new store of three tasks of weight 2/3 on two workers, with segments of 8,192 bytes.
-fn begun<D: Disk + Drop>(alloc: Global, disk: D) -> anyhow::Result<DurableEngine<D>> {
+pub(crate) fn begun<D: Disk + Drop>(alloc: Global, disk: D) -> anyhow::Result<DurableEngine<D>> {
     let set = TaskSet::new(alloc, 2, &[(2, 3), (2, 3), (2, 3)])?;
     match Store::init(alloc, disk, &set, 8192) {
         Ok(store) => over(alloc, store),
@@ -36,7 +36,7 @@ fn begun<D: Disk + Drop>(alloc: Global, disk: D) -> anyhow::Result<DurableEngine
 }
 
 /// The engine over the store that a disk holds.
-fn opened<D: Disk + Drop>(alloc: Global, disk: D) -> anyhow::Result<DurableEngine<D>> {
+pub(crate) fn opened<D: Disk + Drop>(alloc: Global, disk: D) -> anyhow::Result<DurableEngine<D>> {
     match Store::open(alloc, disk) {
         Ok(store) => over(alloc, store),
         Err((fault, _disk)) => Err(fault.into()),

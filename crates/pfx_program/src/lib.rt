@@ -9,7 +9,8 @@
 //! What `run_script` writes is a function of its script's bytes and of the state that its engine begins with,
 //! `script_output` of `specs/Script.antt`: a line for each command and each refusal, boards, and the last number, up
 //! to the first record without form. Where the reader, the writer, the memory or the engine fails, it is a beginning
-//! of that. An engine is anything that carries commands out as the machine does: a `State` in memory is one.
+//! of that. An engine is anything that carries commands out as the machine does: a `State` in memory is one. `run_status`
+//! writes the board of an engine's state, `created_line` is the line of a new store, and `read_task_set` reads a store's set.
 #![tactic(auto)]
 
 mod answers;

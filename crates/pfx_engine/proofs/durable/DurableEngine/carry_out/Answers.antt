@@ -1,4 +1,4 @@
-use Rattle.std.proofs.Common.{◌≡◌, List, [], ◌∷◌, ◌++◌, map, None, sym, ◌∙◌, ap, subst}
+use Rattle.std.proofs.Common.{◌≡◌, [], ◌∷◌, map, None, sym, ◌∙◌, ap, subst}
 use Rattle.pfx_effect.specs.Recording.{record_of}
 use Rattle.pfx_kinds.specs.AnyKind.{any_kind}
 use Rattle.pfx_kinds.specs.declared.any.AnyJob.{AnyJob}
