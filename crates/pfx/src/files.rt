@@ -1,13 +1,13 @@
 //! The files that the program works on, and what goes wrong with them.
 
 ghost use Rattle.std.specs.Prelude.{◌≡◌, ◌⊎◌};
+ghost use Rattle.pfx.specs.Faults.{fault_of_init, fault_of_open, fault_of_size, part_of};
 
 use pfx_disk::FileDisk;
 use pfx_fault::{Fault, Part};
 use pfx_header::SegmentSizeFault;
 use pfx_journal::InitFault;
 use pfx_opening::{OpenFault, Part as FilePart, Refusal};
-use std::alloc::Global;
 use std::fs::{File, OpenOptions};
 use std::io;
 
@@ -41,7 +41,9 @@ pub(crate) fn disk(rt: &HostRuntime, path: &str, create: bool) -> Result<FileDis
 }
 
 /// A fault of a segment's length.
-pub(crate) fn size_fault(fault: SegmentSizeFault) -> Fault {
+pub(crate) fn size_fault(fault: SegmentSizeFault) -> Fault
+    ensures { result ≡ fault_of_size fault }
+{
     match fault {
         SegmentSizeFault::SegmentTooSmall { least } => Fault::SegmentTooSmall { least },
         SegmentSizeFault::SegmentTooLarge => Fault::SegmentTooLarge,
@@ -49,7 +51,9 @@ pub(crate) fn size_fault(fault: SegmentSizeFault) -> Fault {
 }
 
 /// A fault of making a store.
-pub(crate) fn init_fault(fault: InitFault) -> Fault {
+pub(crate) fn init_fault(fault: InitFault) -> Fault
+    ensures { result ≡ fault_of_init fault }
+{
     match fault {
         InitFault::SegmentTooSmall { least } => Fault::SegmentTooSmall { least },
         InitFault::SegmentTooLarge => Fault::SegmentTooLarge,
@@ -59,7 +63,9 @@ pub(crate) fn init_fault(fault: InitFault) -> Fault {
     }
 }
 
-fn part(part: FilePart) -> Part {
+fn part(part: FilePart) -> Part
+    ensures { result ≡ part_of part }
+{
     match part {
         FilePart::Header => Part::Header,
         FilePart::Length => Part::Length,
@@ -71,7 +77,9 @@ fn part(part: FilePart) -> Part {
 }
 
 /// A fault of opening a store.
-pub(crate) fn open_fault(fault: OpenFault) -> Fault {
+pub(crate) fn open_fault(fault: OpenFault) -> Fault
+    ensures { result ≡ fault_of_open fault }
+{
     match fault {
         OpenFault::Refused(Refusal::NotAStore) => Fault::NotAStore,
         OpenFault::Refused(Refusal::WrongVersion { version }) => Fault::WrongVersion { version },

@@ -1,9 +1,9 @@
 //! The program `pfx`.
 //!
 //! It does what its words ask for, over the system's own files. Where that fails it prints one fault line on standard
-//! error and ends with the fault's exit status: 3 where the set, the ledger, the plan or the script is refused, 4 where the
-//! store is or its disk failed, 5 where memory ran out, 8 where a file or an output failed. Help and version end with 0,
-//! words that it doesn't take with 2.
+//! error and ends with the fault's exit status: 3 where the set, the ledger or the plan is refused, 4 where the store is or
+//! its disk failed, 5 where memory ran out, 7 where the script has a record without form, 8 where a file or an output
+//! failed. Help and version end with 0, words that it doesn't take with 2.
 #![tactic(auto)]
 
 ghost use Rattle.std.specs.Prelude.{◌≡◌};
