@@ -1,6 +1,6 @@
 -- A batch that is right leads where its records lead.
-use Rattle.std.specs.Prelude.{◌≡◌, ℕ, ◌+◌, ◌<◌, ◌^◌, List, length, map, Some, IsTrue}
-use Rattle.std.proofs.Common.{sym, ◌∙◌, ap, arith, subst}
+use Rattle.std.specs.Prelude.{◌≡◌, ℕ, ◌+◌, length, Some, IsTrue}
+use Rattle.std.proofs.Common.{arith, subst}
 use Rattle.pfx_effect.specs.Applying.{applied}
 use Rattle.pfx_format.specs.Frames.{state_after}
 use Rattle.pfx_format.proofs.Nexts.{frame_leads}

@@ -12,7 +12,6 @@ use Rattle.pfx_record.specs.Records.{records_bytes}
 use Rattle.pfx_record.proofs.Heads.{counts_of, parts_of}
 use Rattle.pfx_record.proofs.Rising.{both}
 use Rattle.pfx_segment.specs.Frames.{IsFrame, number_4}
-use Rattle.pfx_store.specs.Holding.{IsPending}
 use Rattle.pfx_format.proofs.Batches.{head_there, number_there, split_batch}
 use Rattle.pfx_journal.specs.Standing.{IsBehind}
 

@@ -1,5 +1,6 @@
 mod Appends
 mod Behinds
+mod Counts
 mod Made
 mod Slots
 mod Standings

@@ -1,14 +1,13 @@
 -- A new store.
-use Rattle.std.specs.Prelude.{◌≡◌, ◌≢◌, ◌⊎◌, ℕ, ◌+◌, ◌*◌, ◌-◌, ◌<◌, ◌≤◌, ◌^◌, max, List, [], ◌∷◌, ◌++◌, length, take, nat_le, ◌&&◌, slice_index, Bool, true, false, Some, Ok, Err, refl}
+use Rattle.std.specs.Prelude.{◌≡◌, ℕ, ◌+◌, ◌*◌, ◌-◌, ◌<◌, ◌^◌, List, [], length, take, nat_le, ◌&&◌, slice_index, false, Ok, Err, refl}
 use Rattle.std.specs.Str.{bytes_eq}
-use Rattle.std.proofs.Common.{sym, ◌∙◌, ap, append-nil, arith, subst, inl, inr}
+use Rattle.std.proofs.Common.{sym, ◌∙◌, ap, append-nil, arith, inl, inr}
 use Rattle.std.proofs.Math.Nat.{max-eq_right}
 use Rattle.std.proofs.lemmas.Bool.{leb-true, false_from_ne_true, true≢false}
 use Rattle.pfx_checkpoint.specs.Spelling.{state_bytes, state_len}
 use Rattle.pfx_checkpoint.proofs.Fronts.{place_out}
 use Rattle.pfx_creating.specs.Attempts.{IsMadeOf, IsNoneOrMade, RefusesUnmade}
-use Rattle.pfx_creating.specs.Creating.{IsUnmade, len_of, number_one}
-use Rattle.pfx_disk.specs.Disk.{View, IsHonest}
+use Rattle.pfx_disk.specs.Disk.{View, IsHonest, Leaves, Same}
 use Rattle.pfx_disk.specs.declared.gates.TheConstants.{GATE_OPEN}
 use Rattle.pfx_format.specs.Format.{format, layout}
 use Rattle.pfx_format.proofs.Keeping.{format_laws}
@@ -23,7 +22,6 @@ use Rattle.pfx_recovery.specs.Recovery.{found, from_head, on_ok, recovered}
 use Rattle.pfx_recovery.specs.Refusals.{NotAStore}
 use Rattle.pfx_store.specs.Holding.{Holds}
 use Rattle.pfx_store.specs.declared.places.Places.{Places}
-use Rattle.pfx_weights.specs.Sets.{FilledSet}
 use Rattle.pfx_journal.specs.Standing.{Stands}
 use Rattle.pfx_journal.proofs.Slots.{spelled_read, state_long}
 
@@ -92,3 +90,13 @@ file_short h head body segment is head_is body_is segment_is =
     let long : state_len h.set ≡ 16 + 137 * h.set.real + 8 * (length h.set.weights - h.set.real) = place_out h.set.real (length h.set.weights) front in
     let most = is.segment.1 in
     omega (arith, head_is, body_is, segment_is, real, number, long, most)
+
+-- a disk that nothing is done with
+pub left_alone : (disk : View) → IsHonest disk → Leaves Same disk disk
+left_alone disk honest = record {
+  honest = honest;
+  contents = refl;
+  now = λ image here. (image, here, refl);
+  since = λ c image le here. inl here;
+  keeps = λ c image le here. here;
+}

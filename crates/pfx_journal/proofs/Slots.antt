@@ -1,6 +1,6 @@
 -- The bodies of slots.
 use Rattle.std.specs.Prelude.{◌≡◌, ◌≢◌, ℕ, List, length, Option, Some, None, refl}
-use Rattle.std.proofs.Common.{sym, ◌∙◌, ap, subst}
+use Rattle.std.proofs.Common.{sym, ◌∙◌, ap}
 use Rattle.pfx_checkpoint.specs.Found.{read_state}
 use Rattle.pfx_checkpoint.specs.Spelling.{place_of, state_bytes, state_len}
 use Rattle.pfx_checkpoint.proofs.Fronts.{length-front}

@@ -1,10 +1,11 @@
 -- Stores that stand, after the calls of their files.
-use Rattle.std.specs.Prelude.{◌≡◌, ◌<◌, ◌≤◌, ◌+◌, ℕ, List, [], ◌∷◌, ◌++◌, length, nat_lt, if◌then◌else◌, Bool, true, false, Option, Some, None, Ok, Vec, refl}
+use Rattle.std.specs.Prelude.{◌≡◌, ◌≤◌, ◌+◌, ℕ, List, [], ◌∷◌, ◌++◌, length, if◌then◌else◌, Bool, true, false, Option, Some, None, Result, Ok, Err, OnOk, Vec, refl}
 use Rattle.std.specs.declared.alloc.Global.{Global}
 use Rattle.std.proofs.Common.{sym, ◌∙◌, ap, arith, length-append, subst, inl, inr}
 use Rattle.std.proofs.lemmas.Bool.{cases_lt, true≢false}
 use Rattle.std.proofs.lemmas.List.{take-append-le}
 use Rattle.pfx_checkpoint.specs.Found.{read_state}
+use Rattle.pfx_checkpoint.specs.Spelling.{state_bytes}
 use Rattle.pfx_disk.specs.Disk.{View}
 use Rattle.pfx_format.specs.Format.{format, layout}
 use Rattle.pfx_header.specs.Headers.{Header}
@@ -12,9 +13,9 @@ use Rattle.pfx_jobs.specs.Kind.{Kind, Laws}
 use Rattle.pfx_machine.specs.Plain.{Plain, IsState}
 use Rattle.pfx_opening.specs.Finding.{IsMiddle, IsOpened}
 use Rattle.pfx_recovery.specs.Recovery.{found, found_of, on_ok, recovered}
-use Rattle.pfx_recovery.specs.Store.{Parts, Replays, finished, with_frame}
+use Rattle.pfx_recovery.specs.Store.{Parts, Replays, finished, turned_at, with_frame}
 use Rattle.pfx_store.specs.Holding.{Holds, KeepsAll}
-use Rattle.pfx_store.specs.Tending.{settled, made_room}
+use Rattle.pfx_store.specs.Tending.{settled, settled_unless, made_room}
 use Rattle.pfx_store.specs.declared.places.Places.{Places}
 use Rattle.pfx_store.proofs.Keeping.{keeps_then, room_there, room_made}
 use Rattle.pfx_journal.specs.Standing.{IsReady, Stands}
@@ -49,6 +50,32 @@ stands_settled K h places p s a b disk holds same = record {
   holds = respelled K h places (settled p) s a b disk holds (settled_single p);
   set = same;
   middle = λ is. absurd (true≢false (sym is ∙ settled_single p));
+}
+
+-- where a step of the checkpoint has been taken
+settled_middle : {S : Type 0} (turned : Bool) (p : Parts S) (P : S → Type 0) → (p.turned ≡ true → P p.middle) → (settled_unless turned p).turned ≡ true → P (settled_unless turned p).middle
+settled_middle true p P middle is = middle is
+settled_middle false p P middle is = absurd (true≢false (sym is ∙ settled_single p))
+
+pub stands_tended : {J : Type 0} (K : Kind J) (h : Header) (places : Places) (p : Parts (Plain J)) (s : Plain J) (a b : List ℕ) (disk : View) → a ≡ b → s.ledger.set ≡ h.set → (p.turned ≡ true → read_state K h.set a ≡ Some p.middle) →
+    Holds (format K) h places (settled_unless places.turned p) s a disk → Stands K places s b disk
+stands_tended K h places p s a b disk same set middle holds = subst (λ (l : List ℕ). Stands K places s l disk) same (record {
+  header = h;
+  parts = settled_unless places.turned p;
+  holds = holds;
+  set = set;
+  middle = settled_middle places.turned p (λ m. read_state K h.set a ≡ Some m) middle;
+})
+
+-- where the store was turned, with the state spelled
+pub stands_turned : {J : Type 0} (K : Kind J) (L : Laws K) (h : Header) (places : Places) (p : Parts (Plain J)) (s : Plain J) (spelled : List ℕ) (disk : View) → IsState s → s.ledger.set ≡ h.set → spelled ≡ state_bytes K s →
+    Holds (format K) h places (turned_at p s) s spelled disk → Stands K places s spelled disk
+stands_turned K L h places p s spelled disk state set is holds = record {
+  header = h;
+  parts = turned_at p s;
+  holds = holds;
+  set = set;
+  middle = λ _. spelled_read K L h.set s spelled state set is;
 }
 
 -- A frame more, which leads to the state t.
@@ -114,3 +141,7 @@ opened_stands K h bytes places s middle spelled disk opened set kept = record {
 pub found_recovered : {J : Type 0} (K : Kind J) (h : Header) (bytes : List ℕ) (p : Parts (Plain J)) (s : Plain J) → found (format K) bytes ≡ Ok (found_of h p s) → recovered (format K) bytes ≡ Ok s
 unfolding recovered
 found_recovered K h bytes p s is = ap (λ r. on_ok r (λ f. Ok f.state)) is
+
+pub on_ok_then : {T E P Q : Type 0} (r : Result T E) → (P → Q) → OnOk r P → OnOk r Q
+on_ok_then (Ok x) f p = f p
+on_ok_then (Err e) f p = tt

@@ -1,5 +1,5 @@
 -- A store that isn't broken, and its disk.
-use Rattle.std.specs.Prelude.{◌≡◌, ◌<◌, ◌+◌, ℕ, List, ◌∷◌, ◌⊎◌, Some, true, false}
+use Rattle.std.specs.Prelude.{◌≡◌, ℕ, List, ◌∷◌, ◌⊎◌, Some, true, false}
 use Rattle.pfx_checkpoint.specs.Found.{read_state}
 use Rattle.pfx_checkpoint.specs.Spelling.{state_bytes}
 use Rattle.pfx_disk.specs.Disk.{View}

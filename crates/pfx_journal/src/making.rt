@@ -1,8 +1,9 @@
 // Making a store.
-ghost use Rattle.std.specs.Prelude.{◌≡◌, ◌<◌, ◌≤◌, ◌+◌, ◌*◌, ◌^◌, ◌⊎◌, ℕ, length, false, vec_capacity, IfOk, IfErr, MatchResult, IsErr};
+ghost use Rattle.std.specs.Prelude.{◌≡◌, ◌<◌, ◌≤◌, ◌+◌, ◌-◌, ◌*◌, ◌^◌, ◌⊎◌, [], ℕ, length, false, vec_capacity, IfOk, IfErr, MatchResult, IsErr};
 ghost use Rattle.pfx_checkpoint.specs.Spelling.{state_bytes};
-ghost use Rattle.pfx_disk.specs.Disk.{IsHonest, HasFailed};
+ghost use Rattle.pfx_disk.specs.Disk.{IsHonest, HasFailed, Leaves, Same};
 ghost use Rattle.pfx_creating.specs.Attempts.{IsNoneOrMade};
+ghost use Rattle.pfx_creating.specs.Creating.{pieces};
 ghost use Rattle.pfx_format.specs.Format.{format};
 ghost use Rattle.pfx_header.specs.Headers.{IsHeader, IsSegmentSize, header_bytes};
 ghost use Rattle.pfx_machine.specs.Plain.{Plain, empty};
@@ -79,6 +80,11 @@ fn placed<D: Disk, J: Job>(
     ensures device { IfErr result (λ e. e.0 ≡ InitFault.Device → HasFailed (D.view disk) (D.view e.1)) }
     ensures not_empty { IsHonest (D.view disk) → IfErr result (λ e. e.0 ≡ InitFault.NotEmpty
         → 0 < length (D.view disk).contents) }
+    ensures vacant { IsHonest (D.view disk) → IfOk result (λ _. (D.view disk).contents ≡ []) }
+    ensures untouched { IsHonest (D.view disk) → 0 < length (D.view disk).contents
+        → IfErr result (λ e. Leaves Same (D.view disk) (D.view e.1)) }
+    ensures calls { IfOk result (λ store. (D.view store.file.disk).clock
+        ≡ (D.view disk).clock + 6 + pieces (store.file.places.len - 1)) }
     ensures made { IfOk result (λ store. store.state ≡ empty set.now) }
     ensures whole { IfOk result (λ store. store.file.broken ≡ false) }
     ensures stands { IsHonest (D.view disk) → IfOk result (λ store.
@@ -112,6 +118,11 @@ fn made<D: Disk, J: Job>(
     ensures device { IfErr result (λ e. e.0 ≡ InitFault.Device → HasFailed (D.view disk) (D.view e.1)) }
     ensures not_empty { IsHonest (D.view disk) → IfErr result (λ e. e.0 ≡ InitFault.NotEmpty
         → 0 < length (D.view disk).contents) }
+    ensures vacant { IsHonest (D.view disk) → IfOk result (λ _. (D.view disk).contents ≡ []) }
+    ensures untouched { IsHonest (D.view disk) → 0 < length (D.view disk).contents
+        → IfErr result (λ e. Leaves Same (D.view disk) (D.view e.1)) }
+    ensures calls { IfOk result (λ store. (D.view store.file.disk).clock
+        ≡ (D.view disk).clock + 6 + pieces (store.file.places.len - 1)) }
     ensures made { IfOk result (λ store. store.state ≡ empty set.now) }
     ensures whole { IfOk result (λ store. store.file.broken ≡ false) }
     ensures stands { IsHonest (D.view disk) → IfOk result (λ store.
@@ -153,6 +164,17 @@ impl<D: Disk, J: Job> Store<D, J> {
         ensures device { IfErr result (λ e. e.0 ≡ InitFault.Device → HasFailed (D.view disk) (D.view e.1)) }
         ensures not_empty { IsHonest (D.view disk) → IfErr result (λ e. e.0 ≡ InitFault.NotEmpty
             → 0 < length (D.view disk).contents) }
+
+        // A disk that holds bytes is left as it was.
+        ensures vacant { IsHonest (D.view disk) → IfOk result (λ _. (D.view disk).contents ≡ []) }
+        ensures untouched { IsHonest (D.view disk) → 0 < length (D.view disk).contents
+            → IfErr result (λ e. Leaves Same (D.view disk) (D.view e.1)) }
+
+        // Six calls, and one for each 4,096 bytes behind the first.
+        ensures calls { IfOk result (λ store. (D.view store.file.disk).clock
+            ≡ (D.view disk).clock + 6 + pieces (store.file.places.len - 1)) }
+
+        // The store, at its empty state.
         ensures made { IfOk result (λ store. store.state ≡ empty set.now) }
         ensures whole { IfOk result (λ store. store.file.broken ≡ false) }
         ensures stands { IsHonest (D.view disk) → IfOk result (λ store.

@@ -11,7 +11,9 @@ ghost use Rattle.pfx_record.specs.Records.{plain};
 ghost use Rattle.pfx_recovery.specs.Store.{Replays};
 ghost use Rattle.pfx_store.specs.Calls.{Works, GoesOn};
 ghost use Rattle.pfx_store.specs.Fitting.{SameParts};
+ghost use Rattle.pfx_segment.specs.Segment.{Takes};
 ghost use Rattle.pfx_store.specs.Holding.{KeepsAll, Survives};
+ghost use Rattle.pfx_store.specs.Tending.{append_calls, pieces, room_calls};
 ghost use Rattle.pfx_journal.specs.Standing.{IsBehind, IsReady, Stands};
 
 use crate::format::FileHeader;
@@ -51,7 +53,7 @@ pub struct Store<D: Disk, J: Job> {
 }
 
 // The bytes behind the gate of a segment whose first command comes behind this number.
-fn start_behind(number: u64) -> [u8; 9]
+pub(crate) fn start_behind(number: u64) -> [u8; 9]
     requires { number < 2 ^ 48 }
     ensures long { length result ≡ 9 }
     ensures number { little_number 8 (take 8 result) ≡ number + 1 }
@@ -126,6 +128,9 @@ impl<D: Disk, J: Job> Store<D, J> {
         ensures state { self.new.state ≡ self.old.state }
         ensures frame { self.new.frame ≡ self.old.frame }
         ensures parts { SameParts self.old.file.places self.new.file.places }
+        ensures calls { Takes (room_calls n self.old.file.places) (D.view self.old.file.disk) (D.view self.new.file.disk) result }
+        ensures left { OnOk result (room_calls n self.old.file.places + append_calls n self.new.file.places
+            ≡ append_calls n self.old.file.places) }
         ensures ready { OnOk result (IsReady J.kind n self.new.file.places self.new.state self.new.spelled.items) }
         ensures stands { Stands J.kind self.old.file.places self.old.state self.old.spelled.items (D.view self.old.file.disk)
             → OnOk result (Stands J.kind self.new.file.places self.new.state self.new.spelled.items (D.view self.new.file.disk)) }
@@ -148,6 +153,9 @@ impl<D: Disk, J: Job> Store<D, J> {
     /// Appends a batch: from the mark on it is durable. Where its frame doesn't fit, the checkpoint in progress is ended
     /// first, if there is one, and the file turned to its other segment. It takes no memory.
     ///
+    /// It makes four calls of the disk where the frame fits, and otherwise six more and those of the checkpoint's steps that
+    /// are left: never more than 15 and one for each 4,096 bytes of a slot.
+    ///
     /// The batch begins with the next number, has rows of the state's workers, and is right at the state. `Device` breaks
     /// the store, and it keeps its state; a broken store answers `Broken` and does nothing.
     pub fn append(&mut self, batch: &Batch<J>) -> Result<Mark, StoreFault>
@@ -155,6 +163,9 @@ impl<D: Disk, J: Job> Store<D, J> {
         requires first { batch.now.first ≡ self.old.state.number + 1 }
         requires right { (t : Plain J) × (applied J.kind self.old.state (map plain batch.now.records.items) ≡ Some t) }
         ensures works { Works (D.view self.old.file.disk) (D.view self.new.file.disk) self.old.file.broken self.new.file.broken result }
+        ensures calls { let n = length (batch_bytes J.kind (batch_of batch.now.first batch.now.records.items)) in
+            Takes (append_calls n self.old.file.places) (D.view self.old.file.disk) (D.view self.new.file.disk) result }
+        ensures at_most { (D.view self.new.file.disk).clock ≤ (D.view self.old.file.disk).clock + 15 + pieces self.old.file.places.body }
         ensures goes { GoesOn (D.view self.old.file.disk) (D.view self.new.file.disk) }
         ensures honest { IsHonest (D.view self.new.file.disk) → IsHonest (D.view self.old.file.disk) }
         ensures kept { IsHonest (D.view self.old.file.disk) → IsHonest (D.view self.new.file.disk) }

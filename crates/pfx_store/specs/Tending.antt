@@ -1,7 +1,9 @@
 -- The steps of a checkpoint in progress.
-use Rattle.std.specs.Prelude.{◌≡◌, ℕ, ◌+◌, ◌-◌, nat_lt, Bool, if◌then◌else◌}
+use Rattle.std.specs.Prelude.{◌≡◌, ℕ, ◌+◌, ◌-◌, ◌/◌, nat_lt, Bool, true, false, if◌then◌else◌}
 use Rattle.pfx_recovery.specs.Store.{Parts, finished, turned_at}
+use Rattle.pfx_store.specs.Fitting.{IsEmpty}
 use Rattle.pfx_store.specs.declared.places.Places.{Places}
+use Rattle.pfx_store.specs.declared.checkpoint.TheConstants.{PIECE}
 use Rattle.pfx_store.specs.declared.checkpoint.Tended.{Tended}
 use Rattle.pfx_store.specs.declared.checkpoint.Tended.TheVariants.{Nothing, Closed, Piece, Finished}
 
@@ -16,9 +18,35 @@ calls_of Closed = 2
 calls_of Piece = 1
 calls_of Finished = 3
 
--- more than there are steps to come
+-- how many pieces n bytes are written in
+abbrev pub pieces : ℕ → ℕ
+pieces n = (n + (PIECE - 1)) / PIECE
+
+-- how many steps are to come until the checkpoint in progress has ended: the first, the pieces and the last
 abbrev pub steps_left : Places → ℕ
-steps_left places = if places.turned then (if places.begun then 1 + (places.body - places.done) else 2 + places.body) else 0
+steps_left places = if places.turned then (if places.begun then 1 + pieces (places.body - places.done) else 2 + pieces places.body) else 0
+
+-- how many calls of the disk they take
+abbrev pub calls_left : Places → ℕ
+calls_left places = if places.turned then (if places.begun then 3 + pieces (places.body - places.done) else 5 + pieces places.body) else 0
+
+-- how many it takes to make room for a frame of n bytes: none where it fits, else those of the steps to come
+abbrev pub room_calls : ℕ → Places → ℕ
+room_calls n places = if nat_lt (places.gate + n) places.end then 0 else calls_left places
+
+-- how many it takes to append one: four where it fits, else those of the steps to come, of a turn, and four
+abbrev pub append_calls : ℕ → Places → ℕ
+append_calls n places = if nat_lt (places.gate + n) places.end then 4 else 10 + calls_left places
+
+-- how many a turn takes: none where it isn't lawful
+abbrev pub turn_calls : Places → ℕ
+turn_calls places = if places.turned then 0 else (if nat_lt (places.end + 9) (places.gate + places.segment_len) then 6 else 0)
+
+-- behind a turn: the segment that frames go to has none, and the checkpoint in progress has all its steps to come
+pub record IsTurned (places : Places) : Type 0 where
+  pub turned : places.turned ≡ true
+  pub begun : places.begun ≡ false
+  pub empty : IsEmpty places
 
 -- frames go where they went
 pub record StaysPut (old new : Places) : Type 0 where

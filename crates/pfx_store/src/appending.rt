@@ -7,7 +7,8 @@ ghost use Rattle.pfx_recovery.specs.Store.{Parts, Replays, with_frame};
 ghost use Rattle.pfx_store.specs.Calls.{Works, GoesOn};
 ghost use Rattle.pfx_store.specs.Fitting.{HasRoom, SameParts};
 ghost use Rattle.pfx_store.specs.Holding.{Holds, KeepsAll, Survives, IsPending, IsStart};
-ghost use Rattle.pfx_store.specs.Tending.{made_room};
+ghost use Rattle.pfx_segment.specs.Segment.{Takes};
+ghost use Rattle.pfx_store.specs.Tending.{append_calls, made_room};
 
 use crate::faults::StoreFault;
 use crate::file::StoreFile;
@@ -35,6 +36,7 @@ impl<D: Disk> StoreFile<D> {
         requires nine { length start.now ≡ 9 }
         requires long { length spelling.now ≡ self.old.places.body }
         ensures works { Works (D.view self.old.disk) (D.view self.new.disk) self.old.broken self.new.broken result }
+        ensures calls { Takes (append_calls (length frame.now) self.old.places) (D.view self.old.disk) (D.view self.new.disk) result }
         ensures goes { GoesOn (D.view self.old.disk) (D.view self.new.disk) }
         ensures honest { IsHonest (D.view self.new.disk) → IsHonest (D.view self.old.disk) }
         ensures kept { IsHonest (D.view self.old.disk) → IsHonest (D.view self.new.disk) }

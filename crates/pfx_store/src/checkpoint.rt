@@ -7,7 +7,7 @@ ghost use Rattle.pfx_segment.specs.Segment.{Takes};
 ghost use Rattle.pfx_store.specs.Calls.{Works, GoesOn};
 ghost use Rattle.pfx_store.specs.Fitting.{SameParts};
 ghost use Rattle.pfx_store.specs.Holding.{Holds, KeepsAll};
-ghost use Rattle.pfx_store.specs.Tending.{StaysPut, next_step, calls_of, steps_left, settled, settled_unless};
+ghost use Rattle.pfx_store.specs.Tending.{StaysPut, next_step, calls_of, calls_left, steps_left, settled, settled_unless};
 
 use crate::faults::StoreFault;
 use crate::file::StoreFile;
@@ -160,7 +160,8 @@ impl<D: Disk> StoreFile<D> {
         ensures stays { StaysPut self.old.places self.new.places }
         ensures err { OnErr result (self.new.places ≡ self.old.places) }
         ensures nearer { self.old.places.turned ≡ true
-            → OnOk result (steps_left self.new.places < steps_left self.old.places) }
+            → OnOk result (steps_left self.old.places ≡ 1 + steps_left self.new.places) }
+        ensures fewer { OnOk result (calls_left self.old.places ≡ calls_of (next_step self.old.places) + calls_left self.new.places) }
 
         // The store goes on, and its checkpoint has ended with the last step.
         ensures holds { (K : Codec H S) → Laws K → (h : H) → (p : Parts S) → (s : S)
@@ -199,6 +200,7 @@ impl<D: Disk> StoreFile<D> {
     pub fn end_checkpoint<H, S>(&mut self, spelling: &[u8]) -> Result<(), StoreFault>
         requires long { length spelling.now ≡ self.old.places.body }
         ensures works { Works (D.view self.old.disk) (D.view self.new.disk) self.old.broken self.new.broken result }
+        ensures calls { Takes (calls_left self.old.places) (D.view self.old.disk) (D.view self.new.disk) result }
         ensures goes { GoesOn (D.view self.old.disk) (D.view self.new.disk) }
         ensures honest { IsHonest (D.view self.new.disk) → IsHonest (D.view self.old.disk) }
         ensures kept { IsHonest (D.view self.old.disk) → IsHonest (D.view self.new.disk) }

@@ -8,8 +8,9 @@ ghost use Rattle.pfx_recovery.specs.Recovery.{found, found_of};
 ghost use Rattle.pfx_recovery.specs.Store.{Parts, Replays, with_frame, turned_at};
 ghost use Rattle.pfx_segment.specs.Segment.{Takes};
 ghost use Rattle.pfx_store.specs.Calls.{Works};
-ghost use Rattle.pfx_store.specs.Fitting.{IsEmpty, IsTurnable, SameParts};
+ghost use Rattle.pfx_store.specs.Fitting.{IsTurnable, SameParts};
 ghost use Rattle.pfx_store.specs.Holding.{ArePlaces, Holds, IsGate, KeepsAll, Survives, IsPending, IsStart};
+ghost use Rattle.pfx_store.specs.Tending.{IsTurned};
 
 use crate::faults::StoreFault;
 use crate::places::Places;
@@ -134,8 +135,7 @@ impl<D: Disk> StoreFile<D> {
         ensures broken { IsErrOf result StoreFault.Broken → self.new ≡ self.old }
         ensures err { OnErr result (self.new.places ≡ self.old.places) }
         ensures parts { SameParts self.old.places self.new.places }
-        ensures turned { OnOk result (self.new.places.turned ≡ true) }
-        ensures empty { OnOk result (IsEmpty self.new.places) }
+        ensures turned { OnOk result (IsTurned self.new.places) }
 
         // The store goes on in the other segment, with a checkpoint of this state in progress.
         ensures holds { (K : Codec H S) → Laws K → (h : H) → (p : Parts S) → (s : S) → (spelling : List ℕ)

@@ -1,5 +1,5 @@
 use Rattle.pfx_machine.specs.Plain.{empty}
-use Rattle.pfx_journal.proofs.Made.{still_none}
+use Rattle.pfx_journal.proofs.Made.{left_alone, still_none}
 use Rattle.pfx_journal.proofs.making.made.Goals as goal
 
 pub returns-in_default-clause-recovers : goal.returns-in_default-clause-recovers
@@ -13,3 +13,15 @@ returns-in_default-frozen-clause-recovers g c honest = still_none g.J.Job.kind (
 
 pub returns-in_default-with_capacity-clause-recovers : goal.returns-in_default-with_capacity-clause-recovers
 returns-in_default-with_capacity-clause-recovers g c honest = still_none g.J.Job.kind (empty c.args.set.now) (g.D.Disk.view c.args.disk)
+
+pub returns-in_default-clause-untouched : goal.returns-in_default-clause-untouched
+returns-in_default-clause-untouched g c honest some = left_alone (g.D.Disk.view c.args.disk) honest
+
+pub returns-in_default-head_of-clause-untouched : goal.returns-in_default-head_of-clause-untouched
+returns-in_default-head_of-clause-untouched g c honest some = left_alone (g.D.Disk.view c.args.disk) honest
+
+pub returns-in_default-frozen-clause-untouched : goal.returns-in_default-frozen-clause-untouched
+returns-in_default-frozen-clause-untouched g c honest some = left_alone (g.D.Disk.view c.args.disk) honest
+
+pub returns-in_default-with_capacity-clause-untouched : goal.returns-in_default-with_capacity-clause-untouched
+returns-in_default-with_capacity-clause-untouched g c honest some = left_alone (g.D.Disk.view c.args.disk) honest

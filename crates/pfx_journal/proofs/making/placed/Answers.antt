@@ -1,4 +1,4 @@
-use Rattle.std.proofs.Common.{◌≡◌, ◌+◌, ◌*◌, ◌≤◌, List, ℕ, length, refl, sym, ◌∙◌, ap, arith, subst}
+use Rattle.std.proofs.Common.{List, ℕ, length, refl, sym, ◌∙◌, ap, arith, subst}
 use Rattle.std.specs.Prelude.{slice_index}
 use Rattle.pfx_checkpoint.specs.Spelling.{state_len}
 use Rattle.pfx_format.specs.Format.{format}

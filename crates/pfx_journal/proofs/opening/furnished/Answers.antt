@@ -1,4 +1,4 @@
-use Rattle.std.proofs.Common.{◌≡◌, sym, ◌∙◌, ap}
+use Rattle.std.proofs.Common.{sym, ◌∙◌, ap}
 use Rattle.pfx_checkpoint.specs.Spelling.{state_len}
 use Rattle.pfx_journal.proofs.Standings.{found_recovered, opened_stands}
 use Rattle.pfx_journal.proofs.opening.furnished.Goals as goal

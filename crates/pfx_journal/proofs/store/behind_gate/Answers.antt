@@ -1,6 +1,5 @@
-use Rattle.std.proofs.Common.{◌≡◌, ◌<◌, ◌-◌, length, take, drop, ap, arith}
+use Rattle.std.proofs.Common.{arith}
 use Rattle.pfx_record.specs.Batches.{batch_of}
-use Rattle.pfx_format.proofs.Batches.{head_there}
 use Rattle.pfx_journal.proofs.Behinds.{behind_is, some_behind}
 use Rattle.pfx_journal.proofs.store.behind_gate.Goals as goal
 

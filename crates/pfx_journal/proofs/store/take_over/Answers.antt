@@ -1,5 +1,4 @@
-use Rattle.std.proofs.Common.{◌≡◌, sym, ◌∙◌, ap, map}
-use Rattle.std.specs.Prelude.{Some}
+use Rattle.std.proofs.Common.{◌∙◌, ap, map}
 use Rattle.pfx_record.specs.Records.{plain}
 use Rattle.pfx_effect.specs.Applying.{applied}
 use Rattle.pfx_effect.proofs.States.{applied_behind}

@@ -1,8 +1,8 @@
-use Rattle.std.proofs.Common.{◌≡◌, sym, ◌∙◌, ap, length, subst}
-use Rattle.pfx_header.specs.Headers.{Header, IsHeader}
+use Rattle.std.proofs.Common.{◌≡◌, sym, ◌∙◌, ap, subst}
+use Rattle.pfx_header.specs.Headers.{Header}
 use Rattle.pfx_checkpoint.specs.Spelling.{state_len}
 use Rattle.pfx_header.proofs.Meanings.{accepted_filled}
-use Rattle.pfx_weights.specs.Sets.{FilledSet, IsFilled}
+use Rattle.pfx_weights.specs.Sets.{IsFilled}
 use Rattle.pfx_journal.proofs.Slots.{other_length}
 use Rattle.pfx_journal.proofs.format.FileFormatFormat.read_state.Goals as goal
 

@@ -1,6 +1,5 @@
-use Rattle.std.proofs.Common.{◌≡◌, ◌+◌, ◌<◌, ◌^◌, ◌++◌, ◌∷◌, [], ℕ, List, length, map, sym, ◌∙◌, ap, arith, subst}
+use Rattle.std.proofs.Common.{◌≡◌, ◌+◌, ◌++◌, ◌∷◌, [], ℕ, List, length, refl, sym, ◌∙◌, ap, ap₂, arith, subst}
 use Rattle.std.specs.Prelude.{Some}
-use Rattle.pfx_checkpoint.specs.Spelling.{state_bytes}
 use Rattle.pfx_disk.specs.declared.gates.TheConstants.{GATE_OPEN}
 use Rattle.pfx_effect.specs.Applying.{applied}
 use Rattle.pfx_format.specs.Format.{format}
@@ -8,13 +7,12 @@ use Rattle.pfx_format.specs.Frames.{state_after}
 use Rattle.pfx_format.proofs.Keeping.{format_laws}
 use Rattle.pfx_machine.specs.Plain.{Plain}
 use Rattle.pfx_record.specs.Batches.{PlainBatch, batch_bytes, batch_of}
-use Rattle.pfx_record.specs.Records.{plain}
-use Rattle.pfx_recovery.specs.Store.{Replays, with_frame}
-use Rattle.pfx_store.specs.Holding.{Holds, IsStart, KeepsAll, Survives}
-use Rattle.pfx_store.specs.Tending.{made_room}
-use Rattle.pfx_store.proofs.Keeping.{keeps_then}
+use Rattle.pfx_recovery.specs.Store.{Replays}
+use Rattle.pfx_store.specs.Holding.{IsStart, Survives}
+use Rattle.pfx_store.specs.Tending.{append_calls, room_calls}
 use Rattle.pfx_journal.specs.Standing.{IsReady, Stands}
 use Rattle.pfx_journal.proofs.Appends.{batch_leads}
+use Rattle.pfx_journal.proofs.Counts.{append_most, takes_both, works_behind}
 use Rattle.pfx_journal.proofs.Standings.{keeps_appended, keeps_more, keeps_still, stands_behind}
 use Rattle.pfx_journal.proofs.store.Store.append.Goals as goal
 
@@ -97,3 +95,25 @@ returns-clause-acknowledged g c stands start all replays =
     let there : Replays (format K) start all mid.state = subst (λ (s : Plain g.row.J.Denot). Replays (format K) start all s) (sym same) replays in
     subst (λ (f : List ℕ). (image : List ℕ) → (V c.append_or_turn.new.self.disk).since (V c.append_or_turn.new.self.disk).clock image → Survives (format K) start (all ++ f ∷ []) (length all + 1) image) (sym opens)
     (c.in_ok-append_or_turn.ensures.acknowledged (format K) (format_laws K L) standing.header standing.parts mid.state standing.holds standing.middle begins body c.requires.right.0 c.behind_gate.ensures.pending.2 leads start all there)
+
+pub returns-in_err-append_or_turn-clause-works : goal.returns-in_err-append_or_turn-clause-works
+returns-in_err-append_or_turn-clause-works g c =
+    works_behind (g.D.Disk.view c.args.self.now.file.disk) (g.D.Disk.view c.make_room.new.self.file.disk) (g.D.Disk.view c.append_or_turn.new.self.disk) c.args.self.now.file.broken c.make_room.new.self.file.broken c.append_or_turn.new.self.broken
+    c.append_or_turn.result c.from_residual-in_err-append_or_turn.result _ c.if-self.false (c.in_ok-make_room.ensures.works.whole refl) c.make_room.ensures.goes.no_fewer c.in_err-append_or_turn.was c.from_residual-in_err-append_or_turn.ensures.1 c.append_or_turn.ensures.works
+
+pub returns-clause-calls : goal.returns-clause-calls
+returns-clause-calls g c =
+    let n = length (batch_bytes g.J.Job.kind (batch_of c.args.batch.now.first c.args.batch.now.records.items)) in
+    let before = c.args.self.now.file.places in
+    let between = c.make_room.new.self.file.places in
+    let left : room_calls n before + append_calls n between ≡ append_calls n before = subst (λ m. room_calls m before + append_calls m between ≡ append_calls m before) c.batch_len-len.ensures.value c.in_ok-make_room.ensures.left in
+    let sum : room_calls c.batch_len-len.result before + append_calls (length c.behind_gate.result.now) between ≡ append_calls n before = ap₂ (λ a b. room_calls a before + append_calls b between) c.batch_len-len.ensures.value c.behind_gate.ensures.len ∙ left in
+    takes_both (room_calls c.batch_len-len.result before) (append_calls (length c.behind_gate.result.now) between) (append_calls n before) (g.D.Disk.view c.args.self.now.file.disk) (g.D.Disk.view c.make_room.new.self.file.disk) (g.D.Disk.view c.append_or_turn.new.self.disk) _
+    sum (c.in_ok-make_room.ensures.calls.ok refl) (c.in_ok-append_or_turn.ensures.calls.ok refl)
+
+pub returns-clause-at_most : goal.returns-clause-at_most
+returns-clause-at_most g c =
+    let calls = returns-clause-calls g c in
+    let most = append_most (length (batch_bytes g.J.Job.kind (batch_of c.args.batch.now.first c.args.batch.now.records.items))) c.args.self.now.file.places in
+    let at_most = calls.at_most in
+    omega (arith, most, at_most)

@@ -1,5 +1,5 @@
 use Rattle.pfx_machine.specs.Plain.{empty}
-use Rattle.pfx_journal.proofs.Made.{still_none}
+use Rattle.pfx_journal.proofs.Made.{left_alone, still_none}
 use Rattle.pfx_journal.proofs.store.Store.init.Goals as goal
 
 pub returns-in-Err-SegmentTooSmall-clause-recovers : goal.returns-in-Err-SegmentTooSmall-clause-recovers
@@ -7,3 +7,9 @@ returns-in-Err-SegmentTooSmall-clause-recovers g c honest = still_none g.J.Job.k
 
 pub returns-in-Err-SegmentTooLarge-clause-recovers : goal.returns-in-Err-SegmentTooLarge-clause-recovers
 returns-in-Err-SegmentTooLarge-clause-recovers g c honest = still_none g.J.Job.kind (empty c.args.set.now) (g.D.Disk.view c.args.disk)
+
+pub returns-in-Err-SegmentTooSmall-clause-untouched : goal.returns-in-Err-SegmentTooSmall-clause-untouched
+returns-in-Err-SegmentTooSmall-clause-untouched g c honest some = left_alone (g.D.Disk.view c.args.disk) honest
+
+pub returns-in-Err-SegmentTooLarge-clause-untouched : goal.returns-in-Err-SegmentTooLarge-clause-untouched
+returns-in-Err-SegmentTooLarge-clause-untouched g c honest some = left_alone (g.D.Disk.view c.args.disk) honest

@@ -1,4 +1,4 @@
-use Rattle.std.proofs.Common.{◌≡◌, ℕ, List, sym, subst}
+use Rattle.std.proofs.Common.{ℕ, List, sym, subst}
 use Rattle.pfx_format.specs.Format.{format}
 use Rattle.pfx_format.proofs.Keeping.{format_laws}
 use Rattle.pfx_journal.specs.Standing.{Stands}

@@ -99,7 +99,7 @@ pub returns-clause-parts : goal.returns-clause-parts
 returns-clause-parts g c = parts_then _ c.end_checkpoint.new.self.places _ c.end_checkpoint.ensures.parts (parts_then _ c.turn.new.self.places _ c.turn.ensures.parts c.append-2.ensures.parts)
 
 pub returns-in_err-append-2-clause-room : goal.returns-in_err-append-2-clause-room
-returns-in_err-append-2-clause-room g c = λ is. absurd (omega (arith, full is, c.in_ok-turn.ensures.empty, c.turn.ensures.parts.segment_len, c.end_checkpoint.ensures.parts.segment_len, c.requires.fits))
+returns-in_err-append-2-clause-room g c = λ is. absurd (omega (arith, full is, c.in_ok-turn.ensures.turned.empty, c.turn.ensures.parts.segment_len, c.end_checkpoint.ensures.parts.segment_len, c.requires.fits))
   where
     full : c.from_residual-in_err-append-2.result ≡ Err NoRoom → c.turn.new.self.places.end ≤ c.turn.new.self.places.gate + length c.args.frame.now
     full is = (c.append-2.ensures.no_room.0 (fault_back _ c.append-2.result _ NoRoom (c.in_err-append-2.was) c.from_residual-in_err-append-2.ensures.1 is)).1

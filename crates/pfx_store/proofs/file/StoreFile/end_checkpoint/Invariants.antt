@@ -1,11 +1,11 @@
-use Rattle.std.proofs.Common.{◌≡◌, ℕ, List, length, Some, true, false}
+use Rattle.std.proofs.Common.{◌≡◌, ◌+◌, ℕ, List, length, Some, true, false}
 use Rattle.pfx_disk.specs.Disk.{IsHonest}
 use Rattle.pfx_recovery.specs.Codec.{Codec, Laws}
 use Rattle.pfx_recovery.specs.Store.{Parts, Replays}
 use Rattle.pfx_store.specs.Calls.{GoesOn}
 use Rattle.pfx_store.specs.Fitting.{SameParts}
 use Rattle.pfx_store.specs.Holding.{Holds, KeepsAll}
-use Rattle.pfx_store.specs.Tending.{StaysPut, steps_left, settled_unless}
+use Rattle.pfx_store.specs.Tending.{StaysPut, calls_left, steps_left, settled_unless}
 use Rattle.pfx_store.proofs.file.StoreFile.end_checkpoint.Given as goal
 
 abbrev pub invariant-steps : goal.invariant-steps
@@ -16,6 +16,8 @@ invariant-steps g l =
       whole : l.self.broken ≡ false;
       long : length l.spelling ≡ l.self.places.body;
       goes : GoesOn old now;
+      spent : now.clock + calls_left l.self.places ≡ old.clock + calls_left l.fn.self.places;
+      worked : now.failures ≡ old.failures;
       honest : IsHonest now → IsHonest old;
       kept : IsHonest old → IsHonest now;
       parts : SameParts l.fn.self.places l.self.places;

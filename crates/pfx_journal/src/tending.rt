@@ -1,0 +1,109 @@
+// Turning a store to its other segment, and the checkpoint in progress.
+ghost use Rattle.std.specs.Prelude.{◌≡◌, ◌↔◌, ◌+◌, ℕ, List, length, true, false, Ok, OnOk, OnErr, IfOk, IsTrue, IsErrOf};
+ghost use Rattle.pfx_checkpoint.specs.Spelling.{state_bytes, state_len};
+ghost use Rattle.pfx_disk.specs.Disk.{IsHonest};
+ghost use Rattle.pfx_format.specs.Format.{format};
+ghost use Rattle.pfx_machine.specs.Plain.{Plain, IsState};
+ghost use Rattle.pfx_recovery.specs.Store.{Replays};
+ghost use Rattle.pfx_segment.specs.Segment.{Takes};
+ghost use Rattle.pfx_store.specs.Calls.{Works};
+ghost use Rattle.pfx_store.specs.Fitting.{IsTurnable, SameParts};
+ghost use Rattle.pfx_store.specs.Holding.{KeepsAll};
+ghost use Rattle.pfx_store.specs.Tending.{StaysPut, next_step, calls_of, calls_left, steps_left, turn_calls, IsTurned};
+ghost use Rattle.pfx_journal.specs.Standing.{Stands};
+
+use crate::format::FileHeader;
+use crate::store::{Store, start_behind};
+use pfx_checkpoint::freeze;
+use pfx_disk::Disk;
+use pfx_jobs::job::Job;
+use pfx_machine::State;
+use pfx_store::{StoreFault, Tended};
+
+// Spells a state over the spelling of another one.
+fn spell<J: Job>(state: &State<J>, spelled: &mut Vec<u8>)
+    requires { length spelled.old.items ≡ state_len state.now.ledger.set }
+    ensures spelled { spelled.new.items ≡ state_bytes J.kind state.now }
+    ensures long { length spelled.new.items ≡ length spelled.old.items }
+    ensures state { IsState state.now }
+{
+    let _number = state.number();
+    freeze(state, spelled);
+}
+
+impl<D: Disk, J: Job> Store<D, J> {
+    /// Takes one step of the checkpoint in progress, if there is one: two calls of the disk for the first, one for each
+    /// piece of at most 4,096 bytes, three for the last. It takes no memory.
+    ///
+    /// The checkpoint holds the state at the turn, whatever was appended since. `Device` breaks the store; a broken store
+    /// answers `Broken` and does nothing.
+    pub fn tend(&mut self) -> Result<Tended, StoreFault>
+        ensures works { Works (D.view self.old.file.disk) (D.view self.new.file.disk) self.old.file.broken self.new.file.broken result }
+        ensures calls { Takes (calls_of (next_step self.old.file.places)) (D.view self.old.file.disk) (D.view self.new.file.disk) result }
+        ensures honest { IsHonest (D.view self.new.file.disk) → IsHonest (D.view self.old.file.disk) }
+        ensures kept { IsHonest (D.view self.old.file.disk) → IsHonest (D.view self.new.file.disk) }
+        ensures room { ¬ IsErrOf result StoreFault.NoRoom }
+        ensures broken { IsErrOf result StoreFault.Broken → self.new ≡ self.old }
+        ensures state { self.new.state ≡ self.old.state }
+        ensures step { IfOk result (λ tended. tended ≡ next_step self.old.file.places) }
+        ensures parts { SameParts self.old.file.places self.new.file.places }
+        ensures stays { StaysPut self.old.file.places self.new.file.places }
+        ensures nearer { self.old.file.places.turned ≡ true
+            → OnOk result (steps_left self.old.file.places ≡ 1 + steps_left self.new.file.places) }
+        ensures fewer { OnOk result (calls_left self.old.file.places
+            ≡ calls_of (next_step self.old.file.places) + calls_left self.new.file.places) }
+
+        // The store goes on.
+        ensures stands { Stands J.kind self.old.file.places self.old.state self.old.spelled.items (D.view self.old.file.disk)
+            → OnOk result (Stands J.kind self.new.file.places self.new.state self.new.spelled.items (D.view self.new.file.disk)) }
+
+        // At every moment of the call, whatever it answers, what survived before survives.
+        ensures keeps { Stands J.kind self.old.file.places self.old.state self.old.spelled.items (D.view self.old.file.disk)
+            → (start : Plain J) → (all : List (List ℕ)) → Replays (format J.kind) start all self.old.state
+            → KeepsAll (format J.kind) start all all (D.view self.old.file.disk) (D.view self.new.file.disk) }
+    {
+        if self.file.broken {
+            return Err(StoreFault::Broken);
+        }
+        self.file.tend::<FileHeader, State<J>>(&self.spelled)
+    }
+
+    /// Turns the store to its other segment, by six calls of the disk: a checkpoint of the state is in progress then.
+    /// `false`, and nothing done, where that isn't lawful: a checkpoint is in progress, or the segment that frames go to has
+    /// none. It takes no memory.
+    ///
+    /// `Device` breaks the store; a broken store answers `Broken` and does nothing.
+    pub fn turn(&mut self) -> Result<bool, StoreFault>
+        ensures works { Works (D.view self.old.file.disk) (D.view self.new.file.disk) self.old.file.broken self.new.file.broken result }
+        ensures calls { Takes (turn_calls self.old.file.places) (D.view self.old.file.disk) (D.view self.new.file.disk) result }
+        ensures honest { IsHonest (D.view self.new.file.disk) → IsHonest (D.view self.old.file.disk) }
+        ensures kept { IsHonest (D.view self.old.file.disk) → IsHonest (D.view self.new.file.disk) }
+        ensures room { ¬ IsErrOf result StoreFault.NoRoom }
+        ensures broken { IsErrOf result StoreFault.Broken → self.new ≡ self.old }
+        ensures state { self.new.state ≡ self.old.state }
+        ensures lawful { IfOk result (λ turned. IsTrue turned ↔ IsTurnable self.old.file.places) }
+        ensures refused { result ≡ Ok false → (self.new.file ≡ self.old.file) × (self.new.spelled ≡ self.old.spelled) }
+        ensures turned { result ≡ Ok true → IsTurned self.new.file.places }
+        ensures parts { SameParts self.old.file.places self.new.file.places }
+
+        // The store goes on.
+        ensures stands { Stands J.kind self.old.file.places self.old.state self.old.spelled.items (D.view self.old.file.disk)
+            → OnOk result (Stands J.kind self.new.file.places self.new.state self.new.spelled.items (D.view self.new.file.disk)) }
+
+        // At every moment of the call, whatever it answers, what survived before survives.
+        ensures keeps { Stands J.kind self.old.file.places self.old.state self.old.spelled.items (D.view self.old.file.disk)
+            → (start : Plain J) → (all : List (List ℕ)) → Replays (format J.kind) start all self.old.state
+            → KeepsAll (format J.kind) start all all (D.view self.old.file.disk) (D.view self.new.file.disk) }
+    {
+        if self.file.broken {
+            return Err(StoreFault::Broken);
+        }
+        if !self.file.can_turn::<FileHeader, State<J>>() {
+            return Ok(false);
+        }
+        spell(&self.state, &mut self.spelled);
+        let start = start_behind(self.state.number());
+        self.file.turn::<FileHeader, State<J>>(&start)?;
+        Ok(true)
+    }
+}
