@@ -7,6 +7,7 @@ use std::process::{Command, Stdio};
 use std::time::Instant;
 
 const COMMANDS: usize = 2000;
+const MANY: usize = 100_000;
 
 fn show(name: &str, mut micros: Vec<u128>) -> u128 {
     micros.sort_unstable();
@@ -38,13 +39,15 @@ fn bare(room: &Path) -> Vec<u128> {
         .collect()
 }
 
-// The program: the time from one command's line to the next one's.
-fn run(pfx: &str, set: &str, room: &Path) -> Vec<u128> {
+// The program over a new store: the time from one command's line to the next one's, and the store's length.
+fn run(pfx: &str, set: &Path, room: &Path, count: usize) -> (Vec<u128>, u64) {
     let store = room.join("store");
     let script = room.join("script.csv");
-    std::fs::write(&script, format!("slot,,,{COMMANDS},\n")).unwrap();
+    let _ = std::fs::remove_file(&store);
+    std::fs::write(&script, format!("slot,,,{count},\n")).unwrap();
     let made = Command::new(pfx).arg("init").arg(set).arg(&store).stdout(Stdio::null()).status().unwrap();
     assert!(made.success());
+    let length = std::fs::metadata(&store).unwrap().len();
     let mut child = Command::new(pfx).arg("run").arg(&store).arg(&script).stdout(Stdio::piped()).spawn().unwrap();
     let mut lines = BufReader::new(child.stdout.take().unwrap()).lines();
     let mut micros = Vec::new();
@@ -59,15 +62,32 @@ fn run(pfx: &str, set: &str, room: &Path) -> Vec<u128> {
         }
     }
     assert!(child.wait().unwrap().success());
-    micros
+    assert_eq!(micros.len(), count - 1);
+    assert_eq!(std::fs::metadata(&store).unwrap().len(), length);
+    (micros, length)
+}
+
+// Many commands, with segments of this length: what one costs, and what the slowest waited.
+fn endless(pfx: &str, set: &str, room: &Path, segment: u32) -> f64 {
+    let text = std::fs::read_to_string(set).unwrap();
+    let path = room.join("set.toml");
+    std::fs::write(&path, format!("segment = {segment}\n{text}")).unwrap();
+    let (micros, length) = run(pfx, &path, room, MANY);
+    let mean = micros.iter().sum::<u128>() as f64 / micros.len() as f64;
+    let slowest = micros.iter().max().unwrap();
+    println!("{MANY} commands, segments of {segment:>7}: {mean:>6.1} us each, the slowest {slowest:>6} us, the file {length} bytes before and after");
+    mean
 }
 
 fn main() {
     let words: Vec<String> = std::env::args().collect();
-    let room = Path::new(&words[3]);
+    let (pfx, set, room) = (&words[1], &words[2], Path::new(&words[3]));
     let before = show("write, sync, write, sync", bare(room));
-    let program = show("a command of pfx run", run(&words[1], &words[2], room));
+    let program = show("a command of pfx run", run(pfx, Path::new(set), room, COMMANDS).0);
     let after = show("write, sync, write, sync", bare(room));
     println!("ratio of the medians         {:.2}", 2.0 * program as f64 / (before + after) as f64);
+    let least = endless(pfx, set, room, 4233);
+    let most = endless(pfx, set, room, 16_777_216);
+    println!("a turn and a checkpoint every 190 commands cost {:.1} us a command", least - most);
     std::io::stdout().flush().unwrap();
 }

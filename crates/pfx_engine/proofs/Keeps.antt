@@ -1,5 +1,5 @@
 -- What survives of frames, as commands.
-use Rattle.std.specs.Prelude.{◌≡◌, ℕ, ◌+◌, List, [], ◌∷◌, ◌++◌, take, Some, Ok, Err, None, Result, OnOk, IsErrOf, IsTrue, Bool, false, refl}
+use Rattle.std.specs.Prelude.{◌≡◌, ◌≤◌, ℕ, ◌+◌, List, [], ◌∷◌, ◌++◌, take, Some, Ok, Err, None, Result, OnOk, IsErrOf, IsTrue, Bool, false, refl}
 use Rattle.std.proofs.Common.{sym, ◌∙◌, ap, arith, length-append, subst}
 use Rattle.std.proofs.lemmas.Bool.{true≢false}
 use Rattle.std.proofs.lemmas.List.{take-append-le}
@@ -66,6 +66,12 @@ keeps_more start H c disk from n le before image here =
       at_most = (let most = s.at_most in omega (arith, most, length-append H (c ∷ [])));
       recovered = s.recovered ∙ ap (λ (l : List (Command AnyJob)). Ok (outcome any_kind start l)) (sym (take-append-le s.count H (c ∷ []) s.at_most));
     }
+
+-- a call that writes no frame, and then one behind which a command more survives
+pub keeps_behind : (start : Plain AnyJob) (H more : List (Command AnyJob)) (a b c : View) → IsState start → IsAcceptable any_kind start H → a.clock ≤ b.clock →
+    frames.KeepsAll (format any_kind) start (frames_of any_kind start H) (frames_of any_kind start H) a b → KeepsAll start H more b c → KeepsAll start H more a c
+keeps_behind start H more a b c h all later one two from n le before =
+    two from n (omega (arith, le, later)) (λ other was. to_commands start H n other h all (one from n le (λ image here. to_frames start H n image h all (before image here)) other was))
 
 -- an image in which one frame survives is recovered to the state behind it
 pub one_recovered : (s t : Plain AnyJob) (frame image : List ℕ) → state_after any_kind s frame ≡ Some t → frames.Survives (format any_kind) s (frame ∷ []) 1 image → recovered (format any_kind) image ≡ Ok t

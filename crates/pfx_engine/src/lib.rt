@@ -10,6 +10,9 @@
 //! 4. once the disk has failed, nothing is done and every answer is `StoreFailed`, with the number of the last command
 //!    that is known to be durable.
 //!
+//! A step of the checkpoint in progress, if there is one, is taken before each command that is kept, so that an append which
+//! turns seldom has a checkpoint to end.
+//!
 //! It is an `Engine`, so what a script's run prints over it is what `pfx_program` says, and `settled` waits for nothing.
 #![tactic(auto)]
 
@@ -23,3 +26,5 @@ pub use durable::DurableEngine;
 mod stops;
 #[cfg(test)]
 mod tests;
+#[cfg(test)]
+mod turns;

@@ -1,7 +1,7 @@
 //! Scripts over stores: on disks in memory, and on ones that fail.
 
 use super::*;
-use pfx_disk::{Disk, FaultDisk, MemoryDisk};
+use pfx_disk::{Disk, FaultDisk, FileDisk, MemoryDisk};
 use pfx_fault::{Cause, Fault};
 use pfx_journal::Store;
 use pfx_kinds::any::AnyJob;
@@ -9,6 +9,8 @@ use pfx_machine::{Command, Reply};
 use pfx_program::{CallFault, Engine, run_script};
 use pfx_weights::TaskSet;
 use std::alloc::Global;
+use std::fs::OpenOptions;
+use std::{env, fs, process};
 
 /// An empty disk with room for the file of three tasks, and for so many calls.
 pub(crate) fn empty(alloc: Global, calls: usize) -> anyhow::Result<MemoryDisk> {
@@ -109,6 +111,30 @@ fn a_run_goes_on_after_the_store_is_opened_again(rt: HostRuntime) -> anyhow::Res
     let (second, end) = printed(alloc, WEEK, &mut again)?;
     assert_eq!(rt; end, None);
     assert_eq!(rt; second.as_slice(), SECOND.as_bytes());
+    Ok(())
+}
+
+#[test]
+fn a_script_runs_over_a_file(rt: HostRuntime) -> anyhow::Result<()> {
+    let alloc = rt.alloc();
+    let name = format!(in alloc; "pfx_engine_{}", process::id(rt.process()))?;
+    let path = env::temp_dir(&rt)?.join(alloc, name.as_str())?;
+    fs::write(&rt, &path, b"")?;
+    let file = OpenOptions::new().read(true).write(true).open(&rt, &path)?;
+    let mut engine = begun(alloc, FileDisk::new(file))?;
+    let (first, end) = printed(alloc, WEEK, &mut engine)?;
+    assert_eq!(rt; end, None);
+    assert_eq!(rt; first.as_slice(), FIRST.as_bytes());
+
+    let file = OpenOptions::new().read(true).write(true).open(&rt, &path)?;
+    let mut again = opened(alloc, FileDisk::new(file))?;
+    let (second, end) = printed(alloc, WEEK, &mut again)?;
+    assert_eq!(rt; end, None);
+    assert_eq!(rt; second.as_slice(), SECOND.as_bytes());
+    let bytes = fs::read(&rt, &path)?;
+    assert_eq!(rt; bytes.len(), 17_281);
+    assert!(rt; bytes.starts_with(b"\xc3PFXSTORE"));
+    fs::remove_file(&rt, &path)?;
     Ok(())
 }
 
