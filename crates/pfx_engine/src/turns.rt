@@ -101,6 +101,9 @@ fn a_second_turn_leads_back(rt: HostRuntime) -> anyhow::Result<()> {
 
     // Frame 12 stands where frame 1 stood, and has closed frame 2's gate; those behind it are as they were.
     let mut disk = left(alloc, &store)?;
+    if disk.len()? < 1105 {
+        return Err(Fault::Device.into());
+    }
     let mut bytes = [0; 1105];
     disk.read(0, &mut bytes)?;
     assert_eq!(rt; (bytes[469], bytes[470]), (0xc3, 10));
@@ -186,7 +189,8 @@ fn kept_whole(engine: &DurableEngine<MemoryDisk>) -> anyhow::Result<u64> {
     }
     for task in 0..2 {
         if let Some(job) = engine.state.job(task) {
-            if u64::from(1000 - job.left()) != got[task as usize] {
+            let steps = got[task as usize];
+            if steps > 1000 || u64::from(job.left()) != 1000 - steps {
                 return Err(Fault::Broken.into());
             }
         }
@@ -222,13 +226,15 @@ fn marks_survive(alloc: Global, fate: Fate) -> anyhow::Result<bool> {
     let (disk, made, marks) = sixty_slots(alloc)?;
     let mut done = 0;
     for calls in made..=disk.clock() {
-        while done < marks.len() && marks[done] <= calls {
-            done += 1;
+        for (before, mark) in marks.iter().enumerate() {
+            if *mark <= calls {
+                done = before as u64 + 1;
+            }
         }
         for fates in [[fate, fate], [Fate::Kept, fate]] {
             let left = disk.stopped(alloc, calls as usize, &fates)?;
             let kept = kept_whole(&opened(alloc, left)?)?;
-            if kept != done as u64 && kept != done as u64 + 1 {
+            if kept < done || kept - done > 1 {
                 return Ok(false);
             }
         }
