@@ -1,0 +1,12 @@
+pub mod Balance
+pub mod Closed
+pub mod Columns
+pub mod Decide
+pub mod Endless
+pub mod First
+pub mod Matrices
+pub mod Moves
+pub mod Plans
+pub mod Runs
+pub mod Serving
+pub mod Sums
