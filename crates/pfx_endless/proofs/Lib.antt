@@ -8,5 +8,6 @@ pub mod Matrices
 pub mod Moves
 pub mod Plans
 pub mod Runs
+pub mod Rows
 pub mod Serving
 pub mod Sums

@@ -2,16 +2,9 @@
 use Rattle.std.proofs.Common.{◌≡◌, ℕ, ◌+◌, ◌==◌, ◌^◌, Bool, true, false, nat_lt, if◌then◌else◌, List, [], ◌∷◌, ◌++◌, Option, Some, None, Ok, Err, ap, sym, ◌∙◌, refl, subst, append_assoc, append-nil}
 use Rattle.std.specs.Prelude.{All, slice_get}
 use Rattle.std.proofs.lemmas.List.Elements.{All-cons, All-nil}
-use Rattle.pfx_weights.specs.Rows.{members, is_in}
-use Rattle.pfx_weights.specs.Sets.{FilledSet, IsFilled}
-use Rattle.pfx_columns.specs.Ledgers.{Ledger, IsLedger, total, start}
+use Rattle.pfx_columns.specs.Ledgers.{IsLedger}
 use Rattle.pfx_choice.specs.declared.faults.ChoiceFault.TheVariants as of_choice
-use Rattle.pfx_choice.specs.Choices.{IsPfRow}
-use Rattle.pfx_choice.specs.PfRows.{chosen, pf_row}
-use Rattle.pfx_choice.proofs.Keeping.{shape_after}
-use Rattle.pfx_choice.proofs.PfFunction.{pf_function}
-use Rattle.pfx_choice.proofs.Schedules.{shape_of, pf_in}
-use Rattle.pfx_choice.proofs.SetSchedules.{Shape}
+use Rattle.pfx_choice.specs.PfRows.{chosen}
 use Rattle.pfx_jobs.specs.Kind.{Kind, Laws}
 use Rattle.pfx_machine.specs.Happenings.{row_or_none}
 use Rattle.pfx_machine.specs.Outcome.{outcome}
@@ -27,33 +20,18 @@ use Rattle.pfx_machine.specs.declared.command.Reply.TheVariants.{Submitted, With
 use Rattle.pfx_machine.specs.declared.faults.MachineFault.{MachineFault}
 use Rattle.pfx_machine.specs.declared.faults.MachineFault.TheVariants.{NumberLimit, SlotLimit, TaskBusy}
 use Rattle.pfx_machine.proofs.Compose.{outcome-none}
-use Rattle.pfx_machine.proofs.Keeping.{chosen_is, below_limit, slot_row}
+use Rattle.pfx_machine.proofs.Keeping.{below_limit, slot_row}
 use Rattle.pfx_machine.proofs.Snoc.{outcome-snoc}
 use Rattle.pfx_endless.specs.Commands.{limit_fault, HadARow}
 use Rattle.pfx_endless.specs.Endless.{IsEndless}
-use Rattle.pfx_endless.proofs.Runs.{EndlessSets}
-use Rattle.pfx_endless.proofs.Endless.{to_rows, of_rows, stays, goes_on, start_shape, start_sets}
-
--- a ledger with a shape from which fair schedules of every length go on
-pub record GoesOn (g : Ledger) : Type 0 where
-  pub shape : Shape g
-  pub sets : EndlessSets g
-
-pub start_goes_on : (s : FilledSet) → IsFilled s → GoesOn (start s)
-start_goes_on s h = record { shape = start_shape s h; sets = start_sets s h }
-
-pub ledger_goes_on : (g : Ledger) → IsLedger g → IsEndless g → GoesOn g
-ledger_goes_on g h endless = (let shape = shape_of g h in record { shape = shape; sets = of_rows g shape endless })
+use Rattle.pfx_endless.proofs.Endless.{to_rows}
+use Rattle.pfx_endless.proofs.Rows.{GoesOn, ledger_goes_on, row_goes_on, row_there}
 
 -- a command more
 step_goes_on : {J : Type 0} (K : Kind J) (s : Plain J) (c : Command J) → GoesOn s.ledger → command_fault K s c ≡ None → GoesOn (ledger_step s.ledger (happening_in s c))
 step_goes_on K s (Submit task job) h accepted = h
 step_goes_on K s (Withdraw task) h accepted = h
-step_goes_on K s Slot h accepted =
-    let g = s.ledger in
-    let row = row_or_none (chosen g) in
-    let pf : IsPfRow g row = (chosen_is g row (slot_row (chosen g) accepted)).pf in
-    record { shape = shape_after g (is_in row) h.shape; sets = stays g h.shape h.sets (is_in row) (pf_in g row pf) }
+step_goes_on K s Slot h accepted = row_goes_on s.ledger (row_or_none (chosen s.ledger)) (slot_row (chosen s.ledger) accepted) h
 
 -- behind what was accepted so far
 next_goes_on : {J : Type 0} (K : Kind J) (L : Laws K) (B : Plain J) (before : List (Command J)) (c : Command J) (o : Option MachineFault) → refusal K (outcome K B before) c ≡ o →
@@ -77,20 +55,17 @@ first_goes_on K B h = (let Goes : Plain _ → Type 0 = λ t. GoesOn t.ledger in 
 pub outcome_goes_on : {J : Type 0} (K : Kind J) (L : Laws K) (B : Plain J) (H : List (Command J)) → GoesOn B.ledger → IsAcceptable K B H → GoesOn (outcome K B H).ledger
 outcome_goes_on K L B H h all = behind_goes_on K L B [] H (first_goes_on K B h) all
 
--- where there is a row, the limits alone refuse
-limit_alone : (row : List ℕ) (b : Bool) → slot_fault (if b then Ok row else Err of_choice.SlotLimit) ≡ (if b then None else Some SlotLimit)
-limit_alone row true = refl
-limit_alone row false = refl
+-- the limits alone refuse a Slot
+limit_alone : (b : Bool) (row : List ℕ) → slot_fault (if b then Ok row else Err of_choice.SlotLimit) ≡ (if b then None else Some SlotLimit)
+limit_alone true row = refl
+limit_alone false row = refl
 
 pub slot_refusal : {J : Type 0} (K : Kind J) (s : Plain J) → GoesOn s.ledger → refusal K s Slot ≡ limit_fault s
 slot_refusal K s h =
-    let g = s.ledger in
-    let r = goes_on g h.shape h.sets in
-    let row = members (total g) r.0 in
-    let is : pf_row g ≡ Ok row = ((pf_function g).rows row).0 (record { set = r.0; pf = r.1; is = refl }) in
-    let below = nat_lt (g.slot + 1) (2 ^ 40) in
-    ap (λ o. if nat_lt (s.number + 1) (2 ^ 48) then slot_fault (if below then o else Err of_choice.SlotLimit) else Some NumberLimit) is
-    ∙ ap (λ o. if nat_lt (s.number + 1) (2 ^ 48) then o else Some NumberLimit) (limit_alone row below)
+    let r = row_there s.ledger h in
+    let below = nat_lt (s.ledger.slot + 1) (2 ^ 40) in
+    ap (λ o. if nat_lt (s.number + 1) (2 ^ 48) then slot_fault (if below then o else Err of_choice.SlotLimit) else Some NumberLimit) r.1
+    ∙ ap (λ o. if nat_lt (s.number + 1) (2 ^ 48) then o else Some NumberLimit) (limit_alone below r.0)
 
 -- behind an acceptable list
 pub served_behind : {J : Type 0} (K : Kind J) (L : Laws K) (B : Plain J) (H : List (Command J)) → GoesOn B.ledger → IsAcceptable K B H → refusal K (outcome K B H) Slot ≡ limit_fault (outcome K B H)

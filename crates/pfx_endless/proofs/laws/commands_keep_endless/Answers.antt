@@ -1,4 +1,5 @@
-use Rattle.pfx_endless.proofs.Serving.{ledger_goes_on, served_behind, endless_behind}
+use Rattle.pfx_endless.proofs.Rows.{ledger_goes_on}
+use Rattle.pfx_endless.proofs.Serving.{served_behind, endless_behind}
 use Rattle.pfx_endless.proofs.laws.commands_keep_endless.Goals as goal
 
 pub returns-clause-endless : goal.returns-clause-endless

@@ -1,5 +1,6 @@
 use Rattle.std.proofs.Common.{sym, subst}
-use Rattle.pfx_endless.proofs.Serving.{GoesOn, start_goes_on, answers_had}
+use Rattle.pfx_endless.proofs.Rows.{GoesOn, start_goes_on}
+use Rattle.pfx_endless.proofs.Serving.{answers_had}
 use Rattle.pfx_endless.proofs.laws.no_answer_lacks_a_row.Goals as goal
 
 pub returns : goal.returns

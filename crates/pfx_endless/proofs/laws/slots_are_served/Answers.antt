@@ -1,5 +1,6 @@
 use Rattle.std.proofs.Common.{sym, subst}
-use Rattle.pfx_endless.proofs.Serving.{GoesOn, start_goes_on, served_behind}
+use Rattle.pfx_endless.proofs.Rows.{GoesOn, start_goes_on}
+use Rattle.pfx_endless.proofs.Serving.{served_behind}
 use Rattle.pfx_endless.proofs.laws.slots_are_served.Goals as goal
 
 pub returns : goal.returns
