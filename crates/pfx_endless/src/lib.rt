@@ -19,3 +19,6 @@ pub mod laws;
 mod slots;
 
 pub use slots::{begin, next_row};
+
+#[cfg(test)]
+mod tests;
