@@ -5,4 +5,5 @@ pub mod SlotLemmas
 pub mod RunLemmas
 pub mod LedgerLemmas
 pub mod PlanLemmas
+pub mod ServedLemmas
 pub mod Examples

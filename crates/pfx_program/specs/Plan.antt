@@ -1,5 +1,5 @@
 -- The plan of a set file: what is printed, and the fault at its end, if there is one.
-use Rattle.std.specs.Prelude.{◌≡◌, ◌≢◌, ◌≤◌, ◌⊎◌, ◌++◌, ⊤, ℕ, List, [], Option, Some, None, Result, Ok, Err, MatchOption, option_map}
+use Rattle.std.specs.Prelude.{◌≡◌, ◌≢◌, ◌≤◌, ◌^◌, ◌⊎◌, ◌++◌, ⊤, ℕ, List, [], Option, Some, None, Result, Ok, Err, MatchOption, option_map}
 use Rattle.std.specs.Io.KnownBytes.{Appends, Keeps}
 use Rattle.pfx_weights.specs.Rows.{is_in}
 use Rattle.pfx_weights.specs.Sets.{FilledSet, Accepts, Refuses}
@@ -66,6 +66,13 @@ Leaves bytes at slots old new (Err fault.InputFailed) = Keeps old new
 Leaves bytes at slots old new (Err fault.OutputFailed) = PrintsFront bytes at slots old new
 Leaves bytes at slots old new (Err fault.NoMemory) = PrintsSome bytes at slots old new
 Leaves bytes at slots old new (Err other) = Prints bytes at slots old new (Some other)
+
+-- the fault doesn't tell of a slot without a row, or only of one past the last of all
+abbrev pub LacksNoRow : ℕ → Fault → Type 0
+LacksNoRow slots (fault.TooManyUrgent urgent m) = ⊥
+LacksNoRow slots (fault.TooFewEligible eligible m) = ⊥
+LacksNoRow slots fault.SlotLimit = 2 ^ 40 ≤ slots
+LacksNoRow slots other = ⊤
 
 -- why the bytes of a reader weren't taken
 abbrev pub IsInputFault : Fault → Type 0

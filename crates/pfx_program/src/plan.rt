@@ -1,9 +1,9 @@
 //! `pfx plan`.
 
-ghost use Rattle.std.specs.Prelude.{◌≡◌, Some, IfSome, IfOk, IfErr, OnOk, map, option_map};
+ghost use Rattle.std.specs.Prelude.{◌≡◌, Some, None, IfSome, IfOk, IfErr, OnOk, map, option_map};
 ghost use Rattle.pfx_set_text.specs.SetFile.{set_of_bytes};
 ghost use Rattle.pfx_set_text.specs.Views.{task_view, set_view};
-ghost use Rattle.pfx_program.specs.Plan.{Leaves, IsInputFault, ReadFails, IsStart, StartFails, SlotPrinted, SlotFails};
+ghost use Rattle.pfx_program.specs.Plan.{Leaves, LacksNoRow, IsInputFault, ReadFails, IsStart, StartFails, SlotPrinted, SlotFails};
 
 use crate::faults::{choice_fault, set_fault};
 use crate::ledger::begin;
@@ -89,7 +89,8 @@ fn put_slot<W: Write>(
 ///
 /// The answer is the plan's end: `Ok` after all its lines, and else the fault that stopped it, with the lines before
 /// it written. `InputFailed` comes where the reader fails, with nothing written; `OutputFailed` where the writer does,
-/// with a beginning of the plan written; `NoMemory` where a growth was refused, with some first lines written.
+/// with a beginning of the plan written; `NoMemory` where a growth was refused, with some first lines written. Without
+/// `at` no slot lacks a row: `TooManyUrgent` and `TooFewEligible` never come, and `SlotLimit` only behind slot 2^40 - 2.
 pub fn run_plan<R: Read, W: Write>(
     alloc: Global,
     input: &mut R,
@@ -97,8 +98,9 @@ pub fn run_plan<R: Read, W: Write>(
     output: &mut W,
     slots: u64,
 ) -> Result<(), Fault>
-    ensures { IfSome (R.remaining input.old) (λ bytes. Leaves bytes (option_map (λ s. s.now) at.entry) slots
+    ensures leaves { IfSome (R.remaining input.old) (λ bytes. Leaves bytes (option_map (λ s. s.now) at.entry) slots
         (W.contents output.old) (W.contents output.new) result) }
+    ensures served { option_map (λ s. s.now) at.entry ≡ None → IfErr result (LacksNoRow slots) }
 {
     let bytes = read_all(alloc, input)?;
     let file = set_from(alloc, bytes.as_slice())?;

@@ -1,0 +1,203 @@
+//! Whole hyperperiods of sets, and the first rows of one.
+
+use super::*;
+use pfx_choice::{ChoiceFault, Chooser, give};
+use pfx_columns::Columns;
+use pfx_weights::TaskSet;
+use std::alloc::Global;
+use std::test::Fail;
+
+/// Whether every lag is zero.
+fn is_level(ledger: &Columns) -> bool {
+    for x in 0..ledger.total() {
+        if ledger.lag(x) != 0 {
+            return false;
+        }
+    }
+    true
+}
+
+/// Gives a hyperperiod of slots to the rows that are chosen, and says whether every lag is zero behind it.
+fn hyperperiod(chooser: &mut Chooser, ledger: &mut Columns) -> Result<bool, ChoiceFault> {
+    for _slot in 0..ledger.hyper() {
+        let row = chooser.choose(ledger)?;
+        give(ledger, &row);
+    }
+    Ok(is_level(ledger))
+}
+
+/// How many slots of two hyperperiods were given away, where no slot was refused and every lag was zero behind each.
+fn two_hyperperiods(alloc: Global, m: u32, tasks: &[(u32, u32)]) -> Result<Option<u64>, Fail> {
+    let set = TaskSet::new(alloc, m, tasks)?;
+    let mut ledger = begin(alloc, &set)?;
+    let mut chooser = Chooser::new(alloc);
+    let first = hyperperiod(&mut chooser, &mut ledger).map_err(|_| "a row of the first")?;
+    let second = hyperperiod(&mut chooser, &mut ledger).map_err(|_| "a row of the second")?;
+    Ok(if first && second {
+        Some(ledger.slot())
+    } else {
+        None
+    })
+}
+
+// In the sets from the fourth to the tenth the nearest deadline alone, with ties to the lower number or to the higher one,
+// gives some task a slot too late.
+#[test]
+fn two_hyperperiods_have_rows(rt: HostRuntime) -> Result<(), Fail> {
+    let alloc = rt.alloc();
+    let sets: [(u32, &[(u32, u32)], u64); 14] = [
+        (2, &[(2, 3), (2, 3), (2, 3)], 3),
+        (1, &[(1, 2), (1, 3), (1, 6)], 6),
+        (2, &[(4, 5)], 5),
+        (3, &[(16, 30), (13, 15), (8, 20), (13, 20), (11, 20)], 60),
+        (
+            4,
+            &[(4, 5), (6, 10), (3, 5), (1, 3), (3, 4), (35, 60), (1, 3)],
+            60,
+        ),
+        (
+            4,
+            &[(40, 90), (4, 6), (87, 90), (2, 6), (4, 6), (83, 90)],
+            90,
+        ),
+        (
+            5,
+            &[
+                (1, 3),
+                (4, 9),
+                (13, 18),
+                (1, 2),
+                (1, 3),
+                (5, 6),
+                (7, 12),
+                (6, 12),
+                (7, 12),
+                (1, 6),
+            ],
+            36,
+        ),
+        (
+            6,
+            &[
+                (17, 30),
+                (25, 30),
+                (12, 20),
+                (5, 10),
+                (2, 4),
+                (2, 4),
+                (102, 120),
+                (12, 30),
+                (3, 10),
+                (22, 40),
+                (2, 5),
+            ],
+            120,
+        ),
+        (
+            8,
+            &[
+                (17, 18),
+                (6, 9),
+                (5, 9),
+                (40, 45),
+                (22, 30),
+                (5, 6),
+                (4, 6),
+                (4, 5),
+                (9, 10),
+                (19, 30),
+                (17, 45),
+            ],
+            90,
+        ),
+        (
+            8,
+            &[
+                (4, 10),
+                (1, 3),
+                (78, 120),
+                (11, 15),
+                (51, 60),
+                (4, 8),
+                (1, 4),
+                (17, 24),
+                (3, 4),
+                (7, 8),
+                (5, 6),
+                (5, 6),
+                (17, 60),
+            ],
+            120,
+        ),
+        (
+            1,
+            &[
+                (1, 2),
+                (1, 4),
+                (1, 8),
+                (1, 16),
+                (1, 32),
+                (1, 64),
+                (1, 128),
+                (1, 256),
+                (1, 512),
+                (1, 1024),
+                (1, 1024),
+            ],
+            1024,
+        ),
+        (
+            5,
+            &[(1, 2), (2, 3), (3, 5), (5, 7), (9, 11), (10, 13)],
+            30030,
+        ),
+        (2, &[(16383, 16384), (1, 2), (1, 3)], 49_152),
+        (
+            3,
+            &[
+                (1, 2),
+                (2, 3),
+                (3, 4),
+                (1, 5),
+                (1, 7),
+                (1, 8),
+                (2, 9),
+                (1, 10),
+                (1, 12),
+                (1, 16),
+            ],
+            5_040,
+        ),
+    ];
+    for (m, tasks, hyper) in sets {
+        let given = two_hyperperiods(alloc, m, tasks)?;
+        assert_eq!(rt; given, Some(2 * hyper), "{tasks:?}");
+    }
+    Ok(())
+}
+
+#[test]
+fn as_many_as_there_may_be_have_rows(rt: HostRuntime) -> Result<(), Fail> {
+    let alloc = rt.alloc();
+    let mut tasks = Vec::new(alloc);
+    for _task in 0..65 {
+        tasks.push((64, 65))?;
+    }
+    assert_eq!(rt; two_hyperperiods(alloc, 64, &tasks)?, Some(130));
+    Ok(())
+}
+
+#[test]
+fn gives_three_rows(rt: HostRuntime) -> Result<(), Fail> {
+    let alloc = rt.alloc();
+    let set = TaskSet::new(alloc, 2, &[(2, 3), (2, 3), (2, 3)])?;
+    let mut ledger = begin(alloc, &set)?;
+    let mut chooser = Chooser::new(alloc);
+    let first = next_row(&mut chooser, &mut ledger)?;
+    assert_eq!(rt; first.as_slice(), [0, 1].as_slice());
+    let second = next_row(&mut chooser, &mut ledger)?;
+    assert_eq!(rt; second.as_slice(), [0, 2].as_slice());
+    let third = next_row(&mut chooser, &mut ledger)?;
+    assert_eq!(rt; third.as_slice(), [1, 2].as_slice());
+    Ok(())
+}
