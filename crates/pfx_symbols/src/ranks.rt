@@ -3,6 +3,7 @@
 ghost use Rattle.std.specs.Prelude.{◌≡◌, ◌≢◌, ℕ, ◌+◌, ◌*◌, ◌%◌, ◌<◌, ◌≤◌, ◌^◌, refl};
 ghost use Rattle.pfx_symbols.specs.Ranks.{IsRank, rank_cmp, tie_cmp, substring, order_at, contender};
 ghost use Rattle.pfx_symbols.specs.Symbols.{symbol_cmp};
+ghost use Rattle.pfx_symbols.specs.Gaps.{IsWithinLogarithm};
 ghost use Rattle.pfx_symbols.specs.RankLaws.{rank_total};
 ghost use Rattle.std.proofs.lemmas.Cmp.{eq_by_cmp_equiv};
 ghost use Rattle.std.specs.Cmp.Lexicographic.{slice_cmp};
@@ -84,21 +85,32 @@ impl Rank {
     }
 }
 
-/// The order of two tasks' substrings.
-fn compare_substrings(a: &Rank, b: &Rank) -> Ordering
-    ensures order { result ≡ slice_cmp symbol_cmp (substring a.now) (substring b.now) }
+/// The phase one slot after this one.
+fn next_phase(e: u32, p: u32, phase: u32) -> u32
+    requires weight { (1 ≤ e) × (e < p) × (p ≤ 2 ^ 20) }
+    requires phase { phase < p }
+    ensures { result ≡ (phase + e) % p }
+{
+    let next = phase + e;
+    if next < p { next } else { next - p }
+}
+
+/// The order of two tasks' substrings, and in how many rounds it was found.
+fn compare_substrings(a: &Rank, b: &Rank) -> (Ordering, u32)
+    ensures order { result.0 ≡ slice_cmp symbol_cmp (substring a.now) (substring b.now) }
+    ensures rounds { IsWithinLogarithm result.1 a.now.p × IsWithinLogarithm result.1 b.now.p }
     ensures ranks { IsRank a.now × IsRank b.now }
 {
     if a.e == b.e && a.p == b.p && a.phase == b.phase {
-        return Ordering::Equal;
+        return (Ordering::Equal, 0);
     }
     compare_gaps(
         a.e,
         a.p,
-        (a.phase + a.e) % a.p,
+        next_phase(a.e, a.p, a.phase),
         b.e,
         b.p,
-        (b.phase + b.e) % b.p,
+        next_phase(b.e, b.p, b.phase),
     )
 }
 
@@ -112,6 +124,19 @@ pub fn compare_ties(a: &Rank, b: &Rank) -> Ordering
     )
 }
 
+/// The order of two tasks, as `compare` gives it, and in how many rounds it was found.
+///
+/// A round takes four divisions at the most. There are at most as many as the logarithm to base 2 of either period,
+/// rounded up, and none where the tasks have one weight and one phase.
+pub fn compare_in_rounds(a: &Rank, b: &Rank) -> (Ordering, u32)
+    ensures order { result.0 ≡ rank_cmp a.now b.now }
+    ensures rounds { IsWithinLogarithm result.1 a.now.p × IsWithinLogarithm result.1 b.now.p }
+    ensures ranks { IsRank a.now × IsRank b.now }
+{
+    let (order, rounds) = compare_substrings(a, b);
+    (order.then(compare_ties(a, b)), rounds)
+}
+
 /// The order of two tasks: the greater substring is greater, then the lower number; then p, e and phase.
 pub fn compare(a: &Rank, b: &Rank) -> Ordering
     ensures by_phase { result ≡ rank_cmp a.now b.now }
@@ -119,7 +144,8 @@ pub fn compare(a: &Rank, b: &Rank) -> Ordering
     // Two tasks at one slot are ordered as "beats" says.
     ensures by_slot { (t : ℕ) → a.now.phase ≡ (a.now.e * t) % a.now.p → b.now.phase ≡ (b.now.e * t) % b.now.p → a.now.id ≢ b.now.id → result ≡ order_at t (contender a.now) (contender b.now) }
 {
-    compare_substrings(a, b).then(compare_ties(a, b))
+    let (order, _rounds) = compare_in_rounds(a, b);
+    order
 }
 
 impl PartialEq for Rank {
