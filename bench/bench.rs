@@ -51,12 +51,17 @@ fn compare_gaps(mut a: (u32, u32, u32), mut b: (u32, u32, u32)) -> Ordering {
     if turned { answer.reverse() } else { answer }
 }
 
+fn next_phase(a: &Rank) -> u32 {
+    let next = a.phase + a.e;
+    if next < a.p { next } else { next - a.p }
+}
+
 fn compare(a: &Rank, b: &Rank) -> Ordering {
     let equal = (a.e, a.p, a.phase) == (b.e, b.p, b.phase);
     let front = if equal {
         Ordering::Equal
     } else {
-        compare_gaps((a.e, a.p, (a.phase + a.e) % a.p), (b.e, b.p, (b.phase + b.e) % b.p))
+        compare_gaps((a.e, a.p, next_phase(a)), (b.e, b.p, next_phase(b)))
     };
     front.then(b.id.cmp(&a.id))
 }
@@ -169,10 +174,10 @@ fn proved(program: &str, words: &[String]) -> (u64, f64) {
     (number(&ran.stdout), number(&ran.stderr) as f64 / 1e9)
 }
 
-/// Both programs' least seconds of three runs each, taken in turn, with the same result.
+/// Both programs' least seconds of fifteen runs each, taken in turn, with the same result.
 fn both(count: u64, plain: impl Fn(u64) -> u64, program: &str, words: &[String]) -> (f64, f64) {
     let (mut least_plain, mut least_proved) = (f64::MAX, f64::MAX);
-    for _ in 0..3 {
+    for _ in 0..15 {
         let start = Instant::now();
         let sum = std::hint::black_box(plain(count));
         least_plain = least_plain.min(start.elapsed().as_secs_f64());
@@ -183,13 +188,13 @@ fn both(count: u64, plain: impl Fn(u64) -> u64, program: &str, words: &[String])
     (least_plain, least_proved)
 }
 
-/// How many it takes for a run of about a quarter of a second.
+/// How many it takes for a run of about a tenth of a second.
 fn calibrated(plain: impl Fn(u64) -> u64) -> u64 {
     let mut count = 64;
     loop {
         let start = Instant::now();
         std::hint::black_box(plain(count));
-        if start.elapsed().as_secs_f64() > 0.25 {
+        if start.elapsed().as_secs_f64() > 0.1 {
             return count;
         }
         count *= 2;

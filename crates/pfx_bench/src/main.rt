@@ -37,9 +37,10 @@ fn weight(word: &str) -> Result<(u32, u32), Fail> {
 /// The sum over the rows of the first slots of a set.
 fn plan(alloc: Global, ledger: &mut Columns, slots: u64) -> Result<u64, Fail> {
     let mut chooser = Chooser::new(alloc);
+    let mut row = Row::empty();
     let mut sum = 0;
     for _slot in 0..slots {
-        let row = chooser.choose(ledger)?;
+        chooser.choose_into(ledger, &mut row)?;
         give(ledger, &row);
         sum = mixed(sum, &row);
     }

@@ -1,6 +1,6 @@
 //! The choice by selection: the contending ranks are split around the one that just has a place.
 
-ghost use Rattle.std.specs.Prelude.{◌≡◌, ℕ, ◌<◌, ◌≤◌, ◌||◌, ◌++◌, length, All, MatchResult, IfOk, OnOk};
+ghost use Rattle.std.specs.Prelude.{◌≡◌, ◌≢◌, ℕ, ◌<◌, ◌≤◌, ◌||◌, ◌++◌, length, All, MatchResult, IfOk, OnOk, OnErr};
 ghost use Rattle.pfx_weights.specs.Rows.{members};
 ghost use Rattle.pfx_columns.specs.Ledgers.{total, rank};
 ghost use Rattle.pfx_choice.specs.Choices.{urgent, is_urgent, is_contending, IsChosen, Fails};
@@ -43,11 +43,25 @@ impl Chooser {
         ensures row { MatchResult result (λ row. IsChosen ledger.now row) (λ f. Fails ledger.now f) }
         ensures function { AnswersFunction (chosen ledger.now) result }
     {
-        self.select(ledger)
+        let mut row = Row::empty();
+        match self.choose_into(ledger, &mut row) {
+            Ok(()) => Ok(row),
+            Err(fault) => Err(fault),
+        }
     }
 
-    fn select(&mut self, ledger: &Columns) -> Result<Row, ChoiceFault>
-        ensures { MatchResult result (λ row. IsChosen ledger.now row) (λ f. Fails ledger.now f) }
+    /// Puts PF's row at the ledger into `row`, as `choose` gives it, or leaves `row` as it is where there is none.
+    pub fn choose_into(&mut self, ledger: &Columns, row: &mut Row) -> Result<(), ChoiceFault>
+        ensures row { MatchResult result (λ _. IsChosen ledger.now row.new) (λ f. Fails ledger.now f) }
+        ensures function { MatchResult result (λ _. chosen ledger.now ≡ Ok row.new) (λ f. f ≢ ChoiceFault.NoMemory → chosen ledger.now ≡ Err f) }
+        ensures err { OnErr result (row.new ≡ row.old) }
+    {
+        self.select(ledger, row)
+    }
+
+    fn select(&mut self, ledger: &Columns, row: &mut Row) -> Result<(), ChoiceFault>
+        ensures row { MatchResult result (λ _. IsChosen ledger.now row.new) (λ f. Fails ledger.now f) }
+        ensures err { OnErr result (row.new ≡ row.old) }
     {
         if ledger.slot() >= LAST_SLOT {
             return Err(ChoiceFault::SlotLimit);
@@ -72,13 +86,8 @@ impl Chooser {
         let Ok(_) = collect(&mut self.numbers, &self.flags) else {
             return Err(ChoiceFault::NoMemory);
         };
-        match Row::new(&self.numbers) {
-            Some(row) => Ok(row),
-            None => {
-                prove!(false);
-                Err(ChoiceFault::NoMemory)
-            }
-        }
+        row.set(&self.numbers);
+        Ok(())
     }
 }
 

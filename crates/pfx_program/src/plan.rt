@@ -13,7 +13,7 @@ use pfx_choice::{Chooser, give};
 use pfx_columns::Columns;
 use pfx_fault::Fault;
 use pfx_set_text::{NamedTask, SetText, SetTextFault, read_set};
-use pfx_weights::TaskSet;
+use pfx_weights::{Row, TaskSet};
 use std::alloc::Global;
 use std::io::{ErrorKind, Read, Write};
 
@@ -53,10 +53,11 @@ fn started(alloc: Global, file: &SetText, at: Option<&str>) -> Result<Columns, F
     }
 }
 
-// Writes the line of the next slot.
+// Writes the line of the next slot. The row is room for the one that is chosen.
 fn put_slot<W: Write>(
     alloc: Global,
     chooser: &mut Chooser,
+    row: &mut Row,
     tasks: &[NamedTask],
     columns: &mut Columns,
     output: &mut W,
@@ -66,14 +67,14 @@ fn put_slot<W: Write>(
     ensures err { IfErr result (SlotFails (map task_view tasks.now) columns.old
         (W.contents output.old) (W.contents output.new)) }
 {
-    let row = match chooser.choose(columns) {
-        Ok(row) => row,
+    match chooser.choose_into(columns, row) {
+        Ok(()) => {}
         Err(fault) => return Err(choice_fault(fault)),
-    };
-    let Ok(line) = line_of(alloc, tasks, columns.slot(), &row) else {
+    }
+    let Ok(line) = line_of(alloc, tasks, columns.slot(), row) else {
         return Err(Fault::NoMemory);
     };
-    give(columns, &row);
+    give(columns, row);
     match put(output, line.as_slice()) {
         Ok(()) => Ok(()),
         Err(_) => Err(Fault::OutputFailed),
@@ -106,10 +107,12 @@ pub fn run_plan<R: Read, W: Write>(
     let file = set_from(alloc, bytes.as_slice())?;
     let mut columns = started(alloc, &file, at)?;
     let mut chooser = Chooser::new(alloc);
+    let mut row = Row::empty();
     for _ in 0..slots {
         put_slot(
             alloc,
             &mut chooser,
+            &mut row,
             file.tasks.as_slice(),
             &mut columns,
             output,

@@ -14,7 +14,7 @@ const WIDEST: usize = 64;
 /// The tasks that run in one slot: at most 64 task numbers, strictly rising. It takes no heap memory.
 #[derive(Debug, Drop)]
 pub struct Row {
-    /// The numbers; the places past `len` hold zeros.
+    /// The numbers; the places past `len` count for nothing.
     places: [u16; WIDEST],
     len: usize,
 }
@@ -46,10 +46,29 @@ impl Row {
         if numbers.len() > WIDEST || !is_rising(numbers) {
             return None;
         }
-        let mut places = [0u16; WIDEST];
+        let mut row = Row::empty();
+        row.set(numbers);
+        Some(row)
+    }
+
+    /// The row in which no task runs.
+    pub fn empty() -> Row
+        ensures { result ≡ [] }
+    {
+        Row {
+            places: [0u16; WIDEST],
+            len: 0,
+        }
+    }
+
+    /// Becomes the row of these task numbers, which are at most 64 and rise strictly.
+    pub fn set(&mut self, numbers: &[u16])
+        requires { IsRow numbers.now }
+        ensures { self.new ≡ numbers.now }
+    {
         let len = numbers.len();
-        places[..len].copy_from_slice(numbers);
-        Some(Row { places, len })
+        self.places[..len].copy_from_slice(numbers);
+        self.len = len;
     }
 
     /// How many tasks run.

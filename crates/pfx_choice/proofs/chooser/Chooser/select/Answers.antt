@@ -9,8 +9,8 @@ use Rattle.pfx_choice.specs.Picks.{ranks, marked, IsUrgentFlags, IsPlaced}
 use Rattle.pfx_choice.proofs.Picking.{length-ranks, ranks_below, placed_is_pf, pf_is_row}
 use Rattle.pfx_choice.proofs.chooser.Chooser.select.Goals as goal
 
-pub returns-then-contending-places : goal.returns-then-contending-places
-returns-then-contending-places c =
+pub returns-then-contending-places-clause-row : goal.returns-then-contending-places-clause-row
+returns-then-contending-places-clause-row c =
     let g = c.args.ledger.now in
     let all : length c.sort_out.new.found.items ≡ contending g = ap length c.in-Ok.ensures.ranks ∙ length-ranks g in
     (omega (arith, c.slot.ensures, c.if-slot-ge-LAST_SLOT.false), omega (arith, c.in-Ok.ensures.number, c.len-contending.ensures), c.workers-m.ensures, omega arith)
@@ -47,23 +47,22 @@ collected g m u rs qs flags old new all numbers h same is seen urgent placed lef
     let R : List ℕ → Type 0 = λ row. IsPfRow g row in
     subst R (sym (collects ∙ ap (λ f. members (length f) (marked f)) left)) (placed_is_pf g m u qs old new h (same ∙ is) placed (subst Seen (sym seen) urgent) u_is m_is le)
 
-pub returns-in-Some : goal.returns-in-Some
-returns-in-Some c =
+pub returns-clause-row : goal.returns-clause-row
+returns-clause-row c =
     let g = c.args.ledger.now in
     let left = flags_left c.place_best.new.flags c.sort_out.new.flags.items c.deref.result.now c.sort_out.new.flags.len (c.place_best.auto.flags ∙ ap length c.deref_mut.ensures.value) c.sort_out.new.flags.ok.0 c.deref.ensures.value in
     let pf = collected g c.workers-m.result c.in-Ok.urgent c.sort_out.new.found.items c.deref_mut-2.result.now c.sort_out.new.flags.items c.deref_mut.result.now c.place_best.new.flags c.deref.result.now c.collect.new.numbers.items
     c.total-total.ensures.ledger c.deref_mut-2.ensures.value c.in-Ok.ensures.ranks c.deref_mut.ensures.value c.in-Ok.ensures.flags c.place_best.ensures left c.in-Ok-collect.ensures c.in-Ok.ensures.number c.workers-m.ensures c.if-urgent-m.false in
     let R : List ℕ → Type 0 = λ row. IsPfRow g row in
     record {
-      pf = subst R (sym (c.in-Some.ensures.1 ∙ c.deref-2.ensures.value)) pf;
+      pf = subst R (sym (c.set.ensures ∙ c.deref-2.ensures.value)) pf;
       slot = omega (arith, c.slot.ensures, c.if-slot-ge-LAST_SLOT.false);
     }
 
-pub prove-unreachable-requires : goal.prove-unreachable-requires
-prove-unreachable-requires c =
+pub set-requires : goal.set-requires
+set-requires c =
     let g = c.args.ledger.now in
     let left = flags_left c.place_best.new.flags c.sort_out.new.flags.items c.deref.result.now c.sort_out.new.flags.len (c.place_best.auto.flags ∙ ap length c.deref_mut.ensures.value) c.sort_out.new.flags.ok.0 c.deref.ensures.value in
     let pf = collected g c.workers-m.result c.in-Ok.urgent c.sort_out.new.found.items c.deref_mut-2.result.now c.sort_out.new.flags.items c.deref_mut.result.now c.place_best.new.flags c.deref.result.now c.collect.new.numbers.items
     c.total-total.ensures.ledger c.deref_mut-2.ensures.value c.in-Ok.ensures.ranks c.deref_mut.ensures.value c.in-Ok.ensures.flags c.place_best.ensures left c.in-Ok-collect.ensures c.in-Ok.ensures.number c.workers-m.ensures c.if-urgent-m.false in
-    let none : IsRow c.deref-2.result.now → ⊥ = c.in-None.ensures in
-    none (subst IsRow (sym c.deref-2.ensures.value) (pf_is_row g c.collect.new.numbers.items pf c.total-total.ensures.ledger.set.workers.1))
+    subst IsRow (sym c.deref-2.ensures.value) (pf_is_row g c.collect.new.numbers.items pf c.total-total.ensures.ledger.set.workers.1)
