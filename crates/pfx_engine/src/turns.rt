@@ -62,6 +62,20 @@ fn left(alloc: Global, store: &Store<MemoryDisk, AnyJob>) -> anyhow::Result<Memo
     Ok(store.file.disk.stopped(alloc, calls as usize, &[])?)
 }
 
+/// The bytes of the file as a stop now leaves it.
+fn file_of(alloc: Global, store: &Store<MemoryDisk, AnyJob>) -> anyhow::Result<Vec<u8>> {
+    let mut disk = left(alloc, store)?;
+    let len = disk.len()?;
+    let mut bytes = vec![in alloc; 0; len]?;
+    disk.read(0, &mut bytes)?;
+    Ok(bytes)
+}
+
+/// The byte at a place, 0 past the end.
+fn byte_at(bytes: &[u8], at: usize) -> u8 {
+    if at < bytes.len() { bytes[at] } else { 0 }
+}
+
 /// The number of the last command, and what the tasks have got.
 fn standing(engine: &DurableEngine<MemoryDisk>) -> anyhow::Result<(u64, [u64; 3])> {
     let ledger = engine.state.columns();
@@ -74,78 +88,110 @@ fn standing(engine: &DurableEngine<MemoryDisk>) -> anyhow::Result<(u64, [u64; 3]
     ))
 }
 
+/// The steps of a checkpoint of one piece, and what comes behind them.
+const STEPS: [Tended; 4] = [
+    Tended::Closed,
+    Tended::Piece,
+    Tended::Finished,
+    Tended::Nothing,
+];
+
+/// The store behind ten slots, a turn, the checkpoint's steps, a slot, a turn and a slot.
+fn turned_twice(alloc: Global) -> anyhow::Result<Store<MemoryDisk, AnyJob>> {
+    let mut store = thirds(alloc, empty(alloc, 200)?, 8192)?;
+    append_slots(alloc, 10, &mut store)?;
+    turn(&mut store)?;
+    if !are_steps(&mut store, &STEPS)? {
+        return Err(Fault::Broken.into());
+    }
+    append_slots(alloc, 1, &mut store)?;
+    turn(&mut store)?;
+    append_slots(alloc, 1, &mut store)?;
+    Ok(store)
+}
+
+/// Turns the store; a second turn isn't lawful.
+fn turn(store: &mut Store<MemoryDisk, AnyJob>) -> anyhow::Result<()> {
+    let first = store.turn()?;
+    let second = store.turn()?;
+    if first && !second {
+        return Ok(());
+    }
+    Err(Fault::Broken.into())
+}
+
 #[test]
 fn a_second_turn_leads_back(rt: HostRuntime) -> anyhow::Result<()> {
     let alloc = rt.alloc();
-    let mut store = thirds(alloc, empty(alloc, 200)?, 8192)?;
-    assert!(rt; !store.turn()?);
-    append_slots(alloc, 10, &mut store)?;
-    assert!(rt; store.turn()?);
-    assert!(rt; !store.turn()?);
-    let steps = [
-        Tended::Closed,
-        Tended::Piece,
-        Tended::Finished,
-        Tended::Nothing,
-    ];
-    assert!(rt; are_steps(&mut store, &steps)?);
-    assert!(rt; !store.turn()?);
-    append_slots(alloc, 1, &mut store)?;
-    assert!(rt; store.turn()?);
-    append_slots(alloc, 1, &mut store)?;
-
+    let store = turned_twice(alloc)?;
     let again = opened(alloc, left(alloc, &store)?)?;
     assert_eq!(rt; standing(&again)?, (12, [8, 8, 8]));
     let places = again.store.file.places;
     assert!(rt; places.slot && places.turned && !places.segment);
-
-    // Frame 12 stands where frame 1 stood, and has closed frame 2's gate; those behind it are as they were.
-    let mut disk = left(alloc, &store)?;
-    if disk.len()? < 1105 {
-        return Err(Fault::Device.into());
-    }
-    let mut bytes = [0; 1105];
-    disk.read(0, &mut bytes)?;
-    assert_eq!(rt; (bytes[469], bytes[470]), (0xc3, 10));
-    assert_eq!(rt;
-        (bytes[897], bytes[898], bytes[906], bytes[928]),
-        (0xc3, 12, 0xc3, 0)
-    );
-    for frame in 2..10 {
-        assert!(rt; bytes[906 + 22 * frame] == 0xc3);
-    }
     Ok(())
 }
 
 #[test]
-fn a_checkpoint_goes_on_between_slots(rt: HostRuntime) -> anyhow::Result<()> {
+fn old_frames_stand_behind_a_closed_gate(rt: HostRuntime) -> anyhow::Result<()> {
+    // Frame 12 stands where frame 1 stood, and has closed frame 2's gate; those behind it are as they were.
     let alloc = rt.alloc();
+    let store = turned_twice(alloc)?;
+    let bytes = file_of(alloc, &store)?;
+    let held = [
+        (469, 0xc3),
+        (470, 10),
+        (897, 0xc3),
+        (898, 12),
+        (906, 0xc3),
+        (928, 0),
+    ];
+    for (at, byte) in held {
+        assert!(rt; byte_at(&bytes, at) == byte);
+    }
+    for frame in 2..10 {
+        assert!(rt; byte_at(&bytes, 906 + 22 * frame) == 0xc3);
+    }
+    Ok(())
+}
+
+/// The store behind forty slots, a turn, and five slots between the checkpoint's first two steps.
+fn turned_once(alloc: Global) -> anyhow::Result<Store<MemoryDisk, AnyJob>> {
     let mut store = thirds(alloc, empty(alloc, 400)?, 8192)?;
     append_slots(alloc, 40, &mut store)?;
-    assert!(rt; store.turn()?);
-    assert!(rt; are_steps(&mut store, &[Tended::Closed])?);
+    turn(&mut store)?;
+    if !are_steps(&mut store, &[Tended::Closed])? {
+        return Err(Fault::Broken.into());
+    }
     append_slots(alloc, 2, &mut store)?;
-    assert!(rt; are_steps(&mut store, &[Tended::Piece])?);
+    if !are_steps(&mut store, &[Tended::Piece])? {
+        return Err(Fault::Broken.into());
+    }
     append_slots(alloc, 3, &mut store)?;
+    Ok(store)
+}
 
-    // A stop here: the checkpoint begins anew.
-    let mut again = opened(alloc, left(alloc, &store)?)?;
+#[test]
+fn a_checkpoint_begins_anew_behind_a_stop(rt: HostRuntime) -> anyhow::Result<()> {
+    let alloc = rt.alloc();
+    let store = turned_once(alloc)?;
+    let again = opened(alloc, left(alloc, &store)?)?;
     assert_eq!(rt; standing(&again)?, (45, [30, 30, 30]));
-    let steps = [
-        Tended::Closed,
-        Tended::Piece,
-        Tended::Finished,
-        Tended::Nothing,
-    ];
-    assert!(rt; are_steps(&mut again.store, &steps)?);
-    let after = opened(alloc, again.into_store().into_disk())?;
+    let mut store = again.into_store();
+    assert!(rt; are_steps(&mut store, &STEPS)?);
+    let after = opened(alloc, store.into_disk())?;
     assert_eq!(rt; standing(&after)?, (45, [30, 30, 30]));
+    Ok(())
+}
 
-    // Or a stop behind its last step.
+#[test]
+fn a_checkpoint_ends_between_slots(rt: HostRuntime) -> anyhow::Result<()> {
+    let alloc = rt.alloc();
+    let mut store = turned_once(alloc)?;
     assert!(rt; are_steps(&mut store, &[Tended::Finished])?);
     let after = opened(alloc, left(alloc, &store)?)?;
     assert_eq!(rt; standing(&after)?, (45, [30, 30, 30]));
-    assert!(rt; after.store.file.places.slot && !after.store.file.places.turned);
+    let places = after.store.file.places;
+    assert!(rt; places.slot && !places.turned);
     Ok(())
 }
 
