@@ -1,8 +1,13 @@
 -- What an engine answers where its store has failed.
-use Rattle.std.specs.Prelude.{◌≡◌, ℕ, Bool, if◌then◌else◌, Result, Ok, Err}
+use Rattle.std.specs.Prelude.{◌≡◌, ℕ, Bool, if◌then◌else◌, Some, Result, Ok, Err, ⊤}
+use Rattle.pfx_endless.specs.Commands.{limit_fault}
 use Rattle.pfx_fault.specs.declared.parts.Cause.TheVariants as cause
 use Rattle.pfx_fault.specs.declared.refusals.Fault.{Fault}
 use Rattle.pfx_fault.specs.declared.refusals.Fault.TheVariants as fault
+use Rattle.pfx_kinds.specs.declared.any.AnyJob.{AnyJob}
+use Rattle.pfx_machine.specs.Plain.{Plain}
+use Rattle.pfx_machine.specs.declared.command.Command.{Command}
+use Rattle.pfx_machine.specs.declared.command.Command.TheVariants.{Slot}
 use Rattle.pfx_program.specs.declared.engine.CallFault.{CallFault}
 use Rattle.pfx_program.specs.declared.engine.CallFault.TheVariants as callfault
 
@@ -20,3 +25,8 @@ abbrev pub Fails : ℕ → Type 0 → Type 0 → CallFault → Type 0
 Fails marked failed same (callfault.Refused f) = same
 Fails marked failed same (callfault.Failed fault.NoMemory) = same
 Fails marked failed same (callfault.Failed other) = (other ≡ stopped_at marked) × failed
+
+-- where a Slot is refused, the limits on numbers and slots refuse it
+abbrev pub IsServed : Plain AnyJob → Command AnyJob → CallFault → Type 0
+IsServed s c (callfault.Refused f) = c ≡ Slot → limit_fault s ≡ Some f
+IsServed s c (callfault.Failed f) = ⊤

@@ -1,7 +1,8 @@
 //! The engine that keeps each command in a store before it answers it.
 
-ghost use Rattle.std.specs.Prelude.{◌≡◌, ◌+◌, ◌++◌, ◌∷◌, [], List, ℕ, true, false, Ok, Err, IfOk, IfErr, OnOk};
+ghost use Rattle.std.specs.Prelude.{◌≡◌, ◌↔◌, IsTrue, ◌+◌, ◌++◌, ◌∷◌, [], List, ℕ, true, false, Ok, Err, IfOk, IfErr, OnOk};
 ghost use Rattle.pfx_disk.specs.Disk.{IsHonest, HasFailed};
+ghost use Rattle.pfx_endless.specs.Endless.{IsEndless};
 ghost use Rattle.pfx_format.specs.Format.{format};
 ghost use Rattle.pfx_kinds.specs.AnyKind.{any_kind};
 ghost use Rattle.pfx_kinds.specs.declared.any.AnyJob.{AnyJob};
@@ -14,7 +15,7 @@ ghost use Rattle.pfx_program.specs.Running.{IsOfRun, NotAccepted, Shows};
 ghost use Rattle.pfx_recovery.specs.Recovery.{recovered};
 ghost use Rattle.pfx_store.specs.Calls.{GoesOn};
 ghost use Rattle.pfx_journal.specs.Standing.{Stands};
-ghost use Rattle.pfx_engine.specs.Failing.{Fails, last_kept, stopped_at};
+ghost use Rattle.pfx_engine.specs.Failing.{Fails, IsServed, last_kept, stopped_at};
 ghost use Rattle.pfx_engine.specs.Surviving.{KeepsAll};
 
 use crate::keeping::keep;
@@ -45,6 +46,13 @@ fn stopped<D: Disk>(store: &Store<D, AnyJob>) -> Fault
         marked: store.state().number(),
         cause: Cause::Device,
     }
+}
+
+// Whether a growth of memory was refused.
+fn is_memory(fault: MachineFault) -> bool
+    ensures { IsTrue result ↔ (fault ≡ MachineFault.NoMemory) }
+{
+    matches!(fault, MachineFault::NoMemory)
 }
 
 impl<D: Disk> DurableEngine<D> {
@@ -103,6 +111,11 @@ impl<D: Disk> DurableEngine<D> {
         ensures moves { OnOk result (self.new.state ≡ outcome any_kind self.old.state (command ∷ [])) }
         ensures whole { OnOk result (self.new.store.file.broken ≡ false) }
         ensures refused { IfErr result (NotAccepted self.old.state command self.new.state) }
+
+        // Where fair schedules of every length go on from the state, as in each store that `init` made, the limits alone refuse
+        // a Slot, and such schedules go on from the new state.
+        ensures served { IsEndless self.old.state.ledger → IfErr result (IsServed self.old.state command) }
+        ensures endless { IsEndless self.old.state.ledger → OnOk result (IsEndless self.new.state.ledger) }
         ensures fails { IfErr result (Fails self.old.store.state.number
             ((self.new.store.file.broken ≡ true) × (self.old.store.file.broken ≡ false → HasFailed (D.view self.old.store.file.disk) (D.view self.new.store.file.disk)))
             ((self.new.state ≡ self.old.state) × (self.new.store ≡ self.old.store))) }
@@ -131,12 +144,13 @@ impl<D: Disk> DurableEngine<D> {
         if self.store.is_broken() {
             return Err(CallFault::Failed(stopped(&self.store)));
         }
+        let _number = self.state.number();
         // The growths come first: once the state has moved, only the disk can fail.
         let Ok(mut records) = Vec::with_capacity(alloc, 1) else {
             return Err(CallFault::Failed(Fault::NoMemory));
         };
         match run_recorded(alloc, &mut self.state, command) {
-            Err(MachineFault::NoMemory) => Err(CallFault::Failed(Fault::NoMemory)),
+            Err(fault) if is_memory(fault) => Err(CallFault::Failed(Fault::NoMemory)),
             Err(fault) => Err(CallFault::Refused(fault)),
             Ok(Recorded { reply, entry }) => {
                 records.push_reserved(entry);
@@ -157,6 +171,11 @@ impl<D: Disk> Engine for DurableEngine<D> {
         ensures reply { IfOk result (λ r. answer any_kind self.old.state command ≡ Ok r.1) }
         ensures moves { OnOk result (self.new.state ≡ outcome any_kind self.old.state (command ∷ [])) }
         ensures refused { IfErr result (NotAccepted self.old.state command self.new.state) }
+
+        // Where fair schedules of every length go on from the state, as in each store that `init` made, the limits alone refuse
+        // a Slot, and such schedules go on from the new state.
+        ensures served { IsEndless self.old.state.ledger → IfErr result (IsServed self.old.state command) }
+        ensures endless { IsEndless self.old.state.ledger → OnOk result (IsEndless self.new.state.ledger) }
         ensures fails { IfErr result (Fails self.old.store.state.number (self.new.store.file.broken ≡ true)
             ((self.new.state ≡ self.old.state) × (self.new.store ≡ self.old.store))) }
         ensures stands { Stands any_kind self.old.store.file.places self.old.store.state self.old.store.spelled.items (D.view self.old.store.file.disk)

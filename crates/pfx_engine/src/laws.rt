@@ -1,19 +1,31 @@
-//! What holds of all lists of commands, the contract of a function that does nothing.
+//! What holds of all lists of commands, each the contract of a function that does nothing.
 
-ghost use Rattle.std.specs.Prelude.{List};
+ghost use Rattle.std.specs.Prelude.{◌≡◌, ℕ, List, Ok};
+ghost use Rattle.pfx_endless.specs.Endless.{IsEndless};
 ghost use Rattle.pfx_format.specs.Format.{format};
 ghost use Rattle.pfx_kinds.specs.AnyKind.{any_kind};
 ghost use Rattle.pfx_kinds.specs.declared.any.AnyJob.{AnyJob};
 ghost use Rattle.pfx_machine.specs.Outcome.{outcome};
-ghost use Rattle.pfx_machine.specs.Plain.{Plain, IsState};
+ghost use Rattle.pfx_machine.specs.Plain.{Plain, IsState, empty};
 ghost use Rattle.pfx_machine.specs.Sessions.{IsAcceptable};
 ghost use Rattle.pfx_machine.specs.declared.command.Command.{Command};
+ghost use Rattle.pfx_recovery.specs.Recovery.{recovered};
 ghost use Rattle.pfx_recovery.specs.Store.{Replays};
-ghost use Rattle.pfx_engine.specs.Surviving.{frames_of};
+ghost use Rattle.pfx_weights.specs.Sets.{FilledSet, IsFilled};
+ghost use Rattle.pfx_engine.specs.Surviving.{Survives, frames_of};
 
 /// The frames that an acceptable list of commands leaves, each command in a batch of its own, lead from the state before
 /// them to the list's outcome.
 pub fn frames_lead_to_outcomes()
     ensures { (start : Plain AnyJob) → (H : List (Command AnyJob)) → IsState start → IsAcceptable any_kind start H
         → Replays (format any_kind) start (frames_of any_kind start H) (outcome any_kind start H) }
+{}
+
+/// Fair schedules of every length go on from the empty state of each filled set, and from each state that an image is recovered
+/// to in which commands from there survive.
+pub fn stores_are_endless()
+    ensures made { (set : FilledSet) → IsFilled set → (s : Plain AnyJob) → s ≡ empty set → IsEndless s.ledger }
+    ensures survived { (set : FilledSet) → IsFilled set → (H : List (Command AnyJob)) → IsAcceptable any_kind (empty set) H
+        → (n : ℕ) → (image : List ℕ) → Survives (empty set) H n image
+        → (s : Plain AnyJob) → recovered (format any_kind) image ≡ Ok s → IsEndless s.ledger }
 {}

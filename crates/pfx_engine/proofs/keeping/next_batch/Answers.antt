@@ -1,8 +1,6 @@
-use Rattle.std.proofs.Common.{◌≡◌, ℕ, ◌∷◌, [], map, ◌∙◌, ap, subst}
+use Rattle.std.proofs.Common.{◌∷◌, [], map, ◌∙◌, ap}
 use Rattle.pfx_kinds.specs.AnyKind.{any_kind}
-use Rattle.pfx_kinds.specs.declared.any.AnyJob.{AnyJob}
 use Rattle.pfx_machine.specs.Outcome.{outcome}
-use Rattle.pfx_machine.specs.Plain.{Plain, IsState}
 use Rattle.pfx_record.specs.Records.{plain}
 use Rattle.pfx_engine.specs.Surviving.{IsRecordOf}
 use Rattle.pfx_engine.proofs.Keeps.{fits_with, right_with}

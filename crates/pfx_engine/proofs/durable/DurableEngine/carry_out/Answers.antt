@@ -1,14 +1,17 @@
-use Rattle.std.proofs.Common.{◌≡◌, [], ◌∷◌, map, None, sym, ◌∙◌, ap, subst}
+use Rattle.std.proofs.Common.{◌≡◌, [], ◌∷◌, map, None, Some, sym, ◌∙◌, ap, subst}
+use Rattle.std.proofs.lemmas.Bool.{true≢false}
 use Rattle.pfx_effect.specs.Recording.{record_of}
 use Rattle.pfx_kinds.specs.AnyKind.{any_kind}
 use Rattle.pfx_kinds.specs.declared.any.AnyJob.{AnyJob}
 use Rattle.pfx_machine.specs.Outcome.{outcome}
 use Rattle.pfx_machine.specs.Plain.{Plain}
+use Rattle.pfx_machine.specs.declared.command.Command.{Command}
 use Rattle.pfx_machine.specs.Refusals.{refusal}
 use Rattle.pfx_machine.proofs.Compose.{outcome-none}
 use Rattle.pfx_record.specs.Records.{plain}
 use Rattle.pfx_engine.specs.Surviving.{IsRecordOf}
 use Rattle.pfx_engine.proofs.Keeps.{keeps_more, worked}
+use Rattle.pfx_engine.proofs.Serving.{endless_after, limits_refuse}
 use Rattle.pfx_engine.proofs.durable.DurableEngine.carry_out.Goals as goal
 
 pub returns-then-is_broken-clause-keeps : goal.returns-then-is_broken-clause-keeps
@@ -17,11 +20,11 @@ returns-then-is_broken-clause-keeps g c stands start H h all at = keeps_more sta
 pub returns-in_default-clause-keeps : goal.returns-in_default-clause-keeps
 returns-in_default-clause-keeps g c stands start H h all at = keeps_more start H c.args.command (g.D.Disk.view c.args.self.now.store.file.disk)
 
-pub returns-in-Err-NoMemory-clause-keeps : goal.returns-in-Err-NoMemory-clause-keeps
-returns-in-Err-NoMemory-clause-keeps g c stands start H h all at = keeps_more start H c.args.command (g.D.Disk.view c.args.self.now.store.file.disk)
-
 pub returns-in-Err-clause-keeps : goal.returns-in-Err-clause-keeps
 returns-in-Err-clause-keeps g c stands start H h all at = keeps_more start H c.args.command (g.D.Disk.view c.args.self.now.store.file.disk)
+
+pub returns-in-Err-2-clause-keeps : goal.returns-in-Err-2-clause-keeps
+returns-in-Err-2-clause-keeps g c stands start H h all at = keeps_more start H c.args.command (g.D.Disk.view c.args.self.now.store.file.disk)
 
 pub invariant_of-self-in-Ok-run_recorded : goal.invariant_of-self-in-Ok-run_recorded
 invariant_of-self-in-Ok-run_recorded g c = record {
@@ -51,3 +54,16 @@ returns-clause-keeps g c stands start H h all there =
     let mine : IsRecordOf c.args.self.now.store.state c.args.command (map plain c.push_reserved.new.self.items) =
     (subst (λ (t : Plain AnyJob). refusal any_kind t c.args.command ≡ None) at done.exact, rw (c.push_reserved.ensures.items, c.in-Ok.ensures.items) (ap (λ r. r ∷ []) (done.kept_as ∙ ap (λ (t : Plain AnyJob). record_of any_kind t c.args.command) at))) in
     c.keep.ensures.keeps stands start H c.args.command h all there mine
+
+
+pub returns-in-Ok-keep-clause-endless : goal.returns-in-Ok-keep-clause-endless
+returns-in-Ok-keep-clause-endless g c = λ endless.
+    (let done = c.in-Ok-run_recorded.ensures in
+    let s = c.args.self.now.state in
+    endless_after s c.run_recorded.new.state c.args.command c.number-number.ensures.state endless done.exact (done.outcome s [] (sym (outcome-none any_kind s))))
+
+pub returns-in-Err-2-clause-served : goal.returns-in-Err-2-clause-served
+returns-in-Err-2-clause-served g c = λ endless slot.
+    (let s = c.args.self.now.state in
+    let refused : refusal any_kind s c.args.command ≡ Some c.in-Err.fault = c.in-Err.ensures.exact.1 (λ is. true≢false (sym (c.is_memory.ensures.1 is) ∙ c.if-is_memory.false)) in
+    limits_refuse s c.in-Err.fault c.number-number.ensures.state endless (subst (λ (d : Command AnyJob). refusal any_kind s d ≡ Some c.in-Err.fault) slot refused))
