@@ -15,7 +15,7 @@ use crate::places::Places;
 use pfx_disk::Disk;
 use pfx_segment::{close, open_gate};
 
-/// How many bytes of a checkpoint a step writes at most.
+/// How many bytes of a checkpoint, or of a new file, a call of the disk writes at most.
 pub const PIECE: usize = 4096;
 
 /// What a step of a checkpoint has done.
