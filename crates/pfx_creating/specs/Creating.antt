@@ -1,8 +1,7 @@
 -- A new file, as it is written onto an empty disk.
-use Rattle.std.specs.Prelude.{◌≡◌, ◌≤◌, ◌⊎◌, ℕ, ◌+◌, ◌*◌, ◌/◌, ◌%◌, min, List, [], ◌∷◌, length, drop}
+use Rattle.std.specs.Prelude.{◌≡◌, ◌≤◌, ◌⊎◌, ℕ, ◌+◌, ◌*◌, List, [], ◌∷◌, length, drop}
 use Rattle.pfx_disk.specs.Gates.{IsClosed}
 use Rattle.pfx_recovery.specs.Layout.{Layout, IsClosedAt}
-use Rattle.pfx_creating.specs.declared.pieces.TheConstants.{PIECE}
 
 -- the number 1 in eight bytes, the lowest first
 abbrev pub number_one : List ℕ
@@ -17,10 +16,6 @@ pub record HasLengths (L : Layout) (head body : List ℕ) (segment : ℕ) : Type
   pub of_head : length head ≡ L.head
   pub of_body : length body ≡ L.body
   pub of_segment : segment ≡ L.segment
-
--- how many pieces n bytes are
-abbrev pub pieces : ℕ → ℕ
-pieces n = n / PIECE + min 1 (n % PIECE)
 
 -- the file with a closed gate for its first byte
 abbrev pub unopened : List ℕ → List ℕ

@@ -7,8 +7,9 @@ ghost use Rattle.pfx_recovery.specs.Layout.{Layout};
 ghost use Rattle.pfx_recovery.specs.NewFile.{new_file};
 ghost use Rattle.pfx_recovery.specs.Recovery.{recovered};
 ghost use Rattle.pfx_segment.specs.Segment.{Takes};
+ghost use Rattle.pfx_store.specs.Tending.{pieces};
 ghost use Rattle.pfx_creating.specs.Attempts.{Attempts, IsMadeOf, IsNoneOrMade, RefusesUnmade};
-ghost use Rattle.pfx_creating.specs.Creating.{HasLengths, len_of, number_one, pieces};
+ghost use Rattle.pfx_creating.specs.Creating.{HasLengths, len_of, number_one};
 
 use crate::fault::CreateFault;
 use crate::pieces::write_unopened;

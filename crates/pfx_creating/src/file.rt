@@ -7,8 +7,9 @@ ghost use Rattle.pfx_recovery.specs.Layout.{Layout};
 ghost use Rattle.pfx_recovery.specs.NewFile.{new_file, new_parts};
 ghost use Rattle.pfx_segment.specs.Segment.{Takes};
 ghost use Rattle.pfx_store.specs.Holding.{Holds};
+ghost use Rattle.pfx_store.specs.Tending.{pieces};
 ghost use Rattle.pfx_creating.specs.Attempts.{Attempts, IsMadeOf, IsNoneOrMade, RefusesUnmade};
-ghost use Rattle.pfx_creating.specs.Creating.{HasLengths, len_of, number_one, pieces};
+ghost use Rattle.pfx_creating.specs.Creating.{HasLengths, len_of, number_one};
 ghost use Rattle.pfx_creating.specs.NewPlaces.{AreNew};
 
 use crate::creation::create;

@@ -20,4 +20,3 @@ mod tests;
 pub use creation::create;
 pub use fault::CreateFault;
 pub use file::{create_file, new_places};
-pub use pieces::PIECE;

@@ -4,13 +4,12 @@ ghost use Rattle.pfx_disk.specs.Disk.{IsHonest, HasFailed, Leaves, Ticks};
 ghost use Rattle.pfx_recovery.specs.Layout.{Layout};
 ghost use Rattle.pfx_recovery.specs.NewFile.{new_file};
 ghost use Rattle.pfx_segment.specs.Segment.{Takes};
-ghost use Rattle.pfx_creating.specs.Creating.{Beginning, HasLengths, StaysClosed, len_of, number_one, pieces, unopened};
+ghost use Rattle.pfx_store.specs.Tending.{pieces};
+ghost use Rattle.pfx_creating.specs.Creating.{Beginning, HasLengths, StaysClosed, len_of, number_one, unopened};
 
 use crate::bytes::{file_len, fill};
 use pfx_disk::{DeviceFailed, Disk};
-
-/// How many bytes of a new file a call writes at most.
-pub const PIECE: usize = 4096;
+use pfx_store::PIECE;
 
 // Writes the piece that begins at this place, the disk's end.
 fn write_piece<D: Disk>(

@@ -1,9 +1,9 @@
 //! A new store of two workers and three tasks of weight 2/3, with segments of 8,192 bytes, as its file is written down byte
 //! by byte: a header of 41 bytes, slots of 428, and 17,281 bytes in all.
 use crate::laws::a_new_file_can_be_made;
-use crate::{CreateFault, PIECE, create, create_file, new_places};
+use crate::{CreateFault, create, create_file, new_places};
 use pfx_disk::{Disk, Fate, FaultDisk, GATE_OPEN, MemoryDisk};
-use pfx_store::StoreFile;
+use pfx_store::{PIECE, StoreFile};
 use std::alloc::Global;
 use std::test::Fail;
 

@@ -111,52 +111,76 @@ fn row_of(alloc: Global, tasks: &[u16], first: Option<AnyJob>) -> Result<Record<
     Ok(Record::Slot { row })
 }
 
-#[test]
-fn wrong_records_change_nothing(rt: HostRuntime) -> Result<(), Fail> {
-    let alloc = rt.alloc();
+/// The state of `thirds` with an unfinished job at the first task, and that job.
+fn busy_thirds(alloc: Global) -> Result<(State<AnyJob>, AnyJob), Fail> {
     let mut state = thirds(alloc)?;
     let job = AnyJob::start("count", 5, b"10")?;
-    let busy = Record::Submit {
-        task: 0,
-        job: job.copy_of(),
-    };
-    assert!(&rt; apply_record(&mut state, &busy));
-
-    // An unfinished job gets none over it; idle and missing tasks get none; nothing is taken where nothing is.
-    assert!(&rt; !apply_record(&mut state, &busy));
-    assert!(&rt;
-        !apply_record(
-            &mut state,
-            &Record::Submit {
-                task: 3,
-                job: job.copy_of()
-            }
-        )
+    let taken = apply_record(
+        &mut state,
+        &Record::Submit {
+            task: 0,
+            job: job.copy_of(),
+        },
     );
-    assert!(&rt; !apply_record(&mut state, &Record::<AnyJob>::Withdraw { task: 1 }));
-
-    // Rows: no state for an unfinished job, a state for none, tasks that fall, too few, too many, out of range, unfair.
-    let mut stepped = job.copy_of();
-    if !stepped.is_done() {
-        stepped.step();
+    if !taken {
+        return Err(Fail::from("a job refused"));
     }
+    Ok((state, job))
+}
+
+/// The job behind one step.
+fn stepped(job: &AnyJob) -> AnyJob {
+    let mut next = job.copy_of();
+    if !next.is_done() {
+        next.step();
+    }
+    next
+}
+
+// An unfinished job gets none over it; idle and missing tasks get none; nothing is taken where nothing is.
+#[test]
+fn wrong_jobs_change_nothing(rt: HostRuntime) -> Result<(), Fail> {
+    let alloc = rt.alloc();
+    let (mut state, job) = busy_thirds(alloc)?;
+    for task in [0, 3] {
+        let record = Record::Submit {
+            task,
+            job: job.copy_of(),
+        };
+        assert!(&rt; !apply_record(&mut state, &record));
+    }
+    assert!(&rt; !apply_record(&mut state, &Record::<AnyJob>::Withdraw { task: 1 }));
+    assert!(&rt; state.number() == 1 && state.columns().slot() == 0);
+    let (fresh, _job) = busy_thirds(alloc)?;
+    assert!(&rt; are_alike(&state, &fresh));
+    Ok(())
+}
+
+// No state for an unfinished job, a state for none, tasks that fall, too few, too many, out of range.
+#[test]
+fn wrong_rows_change_nothing(rt: HostRuntime) -> Result<(), Fail> {
+    let alloc = rt.alloc();
+    let (mut state, job) = busy_thirds(alloc)?;
+    let next = stepped(&job);
     assert!(&rt; !apply_record(&mut state, &row_of(alloc, &[0, 1], None)?));
-    assert!(&rt; !apply_record(&mut state, &row_of(alloc, &[1, 2], Some(job.copy_of()))?));
+    assert!(&rt; !apply_record(&mut state, &row_of(alloc, &[1, 2], Some(job))?));
     assert!(&rt; !apply_record(&mut state, &row_of(alloc, &[1, 0], None)?));
     assert!(&rt; !apply_record(&mut state, &row_of(alloc, &[1], None)?));
-    assert!(&rt;
-        !apply_record(
-            &mut state,
-            &row_of(alloc, &[0, 1, 2], Some(stepped.copy_of()))?
-        )
-    );
+    assert!(&rt; !apply_record(&mut state, &row_of(alloc, &[0, 1, 2], Some(next))?));
     assert!(&rt; !apply_record(&mut state, &row_of(alloc, &[1, 3], None)?));
     assert!(&rt; state.number() == 1 && state.columns().slot() == 0);
+    let (fresh, _job) = busy_thirds(alloc)?;
+    assert!(&rt; are_alike(&state, &fresh));
+    Ok(())
+}
 
-    // Right ones, up to one that would leave the ledger unfair.
+#[test]
+fn a_row_that_would_be_unfair_changes_nothing(rt: HostRuntime) -> Result<(), Fail> {
+    let alloc = rt.alloc();
+    let (mut state, job) = busy_thirds(alloc)?;
     assert!(&rt; apply_record(&mut state, &row_of(alloc, &[1, 2], None)?));
     assert!(&rt; !apply_record(&mut state, &row_of(alloc, &[1, 2], None)?));
-    assert!(&rt; apply_record(&mut state, &row_of(alloc, &[0, 1], Some(stepped))?));
+    assert!(&rt; apply_record(&mut state, &row_of(alloc, &[0, 1], Some(stepped(&job)))?));
     assert!(&rt; state.number() == 3 && state.columns().slot() == 2);
     Ok(())
 }

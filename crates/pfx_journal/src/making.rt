@@ -3,7 +3,7 @@ ghost use Rattle.std.specs.Prelude.{◌≡◌, ◌<◌, ◌≤◌, ◌+◌, ◌-
 ghost use Rattle.pfx_checkpoint.specs.Spelling.{state_bytes};
 ghost use Rattle.pfx_disk.specs.Disk.{IsHonest, HasFailed, Leaves, Same};
 ghost use Rattle.pfx_creating.specs.Attempts.{IsNoneOrMade};
-ghost use Rattle.pfx_creating.specs.Creating.{pieces};
+ghost use Rattle.pfx_store.specs.Tending.{pieces};
 ghost use Rattle.pfx_format.specs.Format.{format};
 ghost use Rattle.pfx_header.specs.Headers.{IsHeader, IsSegmentSize, header_bytes};
 ghost use Rattle.pfx_machine.specs.Plain.{Plain, empty};

@@ -1,11 +1,11 @@
 // The durable store: a state, and the file that keeps it.
 ghost use Rattle.std.specs.Prelude.{◌≡◌, ◌≤◌, ◌<◌, ◌+◌, ◌*◌, ◌^◌, ◌++◌, ◌∷◌, [], ℕ, List, length, map, take, slice_index, vec_capacity, Some, OnOk, OnErr, IfOk, IsErrOf};
 ghost use Rattle.byteorder.specs.Endian.{little_number};
-ghost use Rattle.pfx_checkpoint.specs.Spelling.{state_len};
+ghost use Rattle.pfx_checkpoint.specs.Spelling.{state_bytes, state_len};
 ghost use Rattle.pfx_disk.specs.Disk.{IsHonest};
 ghost use Rattle.pfx_effect.specs.Applying.{applied};
 ghost use Rattle.pfx_format.specs.Format.{format};
-ghost use Rattle.pfx_machine.specs.Plain.{Plain};
+ghost use Rattle.pfx_machine.specs.Plain.{Plain, IsState};
 ghost use Rattle.pfx_record.specs.Batches.{batch_bytes, batch_of};
 ghost use Rattle.pfx_record.specs.Records.{plain};
 ghost use Rattle.pfx_recovery.specs.Store.{Replays};
@@ -62,6 +62,17 @@ pub(crate) fn start_behind(number: u64) -> [u8; 9]
     let mut start = [0; 9];
     LittleEndian::write_u64(&mut start[..8], number + 1);
     start
+}
+
+// Spells a state over the spelling of another one.
+pub(crate) fn spell<J: Job>(state: &State<J>, spelled: &mut Vec<u8>)
+    requires { length spelled.old.items ≡ state_len state.now.ledger.set }
+    ensures spelled { spelled.new.items ≡ state_bytes J.kind state.now }
+    ensures long { length spelled.new.items ≡ length spelled.old.items }
+    ensures state { IsState state.now }
+{
+    let _number = state.number();
+    freeze(state, spelled);
 }
 
 // Spells a frame, with the closed gate of the next one behind it.
@@ -146,7 +157,7 @@ impl<D: Disk, J: Job> Store<D, J> {
         }
         self.file
             .end_checkpoint::<FileHeader, State<J>>(&self.spelled)?;
-        freeze(&self.state, &mut self.spelled);
+        spell(&self.state, &mut self.spelled);
         Ok(())
     }
 

@@ -1,9 +1,8 @@
 // Turning a store to its other segment, and the checkpoint in progress.
-ghost use Rattle.std.specs.Prelude.{◌≡◌, ◌↔◌, ◌+◌, ℕ, List, length, true, false, Ok, OnOk, OnErr, IfOk, IsTrue, IsErrOf};
-ghost use Rattle.pfx_checkpoint.specs.Spelling.{state_bytes, state_len};
+ghost use Rattle.std.specs.Prelude.{◌≡◌, ◌↔◌, ◌+◌, ℕ, List, true, false, Ok, OnOk, OnErr, IfOk, IsTrue, IsErrOf};
 ghost use Rattle.pfx_disk.specs.Disk.{IsHonest};
 ghost use Rattle.pfx_format.specs.Format.{format};
-ghost use Rattle.pfx_machine.specs.Plain.{Plain, IsState};
+ghost use Rattle.pfx_machine.specs.Plain.{Plain};
 ghost use Rattle.pfx_recovery.specs.Store.{Replays};
 ghost use Rattle.pfx_segment.specs.Segment.{Takes};
 ghost use Rattle.pfx_store.specs.Calls.{Works};
@@ -13,23 +12,11 @@ ghost use Rattle.pfx_store.specs.Tending.{StaysPut, next_step, calls_of, calls_l
 ghost use Rattle.pfx_journal.specs.Standing.{Stands};
 
 use crate::format::FileHeader;
-use crate::store::{Store, start_behind};
-use pfx_checkpoint::freeze;
+use crate::store::{Store, spell, start_behind};
 use pfx_disk::Disk;
 use pfx_jobs::job::Job;
 use pfx_machine::State;
 use pfx_store::{StoreFault, Tended};
-
-// Spells a state over the spelling of another one.
-fn spell<J: Job>(state: &State<J>, spelled: &mut Vec<u8>)
-    requires { length spelled.old.items ≡ state_len state.now.ledger.set }
-    ensures spelled { spelled.new.items ≡ state_bytes J.kind state.now }
-    ensures long { length spelled.new.items ≡ length spelled.old.items }
-    ensures state { IsState state.now }
-{
-    let _number = state.number();
-    freeze(state, spelled);
-}
 
 impl<D: Disk, J: Job> Store<D, J> {
     /// Takes one step of the checkpoint in progress, if there is one: two calls of the disk for the first, one for each

@@ -8,7 +8,7 @@ ghost use Rattle.pfx_store.specs.Calls.{Works, GoesOn};
 ghost use Rattle.pfx_store.specs.Fitting.{HasRoom, SameParts};
 ghost use Rattle.pfx_store.specs.Holding.{Holds, KeepsAll, Survives, IsPending, IsStart};
 ghost use Rattle.pfx_segment.specs.Segment.{Takes};
-ghost use Rattle.pfx_store.specs.Tending.{append_calls, made_room};
+ghost use Rattle.pfx_store.specs.Tending.{TakesFrame, append_calls, made_room};
 
 use crate::faults::StoreFault;
 use crate::file::StoreFile;
@@ -43,6 +43,7 @@ impl<D: Disk> StoreFile<D> {
         ensures room { ¬ IsErrOf result StoreFault.NoRoom }
         ensures broken { IsErrOf result StoreFault.Broken → self.new ≡ self.old }
         ensures parts { SameParts self.old.places self.new.places }
+        ensures frame { OnOk result (TakesFrame (length frame.now) self.old.places self.new.places) }
 
         // The store goes on with the frame.
         ensures holds { (K : Codec H S) → Laws K → (h : H) → (p : Parts S) → (s : S)

@@ -1,5 +1,5 @@
 // The checkpoint in progress, step by step.
-ghost use Rattle.std.specs.Prelude.{◌≡◌, ◌≢◌, ◌≤◌, ◌<◌, ◌+◌, [], ℕ, List, take, drop, length, Some, true, false, OnOk, OnErr, IfOk, IsErrOf};
+ghost use Rattle.std.specs.Prelude.{◌≡◌, ◌≢◌, ◌≤◌, ◌<◌, ◌+◌, [], ℕ, List, take, drop, length, Some, Ok, min, true, false, OnOk, OnErr, IfOk, IsErrOf};
 ghost use Rattle.pfx_disk.specs.Disk.{IsHonest};
 ghost use Rattle.pfx_recovery.specs.Codec.{Codec, Laws};
 ghost use Rattle.pfx_recovery.specs.Store.{Parts, Replays, finished};
@@ -15,7 +15,7 @@ use crate::places::Places;
 use pfx_disk::Disk;
 use pfx_segment::{close, open_gate};
 
-/// How many bytes of a checkpoint a step writes at most.
+/// How many bytes of a checkpoint, or of a new file, a call of the disk writes at most.
 pub const PIECE: usize = 4096;
 
 /// What a step of a checkpoint has done.
@@ -159,6 +159,9 @@ impl<D: Disk> StoreFile<D> {
         ensures parts { SameParts self.old.places self.new.places }
         ensures stays { StaysPut self.old.places self.new.places }
         ensures err { OnErr result (self.new.places ≡ self.old.places) }
+        ensures nothing { self.old.places.turned ≡ false → self.new ≡ self.old }
+        ensures piece { result ≡ Ok Tended.Piece
+            → self.new.places.done ≡ min self.old.places.body (self.old.places.done + PIECE) }
         ensures nearer { self.old.places.turned ≡ true
             → OnOk result (steps_left self.old.places ≡ 1 + steps_left self.new.places) }
         ensures fewer { OnOk result (calls_left self.old.places ≡ calls_of (next_step self.old.places) + calls_left self.new.places) }

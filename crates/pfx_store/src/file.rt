@@ -10,7 +10,7 @@ ghost use Rattle.pfx_segment.specs.Segment.{Takes};
 ghost use Rattle.pfx_store.specs.Calls.{Works};
 ghost use Rattle.pfx_store.specs.Fitting.{IsTurnable, SameParts};
 ghost use Rattle.pfx_store.specs.Holding.{ArePlaces, Holds, IsGate, KeepsAll, Survives, IsPending, IsStart};
-ghost use Rattle.pfx_store.specs.Tending.{IsTurned};
+ghost use Rattle.pfx_store.specs.Tending.{IsTurned, MovesOn};
 
 use crate::faults::StoreFault;
 use crate::places::Places;
@@ -75,7 +75,7 @@ impl<D: Disk> StoreFile<D> {
         ensures broken { IsErrOf result StoreFault.Broken → self.new ≡ self.old }
         ensures err { OnErr result (self.new.places ≡ self.old.places) }
         ensures parts { SameParts self.old.places self.new.places }
-        ensures gate { OnOk result (self.new.places.gate ≡ self.old.places.gate + length frame.now) }
+        ensures moved { OnOk result (MovesOn (length frame.now) self.old.places self.new.places) }
 
         // The store goes on with the frame.
         ensures holds { (K : Codec H S) → Laws K → (h : H) → (p : Parts S) → (s : S) → (spelling : List ℕ)

@@ -5,7 +5,7 @@ use Rattle.pfx_disk.proofs.Steps.{leaves_as}
 use Rattle.pfx_disk.proofs.GateLemmas.{closed_beside}
 use Rattle.pfx_recovery.specs.NewFile.{new_file}
 use Rattle.pfx_creating.specs.Creating.{StaysClosed, number_one}
-use Rattle.pfx_creating.specs.declared.pieces.TheConstants.{PIECE}
+use Rattle.pfx_store.specs.declared.checkpoint.TheConstants.{PIECE}
 use Rattle.pfx_creating.proofs.NewBytes.{piece_written, piece_long, long_file}
 use Rattle.pfx_creating.proofs.pieces.write_piece.Goals as goal
 

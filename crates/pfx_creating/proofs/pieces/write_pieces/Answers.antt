@@ -1,7 +1,7 @@
 use Rattle.std.proofs.Common.{rules, ◌≤◌, ◌<◌, ◌+◌, ◌*◌, ◌∙◌, arith}
 use Rattle.pfx_recovery.specs.NewFile.{new_file}
 use Rattle.pfx_creating.specs.Creating.{len_of, number_one, unopened}
-use Rattle.pfx_creating.specs.declared.pieces.TheConstants.{PIECE}
+use Rattle.pfx_store.specs.declared.checkpoint.TheConstants.{PIECE}
 use Rattle.pfx_creating.proofs.NewBytes.{some_layout, long_so_far, whole_at_last, next_piece}
 use Rattle.pfx_creating.proofs.Creations.{stays_then}
 use Rattle.pfx_creating.proofs.pieces.write_pieces.Goals as goal

@@ -3,7 +3,7 @@ use Rattle.pfx_disk.specs.Disk.{IsHonest, Leaves}
 use Rattle.pfx_recovery.specs.Layout.{Layout}
 use Rattle.pfx_recovery.specs.NewFile.{new_file}
 use Rattle.pfx_creating.specs.Creating.{HasLengths, StaysClosed, number_one, unopened}
-use Rattle.pfx_creating.specs.declared.pieces.TheConstants.{PIECE}
+use Rattle.pfx_store.specs.declared.checkpoint.TheConstants.{PIECE}
 use Rattle.pfx_creating.proofs.pieces.write_pieces.Given as goal
 
 abbrev pub invariant-loop-i : goal.invariant-loop-i

@@ -1,4 +1,4 @@
-use Rattle.std.proofs.Common.{◌≡◌, ◌≤◌, ◌+◌, ◌++◌, ◌∷◌, [], sym, subst, length, arith, Err}
+use Rattle.std.proofs.Common.{◌≡◌, ◌∙◌, ◌≤◌, ◌+◌, ◌++◌, ◌∷◌, [], sym, subst, length, arith, Err}
 use Rattle.std.proofs.lemmas.Bool.{false≢true}
 use Rattle.pfx_disk.specs.declared.gates.TheConstants.{GATE_OPEN}
 use Rattle.pfx_recovery.specs.Store.{with_frame, turned_at}
@@ -103,3 +103,23 @@ returns-in_err-append-2-clause-room g c = λ is. absurd (omega (arith, full is, 
   where
     full : c.from_residual-in_err-append-2.result ≡ Err NoRoom → c.turn.new.self.places.end ≤ c.turn.new.self.places.gate + length c.args.frame.now
     full is = (c.append-2.ensures.no_room.0 (fault_back _ c.append-2.result _ NoRoom (c.in_err-append-2.was) c.from_residual-in_err-append-2.ensures.1 is)).1
+
+pub returns-then-has_room-clause-frame : goal.returns-then-has_room-clause-frame
+returns-then-has_room-clause-frame g c = record {
+  room = λ _. c.in_ok-append.ensures.moved;
+  full = λ none. absurd (none (c.has_room.ensures.0 c.if-has_room.true));
+}
+
+pub returns-clause-frame : goal.returns-clause-frame
+returns-clause-frame g c =
+    let turned = c.in_ok-turn.ensures.turned in
+    let moved = c.in_ok-append-2.ensures.moved in
+    let parts = c.append-2.ensures.parts in
+    record {
+      room = λ room. absurd (false≢true (sym c.if-has_room.false ∙ c.has_room.ensures.1 room));
+      full = λ _. record {
+        turned = moved.turned ∙ turned.turned;
+        begun = moved.begun ∙ turned.begun;
+        gate = omega (arith, moved.gate, moved.end, parts.segment_len, turned.empty);
+      };
+    }
