@@ -1,5 +1,5 @@
-//! The proved crates beside plain Rust programs of the same rules, in one run: slots a second of PF's choice, and steps a
-//! second of rule 110. Built and run by `bench/run`, which names the proved program `pfx_bench`. Only std is used.
+//! The proved crates beside plain Rust programs of the same rules, in one run: slots a second of PF's choice, nanoseconds for
+//! a task's class and for its step to the next slot, and steps a second of rule 110. Built and run by `bench/run`, which names the proved program `pfx_bench`. Only std is used.
 
 use std::cmp::Ordering;
 use std::process::Command;
@@ -10,6 +10,7 @@ use std::time::Instant;
 struct Task {
     e: u32,
     p: u32,
+    alloc: u64,
     lag: i32,
     phase: u32,
 }
@@ -67,7 +68,7 @@ fn compare(a: &Rank, b: &Rank) -> Ordering {
 }
 
 fn plan(m: usize, weights: &[(u32, u32)], slots: u64) -> u64 {
-    let mut tasks: Vec<Task> = filled(m, weights).iter().map(|w| Task { e: w.0, p: w.1, lag: 0, phase: 0 }).collect();
+    let mut tasks: Vec<Task> = filled(m, weights).iter().map(|w| Task { e: w.0, p: w.1, alloc: 0, lag: 0, phase: 0 }).collect();
     let (mut row, mut ranks, mut sum) = (Vec::new(), Vec::new(), 0u64);
     for _ in 0..slots {
         row.clear();
@@ -103,6 +104,57 @@ fn plan(m: usize, weights: &[(u32, u32)], slots: u64) -> u64 {
         }
     }
     sum
+}
+
+/// Adds the rows to the tasks' numbers, each row once all lags are known to stay in range, and takes the classes eight
+/// times before each row where that is asked for.
+fn add_rows(tasks: &mut [Task], rows: &[Vec<u16>], out: &mut [u8], classes: bool, slot: &mut u64) -> u64 {
+    let mut sum = 0u64;
+    for row in rows {
+        if classes {
+            for _again in 0..8 {
+                for (class, task) in std::hint::black_box(&mut *out).iter_mut().zip(tasks.iter()) {
+                    *class = match (task.lag.signum(), (task.phase + task.e).cmp(&task.p)) {
+                        (1, Ordering::Equal | Ordering::Greater) => 1,
+                        (-1, Ordering::Equal | Ordering::Less) => 2,
+                        _ => 0,
+                    };
+                }
+            }
+            sum = sum.wrapping_mul(3).wrapping_add(u64::from(out[(*slot % 16) as usize]));
+        }
+        let mut next = row.iter().copied().peekable();
+        for (x, task) in tasks.iter().enumerate() {
+            let taken = if next.next_if_eq(&(x as u16)).is_some() { task.p as i32 } else { 0 };
+            let lag = task.lag + task.e as i32 - taken;
+            assert!(-(task.p as i32) < lag && lag < task.p as i32);
+        }
+        let mut next = row.iter().copied().peekable();
+        for (x, task) in tasks.iter_mut().enumerate() {
+            let ran = next.next_if_eq(&(x as u16)).is_some();
+            task.lag += task.e as i32 - if ran { task.p as i32 } else { 0 };
+            task.alloc += u64::from(ran);
+            task.phase += task.e;
+            if task.phase >= task.p {
+                task.phase -= task.p;
+            }
+        }
+        *slot += 1;
+    }
+    sum
+}
+
+/// The sum over what is made of so many slots of tasks of weight 1/16, sixteen rows over and over.
+fn advance(m: usize, n: usize, slots: u64, classes: bool) -> u64 {
+    let mut tasks: Vec<Task> = (0..n).map(|_| Task { e: 1, p: 16, alloc: 0, lag: 0, phase: 0 }).collect();
+    let rows: Vec<Vec<u16>> = (0..16).map(|t| (0..m).map(|i| (t * m + i) as u16).collect()).collect();
+    let mut out = vec![0u8; n];
+    let (mut sum, mut slot) = (0u64, 0u64);
+    for _turn in 0..slots / 16 {
+        sum = sum.wrapping_mul(31).wrapping_add(add_rows(&mut tasks, &rows, &mut out, classes, &mut slot));
+    }
+    std::hint::black_box(tasks[n - 1].alloc);
+    sum.wrapping_add(slot)
 }
 
 /// The weights with idle tasks behind them.
@@ -211,6 +263,23 @@ fn main() {
         words.extend(weights.iter().map(|w| format!("{}/{}", w.0, w.1)));
         let (a, b) = both(count, run, &program, &words);
         println!("{name:<28} {:>14.0} {:>14.0} {:>7.2}", count as f64 / a, count as f64 / b, a / b);
+    }
+    println!();
+    println!("{:<28} {:>14} {:>14} {:>7}", "tasks of 1/16", "Rust ns/task", "pfx ns/task", "ratio");
+    for m in [1usize, 4, 64] {
+        let n = 16 * m;
+        let timed = |classes: bool| {
+            let run = |slots| advance(m, n, slots, classes);
+            let count = calibrated(run);
+            let mut words = vec![if classes { "classes" } else { "advance" }.to_string(), count.to_string(), m.to_string()];
+            words.extend((0..n).map(|_| "1/16".to_string()));
+            let (a, b) = both(count, run, &program, &words);
+            (a * 1e9 / (count * n as u64) as f64, b * 1e9 / (count * n as u64) as f64)
+        };
+        let (step, with_classes) = (timed(false), timed(true));
+        println!("{:<28} {:>14.2} {:>14.2} {:>7.2}", format!("{n} tasks: step"), step.0, step.1, step.0 / step.1);
+        let (a, b) = ((with_classes.0 - step.0) / 8.0, (with_classes.1 - step.1) / 8.0);
+        println!("{:<28} {a:>14.2} {b:>14.2} {:>7.2}", format!("{n} tasks: class"), a / b);
     }
     println!();
     println!("{:<28} {:>14} {:>14} {:>7}", "rule 110", "Rust us/step", "pfx us/step", "ratio");

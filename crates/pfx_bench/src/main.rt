@@ -1,14 +1,20 @@
 //! What `bench/run` measures of the proved crates.
 //!
 //! `pfx_bench plan SLOTS WORKERS E/P E/P ..` plans that many slots of a set, and `pfx_bench rule STEPS WIDTH` takes that
-//! many steps of rule 110 on a ring. Each prints a sum over what it made, by which another program's result is compared,
-//! and on standard error how many nanoseconds it took.
+//! many steps of rule 110 on a ring. `pfx_bench advance SLOTS WORKERS E/P ..` plans 16 slots of a set and then adds their rows
+//! to the ledger, over and over; with `classes` in place of `advance` it takes the classes of all tasks eight times before each. Each
+//! prints a sum over what it made, by which another program's result is compared, and on standard error how many
+//! nanoseconds it took.
 #![tactic(auto)]
 
-use pfx_choice::{Chooser, give};
+ghost use Rattle.std.specs.Prelude.{◌≡◌, length};
+ghost use Rattle.pfx_columns.specs.Ledgers.{total};
+
+use pfx_choice::{Chooser, give, plan as plan_rows};
 use pfx_columns::Columns;
 use pfx_jobs::job::Job;
 use pfx_kinds::any::AnyJob;
+use pfx_lanes::classify;
 use pfx_weights::{Row, TaskSet};
 use std::alloc::Global;
 use std::env;
@@ -47,6 +53,65 @@ fn plan(alloc: Global, ledger: &mut Columns, slots: u64) -> Result<u64, Fail> {
     Ok(sum)
 }
 
+/// Takes the class of each task for the slot to come.
+fn take_classes(ledger: &Columns, out: &mut [u8])
+    requires { length out.old ≡ total ledger.now }
+{
+    let _total = ledger.total();
+    classify(
+        ledger.lags(),
+        ledger.phases(),
+        ledger.es(),
+        ledger.ps(),
+        out,
+    );
+}
+
+/// The class of one task for the slot to come, where all are taken, eight times over.
+fn class_of_one(ledger: &Columns, out: &mut [u8]) -> Result<u64, Fail> {
+    for _again in 0..8 {
+        if out.len() == ledger.total() {
+            take_classes(ledger, out);
+        }
+    }
+    let x = ledger.slot() % 16;
+    Ok(u64::from(*out.get(x as usize).ok_or("16 tasks")?))
+}
+
+/// Adds the rows to the ledger.
+fn add_rows(
+    ledger: &mut Columns,
+    rows: &[Row],
+    out: &mut [u8],
+    classes: bool,
+) -> Result<u64, Fail> {
+    let mut sum = 0u64;
+    for row in rows {
+        if classes {
+            sum = sum.wrapping_mul(3).wrapping_add(class_of_one(ledger, out)?);
+        }
+        if !ledger.fits(row) || ledger.slot() >= 1 << 39 {
+            return Err("a row that fits")?;
+        }
+        ledger.advance(row)?;
+    }
+    Ok(sum)
+}
+
+/// The sum over what is made of so many slots, sixteen rows over and over.
+fn advance(alloc: Global, ledger: &mut Columns, slots: u64, classes: bool) -> Result<u64, Fail> {
+    let copy = ledger.copy_of(alloc)?;
+    let rows = plan_rows(alloc, copy, 16).map_err(|_| "sixteen rows")?;
+    let mut out = vec![in alloc; 0u8; ledger.total()]?;
+    let mut sum = 0u64;
+    for _turn in 0..slots / 16 {
+        sum = sum
+            .wrapping_mul(31)
+            .wrapping_add(add_rows(ledger, &rows, &mut out, classes)?);
+    }
+    Ok(sum.wrapping_add(ledger.slot()))
+}
+
 /// The sum over the bytes of a job after its steps.
 fn run(job: &mut AnyJob, steps: u64) -> u64 {
     for _step in 0..steps {
@@ -80,7 +145,7 @@ fn rule(alloc: Global, steps: u64, width: usize) -> Result<AnyJob, Fail> {
 fn measure(rt: &HostRuntime, words: &[String]) -> Result<(), Fail> {
     let alloc = rt.alloc();
     let [_program, mode, count, rest @ ..] = words else {
-        return Err("plan SLOTS WORKERS E/P .. or rule STEPS WIDTH")?;
+        return Err("plan, advance or classes SLOTS WORKERS E/P .., or rule STEPS WIDTH")?;
     };
     let count = count.parse::<u64>()?;
     let [number, weights @ ..] = rest else {
@@ -102,7 +167,11 @@ fn measure(rt: &HostRuntime, words: &[String]) -> Result<(), Fail> {
     let set = TaskSet::new(alloc, number.parse::<u32>()?, &tasks)?;
     let mut ledger = Columns::zero(alloc, &set)?;
     let start = Instant::now(rt)?;
-    let sum = plan(alloc, &mut ledger, count)?;
+    let sum = match mode.as_str() {
+        "plan" => plan(alloc, &mut ledger, count)?,
+        "advance" => advance(alloc, &mut ledger, count, false)?,
+        _ => advance(alloc, &mut ledger, count, true)?,
+    };
     let took = start.elapsed(rt)?;
     println!(rt; "{sum}")?;
     eprintln!(rt; "{}", took.as_nanos())?;

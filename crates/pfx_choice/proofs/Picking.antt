@@ -22,9 +22,10 @@ use Rattle.pfx_weights.proofs.Counts.{true_not_false, count-sum, count-same, non
 use Rattle.pfx_weights.proofs.RowSets.{members_rise, length-members, members-same}
 use Rattle.pfx_symbols.specs.declared.kinds.Class.{Class}
 use Rattle.pfx_symbols.specs.declared.kinds.Class.TheVariants.{Contending, Urgent, Tnegru}
+use Rattle.pfx_lanes.specs.Laws.{class_number}
 use Rattle.pfx_columns.specs.Ledgers.{Ledger, total, class, rank, IsLedger}
 use Rattle.pfx_choice.specs.Choices.{urgent, contending, is_urgent, is_contending, IsPf, IsPfRow}
-use Rattle.pfx_choice.specs.Picks.{if_rank, ranks, IsPivot, IsPivotFor, is_not_less, reaches, picked, pick, marked, id_in, top, IsUrgentFlags, IsPlaced}
+use Rattle.pfx_choice.specs.Picks.{if_rank, ranks, IsPivot, IsPivotFor, is_not_less, reaches, picked, pick, chosen_in, id_in, top, AreClasses, IsPlaced}
 use Rattle.pfx_choice.proofs.Best.{rank_order}
 
 -- the sum of a number over the contending tasks below n
@@ -231,19 +232,19 @@ or_assoc : (a b c : Bool) → ((a || b) || c) ≡ (a || (b || c))
 or_assoc true b c = refl
 or_assoc false b c = refl
 
--- one flag more
-pub marked_one_more : (flags : List Bool) (y x : ℕ) → y < length flags → marked (set flags y true) x ≡ (marked flags x || (y == x))
-marked_one_more flags y x l = elim (cases_eq x y) [
+-- one mark more
+pub chosen_one_more : (classes : List ℕ) (y x : ℕ) → y < length classes → chosen_in (set classes y 1) x ≡ (chosen_in classes x || (y == x))
+chosen_one_more classes y x l = elim (cases_eq x y) [
   | inl same ↦
-      (let P : ℕ → Type 0 = λ z. marked (set flags y true) z ≡ (marked flags z || (y == z)) in
-      subst P (sym same) (get_or-set_same flags y true false l ∙ sym (ap (λ b. marked flags y || b) (is_itself y y refl) ∙ or_true (marked flags y))))
-  | inr other ↦ get_or-set_other flags y x true false other ∙ sym (ap (λ b. marked flags x || b) (is_other y x (λ q. other (sym q))) ∙ or_false (marked flags x))
+      (let P : ℕ → Type 0 = λ z. chosen_in (set classes y 1) z ≡ (chosen_in classes z || (y == z)) in
+      subst P (sym same) (ap (λ n. n == 1) (get_or-set_same classes y 1 0 l) ∙ sym (ap (λ b. chosen_in classes y || b) (is_itself y y refl) ∙ or_true (chosen_in classes y))))
+  | inr other ↦ ap (λ n. n == 1) (get_or-set_other classes y x 1 0 other) ∙ sym (ap (λ b. chosen_in classes x || b) (is_other y x (λ q. other (sym q))) ∙ or_false (chosen_in classes x))
 ]
 
--- the pivot's flag and those above it
-pub marks_of : (flags new : List Bool) (r : Parts) (high : List Parts) (y x : ℕ) → y ≡ r.id → y < length flags → marked new x ≡ (marked (set flags y true) x || id_in high x) → marked new x ≡ (marked flags x || id_in (r ∷ high) x)
-marks_of flags new r high y x is l h =
-    h ∙ ap (λ b. b || id_in high x) (marked_one_more flags y x l) ∙ ap (λ z. (marked flags x || (z == x)) || id_in high x) is ∙ or_assoc (marked flags x) (r.id == x) (id_in high x)
+-- the pivot's mark and those above it
+pub marks_of : (classes new : List ℕ) (r : Parts) (high : List Parts) (y x : ℕ) → y ≡ r.id → y < length classes → chosen_in new x ≡ (chosen_in (set classes y 1) x || id_in high x) → chosen_in new x ≡ (chosen_in classes x || id_in (r ∷ high) x)
+marks_of classes new r high y x is l h =
+    h ∙ ap (λ b. b || id_in high x) (chosen_one_more classes y x l) ∙ ap (λ z. (chosen_in classes x || (z == x)) || id_in high x) is ∙ or_assoc (chosen_in classes x) (r.id == x) (id_in high x)
 
 -- a rank of this task that reaches the pivot
 abbrev hit : Option Parts → ℕ → Parts → Bool
@@ -343,13 +344,30 @@ picked_or Urgent b = refl
 picked_or Contending b = refl
 picked_or Tnegru b = refl
 
--- the flags are those of the pick
-pub placed_is_pick : (g : Ledger) (k : ℕ) (old new : List Bool) (h : IsPlaced (ranks (total g) g) k old new) → IsUrgentFlags g old → (x : ℕ) → x < total g → marked new x ≡ pick g h.pivot x
-placed_is_pick g k old new h urgent x l =
-    let n = urgent.all in
+urgent_one : (c : Class) → (class_number c == 1) ≡ is_urgent c
+urgent_one Contending = refl
+urgent_one Urgent = refl
+urgent_one Tnegru = refl
+
+-- the classes mark the urgent tasks
+pub urgent_in : (g : Ledger) (classes : List ℕ) (x : ℕ) → AreClasses g classes → x < total g → chosen_in classes x ≡ is_urgent (class g x)
+urgent_in g classes x h l = ap (λ n. n == 1) (h.at x l) ∙ urgent_one (class g x)
+
+contending_zero : (c : Class) → (class_number c == 0) ≡ is_contending c
+contending_zero Contending = refl
+contending_zero Urgent = refl
+contending_zero Tnegru = refl
+
+pub contending_in : (g : Ledger) (classes : List ℕ) (x : ℕ) → AreClasses g classes → x < total g → (get_or classes x 0 == 0) ≡ is_contending (class g x)
+contending_in g classes x h l = ap (λ n. n == 0) (h.at x l) ∙ contending_zero (class g x)
+
+-- the marks are those of the pick
+pub placed_is_pick : (g : Ledger) (k : ℕ) (old new : List ℕ) (h : IsPlaced (ranks (total g) g) k old new) → AreClasses g old → (x : ℕ) → x < total g → chosen_in new x ≡ pick g h.pivot x
+placed_is_pick g k old new h classes x l =
+    let n = classes.all in
     let rs = ranks (total g) g in
     h.marks x (omega (arith, n, l))
-    ∙ ap (λ b. b || id_in (top rs k h.pivot h.best) x) (urgent.at x l)
+    ∙ ap (λ b. b || id_in (top rs k h.pivot h.best) x) (urgent_in g old x classes l)
     ∙ ap (λ b. is_urgent (class g x) || b) (top_is rs k h.pivot h.best x ∙ any_in (total g) g x (reaches h.pivot) l)
     ∙ picked_or (class g x) (reaches h.pivot (rank g x))
 
@@ -362,17 +380,17 @@ pub ranks_below : (n : ℕ) (g : Ledger) → All (λ q. q.id < n) (ranks n g)
 ranks_below zero g = All-nil (λ q. q.id < 0)
 ranks_below (suc n) g = if_below n (ranks n g) (is_contending (class g n)) (rank g n) refl (ranks_below n g)
 
--- the flagged tasks are PF's row
-pub placed_is_pf : (g : Ledger) (m u : ℕ) (rs : List Parts) (old new : List Bool) → IsLedger g → rs ≡ ranks (total g) g → IsPlaced rs (m - u) old new → IsUrgentFlags g old → u ≡ urgent g → m ≡ g.set.workers → u ≤ m → IsPfRow g (members (length new) (marked new))
-placed_is_pf g m u rs old new h is placed urgent u_is m_is le =
+-- the marked tasks are PF's row
+pub placed_is_pf : (g : Ledger) (m u : ℕ) (rs : List Parts) (old new : List ℕ) → IsLedger g → rs ≡ ranks (total g) g → IsPlaced rs (m - u) old new → AreClasses g old → u ≡ urgent g → m ≡ g.set.workers → u ≤ m → IsPfRow g (members (length new) (chosen_in new))
+placed_is_pf g m u rs old new h is placed classes u_is m_is le =
     let P : List Parts → Type 0 = λ xs. IsPlaced xs (m - u) old new in
     let here : IsPlaced (ranks (total g) g) (m - u) old new = subst P is placed in
     let pf : IsPf g (pick g here.pivot) = picks_pf g (m - u) here.pivot h here.best (omega arith) in
-    let len : length new ≡ total g = here.long ∙ urgent.all in
+    let len : length new ≡ total g = here.long ∙ classes.all in
     record {
       set = pick g here.pivot;
       pf = pf;
-      is = ap (λ n. members n (marked new)) len ∙ members-same (total g) (marked new) (pick g here.pivot) (placed_is_pick g (m - u) old new here urgent);
+      is = ap (λ n. members n (chosen_in new)) len ∙ members-same (total g) (chosen_in new) (pick g here.pivot) (placed_is_pick g (m - u) old new here classes);
     }
 
 -- a selection's pivot and those above it are of tasks that the ranks are of

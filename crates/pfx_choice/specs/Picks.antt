@@ -6,18 +6,23 @@ use Rattle.std.specs.List.Sorted.{IsPermutation, IsSplitAround}
 use Rattle.pfx_symbols.specs.Ranks.{Parts, rank_cmp}
 use Rattle.pfx_symbols.specs.declared.kinds.Class.{Class}
 use Rattle.pfx_symbols.specs.declared.kinds.Class.TheVariants.{Contending, Urgent, Tnegru}
+use Rattle.pfx_lanes.specs.Laws.{class_number}
 use Rattle.pfx_columns.specs.Ledgers.{Ledger, total, class, rank}
 use Rattle.std.specs.List.{list_any}
-use Rattle.pfx_choice.specs.Choices.{is_urgent, is_contending}
+use Rattle.pfx_choice.specs.Choices.{is_contending}
 
 -- the set that a list of flags marks
 abbrev pub marked : List Bool → ℕ → Bool
 marked flags x = slice_index_or flags x false
 
--- a flag for each task, which says whether it is urgent
-pub record IsUrgentFlags (g : Ledger) (flags : List Bool) : Type 0 where
-  pub all : length flags ≡ total g
-  pub at : (x : ℕ) → x < total g → marked flags x ≡ is_urgent (class g x)
+-- the set that a list of classes, in numbers, marks: those of class 1
+abbrev pub chosen_in : List ℕ → ℕ → Bool
+chosen_in classes x = slice_index_or classes x 0 == 1
+
+-- the number of each task's class
+pub record AreClasses (g : Ledger) (classes : List ℕ) : Type 0 where
+  pub all : length classes ≡ total g
+  pub at : (x : ℕ) → x < total g → slice_index_or classes x 0 ≡ class_number (class g x)
 
 abbrev pub if_rank : Bool → Parts → List Parts
 if_rank true r = r ∷ []
@@ -69,8 +74,8 @@ top rs k None p = []
 top rs k (Some r) p = r ∷ p.high
 
 -- the tasks of the best k of the ranks are marked, and the others as before
-pub record IsPlaced (rs : List Parts) (k : ℕ) (old new : List Bool) : Type 0 where
+pub record IsPlaced (rs : List Parts) (k : ℕ) (old new : List ℕ) : Type 0 where
   pub pivot : Option Parts
   pub best : IsPivotFor rs k pivot
   pub long : length new ≡ length old
-  pub marks : (x : ℕ) → x < length old → marked new x ≡ (marked old x || id_in (top rs k pivot best) x)
+  pub marks : (x : ℕ) → x < length old → chosen_in new x ≡ (chosen_in old x || id_in (top rs k pivot best) x)

@@ -1,15 +1,16 @@
 //! The choice by selection: the contending ranks are split around the one that just has a place.
 
-ghost use Rattle.std.specs.Prelude.{◌≡◌, ◌≢◌, ℕ, ◌<◌, ◌≤◌, ◌||◌, ◌++◌, length, All, MatchResult, IfOk, OnOk, OnErr};
+ghost use Rattle.std.specs.Prelude.{◌≡◌, ◌≢◌, ℕ, ◌<◌, ◌≤◌, ◌||◌, length, All, MatchResult, IfOk, OnOk, OnErr};
 ghost use Rattle.pfx_weights.specs.Rows.{members};
-ghost use Rattle.pfx_columns.specs.Ledgers.{total, rank};
-ghost use Rattle.pfx_choice.specs.Choices.{urgent, is_urgent, is_contending, IsChosen, Fails};
+ghost use Rattle.pfx_columns.specs.Ledgers.{total};
+ghost use Rattle.pfx_choice.specs.Choices.{urgent, IsChosen, Fails};
 ghost use Rattle.pfx_choice.specs.PfRows.{chosen, AnswersFunction};
-ghost use Rattle.pfx_choice.specs.Picks.{ranks, if_rank, marked, id_in, IsUrgentFlags, IsPlaced};
+ghost use Rattle.pfx_choice.specs.Picks.{ranks, chosen_in, id_in, AreClasses, IsPlaced};
 
 use crate::ChoiceFault;
 use pfx_columns::Columns;
-use pfx_symbols::{Class, Rank};
+use pfx_lanes::classify;
+use pfx_symbols::Rank;
 use pfx_weights::Row;
 use std::alloc::{AllocError, Global};
 
@@ -19,7 +20,8 @@ const LAST_SLOT: u64 = (1 << 40) - 1;
 /// Chooses the rows of slots, one after the other, and keeps the room that it takes for the next one.
 #[derive(Drop)]
 pub struct Chooser {
-    flags: Vec<bool>,
+    /// Each task's class as `classify` gives it, and then 1 for each task that runs.
+    classes: Vec<u8>,
     ranks: Vec<Rank>,
     numbers: Vec<u16>,
 }
@@ -28,7 +30,7 @@ impl Chooser {
     /// A chooser with no room yet.
     pub fn new(alloc: Global) -> Chooser {
         Chooser {
-            flags: Vec::new(alloc),
+            classes: Vec::new(alloc),
             ranks: Vec::new(alloc),
             numbers: Vec::new(alloc),
         }
@@ -68,7 +70,7 @@ impl Chooser {
         }
         let m = ledger.workers();
         let _total = ledger.total();
-        let Ok(urgent) = sort_out(&mut self.flags, &mut self.ranks, ledger) else {
+        let Ok(urgent) = sort_out(&mut self.classes, &mut self.ranks, ledger) else {
             return Err(ChoiceFault::NoMemory);
         };
         if urgent > m {
@@ -82,8 +84,8 @@ impl Chooser {
                 m,
             });
         }
-        place_best(&mut self.flags, &mut self.ranks, places);
-        let Ok(_) = collect(&mut self.numbers, &self.flags) else {
+        place_best(&mut self.classes, &mut self.ranks, places);
+        let Ok(_) = collect(&mut self.numbers, &self.classes) else {
             return Err(ChoiceFault::NoMemory);
         };
         row.set(&self.numbers);
@@ -99,90 +101,83 @@ pub fn choose(alloc: Global, ledger: &Columns) -> Result<Row, ChoiceFault>
     Chooser::new(alloc).choose(ledger)
 }
 
-fn is_urgent_class(class: Class) -> bool
-    ensures { result ≡ is_urgent class }
-{
-    matches!(class, Class::Urgent)
-}
-
-fn contends(class: Class) -> bool
-    ensures { result ≡ is_contending class }
-{
-    matches!(class, Class::Contending)
-}
-
-/// One rank more, where the task contends.
-fn gather(
-    found: &mut Vec<Rank>,
-    ledger: &Columns,
-    x: usize,
-    contends: bool,
-) -> Result<(), AllocError>
-    requires { x < total ledger.now }
-    ensures { OnOk result (found.new.items ≡ found.old.items ++ if_rank contends (rank ledger.now x)) }
-{
-    if contends {
-        found.push(ledger.rank(x))?;
-    }
-    Ok(())
-}
-
-/// Flags the urgent tasks and says how many there are, and gathers the ranks of the contending ones.
+/// Takes each task's class, says how many are urgent, and gathers the ranks of the contending ones.
 fn sort_out(
-    flags: &mut Vec<bool>,
+    classes: &mut Vec<u8>,
     found: &mut Vec<Rank>,
     ledger: &Columns,
 ) -> Result<u32, AllocError>
     ensures number { IfOk result (λ number. number ≡ urgent ledger.now) }
     ensures within { IfOk result (λ number. number ≤ 1152) }
-    ensures flags { OnOk result (IsUrgentFlags ledger.now flags.new.items) }
+    ensures classes { OnOk result (AreClasses ledger.now classes.new.items) }
     ensures ranks { OnOk result (found.new.items ≡ ranks (total ledger.now) ledger.now) }
 {
-    flags.clear();
+    let total = ledger.total();
+    if classes.len() != total {
+        classes.resize(total, 0)?;
+    }
+    classify(
+        ledger.lags(),
+        ledger.phases(),
+        ledger.es(),
+        ledger.ps(),
+        classes,
+    );
+    gather(found, ledger, classes)
+}
+
+/// Counts the urgent tasks, and gathers the ranks of the contending ones.
+fn gather(found: &mut Vec<Rank>, ledger: &Columns, classes: &[u8]) -> Result<u32, AllocError>
+    requires { AreClasses ledger.now classes.now }
+    ensures number { IfOk result (λ number. number ≡ urgent ledger.now) }
+    ensures within { IfOk result (λ number. number ≤ 1152) }
+    ensures ranks { OnOk result (found.new.items ≡ ranks (total ledger.now) ledger.now) }
+{
+    let _total = ledger.total();
     found.clear();
     let mut number: u32 = 0;
-    for x in 0..ledger.total() {
-        let class = ledger.class(x);
-        let urgent = is_urgent_class(class);
-        flags.push(urgent)?;
-        number += u32::from(urgent);
-        gather(found, ledger, x, contends(class))?;
+    for (x, class) in classes.iter().enumerate() {
+        if *class == 0 {
+            found.push(ledger.rank(x))?;
+            continue;
+        }
+        number += u32::from(*class == 1);
     }
     Ok(number)
 }
 
-/// Flags the tasks of these ranks.
-fn flag_all(flags: &mut [bool], chosen: &[Rank])
-    requires { All (λ q. q.id < length flags.old) chosen.now }
-    ensures { (x : ℕ) → x < length flags.old → marked flags.new x ≡ (marked flags.old x || id_in chosen.now x) }
+/// Marks the tasks of these ranks.
+fn mark_all(classes: &mut [u8], chosen: &[Rank])
+    requires { All (λ q. q.id < length classes.old) chosen.now }
+    ensures { (x : ℕ) → x < length classes.old → chosen_in classes.new x ≡ (chosen_in classes.old x || id_in chosen.now x) }
 {
     for rank in chosen {
-        flags[usize::from(rank.id())] = true;
+        classes[usize::from(rank.id())] = 1;
     }
 }
 
-/// Flags the tasks of the `k` greatest ranks.
-fn place_best(flags: &mut [bool], ranks: &mut [Rank], k: usize)
+/// Marks the tasks of the `k` greatest ranks.
+fn place_best(classes: &mut [u8], ranks: &mut [Rank], k: usize)
     requires within { k ≤ length ranks.old }
-    requires ids { All (λ q. q.id < length flags.old) ranks.old }
-    ensures { IsPlaced ranks.old k flags.old flags.new }
+    requires ids { All (λ q. q.id < length classes.old) ranks.old }
+    ensures { IsPlaced ranks.old k classes.old classes.new }
 {
     if k > 0 {
         let at = ranks.len() - k;
         let (_, middle, high) = ranks.select_nth_unstable(at);
-        flags[usize::from(middle.id())] = true;
-        flag_all(flags, high);
+        classes[usize::from(middle.id())] = 1;
+        mark_all(classes, high);
     }
 }
 
-/// The flagged tasks' numbers, rising.
-fn collect(numbers: &mut Vec<u16>, flags: &[bool]) -> Result<(), AllocError>
-    requires { length flags.now ≤ 1152 }
-    ensures { OnOk result (numbers.new.items ≡ members (length flags.now) (marked flags.now)) }
+/// The marked tasks' numbers, rising.
+fn collect(numbers: &mut Vec<u16>, classes: &[u8]) -> Result<(), AllocError>
+    requires { length classes.now ≤ 1152 }
+    ensures { OnOk result (numbers.new.items ≡ members (length classes.now) (chosen_in classes.now)) }
 {
     numbers.clear();
-    for (x, flag) in flags.iter().enumerate() {
-        if *flag {
+    for (x, class) in classes.iter().enumerate() {
+        if *class == 1 {
             numbers.push(x as u16)?;
         }
     }

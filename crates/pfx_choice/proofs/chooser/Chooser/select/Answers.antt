@@ -1,11 +1,11 @@
-use Rattle.std.proofs.Common.{◌≡◌, ◌≤◌, ◌<◌, ◌-◌, ◌++◌, ◌∙◌, ℕ, Bool, List, take, drop, ap, sym, subst, arith, length}
+use Rattle.std.proofs.Common.{◌≡◌, ◌≤◌, ◌<◌, ◌-◌, ◌++◌, ◌∙◌, ℕ, List, take, drop, ap, sym, subst, arith, length}
 use Rattle.std.specs.Prelude.{All}
 use Rattle.std.proofs.lemmas.List.{take_at}
 use Rattle.pfx_weights.specs.Rows.{IsRow, members}
 use Rattle.pfx_symbols.specs.Ranks.{Parts}
 use Rattle.pfx_columns.specs.Ledgers.{Ledger, total, IsLedger}
 use Rattle.pfx_choice.specs.Choices.{contending, IsPfRow, urgent}
-use Rattle.pfx_choice.specs.Picks.{ranks, marked, IsUrgentFlags, IsPlaced}
+use Rattle.pfx_choice.specs.Picks.{ranks, chosen_in, AreClasses, IsPlaced}
 use Rattle.pfx_choice.proofs.Picking.{length-ranks, ranks_below, placed_is_pf, pf_is_row}
 use Rattle.pfx_choice.proofs.chooser.Chooser.select.Goals as goal
 
@@ -18,7 +18,7 @@ returns-then-contending-places-clause-row c =
 pub place_best-requires : goal.place_best-requires
 place_best-requires c =
     let g = c.args.ledger.now in
-    let n : length c.deref_mut.result.now ≡ total g = ap length c.deref_mut.ensures.value ∙ c.in-Ok.ensures.flags.all in
+    let n : length c.deref_mut.result.now ≡ total g = ap length c.deref_mut.ensures.value ∙ c.in-Ok.ensures.classes.all in
     let P : List Parts → Type 0 = λ rs. All (λ q. q.id < length c.deref_mut.result.now) rs in
     let is : c.deref_mut-2.result.now ≡ ranks (total g) g = c.deref_mut-2.ensures.value ∙ c.in-Ok.ensures.ranks in
     let Below : ℕ → Type 0 = λ k. All (λ q. q.id < k) (ranks (total g) g) in
@@ -27,32 +27,32 @@ place_best-requires c =
       ids = subst P (sym is) (subst Below (sym n) (ranks_below (total g) g));
     }
 
--- the flags behind the vector are those that the placing left
-flags_left : (new old all : List Bool) (len : ℕ) → length new ≡ length old → len ≡ length old → all ≡ take len (new ++ drop (length new) old) → all ≡ new
-flags_left new old all len same is view = view ∙ take_at new (drop (length new) old) len (same ∙ sym is)
+-- the classes behind the vector are those that the placing left
+classes_left : (new old all : List ℕ) (len : ℕ) → length new ≡ length old → len ≡ length old → all ≡ take len (new ++ drop (length new) old) → all ≡ new
+classes_left new old all len same is view = view ∙ take_at new (drop (length new) old) len (same ∙ sym is)
 
 pub collect-requires : goal.collect-requires
 collect-requires c =
     let g = c.args.ledger.now in
-    let left = flags_left c.place_best.new.flags c.sort_out.new.flags.items c.deref.result.now c.sort_out.new.flags.len (c.place_best.auto.flags ∙ ap length c.deref_mut.ensures.value) c.sort_out.new.flags.ok.0 c.deref.ensures.value in
-    let n : length c.deref.result.now ≡ total g = ap length left ∙ c.place_best.auto.flags ∙ ap length c.deref_mut.ensures.value ∙ c.in-Ok.ensures.flags.all in
+    let left = classes_left c.place_best.new.classes c.sort_out.new.classes.items c.deref.result.now c.sort_out.new.classes.len (c.place_best.auto.classes ∙ ap length c.deref_mut.ensures.value) c.sort_out.new.classes.ok.0 c.deref.ensures.value in
+    let n : length c.deref.result.now ≡ total g = ap length left ∙ c.place_best.auto.classes ∙ ap length c.deref_mut.ensures.value ∙ c.in-Ok.ensures.classes.all in
     let few = c.total-total.ensures.ledger.set.number in
     omega (arith, n, few)
 
 -- what is collected is PF's row
-collected : (g : Ledger) (m u : ℕ) (rs qs : List Parts) (flags old new all : List Bool) (numbers : List ℕ) → IsLedger g → qs ≡ rs → rs ≡ ranks (total g) g → old ≡ flags → IsUrgentFlags g flags → IsPlaced qs (m - u) old new → all ≡ new
-    → numbers ≡ members (length all) (marked all) → u ≡ urgent g → m ≡ g.set.workers → u ≤ m → IsPfRow g numbers
-collected g m u rs qs flags old new all numbers h same is seen urgent placed left collects u_is m_is le =
-    let Seen : List Bool → Type 0 = λ f. IsUrgentFlags g f in
+collected : (g : Ledger) (m u : ℕ) (rs qs : List Parts) (classes old new all : List ℕ) (numbers : List ℕ) → IsLedger g → qs ≡ rs → rs ≡ ranks (total g) g → old ≡ classes → AreClasses g classes → IsPlaced qs (m - u) old new → all ≡ new
+    → numbers ≡ members (length all) (chosen_in all) → u ≡ urgent g → m ≡ g.set.workers → u ≤ m → IsPfRow g numbers
+collected g m u rs qs classes old new all numbers h same is seen sorted placed left collects u_is m_is le =
+    let Seen : List ℕ → Type 0 = λ f. AreClasses g f in
     let R : List ℕ → Type 0 = λ row. IsPfRow g row in
-    subst R (sym (collects ∙ ap (λ f. members (length f) (marked f)) left)) (placed_is_pf g m u qs old new h (same ∙ is) placed (subst Seen (sym seen) urgent) u_is m_is le)
+    subst R (sym (collects ∙ ap (λ f. members (length f) (chosen_in f)) left)) (placed_is_pf g m u qs old new h (same ∙ is) placed (subst Seen (sym seen) sorted) u_is m_is le)
 
 pub returns-clause-row : goal.returns-clause-row
 returns-clause-row c =
     let g = c.args.ledger.now in
-    let left = flags_left c.place_best.new.flags c.sort_out.new.flags.items c.deref.result.now c.sort_out.new.flags.len (c.place_best.auto.flags ∙ ap length c.deref_mut.ensures.value) c.sort_out.new.flags.ok.0 c.deref.ensures.value in
-    let pf = collected g c.workers-m.result c.in-Ok.urgent c.sort_out.new.found.items c.deref_mut-2.result.now c.sort_out.new.flags.items c.deref_mut.result.now c.place_best.new.flags c.deref.result.now c.collect.new.numbers.items
-    c.total-total.ensures.ledger c.deref_mut-2.ensures.value c.in-Ok.ensures.ranks c.deref_mut.ensures.value c.in-Ok.ensures.flags c.place_best.ensures left c.in-Ok-collect.ensures c.in-Ok.ensures.number c.workers-m.ensures c.if-urgent-m.false in
+    let left = classes_left c.place_best.new.classes c.sort_out.new.classes.items c.deref.result.now c.sort_out.new.classes.len (c.place_best.auto.classes ∙ ap length c.deref_mut.ensures.value) c.sort_out.new.classes.ok.0 c.deref.ensures.value in
+    let pf = collected g c.workers-m.result c.in-Ok.urgent c.sort_out.new.found.items c.deref_mut-2.result.now c.sort_out.new.classes.items c.deref_mut.result.now c.place_best.new.classes c.deref.result.now c.collect.new.numbers.items
+    c.total-total.ensures.ledger c.deref_mut-2.ensures.value c.in-Ok.ensures.ranks c.deref_mut.ensures.value c.in-Ok.ensures.classes c.place_best.ensures left c.in-Ok-collect.ensures c.in-Ok.ensures.number c.workers-m.ensures c.if-urgent-m.false in
     let R : List ℕ → Type 0 = λ row. IsPfRow g row in
     record {
       pf = subst R (sym (c.set.ensures ∙ c.deref-2.ensures.value)) pf;
@@ -62,7 +62,7 @@ returns-clause-row c =
 pub set-requires : goal.set-requires
 set-requires c =
     let g = c.args.ledger.now in
-    let left = flags_left c.place_best.new.flags c.sort_out.new.flags.items c.deref.result.now c.sort_out.new.flags.len (c.place_best.auto.flags ∙ ap length c.deref_mut.ensures.value) c.sort_out.new.flags.ok.0 c.deref.ensures.value in
-    let pf = collected g c.workers-m.result c.in-Ok.urgent c.sort_out.new.found.items c.deref_mut-2.result.now c.sort_out.new.flags.items c.deref_mut.result.now c.place_best.new.flags c.deref.result.now c.collect.new.numbers.items
-    c.total-total.ensures.ledger c.deref_mut-2.ensures.value c.in-Ok.ensures.ranks c.deref_mut.ensures.value c.in-Ok.ensures.flags c.place_best.ensures left c.in-Ok-collect.ensures c.in-Ok.ensures.number c.workers-m.ensures c.if-urgent-m.false in
+    let left = classes_left c.place_best.new.classes c.sort_out.new.classes.items c.deref.result.now c.sort_out.new.classes.len (c.place_best.auto.classes ∙ ap length c.deref_mut.ensures.value) c.sort_out.new.classes.ok.0 c.deref.ensures.value in
+    let pf = collected g c.workers-m.result c.in-Ok.urgent c.sort_out.new.found.items c.deref_mut-2.result.now c.sort_out.new.classes.items c.deref_mut.result.now c.place_best.new.classes c.deref.result.now c.collect.new.numbers.items
+    c.total-total.ensures.ledger c.deref_mut-2.ensures.value c.in-Ok.ensures.ranks c.deref_mut.ensures.value c.in-Ok.ensures.classes c.place_best.ensures left c.in-Ok-collect.ensures c.in-Ok.ensures.number c.workers-m.ensures c.if-urgent-m.false in
     subst IsRow (sym c.deref-2.ensures.value) (pf_is_row g c.collect.new.numbers.items pf c.total-total.ensures.ledger.set.workers.1)

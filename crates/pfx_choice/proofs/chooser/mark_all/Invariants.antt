@@ -1,0 +1,6 @@
+use Rattle.std.proofs.Common.{◌≡◌, ◌<◌, ◌||◌, ℕ, length, take}
+use Rattle.pfx_choice.specs.Picks.{chosen_in, id_in}
+use Rattle.pfx_choice.proofs.chooser.mark_all.Given as goal
+
+abbrev pub invariant-loop-rank : goal.invariant-loop-rank
+invariant-loop-rank l = (x : ℕ) → x < length l.initial.classes → chosen_in l.classes x ≡ (chosen_in l.initial.classes x || id_in (take l.rank-index l.chosen) x)
