@@ -1,11 +1,12 @@
 -- How a call behind another one answers, and how many calls of the disk the two take.
 use Rattle.std.specs.Prelude.{◌≡◌, ◌≤◌, ◌+◌, ◌-◌, ℕ, Bool, true, false, Result, Err, IsErrAnd, nat_lt, if◌then◌else◌}
-use Rattle.std.proofs.Common.{sym, ◌∙◌, arith, inl, inr}
+use Rattle.std.proofs.Common.{sym, ◌∙◌, subst, arith, inl, inr}
 use Rattle.std.proofs.lemmas.Bool.{true≢false}
 use Rattle.pfx_disk.specs.Disk.{View, HasFailed}
 use Rattle.pfx_segment.specs.Segment.{Takes}
 use Rattle.pfx_store.specs.Calls.{Works}
-use Rattle.pfx_store.specs.Tending.{append_calls, calls_left, pieces}
+use Rattle.pfx_store.specs.Fitting.{HasRoom}
+use Rattle.pfx_store.specs.Tending.{IsTurnedBefore, MovesOn, TakesFrame, append_calls, calls_left, pieces}
 use Rattle.pfx_store.specs.declared.faults.StoreFault.{StoreFault}
 use Rattle.pfx_store.specs.declared.places.Places.{Places}
 use Rattle.pfx_store.proofs.Calling.{works_handed}
@@ -50,3 +51,17 @@ append_by false left n most = omega (arith, most)
 -- no append takes more calls than this
 pub append_most : (n : ℕ) (places : Places) → append_calls n places ≤ 15 + pieces places.body
 append_most n places = append_by (nat_lt (places.gate + n) places.end) (calls_left places) (pieces places.body) (left_bound places.turned places.begun places.body places.done)
+
+-- a frame of n bytes behind room that was made for it
+module _ (n a b : ℕ) (old mid new : Places) (is_a : a ≡ n) (is_b : b ≡ n) (there : HasRoom a old → mid ≡ old) (full : HasRoom a mid → HasRoom a old) (taken : TakesFrame b mid new) where
+  room_between : HasRoom n old → HasRoom b mid
+  room_between room = subst (λ (q : Places). HasRoom b q) (sym (there (omega (arith, is_a, room)))) (omega (arith, is_b, room))
+
+  room_before : HasRoom b mid → HasRoom n old
+  room_before room = let before : HasRoom a old = full (omega (arith, is_a, is_b, room)) in omega (arith, is_a, before)
+
+  pub takes_frame : TakesFrame n old new
+  takes_frame = record {
+    room = λ room. subst (λ (q : Places). MovesOn n q new) (there (omega (arith, is_a, room))) (subst (λ (k : ℕ). MovesOn k mid new) is_b (taken.room (room_between room)));
+    full = λ none. subst (λ (k : ℕ). IsTurnedBefore k new) is_b (taken.full (λ room. none (room_before room)));
+  }

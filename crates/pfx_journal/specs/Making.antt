@@ -1,5 +1,5 @@
 -- Which fault comes where a store isn't made.
-use Rattle.std.specs.Prelude.{◌≡◌, ◌<◌, ℕ}
+use Rattle.std.specs.Prelude.{◌≡◌, ◌<◌, ℕ, ⊤}
 use Rattle.pfx_header.specs.Headers.{IsSegmentSize, least_segment, longest_segment}
 use Rattle.pfx_journal.specs.declared.making.InitFault.{InitFault}
 use Rattle.pfx_journal.specs.declared.making.InitFault.TheVariants.{SegmentTooSmall, SegmentTooLarge, NotEmpty, Device, NoMemory}
@@ -11,3 +11,11 @@ IsSizeFault m segment SegmentTooLarge = longest_segment < segment
 IsSizeFault m segment NotEmpty = IsSegmentSize m segment
 IsSizeFault m segment Device = IsSegmentSize m segment
 IsSizeFault m segment NoMemory = IsSegmentSize m segment
+
+-- a fault that comes before the disk is asked anything
+abbrev pub IsBeforeAnyCall : InitFault → Type 0
+IsBeforeAnyCall (SegmentTooSmall least) = ⊤
+IsBeforeAnyCall SegmentTooLarge = ⊤
+IsBeforeAnyCall NotEmpty = ⊥
+IsBeforeAnyCall Device = ⊥
+IsBeforeAnyCall NoMemory = ⊤

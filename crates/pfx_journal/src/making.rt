@@ -8,7 +8,7 @@ ghost use Rattle.pfx_format.specs.Format.{format};
 ghost use Rattle.pfx_header.specs.Headers.{IsHeader, IsSegmentSize, header_bytes};
 ghost use Rattle.pfx_machine.specs.Plain.{Plain, empty};
 ghost use Rattle.pfx_journal.specs.Standing.{Stands};
-ghost use Rattle.pfx_journal.specs.Making.{IsSizeFault};
+ghost use Rattle.pfx_journal.specs.Making.{IsBeforeAnyCall, IsSizeFault};
 
 use crate::format::FileHeader;
 use crate::opening::longest_frame;
@@ -80,11 +80,14 @@ fn placed<D: Disk, J: Job>(
     ensures device { IfErr result (λ e. e.0 ≡ InitFault.Device → HasFailed (D.view disk) (D.view e.1)) }
     ensures not_empty { IsHonest (D.view disk) → IfErr result (λ e. e.0 ≡ InitFault.NotEmpty
         → 0 < length (D.view disk).contents) }
+    ensures one_call { IfErr result (λ e. e.0 ≡ InitFault.NotEmpty → (D.view e.1).clock ≡ (D.view disk).clock + 1) }
+    ensures unasked { IfErr result (λ e. IsBeforeAnyCall e.0 → e.1 ≡ disk) }
     ensures vacant { IsHonest (D.view disk) → IfOk result (λ _. (D.view disk).contents ≡ []) }
     ensures untouched { IsHonest (D.view disk) → 0 < length (D.view disk).contents
         → IfErr result (λ e. Leaves Same (D.view disk) (D.view e.1)) }
     ensures calls { IfOk result (λ store. (D.view store.file.disk).clock
         ≡ (D.view disk).clock + 6 + pieces (store.file.places.len - 1)) }
+    ensures segment { IfOk result (λ store. store.file.places.segment_len ≡ segment) }
     ensures made { IfOk result (λ store. store.state ≡ empty set.now) }
     ensures whole { IfOk result (λ store. store.file.broken ≡ false) }
     ensures stands { IsHonest (D.view disk) → IfOk result (λ store.
@@ -118,11 +121,14 @@ fn made<D: Disk, J: Job>(
     ensures device { IfErr result (λ e. e.0 ≡ InitFault.Device → HasFailed (D.view disk) (D.view e.1)) }
     ensures not_empty { IsHonest (D.view disk) → IfErr result (λ e. e.0 ≡ InitFault.NotEmpty
         → 0 < length (D.view disk).contents) }
+    ensures one_call { IfErr result (λ e. e.0 ≡ InitFault.NotEmpty → (D.view e.1).clock ≡ (D.view disk).clock + 1) }
+    ensures unasked { IfErr result (λ e. IsBeforeAnyCall e.0 → e.1 ≡ disk) }
     ensures vacant { IsHonest (D.view disk) → IfOk result (λ _. (D.view disk).contents ≡ []) }
     ensures untouched { IsHonest (D.view disk) → 0 < length (D.view disk).contents
         → IfErr result (λ e. Leaves Same (D.view disk) (D.view e.1)) }
     ensures calls { IfOk result (λ store. (D.view store.file.disk).clock
         ≡ (D.view disk).clock + 6 + pieces (store.file.places.len - 1)) }
+    ensures segment { IfOk result (λ store. store.file.places.segment_len ≡ segment) }
     ensures made { IfOk result (λ store. store.state ≡ empty set.now) }
     ensures whole { IfOk result (λ store. store.file.broken ≡ false) }
     ensures stands { IsHonest (D.view disk) → IfOk result (λ store.
@@ -164,6 +170,8 @@ impl<D: Disk, J: Job> Store<D, J> {
         ensures device { IfErr result (λ e. e.0 ≡ InitFault.Device → HasFailed (D.view disk) (D.view e.1)) }
         ensures not_empty { IsHonest (D.view disk) → IfErr result (λ e. e.0 ≡ InitFault.NotEmpty
             → 0 < length (D.view disk).contents) }
+        ensures one_call { IfErr result (λ e. e.0 ≡ InitFault.NotEmpty → (D.view e.1).clock ≡ (D.view disk).clock + 1) }
+        ensures unasked { IfErr result (λ e. IsBeforeAnyCall e.0 → e.1 ≡ disk) }
 
         // A disk that holds bytes is left as it was.
         ensures vacant { IsHonest (D.view disk) → IfOk result (λ _. (D.view disk).contents ≡ []) }
@@ -174,7 +182,8 @@ impl<D: Disk, J: Job> Store<D, J> {
         ensures calls { IfOk result (λ store. (D.view store.file.disk).clock
             ≡ (D.view disk).clock + 6 + pieces (store.file.places.len - 1)) }
 
-        // The store, at its empty state.
+        // The store, with segments of that length, at its empty state.
+        ensures segment { IfOk result (λ store. store.file.places.segment_len ≡ segment) }
         ensures made { IfOk result (λ store. store.state ≡ empty set.now) }
         ensures whole { IfOk result (λ store. store.file.broken ≡ false) }
         ensures stands { IsHonest (D.view disk) → IfOk result (λ store.

@@ -10,10 +10,10 @@ ghost use Rattle.pfx_record.specs.Batches.{batch_bytes, batch_of};
 ghost use Rattle.pfx_record.specs.Records.{plain};
 ghost use Rattle.pfx_recovery.specs.Store.{Replays};
 ghost use Rattle.pfx_store.specs.Calls.{Works, GoesOn};
-ghost use Rattle.pfx_store.specs.Fitting.{SameParts};
+ghost use Rattle.pfx_store.specs.Fitting.{HasRoom, SameParts};
 ghost use Rattle.pfx_segment.specs.Segment.{Takes};
 ghost use Rattle.pfx_store.specs.Holding.{KeepsAll, Survives};
-ghost use Rattle.pfx_store.specs.Tending.{append_calls, pieces, room_calls};
+ghost use Rattle.pfx_store.specs.Tending.{TakesFrame, append_calls, pieces, room_calls};
 ghost use Rattle.pfx_journal.specs.Standing.{IsBehind, IsReady, Stands};
 
 use crate::format::FileHeader;
@@ -139,6 +139,8 @@ impl<D: Disk, J: Job> Store<D, J> {
         ensures state { self.new.state ≡ self.old.state }
         ensures frame { self.new.frame ≡ self.old.frame }
         ensures parts { SameParts self.old.file.places self.new.file.places }
+        ensures there { HasRoom n self.old.file.places → self.new.file.places ≡ self.old.file.places }
+        ensures full { HasRoom n self.new.file.places → HasRoom n self.old.file.places }
         ensures calls { Takes (room_calls n self.old.file.places) (D.view self.old.file.disk) (D.view self.new.file.disk) result }
         ensures left { OnOk result (room_calls n self.old.file.places + append_calls n self.new.file.places
             ≡ append_calls n self.old.file.places) }
@@ -184,6 +186,8 @@ impl<D: Disk, J: Job> Store<D, J> {
         ensures broken { IsErrOf result StoreFault.Broken → self.new ≡ self.old }
         ensures same { OnErr result (self.new.state ≡ self.old.state) }
         ensures state { OnOk result (applied J.kind self.old.state (map plain batch.now.records.items) ≡ Some self.new.state) }
+        ensures frame { let n = length (batch_bytes J.kind (batch_of batch.now.first batch.now.records.items)) in
+            OnOk result (TakesFrame n self.old.file.places self.new.file.places) }
         ensures mark { IfOk result (λ mark. (mark.number ≡ self.new.state.number)
             × (mark.clock ≡ (D.view self.new.file.disk).clock)) }
 

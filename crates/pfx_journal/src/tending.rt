@@ -1,5 +1,5 @@
 // Turning a store to its other segment, and the checkpoint in progress.
-ghost use Rattle.std.specs.Prelude.{◌≡◌, ◌↔◌, ◌+◌, ℕ, List, true, false, Ok, OnOk, OnErr, IfOk, IsTrue, IsErrOf};
+ghost use Rattle.std.specs.Prelude.{◌≡◌, ◌↔◌, ◌+◌, ℕ, List, min, true, false, Ok, OnOk, OnErr, IfOk, IsTrue, IsErrOf};
 ghost use Rattle.pfx_disk.specs.Disk.{IsHonest};
 ghost use Rattle.pfx_format.specs.Format.{format};
 ghost use Rattle.pfx_machine.specs.Plain.{Plain};
@@ -9,6 +9,7 @@ ghost use Rattle.pfx_store.specs.Calls.{Works};
 ghost use Rattle.pfx_store.specs.Fitting.{IsTurnable, SameParts};
 ghost use Rattle.pfx_store.specs.Holding.{KeepsAll};
 ghost use Rattle.pfx_store.specs.Tending.{StaysPut, next_step, calls_of, calls_left, steps_left, turn_calls, IsTurned};
+ghost use Rattle.pfx_store.specs.declared.checkpoint.TheConstants.{PIECE};
 ghost use Rattle.pfx_journal.specs.Standing.{Stands};
 
 use crate::format::FileHeader;
@@ -35,6 +36,10 @@ impl<D: Disk, J: Job> Store<D, J> {
         ensures step { IfOk result (λ tended. tended ≡ next_step self.old.file.places) }
         ensures parts { SameParts self.old.file.places self.new.file.places }
         ensures stays { StaysPut self.old.file.places self.new.file.places }
+        ensures nothing { self.old.file.places.turned ≡ false
+            → (self.new.file ≡ self.old.file) × (self.new.spelled ≡ self.old.spelled) }
+        ensures piece { result ≡ Ok Tended.Piece
+            → self.new.file.places.done ≡ min self.old.file.places.body (self.old.file.places.done + PIECE) }
         ensures nearer { self.old.file.places.turned ≡ true
             → OnOk result (steps_left self.old.file.places ≡ 1 + steps_left self.new.file.places) }
         ensures fewer { OnOk result (calls_left self.old.file.places

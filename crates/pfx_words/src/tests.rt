@@ -141,7 +141,7 @@ fn is_answered(alloc: Global, words: &[&str], status: i32, part: &str) -> anyhow
 }
 
 #[test]
-fn says_what_was_expected(rt: HostRuntime) -> anyhow::Result<()> {
+fn says_which_subcommands_there_are(rt: HostRuntime) -> anyhow::Result<()> {
     let rows = [
         (
             ["pfx"].as_slice(),
@@ -155,6 +155,16 @@ fn says_what_was_expected(rt: HostRuntime) -> anyhow::Result<()> {
             ["pfx", "paln", "a.toml", "4"].as_slice(),
             "a similar subcommand exists: 'plan'",
         ),
+    ];
+    for (words, part) in rows {
+        assert!(rt; is_answered(rt.alloc(), words, 2, part)?, "{part}");
+    }
+    Ok(())
+}
+
+#[test]
+fn wants_a_set_and_slots(rt: HostRuntime) -> anyhow::Result<()> {
+    let rows = [
         (["pfx", "plan"].as_slice(), "<SET>\n  <SLOTS>\n"),
         (
             ["pfx", "plan", "a.toml"].as_slice(),

@@ -12,7 +12,7 @@ use Rattle.pfx_store.specs.Holding.{IsStart, Survives}
 use Rattle.pfx_store.specs.Tending.{append_calls, room_calls}
 use Rattle.pfx_journal.specs.Standing.{IsReady, Stands}
 use Rattle.pfx_journal.proofs.Appends.{batch_leads}
-use Rattle.pfx_journal.proofs.Counts.{append_most, takes_both, works_behind}
+use Rattle.pfx_journal.proofs.Counts.{append_most, takes_both, takes_frame, works_behind}
 use Rattle.pfx_journal.proofs.Standings.{keeps_appended, keeps_more, keeps_still, stands_behind}
 use Rattle.pfx_journal.proofs.store.Store.append.Goals as goal
 
@@ -117,3 +117,9 @@ returns-clause-at_most g c =
     let most = append_most (length (batch_bytes g.J.Job.kind (batch_of c.args.batch.now.first c.args.batch.now.records.items))) c.args.self.now.file.places in
     let at_most = calls.at_most in
     omega (arith, most, at_most)
+
+pub returns-clause-frame : goal.returns-clause-frame
+returns-clause-frame g c =
+    takes_frame (length (batch_bytes g.J.Job.kind (batch_of c.args.batch.now.first c.args.batch.now.records.items))) c.batch_len-len.result (length c.behind_gate.result.now)
+    c.args.self.now.file.places c.make_room.new.self.file.places c.append_or_turn.new.self.places c.batch_len-len.ensures.value c.behind_gate.ensures.len
+    c.make_room.ensures.there c.make_room.ensures.full c.in_ok-append_or_turn.ensures.frame
