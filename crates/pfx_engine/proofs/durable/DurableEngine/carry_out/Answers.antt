@@ -55,7 +55,6 @@ returns-clause-keeps g c stands start H h all there =
     (subst (λ (t : Plain AnyJob). refusal any_kind t c.args.command ≡ None) at done.exact, rw (c.push_reserved.ensures.items, c.in-Ok.ensures.items) (ap (λ r. r ∷ []) (done.kept_as ∙ ap (λ (t : Plain AnyJob). record_of any_kind t c.args.command) at))) in
     c.keep.ensures.keeps stands start H c.args.command h all there mine
 
-
 pub returns-in-Ok-keep-clause-endless : goal.returns-in-Ok-keep-clause-endless
 returns-in-Ok-keep-clause-endless g c = λ endless.
     (let done = c.in-Ok-run_recorded.ensures in
