@@ -44,3 +44,6 @@ returns-clause-acknowledged g c stands =
     on_ok_two c.append.result
     (λ taken survives image here. acknowledged_with s c.requires.0 (map plain c.next_batch-batch.result.records.items) c.append.new.self.state c.next_batch-batch.result.first h is next taken image (survives image here))
     c.append.ensures.state (c.append.ensures.acknowledged (c.in_ok-_tended.ensures.stands stands) s [] refl)
+
+pub returns-clause-stands : goal.returns-clause-stands
+returns-clause-stands g c = λ stands. c.append.ensures.stands (c.in_ok-_tended.ensures.stands stands)
