@@ -94,7 +94,7 @@ module _ (s : Plain AnyJob) (c : Command AnyJob) (records : List (recorded.Plain
   pub state_with : (t : Plain AnyJob) → IsState s → IsRecordOf s c records → applied any_kind s records ≡ Some t → t ≡ outcome any_kind s (c ∷ [])
   state_with t h is taken = some_same t (outcome any_kind s (c ∷ [])) (sym taken ∙ right_with h is)
 
-  frame_is : (first : ℕ) → IsRecordOf s c records → first ≡ s.number + 1 → batch_bytes any_kind (record { first = first; records = records }) ≡ frame_of any_kind any_laws s c
+  pub frame_is : (first : ℕ) → IsRecordOf s c records → first ≡ s.number + 1 → batch_bytes any_kind (record { first = first; records = records }) ≡ frame_of any_kind any_laws s c
   frame_is first is next =
       let one = is.1 in
       λ i. batch_bytes any_kind (record { first = next i; records = one i })

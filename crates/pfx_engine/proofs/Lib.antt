@@ -1,3 +1,4 @@
 mod Commands
 mod Keeps
 mod Serving
+mod Stepping

@@ -1,2 +1,3 @@
 pub mod Failing
+pub mod Stepping
 pub mod Surviving

@@ -13,9 +13,11 @@ ghost use Rattle.pfx_machine.specs.Sessions.{IsAcceptable};
 ghost use Rattle.pfx_machine.specs.declared.command.Command.{Command};
 ghost use Rattle.pfx_program.specs.Running.{IsOfRun, NotAccepted, Shows};
 ghost use Rattle.pfx_recovery.specs.Recovery.{recovered};
+ghost use Rattle.pfx_segment.specs.Segment.{Takes};
 ghost use Rattle.pfx_store.specs.Calls.{GoesOn};
 ghost use Rattle.pfx_journal.specs.Standing.{Stands};
 ghost use Rattle.pfx_engine.specs.Failing.{Fails, IsServed, last_kept, stopped_at};
+ghost use Rattle.pfx_engine.specs.Stepping.{command_calls, frame_len};
 ghost use Rattle.pfx_engine.specs.Surviving.{KeepsAll};
 
 use crate::keeping::keep;
@@ -121,6 +123,10 @@ impl<D: Disk> DurableEngine<D> {
             ((self.new.state ≡ self.old.state) × (self.new.store ≡ self.old.store))) }
         ensures broken { self.old.store.file.broken ≡ true
             → (result ≡ Err (CallFault.Failed (stopped_at self.old.store.state.number))) × (self.new.state ≡ self.old.state) × (self.new.store ≡ self.old.store) }
+
+        // A step of the checkpoint in progress, if there is one, and the command: so many calls of the disk.
+        ensures calls { Takes (command_calls (frame_len self.old.state command) self.old.store.file.places)
+            (D.view self.old.store.file.disk) (D.view self.new.store.file.disk) result }
         ensures goes { GoesOn (D.view self.old.store.file.disk) (D.view self.new.store.file.disk) }
         ensures honest { IsHonest (D.view self.new.store.file.disk) → IsHonest (D.view self.old.store.file.disk) }
         ensures kept { IsHonest (D.view self.old.store.file.disk) → IsHonest (D.view self.new.store.file.disk) }

@@ -14,6 +14,8 @@ ghost use Rattle.pfx_record.specs.Records.{plain};
 ghost use Rattle.pfx_recovery.specs.Recovery.{recovered};
 ghost use Rattle.pfx_store.specs.Calls.{Works, GoesOn};
 ghost use Rattle.pfx_journal.specs.Standing.{Stands};
+ghost use Rattle.pfx_segment.specs.Segment.{Takes};
+ghost use Rattle.pfx_engine.specs.Stepping.{command_calls, frame_len};
 ghost use Rattle.pfx_engine.specs.Surviving.{IsRecordOf, KeepsAll};
 
 use pfx_disk::Disk;
@@ -52,6 +54,10 @@ pub(crate) fn keep<D: Disk>(
     ensures same { OnErr result (store.new.state ≡ store.old.state) }
     ensures state { (c : Command AnyJob) → IsRecordOf store.old.state c (map plain records.items)
         → OnOk result (store.new.state ≡ outcome any_kind store.old.state (c ∷ [])) }
+
+    // A step of the checkpoint in progress, and then the record.
+    ensures calls { (c : Command AnyJob) → IsRecordOf store.old.state c (map plain records.items)
+        → Takes (command_calls (frame_len store.old.state c) store.old.file.places) (D.view store.old.file.disk) (D.view store.new.file.disk) result }
     ensures mark { IfOk result (λ mark. (mark.number ≡ store.new.state.number)
         × (mark.clock ≡ (D.view store.new.file.disk).clock)) }
 

@@ -1,3 +1,4 @@
+use Rattle.std.specs.Prelude.{length}
 use Rattle.std.proofs.Common.{◌≡◌, ◌+◌, ◌++◌, [], ◌∷◌, map, refl, sym, ◌∙◌, ap, subst}
 use Rattle.pfx_kinds.specs.AnyKind.{any_kind}
 use Rattle.pfx_kinds.specs.declared.any.AnyJob.{AnyJob}
@@ -5,7 +6,9 @@ use Rattle.pfx_machine.specs.Outcome.{outcome}
 use Rattle.pfx_machine.specs.Plain.{Plain, IsState}
 use Rattle.pfx_record.specs.Records.{plain}
 use Rattle.pfx_engine.specs.Surviving.{IsRecordOf, frames_of}
-use Rattle.pfx_engine.proofs.Keeps.{acknowledged_with, keeps_behind, keeps_more, keeps_with, on_ok_then, on_ok_two, replays_to, state_with}
+use Rattle.pfx_engine.proofs.Keeps.{acknowledged_with, keeps_behind, keeps_more, keeps_with, on_ok_then, on_ok_two, replays_to, state_with, frame_is}
+use Rattle.pfx_engine.specs.Stepping.{frame_len}
+use Rattle.pfx_engine.proofs.Stepping.{takes_both, takes_step_alone}
 use Rattle.pfx_engine.proofs.keeping.keep.Goals as goal
 
 pub returns-in_err-_tended-clause-keeps : goal.returns-in_err-_tended-clause-keeps
@@ -47,3 +50,18 @@ returns-clause-acknowledged g c stands =
 
 pub returns-clause-stands : goal.returns-clause-stands
 returns-clause-stands g c = λ stands. c.append.ensures.stands (c.in_ok-_tended.ensures.stands stands)
+
+pub returns-in_err-_tended-clause-calls : goal.returns-in_err-_tended-clause-calls
+returns-in_err-_tended-clause-calls g c = λ done given.
+    (let V = g.D.Disk.view in
+    takes_step_alone (frame_len c.args.store.now.state done) c.args.store.now.file.places (V c.args.store.now.file.disk) (V c.tend.new.self.file.disk) c.tend.result c.from_residual.result _ c.from_residual.ensures.1 c.tend.ensures.calls)
+
+pub returns-clause-calls : goal.returns-clause-calls
+returns-clause-calls g c = λ done given.
+    (let V = g.D.Disk.view in
+    let old = c.args.store.now.state in
+    let is : IsRecordOf old done (map plain c.next_batch-batch.result.records.items) = rw c.next_batch-batch.ensures.records given in
+    let next : c.next_batch-batch.result.first ≡ old.number + 1 = c.next_batch-batch.ensures.first ∙ ap (λ (t : Plain AnyJob). t.number + 1) (c.state.ensures ∙ c.tend.ensures.state) in
+    takes_both _ (frame_len old done) c.args.store.now.file.places c.tend.new.self.file.places (V c.args.store.now.file.disk) (V c.tend.new.self.file.disk) (V c.append.new.self.file.disk) c.in_ok-_tended._tended c.append.result
+    (ap length (frame_is old done (map plain c.next_batch-batch.result.records.items) c.next_batch-batch.result.first is next))
+    c.tend.ensures.stays c.in_ok-_tended.ensures.fewer c.in_ok-_tended.ensures.calls c.append.ensures.calls)

@@ -1,4 +1,4 @@
-use Rattle.std.proofs.Common.{◌≡◌, [], ◌∷◌, map, None, Some, sym, ◌∙◌, ap, subst}
+use Rattle.std.proofs.Common.{◌≡◌, refl, [], ◌∷◌, map, None, Some, sym, ◌∙◌, ap, subst}
 use Rattle.std.proofs.lemmas.Bool.{true≢false}
 use Rattle.pfx_effect.specs.Recording.{record_of}
 use Rattle.pfx_kinds.specs.AnyKind.{any_kind}
@@ -11,7 +11,11 @@ use Rattle.pfx_machine.proofs.Compose.{outcome-none}
 use Rattle.pfx_record.specs.Records.{plain}
 use Rattle.pfx_engine.specs.Surviving.{IsRecordOf}
 use Rattle.pfx_engine.proofs.Keeps.{keeps_more, worked}
+use Rattle.pfx_engine.specs.Stepping.{command_calls, frame_len}
 use Rattle.pfx_engine.proofs.Serving.{endless_after, limits_refuse}
+use Rattle.pfx_engine.proofs.Stepping.{takes_as, takes_no_call}
+use Rattle.pfx_segment.specs.Segment.{Takes}
+use Rattle.std.specs.Prelude.{IsOk}
 use Rattle.pfx_engine.proofs.durable.DurableEngine.carry_out.Goals as goal
 
 pub returns-then-is_broken-clause-keeps : goal.returns-then-is_broken-clause-keeps
@@ -66,3 +70,35 @@ returns-in-Err-2-clause-served g c = λ endless slot.
     (let s = c.args.self.now.state in
     let refused : refusal any_kind s c.args.command ≡ Some c.in-Err.fault = c.in-Err.ensures.exact.1 (λ is. true≢false (sym (c.is_memory.ensures.1 is) ∙ c.if-is_memory.false)) in
     limits_refuse s c.in-Err.fault c.number-number.ensures.state endless (subst (λ (d : Command AnyJob). refusal any_kind s d ≡ Some c.in-Err.fault) slot refused))
+
+pub returns-then-is_broken-clause-calls : goal.returns-then-is_broken-clause-calls
+returns-then-is_broken-clause-calls g c = takes_no_call (command_calls (frame_len c.args.self.now.state c.args.command) c.args.self.now.store.file.places) (g.D.Disk.view c.args.self.now.store.file.disk) _
+
+pub returns-in_default-clause-calls : goal.returns-in_default-clause-calls
+returns-in_default-clause-calls g c = takes_no_call (command_calls (frame_len c.args.self.now.state c.args.command) c.args.self.now.store.file.places) (g.D.Disk.view c.args.self.now.store.file.disk) _
+
+pub returns-in-Err-clause-calls : goal.returns-in-Err-clause-calls
+returns-in-Err-clause-calls g c = takes_no_call (command_calls (frame_len c.args.self.now.state c.args.command) c.args.self.now.store.file.places) (g.D.Disk.view c.args.self.now.store.file.disk) _
+
+pub returns-in-Err-2-clause-calls : goal.returns-in-Err-2-clause-calls
+returns-in-Err-2-clause-calls g c = takes_no_call (command_calls (frame_len c.args.self.now.state c.args.command) c.args.self.now.store.file.places) (g.D.Disk.view c.args.self.now.store.file.disk) _
+
+pub returns-in-Ok-keep-clause-calls : goal.returns-in-Ok-keep-clause-calls
+returns-in-Ok-keep-clause-calls g c =
+    let V = g.D.Disk.view in
+    let at = c.args.self.now.same (sym c.is_broken.ensures ∙ c.if-is_broken.false) in
+    let done = c.in-Ok-run_recorded.ensures in
+    let mine : IsRecordOf c.args.self.now.store.state c.args.command (map plain c.push_reserved.new.self.items) =
+    (subst (λ (t : Plain AnyJob). refusal any_kind t c.args.command ≡ None) at done.exact, rw (c.push_reserved.ensures.items, c.in-Ok.ensures.items) (ap (λ r. r ∷ []) (done.kept_as ∙ ap (λ (t : Plain AnyJob). record_of any_kind t c.args.command) at))) in
+    takes_as (command_calls (frame_len c.args.self.now.state c.args.command) c.args.self.now.store.file.places) (V c.args.self.now.store.file.disk) (V c.keep.new.store.file.disk) c.keep.result _ (λ _. subst (λ r. IsOk r) (sym c.in-Ok-keep.is) refl)
+    (subst (λ (t : Plain AnyJob). Takes (command_calls (frame_len t c.args.command) c.args.self.now.store.file.places) (V c.args.self.now.store.file.disk) (V c.keep.new.store.file.disk) c.keep.result) (sym at) (c.keep.ensures.calls c.args.command mine))
+
+pub returns-clause-calls : goal.returns-clause-calls
+returns-clause-calls g c =
+    let V = g.D.Disk.view in
+    let at = c.args.self.now.same (sym c.is_broken.ensures ∙ c.if-is_broken.false) in
+    let done = c.in-Ok-run_recorded.ensures in
+    let mine : IsRecordOf c.args.self.now.store.state c.args.command (map plain c.push_reserved.new.self.items) =
+    (subst (λ (t : Plain AnyJob). refusal any_kind t c.args.command ≡ None) at done.exact, rw (c.push_reserved.ensures.items, c.in-Ok.ensures.items) (ap (λ r. r ∷ []) (done.kept_as ∙ ap (λ (t : Plain AnyJob). record_of any_kind t c.args.command) at))) in
+    takes_as (command_calls (frame_len c.args.self.now.state c.args.command) c.args.self.now.store.file.places) (V c.args.self.now.store.file.disk) (V c.keep.new.store.file.disk) c.keep.result _ (λ is. absurd (true≢false (sym is)))
+    (subst (λ (t : Plain AnyJob). Takes (command_calls (frame_len t c.args.command) c.args.self.now.store.file.places) (V c.args.self.now.store.file.disk) (V c.keep.new.store.file.disk) c.keep.result) (sym at) (c.keep.ensures.calls c.args.command mine))
