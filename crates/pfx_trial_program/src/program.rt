@@ -161,7 +161,10 @@ fn refuses_a_ledger(rt: HostRuntime) {
         ("workers = ", "6", Fault::BadSet),
     ];
     for (set, at, fault) in rows {
-        assert!(rt; plans(rt.alloc(), set, Some(at), 1, "", Err(fault)), "{at}");
+        assert!(rt;
+            plans(rt.alloc(), set, Some(at), 1, "", Err(fault)),
+            "{at} of {set}"
+        );
     }
 }
 

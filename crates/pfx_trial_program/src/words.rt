@@ -61,7 +61,11 @@ fn passes_a_ledger_on(rt: HostRuntime) {
             slots: 4,
             at: Some(at),
         };
-        assert!(rt; asks(rt.alloc(), words, want), "{at}");
+        assert!(rt;
+            asks(rt.alloc(), words, want),
+            "{at} in {} words",
+            words.len()
+        );
     }
 }
 
@@ -157,7 +161,11 @@ fn says_which_subcommands_there_are(rt: HostRuntime) {
         ),
     ];
     for (words, part) in rows {
-        assert!(rt; is_answered(rt.alloc(), words, 2, part), "{part}");
+        assert!(rt;
+            is_answered(rt.alloc(), words, 2, part),
+            "{} words: {part}",
+            words.len()
+        );
     }
 }
 
