@@ -19,6 +19,3 @@ pub mod laws;
 mod slots;
 
 pub use slots::{begin, next_row};
-
-#[cfg(test)]
-mod tests;

@@ -14,6 +14,3 @@ mod refusals;
 pub use line::put_fault;
 pub use parts::{Cause, Part};
 pub use refusals::{Fault, Refused};
-
-#[cfg(test)]
-mod tests;

@@ -15,5 +15,3 @@ mod ring;
 pub mod rule;
 pub mod scan;
 pub mod start;
-#[cfg(test)]
-mod tests;

@@ -30,6 +30,3 @@ pub use plain::{Happening, plain_job, plain_slots};
 pub use runs::{Answer, run};
 pub use slot::run_all;
 pub use state::State;
-
-#[cfg(test)]
-mod tests;

@@ -7,6 +7,3 @@
 mod numeral;
 
 pub use numeral::number_in;
-
-#[cfg(test)]
-mod tests;

@@ -30,6 +30,3 @@ pub use engine::{CallFault, Engine};
 pub use plan::run_plan;
 pub use run::{run_script, run_status};
 pub use set::read_task_set;
-
-#[cfg(test)]
-mod tests;

@@ -14,6 +14,3 @@ mod verbs;
 pub use faults::ReadFault;
 pub use records::Script;
 pub use verbs::{Verb, read_verb};
-
-#[cfg(test)]
-mod tests;

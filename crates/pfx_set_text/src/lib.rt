@@ -23,6 +23,3 @@ mod set;
 
 pub use reading::read_set;
 pub use set::{NamedTask, SetText, SetTextFault};
-
-#[cfg(test)]
-mod tests;

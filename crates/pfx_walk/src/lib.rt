@@ -6,6 +6,4 @@
 #![tactic(auto)]
 
 pub mod laws;
-#[cfg(test)]
-mod tests;
 pub mod walk;

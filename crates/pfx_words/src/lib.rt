@@ -18,6 +18,3 @@ mod status;
 
 pub use program::read_words;
 pub use request::Request;
-
-#[cfg(test)]
-mod tests;

@@ -1,0 +1,32 @@
+//! Trials of the texts and the program: what `pfx_numerals`, `pfx_script`, `pfx_set_text`, `pfx_fault`, `pfx_words` and
+//! `pfx_program` read and print, and what a failing reader or writer leaves.
+//!
+//! - `numerals`: texts and their numbers.
+//! - `set_text`: set files as users write them, and texts that aren't one.
+//! - `script`: scripts as users write them.
+//! - `fault`: the refusals as a reader of the output sees them.
+//! - `words`: words as a shell passes them, and the texts that answer them.
+//! - `program`: plans of whole set files.
+//! - `scripts`: scripts over a state in memory.
+//! - `shown`: what is printed of a new store, and a state's board.
+//! - `torn`: a reader that fails, for the others.
+#![tactic(auto)]
+
+#[cfg(test)]
+mod fault;
+#[cfg(test)]
+mod numerals;
+#[cfg(test)]
+mod program;
+#[cfg(test)]
+mod script;
+#[cfg(test)]
+mod scripts;
+#[cfg(test)]
+mod set_text;
+#[cfg(test)]
+mod shown;
+#[cfg(test)]
+mod torn;
+#[cfg(test)]
+mod words;

@@ -1,0 +1,258 @@
+//! Plans of whole set files, and what a failing reader or writer leaves.
+
+use crate::torn::Torn;
+use pfx_fault::Fault;
+use pfx_program::run_plan;
+use std::alloc::Global;
+use std::io;
+use std::io::{ErrorKind, Write};
+
+const THIRDS: &str = "workers = 2
+task = [{name = \"a\", e = 2, p = 3}, {name = \"b\", e = 2, p = 3}, {name = \"c\", e = 2, p = 3}]
+";
+
+const HALF_AND_THIRD: &str = "workers = 1
+task = [{name = \"x\", e = 1, p = 2}, {name = \"y\", e = 1, p = 3}]
+";
+
+const HALF_ON_TWO: &str = "workers = 2
+task = [{name = \"x\", e = 1, p = 2}]
+";
+
+const MOST_ON_TWO: &str = "workers = 2
+task = [{name = \"x\", e = 4, p = 5}]
+";
+
+const TWO_PERIODS: &str = "workers = 2
+task = [{name = \"x\", e = 2, p = 3}, {name = \"y\", e = 2, p = 5}]
+";
+
+const FOUR_ON_THREE: &str = "workers = 3
+task = [{name = \"a\", e = 2, p = 3}, {name = \"b\", e = 2, p = 3},
+    {name = \"c\", e = 5, p = 6}, {name = \"d\", e = 5, p = 6}]
+";
+
+const QUARTERS_AND_EIGHTHS: &str = "workers = 1
+task = [{name = \"a\", e = 1, p = 4}, {name = \"b\", e = 1, p = 4}, {name = \"c\", e = 1, p = 4},
+    {name = \"d\", e = 1, p = 8}, {name = \"e\", e = 1, p = 8}]
+";
+
+const THIRDS_AND_SIXTHS: &str = "workers = 1
+task = [{name = \"a\", e = 1, p = 3}, {name = \"b\", e = 1, p = 3},
+    {name = \"c\", e = 1, p = 6}, {name = \"d\", e = 1, p = 6}]
+";
+
+/// Whether a plan, from a ledger's text on where there is one, writes just this and ends so.
+fn plans(
+    alloc: Global,
+    set: &str,
+    at: Option<&str>,
+    slots: u64,
+    want: &str,
+    end: Result<(), Fault>,
+) -> bool {
+    let mut written = Vec::new(alloc);
+    let got = run_plan(alloc, &mut set.as_bytes(), at, &mut written, slots);
+    got == end && written.as_slice() == want.as_bytes()
+}
+
+#[test]
+fn prints_the_rows(rt: HostRuntime) {
+    // The rows of a plain program, apart from this one, that follows the definitions.
+    let rows = [
+        (THIRDS, 4, "0,a,b\n1,a,c\n2,b,c\n3,a,b\n"),
+        (THIRDS, 0, ""),
+        (HALF_AND_THIRD, 6, "0,x\n1,y\n2,x\n3,y\n4,x\n5,*0\n"),
+        (HALF_ON_TWO, 4, "0,x,*0\n1,*1,*2\n2,x,*0\n3,*1,*2\n"),
+        (MOST_ON_TWO, 5, "0,x,*0\n1,x,*0\n2,x,*1\n3,x,*0\n4,*0,*1\n"),
+        (FOUR_ON_THREE, 4, "0,a,c,d\n1,b,c,d\n2,a,b,c\n3,a,b,d\n"),
+        (
+            TWO_PERIODS,
+            15,
+            "0,x,*0\n1,y,*0\n2,x,*0\n3,x,*0\n4,y,*0\n5,x,*0\n6,x,*0\n7,y,*0\n8,x,*0\n9,y,*0\n10,x,*0\n11,x,*0\n12,x,y\n13,x,*0\n14,y,*0\n",
+        ),
+    ];
+    for (set, slots, want) in rows {
+        assert!(rt;
+            plans(rt.alloc(), set, None, slots, want, Ok(())),
+            "{slots} slots of {set}"
+        );
+    }
+}
+
+#[test]
+fn goes_on_from_a_ledger(rt: HostRuntime) {
+    // The rows of a plain program, apart from this one, that follows the definitions.
+    let rows = [
+        (THIRDS, "0:0,0,0", 2, "0,a,b\n1,a,c\n"),
+        (THIRDS, "2:2,1,1", 2, "2,b,c\n3,a,b\n"),
+        (HALF_AND_THIRD, "6:3,2,1", 1, "6,x\n"),
+        (HALF_AND_THIRD, "0000000000006:03,2,1", 2, "6,x\n7,y\n"),
+        (FOUR_ON_THREE, "2:2,2,1,1", 0, ""),
+    ];
+    for (set, at, slots, want) in rows {
+        assert!(rt;
+            plans(rt.alloc(), set, Some(at), slots, want, Ok(())),
+            "{at}"
+        );
+    }
+}
+
+#[test]
+fn ends_early_from_a_ledger(rt: HostRuntime) {
+    let (urgent, eligible) = (2, 2);
+    let rows = [
+        (
+            QUARTERS_AND_EIGHTHS,
+            "2:0,0,0,1,1",
+            "2,a\n",
+            Fault::TooManyUrgent { urgent, m: 1 },
+        ),
+        (
+            FOUR_ON_THREE,
+            "2:2,2,1,1",
+            "",
+            Fault::TooFewEligible { eligible, m: 3 },
+        ),
+        (
+            HALF_ON_TWO,
+            "1099511627775:549755813887,549755813888,549755813887,549755813888",
+            "",
+            Fault::SlotLimit,
+        ),
+        (
+            HALF_ON_TWO,
+            "1099511627774:549755813887,549755813887,549755813887,549755813887",
+            "1099511627774,x,*0\n",
+            Fault::SlotLimit,
+        ),
+    ];
+    for (set, at, want, fault) in rows {
+        assert!(rt;
+            plans(rt.alloc(), set, Some(at), 6, want, Err(fault)),
+            "{at}"
+        );
+    }
+}
+
+#[test]
+fn refuses_a_ledger(rt: HostRuntime) {
+    let out_of_range = Fault::OutOfRange { task: 2 };
+    let rows = [
+        (THIRDS_AND_SIXTHS, "2:0,0,2,0", out_of_range),
+        (THIRDS_AND_SIXTHS, "2:0,0,1,0", Fault::WrongSum),
+        (HALF_AND_THIRD, "6:3,2", Fault::BadLedger),
+        (HALF_AND_THIRD, "6:3,2,1,0", Fault::BadLedger),
+        (HALF_AND_THIRD, "", Fault::BadLedger),
+        (HALF_AND_THIRD, "6", Fault::BadLedger),
+        (HALF_AND_THIRD, "6:", Fault::BadLedger),
+        (HALF_AND_THIRD, ":3,2,1", Fault::BadLedger),
+        (HALF_AND_THIRD, "6:3,2,1,", Fault::BadLedger),
+        (HALF_AND_THIRD, "6:3,,1", Fault::BadLedger),
+        (HALF_AND_THIRD, "6:3,2,-1", Fault::BadLedger),
+        (HALF_AND_THIRD, "+6:3,2,1", Fault::BadLedger),
+        (HALF_AND_THIRD, "6: 3,2,1", Fault::BadLedger),
+        (HALF_AND_THIRD, "6:3:2,1", Fault::BadLedger),
+        (HALF_AND_THIRD, "6,3,2,1", Fault::BadLedger),
+        (HALF_AND_THIRD, "00000000000006:3,2,1", Fault::BadLedger),
+        (HALF_AND_THIRD, "6:3,2,00000000000001", Fault::BadLedger),
+        (HALF_AND_THIRD, "1099511627776:3,2,1", Fault::BadLedger),
+        ("workers = 1", "6", Fault::NoTasks),
+        ("workers = ", "6", Fault::BadSet),
+    ];
+    for (set, at, fault) in rows {
+        assert!(rt;
+            plans(rt.alloc(), set, Some(at), 1, "", Err(fault)),
+            "{at} of {set}"
+        );
+    }
+}
+
+#[test]
+fn refuses_with_no_line(rt: HostRuntime) {
+    let rows = [
+        ("workers = 1 2", Fault::BadSet),
+        ("workers = 1", Fault::NoTasks),
+        (
+            "workers = 65\ntask = [{name = \"x\", e = 1, p = 2}]",
+            Fault::BadWorkers,
+        ),
+        (
+            "workers = -1\ntask = [{name = \"x\", e = 1, p = 2}]",
+            Fault::BadWorkers,
+        ),
+        (
+            "workers = 1\ntask = [{name = \"x\", e = 1, p = 2}, {name = \"y\", e = 2, p = 2}]",
+            Fault::BadWeight { task: 1 },
+        ),
+        (
+            "workers = 1\ntask = [{name = \"x\", e = 1, p = 1048576}, {name = \"y\", e = 1, p = 3}]",
+            Fault::HyperperiodTooLarge { task: 1 },
+        ),
+        (
+            "workers = 1\ntask = [{name = \"x\", e = 1, p = 2}, {name = \"y\", e = 2, p = 3}]",
+            Fault::Overload,
+        ),
+    ];
+    for (set, fault) in rows {
+        assert!(rt; plans(rt.alloc(), set, None, 3, "", Err(fault)), "{set}");
+    }
+}
+
+/// Whether a plan of a set that is read in part writes nothing. The first bytes alone would be a set.
+fn reads_no_part(alloc: Global) -> bool {
+    let mut input = Torn {
+        left: THIRDS.as_bytes(),
+    };
+    let mut written = Vec::new(alloc);
+    let end = run_plan(alloc, &mut input, None, &mut written, 4);
+    end == Err(Fault::InputFailed) && written.is_empty()
+}
+
+#[test]
+fn reader_fails_in_the_middle(rt: HostRuntime) {
+    assert!(rt; reads_no_part(rt.alloc()));
+}
+
+/// A writer that takes one byte at a time, is interrupted before each, and is full at last.
+#[derive(Drop)]
+struct Narrow {
+    held: [u8; 8],
+    len: usize,
+    interrupts: bool,
+}
+
+impl Write for Narrow {
+    fn write(&mut self, buf: &[u8]) -> io::Result<usize> {
+        self.interrupts = !self.interrupts;
+        if self.interrupts {
+            return Err(io::Error::from(ErrorKind::Interrupted));
+        }
+        if buf.is_empty() || self.len >= 8 {
+            return Ok(0);
+        }
+        self.held[self.len] = buf[0];
+        self.len += 1;
+        Ok(1)
+    }
+
+    fn flush(&mut self) -> io::Result<()> {
+        Ok(())
+    }
+}
+
+/// Whether a plan that isn't taken to its end has written its beginning.
+fn writes_the_beginning(alloc: Global) -> bool {
+    let mut output = Narrow {
+        held: [0; 8],
+        len: 0,
+        interrupts: false,
+    };
+    let end = run_plan(alloc, &mut THIRDS.as_bytes(), None, &mut output, 4);
+    end == Err(Fault::OutputFailed) && output.held == *b"0,a,b\n1,"
+}
+
+#[test]
+fn writer_fails_in_the_middle(rt: HostRuntime) {
+    assert!(rt; writes_the_beginning(rt.alloc()));
+}

@@ -1,0 +1,227 @@
+//! Scripts over a state in memory, and what a failing reader or writer leaves.
+
+use crate::torn::Torn;
+use pfx_fault::Fault;
+use pfx_kinds::any::AnyJob;
+use pfx_machine::State;
+use pfx_program::run_script;
+use pfx_weights::TaskSet;
+use std::alloc::Global;
+use std::io;
+use std::io::Write;
+
+/// The state of a set before its first command.
+pub fn begun(alloc: Global, workers: u32, weights: &[(u32, u32)]) -> Option<State<AnyJob>> {
+    let set = TaskSet::new(alloc, workers, weights).ok()?;
+    State::new(alloc, &set).ok()
+}
+
+/// Three tasks of weight 2/3 on two workers.
+pub fn thirds(alloc: Global) -> Option<State<AnyJob>> {
+    begun(alloc, 2, &[(2, 3), (2, 3), (2, 3)])
+}
+
+/// Whether a script prints just this and ends so.
+fn prints(
+    alloc: Global,
+    state: &mut State<AnyJob>,
+    script: &str,
+    want: &str,
+    end: Result<(), Fault>,
+) -> bool {
+    let mut written = Vec::new(alloc);
+    let got = run_script(alloc, script.as_bytes(), &mut written, state);
+    got == end && written.as_slice() == want.as_bytes()
+}
+
+const WEEK: &str = "submit,0,rule,3,110:00000001
+slot,,,3,
+status,,,,
+";
+
+const FIRST_WEEK: &str = "1 submitted 0
+2 ran 0: 0 1
+3 ran 1: 0 2
+4 ran 2: 1 2
+board 4 slot 3
+0 alloc=2 lag=0/3 job=open
+1 alloc=2 lag=0/3 job=none
+2 alloc=2 lag=0/3 job=none
+closed 4
+";
+
+const SECOND_WEEK: &str = "refused 32 TaskBusy task=0
+5 ran 3: 0 1
+6 ran 4: 0 2
+7 ran 5: 1 2
+board 7 slot 6
+0 alloc=4 lag=0/3 job=done
+1 alloc=4 lag=0/3 job=none
+2 alloc=4 lag=0/3 job=none
+closed 7
+";
+
+/// How many of two weeks are printed as expected, up to the first that isn't.
+fn prints_two_weeks(alloc: Global) -> u32 {
+    let Some(mut state) = thirds(alloc) else {
+        return 0;
+    };
+    if !prints(alloc, &mut state, WEEK, FIRST_WEEK, Ok(())) {
+        return 0;
+    }
+    if prints(alloc, &mut state, WEEK, SECOND_WEEK, Ok(())) {
+        2
+    } else {
+        1
+    }
+}
+
+#[test]
+fn runs_a_script_twice(rt: HostRuntime) {
+    let right = prints_two_weeks(rt.alloc());
+    assert!(rt; right == 2, "{right} of 2");
+}
+
+const WITH_REFUSALS: &str = "settle,,,,
+submit,0,count,5,
+submit,0,count,5,
+withdraw,0,,,
+submit,0,scan,,ab:abcab
+submit,3,count,1,
+withdraw,1,,,
+submit,1,sum,1,
+submit,1,count,,
+submit,1,scan,0,abc:ab
+slot,,,,
+status,,,,
+settle,,,,
+";
+
+const REFUSALS: &str = "settled 0
+1 submitted 0
+refused 32 TaskBusy task=0
+2 withdrawn 0
+3 submitted 0
+refused 31 NoSuchTask task=3
+refused 33 NoJob task=1
+refused 41 BadKind
+refused 42 BadGoal
+refused 43 BadData
+4 ran 0: 0 1
+board 4 slot 1
+0 alloc=1 lag=-1/3 job=open
+1 alloc=1 lag=-1/3 job=none
+2 alloc=0 lag=2/3 job=none
+settled 4
+closed 4
+";
+
+/// Whether a script goes on behind each of its refusals.
+fn goes_on(alloc: Global) -> bool {
+    match thirds(alloc) {
+        Some(mut state) => prints(alloc, &mut state, WITH_REFUSALS, REFUSALS, Ok(())),
+        None => false,
+    }
+}
+
+#[test]
+fn goes_on_after_refusals(rt: HostRuntime) {
+    assert!(rt; goes_on(rt.alloc()));
+}
+
+const IDLE_BOARD: &str = "1 ran 0: 0
+2 ran 1: 1
+board 2 slot 2
+0 alloc=1 lag=0/2 job=none
+1 alloc=1 lag=-1/3 job=none
+2 alloc=0 lag=2/6 job=none
+closed 2
+";
+
+/// Whether a board has a line for the idle task.
+fn shows_idle(alloc: Global) -> bool {
+    let script = "slot,,,2,\nstatus,,,,\n";
+    match begun(alloc, 1, &[(1, 2), (1, 3)]) {
+        Some(mut state) => prints(alloc, &mut state, script, IDLE_BOARD, Ok(())),
+        None => false,
+    }
+}
+
+#[test]
+fn shows_idle_tasks(rt: HostRuntime) {
+    assert!(rt; shows_idle(rt.alloc()));
+}
+
+/// Whether a script stops at its second record, which has no form, and the state is then as behind the first.
+fn ends_at_the_second(alloc: Global) -> bool {
+    let Some(mut state) = thirds(alloc) else {
+        return false;
+    };
+    let script = "slot,,,,\nslot,,,0,\nslot,,,,\n";
+    let end = Err(Fault::BadScript { at: 2 });
+    prints(alloc, &mut state, script, "1 ran 0: 0 1\n", end)
+        && prints(alloc, &mut state, "", "closed 1\n", Ok(()))
+}
+
+#[test]
+fn ends_at_a_record_without_form(rt: HostRuntime) {
+    assert!(rt; ends_at_the_second(rt.alloc()));
+}
+
+/// A writer that keeps its last bytes, and fails once it has taken so many.
+#[derive(Drop)]
+struct Last {
+    bytes: [u8; 64],
+    room: usize,
+}
+
+impl Write for Last {
+    fn write(&mut self, buf: &[u8]) -> io::Result<usize> {
+        if buf.is_empty() || self.room == 0 {
+            return Ok(0);
+        }
+        self.room -= 1;
+        self.bytes.rotate_left(1);
+        self.bytes[63] = buf[0];
+        Ok(1)
+    }
+
+    fn flush(&mut self) -> io::Result<()> {
+        Ok(())
+    }
+}
+
+/// Whether a script runs up to where its reader fails.
+fn runs_up_to_the_tear(alloc: Global, state: &mut State<AnyJob>) -> bool {
+    let input = Torn {
+        left: b"slot,,,,\nslot,",
+    };
+    let mut written = Vec::new(alloc);
+    let end = run_script(alloc, input, &mut written, state);
+    end == Err(Fault::InputFailed) && written.as_slice() == b"1 ran 0: 0 1\n".as_slice()
+}
+
+/// Whether a script whose lines are no longer taken has written their beginning.
+fn writes_the_beginning(alloc: Global, state: &mut State<AnyJob>) -> bool {
+    let mut output = Last {
+        bytes: [0; 64],
+        room: 20,
+    };
+    let end = run_script(alloc, WEEK.as_bytes(), &mut output, state);
+    end == Err(Fault::OutputFailed) && output.bytes.ends_with(b"\x002 submitted 0\n3 ran ")
+}
+
+/// Whether a script stops where its reader fails, and the next one where its writer does.
+fn stops_at_failures(alloc: Global) -> bool {
+    match thirds(alloc) {
+        Some(mut state) => {
+            runs_up_to_the_tear(alloc, &mut state) && writes_the_beginning(alloc, &mut state)
+        }
+        None => false,
+    }
+}
+
+#[test]
+fn reader_or_writer_fails(rt: HostRuntime) {
+    assert!(rt; stops_at_failures(rt.alloc()));
+}
