@@ -22,7 +22,7 @@ mod reading;
 mod set;
 
 pub use reading::read_set;
-pub use set::{NamedTask, SetText, SetTextFault};
+pub use set::{NamedTask, SetText};
 
 #[cfg(test)]
 mod tests;
