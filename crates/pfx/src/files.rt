@@ -8,8 +8,14 @@ use pfx_fault::{Fault, Part};
 use pfx_header::SegmentSizeFault;
 use pfx_journal::InitFault;
 use pfx_opening::{OpenFault, Part as FilePart, Refusal};
-use std::fs::{File, OpenOptions};
+use std::fs::{File, OpenOptions, TryLockError};
 use std::io;
+use std::thread;
+use std::time::Duration;
+
+/// How often a reader tries to lock a store's file, with a pause after each try: a second in all.
+const TRIES: u32 = 100;
+const PAUSE_MILLIS: u64 = 10;
 
 /// Want of memory is a fault of its own; any other error is this one.
 pub(crate) fn fault_of(error: &io::Error, other: Fault) -> Fault
@@ -30,14 +36,46 @@ pub(crate) fn input(rt: &HostRuntime, path: &str) -> Result<File, Fault> {
     }
 }
 
-/// A store's file, which is made where it is missing and `create` says so.
-pub(crate) fn disk(rt: &HostRuntime, path: &str, create: bool) -> Result<FileDisk, Fault> {
+fn opened(rt: &HostRuntime, path: &str, create: bool) -> Result<File, Fault> {
     let mut options = OpenOptions::new();
     options.read(true).write(true).create(create);
     match options.open(rt, path) {
-        Ok(file) => Ok(FileDisk::new(file)),
+        Ok(file) => Ok(file),
         Err(error) => Err(fault_of(&error, Fault::InputFailed)),
     }
+}
+
+// The fault of a lock that isn't had.
+fn lock_fault(error: TryLockError) -> Fault
+    ensures { (result ≡ Fault.Busy) ⊎ ((result ≡ Fault.InputFailed) ⊎ (result ≡ Fault.NoMemory)) }
+{
+    match error {
+        TryLockError::WouldBlock => Fault::Busy,
+        TryLockError::Error(error) => fault_of(&error, Fault::InputFailed),
+    }
+}
+
+/// A store's file for its one writer, made where it is missing and `create` says so. `Busy` comes where another process has
+/// it open: the file is locked before anything of it is read, as long as it is open.
+pub(crate) fn disk(rt: &HostRuntime, path: &str, create: bool) -> Result<FileDisk, Fault> {
+    let file = opened(rt, path, create)?;
+    match file.try_lock() {
+        Ok(()) => Ok(FileDisk::new(file)),
+        Err(error) => Err(lock_fault(error)),
+    }
+}
+
+/// A store's file for a reader, one of any number. `Busy` comes where a writer has had it open for a second.
+pub(crate) fn shared_disk(rt: &HostRuntime, path: &str) -> Result<FileDisk, Fault> {
+    let file = opened(rt, path, false)?;
+    for _ in 0..TRIES {
+        match file.try_lock_shared() {
+            Ok(()) => return Ok(FileDisk::new(file)),
+            Err(TryLockError::WouldBlock) => thread::sleep(rt, Duration::from_millis(PAUSE_MILLIS)),
+            Err(error) => return Err(lock_fault(error)),
+        }
+    }
+    Err(Fault::Busy)
 }
 
 /// A fault of a segment's length.

@@ -1,6 +1,6 @@
 //! `pfx init SET FILE`, `pfx run FILE SCRIPT`, `pfx status FILE`.
 
-use crate::files::{disk, fault_of, init_fault, input, open_fault, size_fault};
+use crate::files::{disk, fault_of, init_fault, input, open_fault, shared_disk, size_fault};
 use pfx_disk::FileDisk;
 use pfx_engine::DurableEngine;
 use pfx_fault::Fault;
@@ -32,9 +32,9 @@ pub(crate) fn init(rt: &HostRuntime, alloc: Global, set: &str, file: &str) -> Re
     }
 }
 
-// The engine over the store of a file.
-fn engine(rt: &HostRuntime, alloc: Global, file: &str) -> Result<DurableEngine<FileDisk>, Fault> {
-    let store = match Store::open(alloc, disk(rt, file, false)?) {
+// The engine over the store on a disk.
+fn engine(alloc: Global, disk: FileDisk) -> Result<DurableEngine<FileDisk>, Fault> {
+    let store = match Store::open(alloc, disk) {
         Ok(store) => store,
         Err((fault, _disk)) => return Err(open_fault(fault)),
     };
@@ -47,14 +47,14 @@ fn engine(rt: &HostRuntime, alloc: Global, file: &str) -> Result<DurableEngine<F
 /// Runs a script on the store of a file. Its lines are printed as they come.
 pub(crate) fn run(rt: &HostRuntime, alloc: Global, file: &str, script: &str) -> Result<(), Fault> {
     let script = input(rt, script)?;
-    let mut engine = engine(rt, alloc, file)?;
+    let mut engine = engine(alloc, disk(rt, file, false)?)?;
     let mut output = io::writer(rt);
     run_script(alloc, script, &mut output, &mut engine)
 }
 
 /// Prints the board of the store of a file.
 pub(crate) fn status(rt: &HostRuntime, alloc: Global, file: &str) -> Result<(), Fault> {
-    let mut engine = engine(rt, alloc, file)?;
+    let mut engine = engine(alloc, shared_disk(rt, file)?)?;
     let Ok(mut output) = BufWriter::new(alloc, io::writer(rt)) else {
         return Err(Fault::NoMemory);
     };

@@ -58,6 +58,7 @@ refusal fault.Broken = plain 54 (codes "Broken")
 refusal (fault.WrongVersion version) = with (plain 55 (codes "WrongVersion")) (codes "version") version
 refusal fault.NotEmpty = plain 56 (codes "NotEmpty")
 refusal fault.NoRoom = plain 57 (codes "NoRoom")
+refusal fault.Busy = plain 58 (codes "Busy")
 refusal (fault.StoreFailed marked cause) = with_word (with (plain 61 (codes "StoreFailed")) (codes "marked") marked) (codes "cause") (cause_name cause)
 refusal fault.SessionFull = plain 64 (codes "SessionFull")
 refusal (fault.BadScript at) = with (plain 71 (codes "BadScript")) (codes "at") at

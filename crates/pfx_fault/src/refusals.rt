@@ -73,6 +73,8 @@ pub enum Fault {
     NotEmpty,
     /// The frame doesn't fit into its segment.
     NoRoom,
+    /// Another process has the store open.
+    Busy,
     /// The store has failed, with the commands up to this number kept.
     StoreFailed { marked: u64, cause: Cause },
     /// 1,048,576 commands were accepted in this run.
@@ -122,6 +124,7 @@ impl Fault {
             Fault::WrongVersion { .. } => 55,
             Fault::NotEmpty => 56,
             Fault::NoRoom => 57,
+            Fault::Busy => 58,
             Fault::StoreFailed { .. } => 61,
             Fault::SessionFull => 64,
             Fault::BadScript { .. } => 71,
@@ -165,6 +168,7 @@ impl Fault {
             Fault::WrongVersion { .. } => "WrongVersion",
             Fault::NotEmpty => "NotEmpty",
             Fault::NoRoom => "NoRoom",
+            Fault::Busy => "Busy",
             Fault::StoreFailed { .. } => "StoreFailed",
             Fault::SessionFull => "SessionFull",
             Fault::BadScript { .. } => "BadScript",

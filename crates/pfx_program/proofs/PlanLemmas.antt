@@ -19,7 +19,8 @@ use Rattle.pfx_program.specs.Faults.{fault_of_set, fault_of_ledger, fault_of_cho
 use Rattle.pfx_program.specs.Ledger.{Begins, RefusesGiven, given}
 use Rattle.pfx_program.specs.Lines.{Lines, no_lines, before, slot_line, plan_lines}
 use Rattle.pfx_program.proofs.Appends.{keeps-same, appends-nothing, appends-kept}
-use Rattle.pfx_program.specs.Plan.{IsPlanned, IsSetRefused, IsLedgerRefused, IsPlanText, Prints, Leaves, IsInputFault, ReadFails, StartFails, SetFails, LedgerFails, SlotFails}
+use Rattle.pfx_program.specs.Plan.{IsPlanned, IsSetRefused, IsLedgerRefused, IsPlanText, Prints, Leaves, IsInputFault, StartFails, SetFails, LedgerFails, SlotFails}
+use Rattle.pfx_set_text.specs.Reading.{ReadFails}
 
 -- ---- lines
 

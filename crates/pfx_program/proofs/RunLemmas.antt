@@ -6,11 +6,8 @@ use Rattle.pfx_kinds.specs.declared.any.AnyJob.{AnyJob}
 use Rattle.pfx_machine.specs.Plain.{Plain}
 use Rattle.pfx_script.specs.Verbs.{Said, verb_of}
 use Rattle.pfx_script.specs.Records.{Fields, Records, unread, Takes, ReadFails}
-use Rattle.pfx_script.specs.declared.faults.ReadFault.{ReadFault}
-use Rattle.pfx_script.specs.declared.faults.ReadFault.TheVariants as readfault
 use Rattle.pfx_fault.specs.declared.refusals.Fault.{Fault}
 use Rattle.pfx_fault.specs.declared.refusals.Fault.TheVariants as fault
-use Rattle.pfx_program.specs.Faults.{fault_of_read}
 use Rattle.pfx_program.specs.Output.{AppendsFront}
 use Rattle.pfx_program.specs.Answers.{closed_line}
 use Rattle.pfx_program.specs.Script.{Run, Output, after, output_by, output_from, verb_effect, script_output}
@@ -115,15 +112,16 @@ closes whole script run old now new result h over ok err =
     rw ends (closed_by h.front run.state.number old now new result h.written ok err)
 
 -- the next record is no text, or the reading failed
-pub refuses : (whole : Output) (script : Records) (run : Run) (e : ReadFault) (old now : Option (List ℕ)) → Progress whole script run old now → ReadFails script e → Writes whole old now (Err (fault_of_read e))
-refuses whole script run (readfault.BadScript at) old now h (place, read) =
+pub refuses : (whole : Output) (script : Records) (run : Run) (e : Fault) (old now : Option (List ℕ)) → Progress whole script run old now → ReadFails script e → Writes whole old now (Err e)
+refuses whole script run (fault.BadScript at) old now h (place, read) =
     let (fields, rest, rows, is) = rw h.left at read in
     let ends : whole ≡ after h.front (record { text = []; ends_at = Some at }) =
     h.same ∙ ap (after h.front) (ap (output_from (script.place + 1) run) rows ∙ from_record (script.place + 1) run fields rest
     ∙ ap (λ v. output_by (λ next. output_from (script.place + 1 + 1) next rest) (script.place + 1) run v) is) ∙ ap (λ p. after h.front (record { text = []; ends_at = Some p })) (sym place) in
     rw ends (refl, rw append-nil h.written)
-refuses whole script run readfault.InputFailed old now h read = so_far whole script run old now h
-refuses whole script run readfault.NoMemory old now h read = so_far whole script run old now h
+refuses whole script run fault.InputFailed old now h read = so_far whole script run old now h
+refuses whole script run fault.NoMemory old now h read = so_far whole script run old now h
+refuses whole script run other old now h read = absurd read
 
 -- the run begins
 pub starts : (s : Plain AnyJob) (input : Option (List ℕ)) (script : Records) (old : Option (List ℕ)) → script ≡ unread input

@@ -12,7 +12,8 @@ use Rattle.pfx_fault.specs.declared.refusals.Fault.{Fault}
 use Rattle.pfx_fault.specs.declared.refusals.Fault.TheVariants as fault
 use Rattle.pfx_set_text.specs.SetFile.{SetFile, FileTask, weights_of}
 use Rattle.pfx_program.specs.Faults.{fault_of_set, fault_of_choice}
-use Rattle.pfx_program.specs.Plan.{LacksNoRow, IsInputFault, ReadFails, IsStart, StartFails, SlotFails}
+use Rattle.pfx_program.specs.Plan.{LacksNoRow, IsInputFault, IsStart, StartFails, SlotFails}
+use Rattle.pfx_set_text.specs.Reading.{ReadFails}
 
 -- the ledger at this slot, from which fair schedules of every length go on
 pub record Served (g : Ledger) (slot : ℕ) : Type 0 where

@@ -9,8 +9,6 @@ use Rattle.pfx_kinds.specs.declared.start.StartFault.{StartFault}
 use Rattle.pfx_kinds.specs.declared.start.StartFault.TheVariants as startfault
 use Rattle.pfx_machine.specs.declared.faults.MachineFault.{MachineFault}
 use Rattle.pfx_machine.specs.declared.faults.MachineFault.TheVariants as machinefault
-use Rattle.pfx_script.specs.declared.faults.ReadFault.{ReadFault}
-use Rattle.pfx_script.specs.declared.faults.ReadFault.TheVariants as readfault
 use Rattle.pfx_fault.specs.declared.refusals.Fault.{Fault}
 use Rattle.pfx_fault.specs.declared.refusals.Fault.TheVariants as fault
 
@@ -53,9 +51,3 @@ fault_of_machine machinefault.SlotLimit = fault.SlotLimit
 fault_of_machine (machinefault.TooManyUrgent urgent m) = fault.TooManyUrgent urgent m
 fault_of_machine (machinefault.TooFewEligible eligible m) = fault.TooFewEligible eligible m
 fault_of_machine machinefault.NoMemory = fault.NoMemory
-
--- the fault of a script that is read no further
-abbrev pub fault_of_read : ReadFault → Fault
-fault_of_read (readfault.BadScript at) = fault.BadScript at
-fault_of_read readfault.InputFailed = fault.InputFailed
-fault_of_read readfault.NoMemory = fault.NoMemory

@@ -80,12 +80,6 @@ IsInputFault fault.InputFailed = ⊤
 IsInputFault fault.NoMemory = ⊤
 IsInputFault other = ⊥
 
--- why no set was taken from bytes
-abbrev pub ReadFails : List ℕ → Fault → Type 0
-ReadFails bytes fault.BadSet = set_of_bytes bytes ≡ None
-ReadFails bytes fault.NoMemory = ⊤
-ReadFails bytes other = ⊥
-
 -- the ledger with which a plan of a file's set begins
 abbrev pub IsStart : SetFile → Option (List ℕ) → Ledger → Type 0
 IsStart file at g = (set : FilledSet) × Accepts file.workers (weights_of file) set × Begins set at g

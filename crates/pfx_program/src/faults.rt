@@ -1,14 +1,13 @@
 //! The refusals of the libraries, as the program's.
 
 ghost use Rattle.std.specs.Prelude.{◌≡◌};
-ghost use Rattle.pfx_program.specs.Faults.{fault_of_set, fault_of_ledger, fault_of_choice, fault_of_start, fault_of_machine, fault_of_read};
+ghost use Rattle.pfx_program.specs.Faults.{fault_of_set, fault_of_ledger, fault_of_choice, fault_of_start, fault_of_machine};
 
 use pfx_choice::ChoiceFault;
 use pfx_columns::LedgerFault;
 use pfx_fault::Fault;
 use pfx_kinds::start::StartFault;
 use pfx_machine::MachineFault;
-use pfx_script::ReadFault;
 use pfx_weights::SetFault;
 
 pub(crate) fn set_fault(fault: SetFault) -> Fault
@@ -68,15 +67,5 @@ pub(crate) fn machine_fault(fault: MachineFault) -> Fault
         MachineFault::TooManyUrgent { urgent, m } => Fault::TooManyUrgent { urgent, m },
         MachineFault::TooFewEligible { eligible, m } => Fault::TooFewEligible { eligible, m },
         MachineFault::NoMemory => Fault::NoMemory,
-    }
-}
-
-pub(crate) fn read_fault(fault: ReadFault) -> Fault
-    ensures { result ≡ fault_of_read fault }
-{
-    match fault {
-        ReadFault::BadScript { at } => Fault::BadScript { at },
-        ReadFault::InputFailed => Fault::InputFailed,
-        ReadFault::NoMemory => Fault::NoMemory,
     }
 }

@@ -3,7 +3,7 @@
 ghost use Rattle.std.specs.Prelude.{◌≡◌, Some, None, IfSome, IfOk, IfErr, OnOk, map, option_map};
 ghost use Rattle.pfx_set_text.specs.SetFile.{set_of_bytes};
 ghost use Rattle.pfx_set_text.specs.Views.{task_view, set_view};
-ghost use Rattle.pfx_program.specs.Plan.{Leaves, LacksNoRow, IsInputFault, ReadFails, IsStart, StartFails, SlotPrinted, SlotFails};
+ghost use Rattle.pfx_program.specs.Plan.{Leaves, LacksNoRow, IsInputFault, IsStart, StartFails, SlotPrinted, SlotFails};
 
 use crate::faults::{choice_fault, set_fault};
 use crate::ledger::begin;
@@ -12,7 +12,7 @@ use crate::output::put;
 use pfx_choice::{Chooser, give};
 use pfx_columns::Columns;
 use pfx_fault::Fault;
-use pfx_set_text::{NamedTask, SetText, SetTextFault, read_set};
+use pfx_set_text::{NamedTask, SetText, read_set};
 use pfx_weights::{Row, TaskSet};
 use std::alloc::Global;
 use std::io::{ErrorKind, Read, Write};
@@ -26,17 +26,6 @@ pub(crate) fn read_all<R: Read>(alloc: Global, input: &mut R) -> Result<Vec<u8>,
         Ok(_) => Ok(bytes),
         Err(e) if e.kind() == ErrorKind::OutOfMemory => Err(Fault::NoMemory),
         Err(_) => Err(Fault::InputFailed),
-    }
-}
-
-pub(crate) fn set_from(alloc: Global, bytes: &[u8]) -> Result<SetText, Fault>
-    ensures ok { IfOk result (λ s. set_of_bytes bytes.now ≡ Some (set_view s)) }
-    ensures err { IfErr result (ReadFails bytes.now) }
-{
-    match read_set(alloc, bytes) {
-        Ok(set) => Ok(set),
-        Err(SetTextFault::BadSet) => Err(Fault::BadSet),
-        Err(SetTextFault::NoMemory) => Err(Fault::NoMemory),
     }
 }
 
@@ -104,7 +93,7 @@ pub fn run_plan<R: Read, W: Write>(
     ensures served { option_map (λ s. s.now) at.entry ≡ None → IfErr result (LacksNoRow slots) }
 {
     let bytes = read_all(alloc, input)?;
-    let file = set_from(alloc, bytes.as_slice())?;
+    let file = read_set(alloc, bytes.as_slice())?;
     let mut columns = started(alloc, &file, at)?;
     let mut chooser = Chooser::new(alloc);
     let mut row = Row::empty();

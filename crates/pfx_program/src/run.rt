@@ -11,7 +11,7 @@ ghost use Rattle.pfx_program.specs.Running.{Carried, CarriedOn, Stopped, Writes}
 
 use crate::answers::{board_text, closed_line, refused_line, reply_line, settled_line};
 use crate::engine::{CallFault, Engine};
-use crate::faults::{machine_fault, read_fault, start_fault};
+use crate::faults::{machine_fault, start_fault};
 use crate::output::put;
 use csv::StringRecord;
 use pfx_fault::Fault;
@@ -249,7 +249,7 @@ pub fn run_script<R: Read + Drop, W: Write, E: Engine>(
         match script.next(&mut row) {
             Ok(true) => {}
             Ok(false) => return close(alloc, output, engine),
-            Err(fault) => return Err(read_fault(fault)),
+            Err(fault) => return Err(fault),
         }
         let Some(verb) = read_verb(&row) else {
             return Err(Fault::BadScript { at: script.place() });

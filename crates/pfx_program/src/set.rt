@@ -4,8 +4,9 @@ ghost use Rattle.std.specs.Prelude.{◌≡◌, IfSome, IfOk, IfErr};
 ghost use Rattle.pfx_program.specs.Sets.{IsSetOf, SetFails};
 
 use crate::faults::set_fault;
-use crate::plan::{read_all, set_from};
+use crate::plan::read_all;
 use pfx_fault::Fault;
+use pfx_set_text::read_set;
 use pfx_weights::TaskSet;
 use std::alloc::Global;
 use std::io::Read;
@@ -17,7 +18,7 @@ pub fn read_task_set<R: Read>(alloc: Global, input: &mut R) -> Result<(TaskSet, 
     ensures err { IfErr result (λ fault. IfSome (R.remaining input.old) (λ bytes. SetFails bytes fault)) }
 {
     let bytes = read_all(alloc, input)?;
-    let file = set_from(alloc, bytes.as_slice())?;
+    let file = read_set(alloc, bytes.as_slice())?;
     let Ok(weights) = file.weights(alloc) else {
         return Err(Fault::NoMemory);
     };

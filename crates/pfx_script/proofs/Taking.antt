@@ -6,7 +6,7 @@ use Rattle.csv.specs.declared.reader.Reader.{Reader}
 use Rattle.csv.specs.declared.error.ErrorKind.{ErrorKind}
 use Rattle.csv.specs.declared.error.ErrorKind.TheVariants as kind
 use Rattle.pfx_script.specs.Records.{Fields, Records, records_left, Reports, ReadFails}
-use Rattle.pfx_script.specs.declared.faults.ReadFault.{ReadFault}
+use Rattle.pfx_fault.specs.declared.refusals.Fault.{Fault}
 use Rattle.pfx_script.proofs.Texts.{verb_of-no_text}
 use Rattle.pfx_script.proofs.NextRecords.{next_record-found, next_record-not_found, records_from-some, records_from-none, records_from-same}
 
@@ -43,7 +43,7 @@ if_some None P Q h f = tt
 if_some (Some x) P Q h f = f x h
 
 -- `csv` refused the read
-pub refuses : {R : Type 0} (rem : R → Option (List ℕ)) (a b : Reader R) (old : Records) (e : ErrorKind) (f : ReadFault) → a.config ≡ default_config → a.flexible ≡ true
+pub refuses : {R : Type 0} (rem : R → Option (List ℕ)) (a b : Reader R) (old : Records) (e : ErrorKind) (f : Fault) → a.config ≡ default_config → a.flexible ≡ true
     → old.left ≡ records_left rem a → ExplainsRead rem a b true e → Reports e (old.place + 1) f → ReadFails old f
 refuses rem a b old (kind.Io why) f config flexible is explained same = rw same tt
 refuses rem a b old kind.OutOfMemory f config flexible is explained same = rw same tt

@@ -8,8 +8,8 @@ use Rattle.csv.specs.declared.reader.Trim.TheVariants as trim
 use Rattle.csv.specs.declared.error.ErrorKind.{ErrorKind}
 use Rattle.csv.specs.declared.error.ErrorKind.TheVariants as kind
 use Rattle.pfx_script.specs.Verbs.{verb_of}
-use Rattle.pfx_script.specs.declared.faults.ReadFault.{ReadFault}
-use Rattle.pfx_script.specs.declared.faults.ReadFault.TheVariants as fault
+use Rattle.pfx_fault.specs.declared.refusals.Fault.{Fault}
+use Rattle.pfx_fault.specs.declared.refusals.Fault.TheVariants as fault
 
 -- a record: its fields
 abbrev pub Fields : Type 0
@@ -53,13 +53,14 @@ Reads old true fields new = Takes old fields new
 Reads old false fields new = (new.place ≡ old.place) × IfSome old.left (λ rows. rows ≡ [])
 
 -- why no record was read: the next one is no text and so has no form, or the reader or the memory failed
-abbrev pub ReadFails : Records → ReadFault → Type 0
+abbrev pub ReadFails : Records → Fault → Type 0
 ReadFails old (fault.BadScript at) = (at ≡ old.place + 1) × IfSome old.left (λ rows. (fields : Fields) × (rest : List Fields) × (rows ≡ fields ∷ rest) × (verb_of fields ≡ None))
 ReadFails old fault.InputFailed = ⊤
 ReadFails old fault.NoMemory = ⊤
+ReadFails old other = ⊥
 
 -- what is answered where `csv` refused the read of the record at a place
-abbrev pub Reports : ErrorKind → ℕ → ReadFault → Type 0
+abbrev pub Reports : ErrorKind → ℕ → Fault → Type 0
 Reports (kind.Io e) at f = f ≡ fault.InputFailed
 Reports kind.OutOfMemory at f = f ≡ fault.NoMemory
 Reports other at f = f ≡ fault.BadScript at

@@ -6,11 +6,9 @@
 //! memory fails.
 #![tactic(auto)]
 
-mod faults;
 mod fields;
 mod records;
 mod verbs;
 
-pub use faults::ReadFault;
 pub use records::Script;
 pub use verbs::{Verb, read_verb};

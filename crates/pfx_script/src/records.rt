@@ -6,8 +6,8 @@ ghost use Rattle.csv.specs.Reading.{error_kind, source_of, reader_state, has_fai
 ghost use Rattle.csv.specs.declared.parser.State.TheVariants as st;
 ghost use Rattle.pfx_script.specs.Records.{unread, ReadsScripts, Reads, ReadFails, Reports};
 
-use crate::ReadFault;
 use csv::{ErrorKind, Reader, ReaderBuilder, StringRecord};
+use pfx_fault::Fault;
 use std::alloc::Global;
 use std::io::Read;
 use std::marker::Model;
@@ -46,13 +46,13 @@ fn records_of<R: Read + Drop>(alloc: Global, input: R) -> Reader<R>
         .from_reader(alloc, input)
 }
 
-fn read_fault(error: &csv::Error, at: u64) -> ReadFault
+fn read_fault(error: &csv::Error, at: u64) -> Fault
     ensures { Reports (error_kind error.now) at result }
 {
     match error.kind() {
-        ErrorKind::Io(_) => ReadFault::InputFailed,
-        ErrorKind::OutOfMemory => ReadFault::NoMemory,
-        _ => ReadFault::BadScript { at },
+        ErrorKind::Io(_) => Fault::InputFailed,
+        ErrorKind::OutOfMemory => Fault::NoMemory,
+        _ => Fault::BadScript { at },
     }
 }
 
@@ -79,13 +79,13 @@ impl<R: Read + Drop> Script<R> {
     ///
     /// `BadScript` comes where the next record is no UTF-8 text, with its place; `InputFailed` where the reader fails,
     /// `NoMemory` where a growth was refused. After these the script is read no further.
-    pub fn next(&mut self, row: &mut StringRecord) -> Result<bool, ReadFault>
+    pub fn next(&mut self, row: &mut StringRecord) -> Result<bool, Fault>
         ensures reads { IfOk result (λ found. Reads self.old found (fields_of row.new) self.new) }
         ensures text { OnOk result (AllText (fields_of row.new)) }
         ensures fails { IfErr result (λ e. ReadFails self.old e) }
     {
         if self.failed || self.place == u64::MAX {
-            return Err(ReadFault::InputFailed);
+            return Err(Fault::InputFailed);
         }
         match self.reader.read_record(row) {
             Ok(found) => {

@@ -7,6 +7,9 @@ use Rattle.std.specs.List.{list_all}
 use Rattle.std.proofs.lemmas.Str.{IsUtf8-from_is_utf8, is_utf8-from_IsUtf8}
 use Rattle.std.specs.Str.{IsUtf8, is_utf8, bytes_eq}
 use Rattle.pfx_set_text.specs.declared.set.NamedTask.{NamedTask}
+use Rattle.pfx_fault.specs.declared.refusals.Fault.{Fault}
+use Rattle.pfx_fault.specs.declared.refusals.Fault.TheVariants as fault
+use Rattle.pfx_set_text.specs.Reading.{IsOfText, ReadFails}
 use Rattle.pfx_set_text.specs.Views.{task_view}
 use Rattle.toml.specs.Data.{Members}
 use Rattle.toml.specs.Parse.{parse_document}
@@ -44,3 +47,9 @@ pub are_distinct-drop : (tasks : List NamedTask) (i : ℕ) (t : NamedTask) → i
 are_distinct-drop tasks i t within =
     rw (drop_more tasks i t within) (ap (λ b. b && are_distinct (map task_view (drop (i + 1) tasks)))
     (list_all-map (λ (u : FileTask). not (bytes_eq (string_bytes (get_or tasks i t).name) u.name)) task_view (drop (i + 1) tasks)))
+
+-- a fault of the text is why no set was taken from the bytes, where BadSet comes only for bytes that are none
+pub read_fails : (bytes : List ℕ) (e : Fault) → IsOfText e → (e ≡ fault.BadSet → set_of_bytes bytes ≡ None) → ReadFails bytes e
+read_fails bytes fault.BadSet h none = none refl
+read_fails bytes fault.NoMemory h none = tt
+read_fails bytes other h none = absurd h

@@ -22,4 +22,4 @@ mod reading;
 mod set;
 
 pub use reading::read_set;
-pub use set::{NamedTask, SetText, SetTextFault};
+pub use set::{NamedTask, SetText};

@@ -1,12 +1,13 @@
 //! Look-ups in a table of the file.
 
-ghost use Rattle.std.specs.Prelude.{◌≡◌, Some, None, IfOk, IsErrOf, codes, option_map, string_bytes};
+ghost use Rattle.std.specs.Prelude.{◌≡◌, Some, None, IfOk, IfErr, IsErrOf, codes, option_map, string_bytes};
 ghost use Rattle.std.specs.List.{list_all};
 ghost use Rattle.toml.specs.Data.{get_member};
 ghost use Rattle.toml.specs.View.{view, table_view};
+ghost use Rattle.pfx_set_text.specs.Reading.{IsOfText};
 ghost use Rattle.pfx_set_text.specs.SetFile.{number_of, number_at, segment_in, is_name_byte, is_name, name_in};
 
-use crate::SetTextFault;
+use pfx_fault::Fault;
 use std::alloc::Global;
 use toml::{Table, Value};
 
@@ -71,21 +72,22 @@ fn is_a_name(name: &str) -> bool
     are_in_names(name.as_bytes())
 }
 
-pub(crate) fn name_under(alloc: Global, table: &Table) -> Result<String, SetTextFault>
+pub(crate) fn name_under(alloc: Global, table: &Table) -> Result<String, Fault>
     ensures ok { IfOk result (λ name. name_in (table_view table.now) ≡ Some (string_bytes name)) }
-    ensures bad { IsErrOf result SetTextFault.BadSet → name_in (table_view table.now) ≡ None }
+    ensures bad { IsErrOf result Fault.BadSet → name_in (table_view table.now) ≡ None }
+    ensures faults { IfErr result IsOfText }
 {
     let Some(value) = find(table, "name") else {
-        return Err(SetTextFault::BadSet);
+        return Err(Fault::BadSet);
     };
     let Some(name) = value.as_str() else {
-        return Err(SetTextFault::BadSet);
+        return Err(Fault::BadSet);
     };
     if !is_a_name(name) {
-        return Err(SetTextFault::BadSet);
+        return Err(Fault::BadSet);
     }
     match String::from_str(alloc, name) {
         Ok(name) => Ok(name),
-        Err(_) => Err(SetTextFault::NoMemory),
+        Err(_) => Err(Fault::NoMemory),
     }
 }

@@ -1,44 +1,48 @@
 //! From the bytes of a file to the set that they are.
 
-ghost use Rattle.std.specs.Prelude.{◌≡◌, Some, None, IfOk, IsErrOf, not, map, codes, string_bytes};
+ghost use Rattle.std.specs.Prelude.{◌≡◌, Some, None, IfOk, IfErr, IsErrOf, not, map, codes, string_bytes};
 ghost use Rattle.std.specs.List.{list_all};
 ghost use Rattle.std.specs.Str.{bytes_eq};
 ghost use Rattle.toml.specs.Data.{get_member};
 ghost use Rattle.toml.specs.View.{view, table_view, items_view};
+ghost use Rattle.pfx_set_text.specs.Reading.{IsOfText, ReadFails};
 ghost use Rattle.pfx_set_text.specs.SetFile.{task_of, tasks_of, are_distinct, tasks_in, set_of_bytes};
 ghost use Rattle.pfx_set_text.specs.Views.{task_view, set_view};
 
 use crate::members::{find, name_under, number_under, segment_under};
-use crate::{NamedTask, SetText, SetTextFault};
+use crate::{NamedTask, SetText};
+use pfx_fault::Fault;
 use std::alloc::Global;
 use toml::{Table, Value};
 
-fn task(alloc: Global, value: &Value) -> Result<NamedTask, SetTextFault>
+fn task(alloc: Global, value: &Value) -> Result<NamedTask, Fault>
     ensures ok { IfOk result (λ t. task_of (view value.now) ≡ Some (task_view t)) }
-    ensures bad { IsErrOf result SetTextFault.BadSet → task_of (view value.now) ≡ None }
+    ensures bad { IsErrOf result Fault.BadSet → task_of (view value.now) ≡ None }
+    ensures faults { IfErr result IsOfText }
 {
     let Some(table) = value.as_table() else {
-        return Err(SetTextFault::BadSet);
+        return Err(Fault::BadSet);
     };
     let Some(e) = number_under(table, "e") else {
-        return Err(SetTextFault::BadSet);
+        return Err(Fault::BadSet);
     };
     let Some(p) = number_under(table, "p") else {
-        return Err(SetTextFault::BadSet);
+        return Err(Fault::BadSet);
     };
     let name = name_under(alloc, table)?;
     Ok(NamedTask { name, e, p })
 }
 
-fn tasks(alloc: Global, items: &[Value]) -> Result<Vec<NamedTask>, SetTextFault>
+fn tasks(alloc: Global, items: &[Value]) -> Result<Vec<NamedTask>, Fault>
     ensures ok { IfOk result (λ ts. tasks_of (items_view items.now) ≡ Some (map task_view ts.items)) }
-    ensures bad { IsErrOf result SetTextFault.BadSet → tasks_of (items_view items.now) ≡ None }
+    ensures bad { IsErrOf result Fault.BadSet → tasks_of (items_view items.now) ≡ None }
+    ensures faults { IfErr result IsOfText }
 {
     let mut tasks = Vec::new(alloc);
     for item in items {
         let task = task(alloc, item)?;
         if tasks.push(task).is_err() {
-            return Err(SetTextFault::NoMemory);
+            return Err(Fault::NoMemory);
         }
     }
     Ok(tasks)
@@ -67,19 +71,20 @@ fn have_own_names(tasks: &[NamedTask]) -> bool
     true
 }
 
-fn tasks_under(alloc: Global, table: &Table) -> Result<Vec<NamedTask>, SetTextFault>
+fn tasks_under(alloc: Global, table: &Table) -> Result<Vec<NamedTask>, Fault>
     ensures ok { IfOk result (λ ts. tasks_in (table_view table.now) ≡ Some (map task_view ts.items)) }
-    ensures bad { IsErrOf result SetTextFault.BadSet → tasks_in (table_view table.now) ≡ None }
+    ensures bad { IsErrOf result Fault.BadSet → tasks_in (table_view table.now) ≡ None }
+    ensures faults { IfErr result IsOfText }
 {
     let Some(value) = find(table, "task") else {
         return Ok(Vec::new(alloc));
     };
     let Some(items) = value.as_array() else {
-        return Err(SetTextFault::BadSet);
+        return Err(Fault::BadSet);
     };
     let tasks = tasks(alloc, items.as_slice())?;
     if !have_own_names(tasks.as_slice()) {
-        return Err(SetTextFault::BadSet);
+        return Err(Fault::BadSet);
     }
     Ok(tasks)
 }
@@ -92,20 +97,20 @@ fn tasks_under(alloc: Global, table: &Table) -> Result<Vec<NamedTask>, SetTextFa
 /// and `p`, a name that isn't 1 to 32 ASCII letters, digits, `_` or `-`, and a name that stands
 /// twice. A missing `segment` is 1,048,576, a missing `task` an empty list, an integer outside 0 to
 /// 4,294,967,295 counts as 0, and other keys and a byte order mark at the front are passed over.
-pub fn read_set(alloc: Global, bytes: &[u8]) -> Result<SetText, SetTextFault>
+pub fn read_set(alloc: Global, bytes: &[u8]) -> Result<SetText, Fault>
     ensures ok { IfOk result (λ s. set_of_bytes bytes.now ≡ Some (set_view s)) }
-    ensures bad { IsErrOf result SetTextFault.BadSet → set_of_bytes bytes.now ≡ None }
+    ensures err { IfErr result (ReadFails bytes.now) }
 {
     let table = match toml::table_from_slice(alloc, bytes) {
         Ok(table) => table,
-        Err(e) if e.is_memory() => return Err(SetTextFault::NoMemory),
-        Err(_) => return Err(SetTextFault::BadSet),
+        Err(e) if e.is_memory() => return Err(Fault::NoMemory),
+        Err(_) => return Err(Fault::BadSet),
     };
     let Some(workers) = number_under(&table, "workers") else {
-        return Err(SetTextFault::BadSet);
+        return Err(Fault::BadSet);
     };
     let Some(segment) = segment_under(&table) else {
-        return Err(SetTextFault::BadSet);
+        return Err(Fault::BadSet);
     };
     let tasks = tasks_under(alloc, &table)?;
     Ok(SetText {

@@ -5,7 +5,6 @@ ghost use Rattle.pfx_set_text.specs.SetFile.{weights_of};
 ghost use Rattle.pfx_set_text.specs.Views.{set_view};
 
 use std::alloc::{AllocError, Global};
-use thiserror::Error;
 
 /// A task of a set file. It asks for `e` of every `p` slots.
 #[derive(Debug, Drop)]
@@ -27,17 +26,6 @@ pub struct SetText {
     pub segment: u32,
     /// The tasks, in the file's order.
     pub tasks: Vec<NamedTask>,
-}
-
-/// Why no set was read.
-#[derive(Clone, Copy, Debug, PartialEq, Eq, Error)]
-pub enum SetTextFault {
-    /// The bytes are no set file.
-    #[error("the text is no set file")]
-    BadSet,
-    /// A growth was refused.
-    #[error("out of memory")]
-    NoMemory,
 }
 
 impl SetText {

@@ -4,7 +4,7 @@ use pfx_fault::{Cause, Fault, Part, Refused, put_fault};
 use std::alloc::Global;
 
 /// A refusal, the exit status and the text, as the table of refusals has them.
-const ROWS: [(Fault, u8, &str); 38] = [
+const ROWS: [(Fault, u8, &str); 39] = [
     (Fault::BadSet, 3, "10 BadSet"),
     (Fault::NoTasks, 3, "11 NoTasks"),
     (Fault::TooManyTasks, 3, "12 TooManyTasks"),
@@ -84,6 +84,7 @@ const ROWS: [(Fault, u8, &str); 38] = [
     ),
     (Fault::NotEmpty, 4, "56 NotEmpty"),
     (Fault::NoRoom, 4, "57 NoRoom"),
+    (Fault::Busy, 4, "58 Busy"),
     (
         Fault::StoreFailed {
             marked: 4,

@@ -2,7 +2,8 @@
 
 use crate::torn::Torn;
 use csv::StringRecord;
-use pfx_script::{ReadFault, Script, Verb, read_verb};
+use pfx_fault::Fault;
+use pfx_script::{Script, Verb, read_verb};
 use std::alloc::Global;
 use std::io::Read;
 
@@ -24,12 +25,12 @@ fn asks<R: Read + Drop>(
 fn ends<R: Read + Drop>(
     script: &mut Script<R>,
     row: &mut StringRecord,
-    end: Result<(), ReadFault>,
+    end: Result<(), Fault>,
 ) -> bool {
     match script.next(row) {
         Ok(false) => end == Ok(()),
         Ok(true) => {
-            read_verb(row).is_none() && end == Err(ReadFault::BadScript { at: script.place() })
+            read_verb(row).is_none() && end == Err(Fault::BadScript { at: script.place() })
         }
         Err(fault) => end == Err(fault),
     }
@@ -40,7 +41,7 @@ fn reads<R: Read + Drop>(
     alloc: Global,
     input: R,
     verbs: &[Verb<'_>],
-    end: Result<(), ReadFault>,
+    end: Result<(), Fault>,
 ) -> bool {
     let mut script = Script::new(alloc, input);
     let mut row = StringRecord::new(alloc);
@@ -112,7 +113,7 @@ fn script_with(alloc: Global, record: &[u8]) -> Option<Vec<u8>> {
 fn stops_at(alloc: Global, record: &[u8]) -> bool {
     match script_with(alloc, record) {
         Some(script) => {
-            let end = Err(ReadFault::BadScript { at: 2 });
+            let end = Err(Fault::BadScript { at: 2 });
             reads(alloc, script.as_slice(), &[Verb::Settle], end)
         }
         None => false,
@@ -157,7 +158,7 @@ fn stops_where_reader_fails(alloc: Global) -> bool {
     let input = Torn {
         left: b"settle,,,,\nstatus,,,",
     };
-    reads(alloc, input, &[Verb::Settle], Err(ReadFault::InputFailed))
+    reads(alloc, input, &[Verb::Settle], Err(Fault::InputFailed))
 }
 
 /// Whether a reader that always fails is told of each time.
@@ -165,7 +166,7 @@ fn tells_each_time(alloc: Global) -> bool {
     let mut script = Script::new(alloc, Torn { left: b"" });
     let mut row = StringRecord::new(alloc);
     for _ in 0..3 {
-        if script.next(&mut row) != Err(ReadFault::InputFailed) {
+        if script.next(&mut row) != Err(Fault::InputFailed) {
             return false;
         }
     }

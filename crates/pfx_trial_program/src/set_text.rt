@@ -1,6 +1,7 @@
 //! Set files as users write them, and texts that aren't one.
 
-use pfx_set_text::{SetText, SetTextFault, read_set};
+use pfx_fault::Fault;
+use pfx_set_text::{SetText, read_set};
 use std::alloc::Global;
 
 const THREE: &str = "\u{feff}# Three tasks.
@@ -113,7 +114,7 @@ const NO_SETS: [&str; 21] = [
 fn is_refused(alloc: Global, bytes: &[u8]) -> bool {
     match read_set(alloc, bytes) {
         Ok(_) => false,
-        Err(fault) => fault == SetTextFault::BadSet,
+        Err(fault) => fault == Fault::BadSet,
     }
 }
 

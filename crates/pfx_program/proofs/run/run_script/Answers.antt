@@ -22,8 +22,8 @@ pub returns-in-Err : goal.returns-in-Err
 returns-in-Err g c =
     let now : Run = record { state = g.E.Engine.state c.loop.engine; accepted = c.loop.accepted } in
     if_some (g.R.Read.remaining c.args.input) _ _ c.loop.invariant
-    (λ bytes h. rw c.read_fault.ensures (refuses (script_output (g.E.Engine.state c.args.engine.now) bytes) c.loop.script now c.in-Err.fault (g.W.Write.contents c.args.output.now)
-    (g.W.Write.contents c.loop.output) h c.in-Err.ensures.fails))
+    (λ bytes h. refuses (script_output (g.E.Engine.state c.args.engine.now) bytes) c.loop.script now c.in-Err.fault (g.W.Write.contents c.args.output.now)
+    (g.W.Write.contents c.loop.output) h c.in-Err.ensures.fails)
 
 pub returns-in_default : goal.returns-in_default
 returns-in_default g c =
