@@ -1,0 +1,263 @@
+//! A new store of two workers and three tasks of weight 2/3, with segments of 8,192 bytes, as its file is written down byte
+//! by byte: a header of 41 bytes, slots of 428, and 17,281 bytes in all.
+
+use crate::check::{check, check_pair};
+use crate::held::{held, is_held};
+use pfx_creating::laws::a_new_file_can_be_made;
+use pfx_creating::{CreateFault, create, create_file, new_places};
+use pfx_disk::{Disk, Fate, FaultDisk, GATE_OPEN, MemoryDisk};
+use pfx_store::{PIECE, Places, StoreFile};
+use std::alloc::Global;
+
+/// The gate, the letters PFXSTORE, version 1, two workers, three tasks, the segment's length, and the tasks.
+const HEAD: [u8; 41] = [
+    0xC3, 0x50, 0x46, 0x58, 0x53, 0x54, 0x4F, 0x52, 0x45, 1, 2, 3, 0, 0, 0x20, 0, 0, 2, 0, 0, 0, 3,
+    0, 0, 0, 2, 0, 0, 0, 3, 0, 0, 0, 2, 0, 0, 0, 3, 0, 0, 0,
+];
+
+/// Number 0 at slot 0, and no allocations and no job of any task.
+const BODY: [u8; 427] = [0; 427];
+
+const SEGMENT: usize = 8192;
+
+const LEN: usize = 17_281;
+
+/// The length is asked for; a byte and a sync; five pieces and a sync; a byte and a sync.
+const CALLS: u64 = 11;
+
+fn empty_disk(alloc: Global) -> Option<MemoryDisk> {
+    MemoryDisk::new(alloc, &[], LEN, 40, 20_000).ok()
+}
+
+fn create_here<D: Disk>(disk: &mut D) -> Result<(), CreateFault> {
+    create::<D, u8, Vec<u8>>(disk, &HEAD, &BODY, SEGMENT)
+}
+
+fn file_here<D: Disk>(disk: D) -> Result<StoreFile<D>, (CreateFault, D)> {
+    create_file::<D, u8, Vec<u8>>(disk, &HEAD, &BODY, SEGMENT)
+}
+
+/// The byte of the new file at a place.
+fn byte_of_new_file(i: usize) -> u8 {
+    match i {
+        0..41 => HEAD[i],
+        41 | 897 => 0xC3,
+        898 => 1,
+        _ => 0,
+    }
+}
+
+/// Whether these are the bytes of the new file.
+fn is_whole(bytes: &[u8]) -> bool {
+    let mut same = bytes.len() == LEN;
+    for (i, byte) in bytes.iter().enumerate() {
+        if *byte != byte_of_new_file(i) {
+            same = false;
+        }
+    }
+    same
+}
+
+/// Whether these bytes are no store's file yet.
+fn is_unmade(bytes: &[u8]) -> bool {
+    bytes.len() <= 1 || bytes.first() != Some(&GATE_OPEN)
+}
+
+/// Whether the disk holds the whole file or none, as wanted.
+fn holds_file<D: Disk>(alloc: Global, disk: &mut D, wanted: bool) -> bool {
+    match held(alloc, disk) {
+        Some(bytes) => is_whole(&bytes) == wanted && (wanted || is_unmade(&bytes)),
+        None => false,
+    }
+}
+
+/// The disk on which the file was made.
+fn made(alloc: Global) -> Option<MemoryDisk> {
+    let mut disk = empty_disk(alloc)?;
+    create_here(&mut disk).ok()?;
+    Some(disk)
+}
+
+#[test]
+fn a_new_file_takes_ten_writes_and_syncs(rt: HostRuntime) {
+    let alloc = rt.alloc();
+    let Some(mut disk) = made(alloc) else {
+        return check(&rt, false, "made");
+    };
+    check(&rt, disk.clock() == CALLS, "calls");
+    check(&rt, disk.failures() == 0, "failures");
+    check(&rt, (LEN - 1).div_ceil(PIECE) == 5, "pieces");
+    check(&rt, holds_file(alloc, &mut disk, true), "the bytes");
+    a_new_file_can_be_made();
+}
+
+fn byte_is_left_alone(alloc: Global, disk: &mut MemoryDisk) -> bool {
+    create_here(disk) == Err(CreateFault::NotEmpty)
+        && disk.clock() == 1
+        && disk.failures() == 0
+        && is_held(alloc, disk, &[7])
+}
+
+/// Whether the disk is handed back with its byte, which takes one call.
+fn disk_is_given_back(alloc: Global, disk: MemoryDisk) -> bool {
+    match file_here(disk) {
+        Err((CreateFault::NotEmpty, mut disk)) => {
+            disk.clock() == 4 && is_held(alloc, &mut disk, &[7])
+        }
+        _ => false,
+    }
+}
+
+#[test]
+fn a_disk_that_holds_a_byte_is_left_alone(rt: HostRuntime) {
+    let alloc = rt.alloc();
+    let Ok(mut disk) = MemoryDisk::new(alloc, &[7], LEN, 40, 20_000) else {
+        return check(&rt, false, "a disk");
+    };
+    check(&rt, byte_is_left_alone(alloc, &mut disk), "left alone");
+    check(&rt, disk_is_given_back(alloc, disk), "given back");
+}
+
+/// The disk whose k-th call fails, with its work done or not.
+fn faulty(alloc: Global, k: u64, works: bool) -> Option<FaultDisk<MemoryDisk>> {
+    let memory = empty_disk(alloc)?;
+    Some(match works {
+        false => FaultDisk::new(memory, k),
+        true => FaultDisk::with_work_done(memory, k),
+    })
+}
+
+/// Whether a failing call ends the making, with no store left unless its gate was written; call 11 isn't made.
+fn is_ended(alloc: Global, k: u64, works: bool) -> Option<bool> {
+    let mut disk = faulty(alloc, k, works)?;
+    let answer = create_here(&mut disk);
+    let mut memory = disk.into_inner();
+    if k == CALLS {
+        return Some(answer == Ok(()) && holds_file(alloc, &mut memory, true));
+    }
+    // The write of the gate, and the sync behind it.
+    let is_opened = k == 10 || k == 9 && works;
+    let is_left = holds_file(alloc, &mut memory, is_opened);
+    let is_counted = memory.clock() == k.saturating_add(3);
+    Some(answer == Err(CreateFault::Device) && is_left && is_counted)
+}
+
+// Each call fails in turn, with its work done or not, until a run meets no failure.
+#[test]
+fn a_failing_call_ends_it(rt: HostRuntime) {
+    let alloc = rt.alloc();
+    for works in [false, true] {
+        for k in 0..=CALLS {
+            let holds = is_ended(alloc, k, works) == Some(true);
+            check_pair(
+                &rt,
+                holds,
+                "call, and its work",
+                k as usize,
+                usize::from(works),
+            );
+        }
+    }
+}
+
+/// What becomes of the writes behind the last sync: all alike, or the first otherwise than those behind it.
+const FATES: [[Fate; 5]; 5] = [
+    [Fate::Kept; 5],
+    [Fate::Dropped; 5],
+    [Fate::Filled(GATE_OPEN); 5],
+    [
+        Fate::Filled(GATE_OPEN),
+        Fate::Kept,
+        Fate::Dropped,
+        Fate::Kept,
+        Fate::Filled(7),
+    ],
+    [
+        Fate::Dropped,
+        Fate::Kept,
+        Fate::Filled(GATE_OPEN),
+        Fate::Dropped,
+        Fate::Kept,
+    ],
+];
+
+/// Whether a stop leaves the whole file or no store.
+fn is_left(alloc: Global, disk: &MemoryDisk, after: usize, fates: &[Fate; 5]) -> Option<bool> {
+    if disk.clock() < after as u64 {
+        return None;
+    }
+    let mut left = disk.stopped(alloc, after, fates).ok()?;
+    // The gate is written by the tenth call, and synced by the last.
+    let is_opened = after == 11 || after == 10 && fates[0] != Fate::Dropped;
+    Some(holds_file(alloc, &mut left, is_opened))
+}
+
+#[test]
+fn a_stop_leaves_no_store_or_the_whole_file(rt: HostRuntime) {
+    let alloc = rt.alloc();
+    let Some(disk) = made(alloc) else {
+        return check(&rt, false, "made");
+    };
+    check(&rt, disk.clock() == CALLS, "calls");
+    for after in 0..12 {
+        for (number, fates) in FATES.iter().enumerate() {
+            let holds = is_left(alloc, &disk, after, fates) == Some(true);
+            check_pair(
+                &rt,
+                holds,
+                "calls before the stop, and fates",
+                after,
+                number,
+            );
+        }
+    }
+}
+
+/// What stands behind the gate of the first frame, of one row of two tasks without jobs, and the next closed gate.
+const FRAME: [u8; 22] = [
+    7, 0, 0, 0, 1, 0, 0, 0, 0, 0, 0, 0, 1, 0, 2, 0, 0, 0, 1, 0, 0, 0,
+];
+
+fn have_lengths(places: &Places) -> bool {
+    places.head == 41
+        && places.body == 427
+        && places.segment_len == 8192
+        && places.gate == 906
+        && places.end == 9089
+        && places.len == LEN
+}
+
+fn are_at_the_start(places: &Places) -> bool {
+    !places.slot
+        && !places.segment
+        && !places.turned
+        && !places.slot_open
+        && !places.segment_open
+        && !places.begun
+        && places.done == 0
+}
+
+/// Whether the file takes the frame by four calls, and holds it.
+fn takes_frame(alloc: Global, mut file: StoreFile<MemoryDisk>) -> Option<bool> {
+    file.append::<u8, Vec<u8>>(&FRAME).ok()?;
+    let is_counted = file.disk.clock() == CALLS + 4;
+    let bytes = held(alloc, &mut file.into_disk())?;
+    let is_open = bytes.get(906) == Some(&GATE_OPEN);
+    Some(is_counted && is_open && bytes.get(907..929) == Some(FRAME.as_slice()))
+}
+
+#[test]
+fn a_new_file_takes_a_frame(rt: HostRuntime) {
+    let alloc = rt.alloc();
+    let Some(disk) = empty_disk(alloc) else {
+        return check(&rt, false, "a disk");
+    };
+    let Ok(file) = file_here(disk) else {
+        return check(&rt, false, "a file");
+    };
+    check(&rt, have_lengths(&file.places), "lengths");
+    check(&rt, are_at_the_start(&file.places), "the start");
+    check(&rt, !file.broken, "broken");
+    check(&rt, new_places(41, 427, 8192).gate == 906, "the gate");
+    check(&rt, takes_frame(alloc, file) == Some(true), "the frame");
+}

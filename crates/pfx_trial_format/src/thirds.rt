@@ -1,0 +1,16 @@
+//! Three tasks of 2/3 on two workers.
+
+use pfx_kinds::any::AnyJob;
+use pfx_machine::State;
+use pfx_weights::TaskSet;
+use std::alloc::Global;
+
+/// The set.
+pub fn thirds(alloc: Global) -> Option<TaskSet> {
+    TaskSet::new(alloc, 2, &[(2, 3), (2, 3), (2, 3)]).ok()
+}
+
+/// Its state before any command.
+pub fn new_state(alloc: Global) -> Option<State<AnyJob>> {
+    State::new(alloc, &thirds(alloc)?).ok()
+}

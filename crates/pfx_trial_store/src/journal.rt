@@ -1,0 +1,231 @@
+//! A store of three tasks of weight 2/3 on two workers, with segments of 8,192 bytes, as its file is written down.
+
+use crate::check::{check, check_at};
+use crate::held::held;
+use pfx_disk::{Disk, FaultDisk, MemoryDisk};
+use pfx_journal::{InitFault, Store};
+use pfx_kinds::any::AnyJob;
+use pfx_opening::{OpenFault, Part, Refusal};
+use pfx_weights::TaskSet;
+use std::alloc::Global;
+
+const LEN: usize = 17_281;
+
+/// The header, and where it ends the first slot's gate.
+const HEAD: [u8; 42] = [
+    0xc3, 0x50, 0x46, 0x58, 0x53, 0x54, 0x4f, 0x52, 0x45, 1, 2, 3, 0, 0, 0x20, 0, 0, 2, 0, 0, 0, 3,
+    0, 0, 0, 2, 0, 0, 0, 3, 0, 0, 0, 2, 0, 0, 0, 3, 0, 0, 0, 0xc3,
+];
+
+/// The frame of one slot without jobs.
+const FRAME: [u8; 22] = [
+    0xc3, 7, 0, 0, 0, 1, 0, 0, 0, 0, 0, 0, 0, 1, 0, 2, 0, 0, 0, 1, 0, 0,
+];
+
+/// The store that is made on a disk, or why none is.
+fn made<D: Disk + Drop>(
+    alloc: Global,
+    disk: D,
+    segment: u32,
+) -> Result<Store<D, AnyJob>, InitFault> {
+    let Ok(set) = TaskSet::new(alloc, 2, &[(2, 3), (2, 3), (2, 3)]) else {
+        return Err(InitFault::NoMemory);
+    };
+    match Store::init(alloc, disk, &set, segment) {
+        Ok(store) => Ok(store),
+        Err((fault, _disk)) => Err(fault),
+    }
+}
+
+/// The bytes of a new store's file.
+fn new_file(alloc: Global) -> Option<Vec<u8>> {
+    let disk = MemoryDisk::new(alloc, &[], LEN, 40, 20_000).ok()?;
+    let store = made(alloc, disk, 8192).ok()?;
+    held(alloc, &mut store.into_disk())
+}
+
+/// The bytes of a new store's file, with its first frame.
+fn file_of_one_slot(alloc: Global) -> Option<Vec<u8>> {
+    let mut bytes = new_file(alloc)?;
+    if bytes.len() != LEN {
+        return None;
+    }
+    bytes[906..928].copy_from_slice(&FRAME);
+    Some(bytes)
+}
+
+fn opened(alloc: Global, bytes: &[u8]) -> Option<Store<MemoryDisk, AnyJob>> {
+    let disk = MemoryDisk::new(alloc, bytes, bytes.len(), 200, 1000).ok()?;
+    Store::open(alloc, disk).ok()
+}
+
+/// The byte of the new file at a place.
+fn byte_of_new_file(i: usize) -> u8 {
+    match i {
+        0..42 => HEAD[i],
+        897 => 0xc3,
+        898 => 1,
+        _ => 0,
+    }
+}
+
+/// Whether these are the bytes of the new file.
+fn is_whole(bytes: &[u8]) -> bool {
+    let mut same = bytes.len() == LEN;
+    for (i, byte) in bytes.iter().enumerate() {
+        if *byte != byte_of_new_file(i) {
+            same = false;
+        }
+    }
+    same
+}
+
+fn is_new(store: &Store<MemoryDisk, AnyJob>) -> bool {
+    store.state().number() == 0 && store.state().columns().slot() == 0 && !store.is_broken()
+}
+
+#[test]
+fn a_new_store_is_its_bytes(rt: HostRuntime) {
+    let alloc = rt.alloc();
+    let bytes = new_file(alloc).unwrap_or(Vec::new(alloc));
+    check(&rt, is_whole(&bytes), "bytes");
+    let Some(store) = opened(alloc, &bytes) else {
+        return check(&rt, false, "opened");
+    };
+    check(&rt, is_new(&store), "state");
+}
+
+/// Whether the state is that behind a slot of tasks 0 and 1.
+fn is_behind_one_slot(store: &Store<MemoryDisk, AnyJob>) -> bool {
+    let ledger = store.state().columns();
+    store.state().number() == 1
+        && ledger.slot() == 1
+        && ledger.total() == 3
+        && (ledger.alloc(0), ledger.alloc(1), ledger.alloc(2)) == (1, 1, 0)
+        && (ledger.lag(0), ledger.lag(2)) == (-1, 2)
+}
+
+#[test]
+fn a_frame_is_taken_over(rt: HostRuntime) {
+    let alloc = rt.alloc();
+    let bytes = file_of_one_slot(alloc).unwrap_or(Vec::new(alloc));
+    let Some(store) = opened(alloc, &bytes) else {
+        return check(&rt, false, "opened");
+    };
+    check(&rt, is_behind_one_slot(&store), "state");
+}
+
+/// Whether the file is refused so.
+fn is_refused(alloc: Global, bytes: &[u8], wanted: Refusal) -> bool {
+    let Ok(disk) = MemoryDisk::new(alloc, bytes, bytes.len(), 200, 1000) else {
+        return false;
+    };
+    match Store::<MemoryDisk, AnyJob>::open(alloc, disk) {
+        Err((OpenFault::Refused(refusal), _)) => refusal == wanted,
+        _ => false,
+    }
+}
+
+/// Whether the file, with these bytes at these places, is refused so.
+fn is_refused_with(
+    alloc: Global,
+    bytes: &[u8],
+    changes: &[(usize, u8)],
+    wanted: Refusal,
+) -> Option<bool> {
+    let mut other = bytes.to_vec(alloc).ok()?;
+    for (at, byte) in changes {
+        *other.get_mut(*at)? = *byte;
+    }
+    Some(is_refused(alloc, &other, wanted))
+}
+
+fn damaged(at: usize, what: Part) -> Refusal {
+    Refusal::Damaged { at, what }
+}
+
+/// Whether the front of a new file of this length is refused so.
+fn is_front_refused(alloc: Global, bytes: &[u8], len: usize, wanted: Refusal) -> bool {
+    match bytes.get(..len) {
+        Some(front) => is_refused(alloc, front, wanted),
+        None => false,
+    }
+}
+
+#[test]
+fn faulty_files_are_refused(rt: HostRuntime) {
+    let alloc = rt.alloc();
+    let bytes = new_file(alloc).unwrap_or(Vec::new(alloc));
+    let short = damaged(LEN - 1, Part::Length);
+    let fronts = [
+        (0, Refusal::NotAStore),
+        (30, Refusal::NotAStore),
+        (LEN - 1, short),
+    ];
+    for (len, refusal) in fronts {
+        check_at(
+            &rt,
+            is_front_refused(alloc, &bytes, len, refusal),
+            "bytes",
+            len,
+        );
+    }
+    let rows = [
+        (9, 9, Refusal::WrongVersion { version: 9 }),
+        (10, 0, damaged(0, Part::Header)),
+        (41, 0, damaged(41, Part::Checkpoint)),
+        (897, 0, damaged(897, Part::Segment)),
+    ];
+    for (at, byte, refusal) in rows {
+        let holds = is_refused_with(alloc, &bytes, &[(at, byte)], refusal);
+        check_at(&rt, holds == Some(true), "byte", at);
+    }
+    let bytes = file_of_one_slot(alloc).unwrap_or(Vec::new(alloc));
+    let endless = [(907, 0xff), (908, 0xff), (909, 0xff), (910, 0xff)];
+    let frame = damaged(906, Part::Frame);
+    let holds = is_refused_with(alloc, &bytes, &endless, frame);
+    check(&rt, holds == Some(true), "a frame that ends nowhere");
+    let record = damaged(906, Part::Record);
+    let holds = is_refused_with(alloc, &bytes, &[(922, 1), (925, 0)], record);
+    check(&rt, holds == Some(true), "a row that falls");
+}
+
+/// The fault of making a store on a disk in memory that holds so many zeros.
+fn fault_of(alloc: Global, zeros: &[u8], segment: u32) -> Option<InitFault> {
+    if zeros.len() > LEN {
+        return None;
+    }
+    let disk = MemoryDisk::new(alloc, zeros, LEN, 40, 20_000).ok()?;
+    made(alloc, disk, segment).err()
+}
+
+fn least_is_made(alloc: Global) -> Option<bool> {
+    let disk = MemoryDisk::new(alloc, &[], LEN, 40, 20_000).ok()?;
+    Some(made(alloc, disk, 4233).is_ok())
+}
+
+/// Why no store is made on a disk whose k-th call fails.
+fn fault_at(alloc: Global, k: u64) -> Option<InitFault> {
+    let disk = MemoryDisk::new(alloc, &[], LEN, 40, 20_000).ok()?;
+    made(alloc, FaultDisk::new(disk, k), 8192).err()
+}
+
+#[test]
+fn stores_that_cant_be_made(rt: HostRuntime) {
+    let alloc = rt.alloc();
+    let small = InitFault::SegmentTooSmall { least: 4233 };
+    check(&rt, fault_of(alloc, &[], 4232) == Some(small), "too small");
+    let large = InitFault::SegmentTooLarge;
+    check(
+        &rt,
+        fault_of(alloc, &[], 16_777_217) == Some(large),
+        "too large",
+    );
+    let full = InitFault::NotEmpty;
+    check(&rt, fault_of(alloc, &[0], 8192) == Some(full), "not empty");
+    check(&rt, least_is_made(alloc) == Some(true), "the least");
+    for k in 0..11 {
+        let holds = fault_at(alloc, k) == Some(InitFault::Device);
+        check_at(&rt, holds, "call", k as usize);
+    }
+}

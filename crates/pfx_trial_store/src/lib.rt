@@ -1,0 +1,26 @@
+//! Tests of durable stores, in a crate of their own so that the tested crates are proved once, without them.
+//!
+//! | Module | Tests |
+//! |---|---|
+//! | `journal` | `pfx_journal`: the file of a new store, frames in it, and files and disks that are refused |
+//! | `scripts` | `pfx_engine`: scripts over stores, on disks in memory, in a file, and on ones that fail |
+//! | `stops` | `pfx_engine`: stops behind each call, and where frames go |
+//! | `turns` | `pfx_engine`: turns and checkpoints, and stops behind each call of sixty slots |
+//!
+//! A case is a plain `bool`; `check`, `check_at` and `check_pair` name the one that doesn't hold.
+#![tactic(auto)]
+
+#[cfg(test)]
+mod check;
+#[cfg(test)]
+mod engines;
+#[cfg(test)]
+mod held;
+#[cfg(test)]
+mod journal;
+#[cfg(test)]
+mod scripts;
+#[cfg(test)]
+mod stops;
+#[cfg(test)]
+mod turns;

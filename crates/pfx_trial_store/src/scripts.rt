@@ -1,0 +1,277 @@
+//! Scripts over stores: on disks in memory, in a file, and on disks that fail.
+
+use crate::check::{check, check_pair};
+use crate::engines::{begun, empty, in_memory, opened};
+use pfx_disk::{Disk, FaultDisk, FileDisk, MemoryDisk};
+use pfx_engine::{DurableEngine, laws};
+use pfx_fault::{Cause, Fault};
+use pfx_machine::{Command, Reply};
+use pfx_program::{CallFault, Engine, run_script};
+use std::alloc::Global;
+use std::fs::{File, OpenOptions};
+use std::path::PathBuf;
+use std::{env, fs, process};
+
+/// Whether a script prints this, and ends so.
+fn prints<D: Disk>(
+    alloc: Global,
+    script: &str,
+    engine: &mut DurableEngine<D>,
+    wanted: &str,
+    end: Option<Fault>,
+) -> bool {
+    let mut written = Vec::new(alloc);
+    let answer = run_script(alloc, script.as_bytes(), &mut written, engine);
+    answer.err() == end && written.as_slice() == wanted.as_bytes()
+}
+
+const WEEK: &str = "submit,0,rule,3,110:00000001
+slot,,,3,
+status,,,,
+";
+
+const FIRST: &str = "1 submitted 0
+2 ran 0: 0 1
+3 ran 1: 0 2
+4 ran 2: 1 2
+board 4 slot 3
+0 alloc=2 lag=0/3 job=open
+1 alloc=2 lag=0/3 job=none
+2 alloc=2 lag=0/3 job=none
+closed 4
+";
+
+const SECOND: &str = "refused 32 TaskBusy task=0
+5 ran 3: 0 1
+6 ran 4: 0 2
+7 ran 5: 1 2
+board 7 slot 6
+0 alloc=4 lag=0/3 job=done
+1 alloc=4 lag=0/3 job=none
+2 alloc=4 lag=0/3 job=none
+closed 7
+";
+
+#[test]
+fn a_second_run_goes_on(rt: HostRuntime) {
+    let alloc = rt.alloc();
+    let Some(mut engine) = in_memory(alloc, 200) else {
+        return check(&rt, false, "an engine");
+    };
+    check(&rt, prints(alloc, WEEK, &mut engine, FIRST, None), "first");
+    check(
+        &rt,
+        prints(alloc, WEEK, &mut engine, SECOND, None),
+        "second",
+    );
+    laws::frames_lead_to_outcomes();
+}
+
+#[test]
+fn a_run_goes_on_after_the_store_is_opened_again(rt: HostRuntime) {
+    let alloc = rt.alloc();
+    let Some(mut engine) = in_memory(alloc, 300) else {
+        return check(&rt, false, "an engine");
+    };
+    check(&rt, prints(alloc, WEEK, &mut engine, FIRST, None), "first");
+    let Some(mut again) = opened(alloc, engine.into_store().into_disk()) else {
+        return check(&rt, false, "opened again");
+    };
+    check(&rt, prints(alloc, WEEK, &mut again, SECOND, None), "second");
+}
+
+/// The file at this path, to be read and written.
+fn file_at(rt: &HostRuntime, path: &PathBuf) -> Option<File> {
+    OpenOptions::new()
+        .read(true)
+        .write(true)
+        .open(rt, path)
+        .ok()
+}
+
+/// Whether the first run over a new store in the file prints what is wanted.
+fn first_runs(alloc: Global, file: File) -> bool {
+    match begun(alloc, FileDisk::new(file)) {
+        Some(mut engine) => prints(alloc, WEEK, &mut engine, FIRST, None),
+        None => false,
+    }
+}
+
+/// Whether the second run over the store in the file does.
+fn second_runs(alloc: Global, file: File) -> bool {
+    match opened(alloc, FileDisk::new(file)) {
+        Some(mut engine) => prints(alloc, WEEK, &mut engine, SECOND, None),
+        None => false,
+    }
+}
+
+/// Whether both runs over the file at this path, made and removed here, print what is wanted, and it is a store's then.
+fn file_runs(rt: &HostRuntime, alloc: Global, path: &PathBuf) -> Option<bool> {
+    fs::write(rt, path, b"").ok()?;
+    let are_run = first_runs(alloc, file_at(rt, path)?) && second_runs(alloc, file_at(rt, path)?);
+    let bytes = fs::read(rt, path).ok()?;
+    fs::remove_file(rt, path).ok()?;
+    Some(are_run && bytes.len() == 17_281 && bytes.starts_with(b"\xc3PFXSTORE"))
+}
+
+fn temporary_file_runs(rt: &HostRuntime, alloc: Global) -> Option<bool> {
+    let name = format!(in alloc; "pfx_engine_{}", process::id(rt.process())).ok()?;
+    let path = env::temp_dir(rt).ok()?.join(alloc, name.as_str()).ok()?;
+    file_runs(rt, alloc, &path)
+}
+
+#[test]
+fn a_script_runs_over_a_file(rt: HostRuntime) {
+    let holds = temporary_file_runs(&rt, rt.alloc()) == Some(true);
+    check(&rt, holds, "a file in the folder of temporary ones");
+}
+
+/// Whether the disk's engine stands at this number and slot.
+fn stands_at(alloc: Global, disk: MemoryDisk, number: u64) -> bool {
+    match opened(alloc, disk) {
+        Some(again) => { again.last_kept() == Ok(number) && again.state.columns().slot() == number }
+        None => false,
+    }
+}
+
+#[test]
+fn segments_are_turned(rt: HostRuntime) {
+    // A frame has 22 bytes, so a segment is full behind 371 slots.
+    let alloc = rt.alloc();
+    let Some(mut engine) = in_memory(alloc, 9000) else {
+        return check(&rt, false, "an engine");
+    };
+    let mut written = Vec::new(alloc);
+    let end = run_script(
+        alloc,
+        b"slot,,,800,\n".as_slice(),
+        &mut written,
+        &mut engine,
+    );
+    check(&rt, end == Ok(()), "800 slots");
+    let disk = engine.into_store().into_disk();
+    check(&rt, stands_at(alloc, disk, 800), "opened again");
+}
+
+/// Whether a slot's mark has the number 1 and the disk's clock, and its reply is of slot 0.
+fn slot_is_marked(alloc: Global, mut engine: DurableEngine<MemoryDisk>) -> bool {
+    match engine.carry_out(alloc, Command::Slot) {
+        Ok((mark, Reply::Ran { slot: 0, row: _ })) => {
+            engine.last_kept() == Ok(1)
+                && mark.number == 1
+                && mark.clock == engine.into_store().into_disk().clock()
+        }
+        _ => false,
+    }
+}
+
+#[test]
+fn a_mark_has_its_number_and_the_clock(rt: HostRuntime) {
+    let Some(engine) = in_memory(rt.alloc(), 200) else {
+        return check(&rt, false, "an engine");
+    };
+    check(&rt, engine.last_kept() == Ok(0), "a new store");
+    check(&rt, slot_is_marked(rt.alloc(), engine), "a slot");
+}
+
+/// What is printed before the end, by how many commands were kept.
+const KEPT: [&str; 4] = [
+    "",
+    "1 submitted 0\n",
+    "1 submitted 0\n2 ran 0: 0 1\n",
+    "1 submitted 0\n2 ran 0: 0 1\n3 ran 1: 0 2\n",
+];
+
+/// How many calls it takes to make a store's file of 17,281 bytes, and to append a batch where there is room.
+const MADE: u64 = 11;
+
+const APPENDED: u64 = 4;
+
+/// The engine on a disk whose call k behind the making fails, with its work done or not.
+fn faulty(alloc: Global, k: u64, works: bool) -> Option<DurableEngine<FaultDisk<MemoryDisk>>> {
+    let call = MADE.saturating_add(k);
+    let memory = empty(alloc, 200)?;
+    let disk = match works {
+        true => FaultDisk::with_work_done(memory, call),
+        false => FaultDisk::new(memory, call),
+    };
+    begun(alloc, disk)
+}
+
+/// Whether the engine has failed so, whatever is asked.
+fn stays_failed(
+    alloc: Global,
+    engine: &mut DurableEngine<FaultDisk<MemoryDisk>>,
+    fault: Fault,
+) -> bool {
+    let is_settled = engine.settled(alloc) == Err(fault);
+    let has_status = engine.status(alloc).err() == Some(fault);
+    match engine.call(alloc, Command::Withdraw { task: 2 }) {
+        Ok(_) => false,
+        Err(why) => is_settled && has_status && why == CallFault::Failed(fault),
+    }
+}
+
+/// Whether what was answered survives, and at most the command that failed with it.
+fn keeps(alloc: Global, engine: DurableEngine<FaultDisk<MemoryDisk>>, marked: u64) -> bool {
+    match opened(alloc, engine.into_store().into_disk().into_inner()) {
+        Some(again) => match again.last_kept() {
+            Ok(kept) => marked <= kept && kept - marked <= 1,
+            Err(_) => false,
+        },
+        None => false,
+    }
+}
+
+/// Whether the run ends where the disk fails.
+fn is_ended(alloc: Global, k: u64, works: bool) -> Option<bool> {
+    let marked = k / APPENDED;
+    let fault = Fault::StoreFailed {
+        marked,
+        cause: Cause::Device,
+    };
+    let wanted = KEPT.get(marked as usize)?;
+    let mut engine = faulty(alloc, k, works)?;
+    let is_printed = prints(alloc, WEEK, &mut engine, wanted, Some(fault));
+    let is_failed = stays_failed(alloc, &mut engine, fault);
+    Some(is_printed && is_failed && keeps(alloc, engine, marked))
+}
+
+#[test]
+fn a_disk_that_fails_ends_the_run(rt: HostRuntime) {
+    let alloc = rt.alloc();
+    for k in 0..4 * APPENDED {
+        for works in [false, true] {
+            let holds = is_ended(alloc, k, works) == Some(true);
+            check_pair(
+                &rt,
+                holds,
+                "call, and its work",
+                k as usize,
+                usize::from(works),
+            );
+        }
+    }
+}
+
+#[test]
+fn no_call_of_the_run_is_left_out(rt: HostRuntime) {
+    let alloc = rt.alloc();
+    let Some(mut engine) = faulty(alloc, 4 * APPENDED, false) else {
+        return check(&rt, false, "an engine");
+    };
+    check(
+        &rt,
+        prints(alloc, WEEK, &mut engine, FIRST, None),
+        "the run",
+    );
+    let end = Some(Fault::StoreFailed {
+        marked: 4,
+        cause: Cause::Device,
+    });
+    check(
+        &rt,
+        prints(alloc, "slot,,,,\n", &mut engine, "", end),
+        "a slot",
+    );
+}
