@@ -1,0 +1,3 @@
+mod Gathers
+mod Items
+mod Moves

@@ -1,0 +1,4 @@
+pub mod Balance
+pub mod Gathering
+pub mod Lane
+pub mod Work
