@@ -1,3 +1,4 @@
 mod Gathers
 mod Items
 mod Moves
+mod Works
