@@ -1,5 +1,5 @@
 -- The items of a lane, one message more.
-use Rattle.std.proofs.Common.{◌≡◌, List, [], ◌∷◌, ◌++◌, refl, ap, append-nil}
+use Rattle.std.proofs.Common.{◌≡◌, List, [], ◌∷◌, ◌++◌, refl, ap}
 use Rattle.pfx_crew.specs.declared.lane.Message.{Message}
 use Rattle.pfx_crew.specs.declared.lane.Message.TheVariants.{Item, End}
 use Rattle.pfx_crew.specs.Lane.{items_of}

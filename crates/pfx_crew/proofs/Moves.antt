@@ -1,9 +1,9 @@
 -- Each step keeps the balance.
-use Rattle.std.proofs.Common.{◌≡◌, ◌≢◌, ◌⊎◌, ℕ, zero, suc, ◌+◌, List, [], ◌∷◌, ◌++◌, length, set, refl, sym, ap, ◌∙◌, subst, arith}
+use Rattle.std.proofs.Common.{◌≡◌, ℕ, zero, suc, ◌+◌, List, [], ◌∷◌, ◌++◌, set, refl, sym, ap, arith}
 use mathlib.Core.Option.{some, some-ne-none, some-injective}
 use lib.ListN.{get_elem?}
 use Rattle.atomic_table.proofs.Lists.{set_again}
-use Rattle.crossbeam_channel.specs.Fifo.{Pushes, Pops, Forks, Learns}
+use Rattle.crossbeam_channel.specs.Fifo.{Pushes, Pops, Forks}
 use Rattle.pfx_crew.specs.declared.balance.Hand.{Hand}
 use Rattle.pfx_crew.specs.Balance.{weigh, hand, Balanced}
 
