@@ -1,0 +1,16 @@
+-- The items of a lane, one message more.
+use Rattle.std.proofs.Common.{◌≡◌, List, [], ◌∷◌, ◌++◌, refl, ap}
+use Rattle.pfx_crew.specs.declared.lane.Message.{Message}
+use Rattle.pfx_crew.specs.declared.lane.Message.TheVariants.{Item, End}
+use Rattle.pfx_crew.specs.Lane.{items_of}
+
+module _ {T : Type 0} where
+  pub items_item : (xs : List (Message T)) (x : T) → items_of (xs ++ Item x ∷ []) ≡ items_of xs ++ x ∷ []
+  items_item [] x = refl
+  items_item (Item y ∷ xs) x = ap (λ l. y ∷ l) (items_item xs x)
+  items_item (End ∷ xs) x = items_item xs x
+
+  pub items_end : (xs : List (Message T)) → items_of (xs ++ End ∷ []) ≡ items_of xs
+  items_end [] = refl
+  items_end (Item y ∷ xs) = ap (λ l. y ∷ l) (items_end xs)
+  items_end (End ∷ xs) = items_end xs

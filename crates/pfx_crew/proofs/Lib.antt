@@ -1,0 +1,7 @@
+mod Examples
+mod Gathers
+mod Items
+mod Moves
+mod Orders
+mod Rows
+mod Works

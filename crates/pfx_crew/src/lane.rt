@@ -1,0 +1,141 @@
+//! A lane: items that threads hand one another, and an end that closes it.
+//!
+//! It is a bounded channel under the rule that what was put in is what was taken out and what is inside. A thread's berth
+//! owns its ends of the channel, so that it may lie under a lock or go to another thread.
+ghost use Rattle.std.specs.Prelude.{◌≡◌, [], ◌∷◌, ◌++◌, ◌<◌, IfOk, IfSome, IfNone, MatchResult};
+ghost use Rattle.crossbeam_channel.specs.Claims.{view as ticket_view, IsSeatAt};
+ghost use Rattle.crossbeam_channel.specs.Ends.{sends_on, receives_on};
+ghost use Rattle.pfx_crew.specs.Lane.{Hands, items_of};
+
+use crate::balance::{Fair, Fresh, Hand, Puts, Takes};
+use crossbeam_channel::{Pass, RuledReceiver, RuledSender, SendError, bounded_with};
+use std::alloc::{AllocError, Global};
+use std::marker::Model;
+use std::sync::{Mutex, Wait};
+
+/// What a lane carries.
+#[derive(Drop)]
+pub enum Message<T> {
+    /// An item.
+    Item(T),
+    /// The end. Whoever takes it puts it in again, so that all the others find it too.
+    End,
+}
+
+/// What a thread put in and took out, as the channel's rule knows it.
+pub type Ticket<T> = Pass<Message<T>, Hand<Message<T>>>;
+
+/// A thread's place at a lane. Contracts see it as the items that it put in and took out.
+#[derive(Drop)]
+pub struct Berth<T: Drop> {
+    sender: RuledSender<Message<T>, Hand<Message<T>>, Fair>,
+    receiver: RuledReceiver<Message<T>, Hand<Message<T>>, Fair>,
+    ticket: Ticket<T>,
+}
+
+impl<T: Drop> Model for Berth<T> {
+    ghost Value = { Hands T };
+
+    ghost view = { λ b. record { put = items_of (ticket_view b.ticket).put; taken = items_of (ticket_view b.ticket).taken } };
+
+    ghost invariant = { λ b. (receives_on b.receiver ≡ sends_on b.sender) × IsSeatAt (sends_on b.sender) b.ticket };
+}
+
+impl<T: Drop> Berth<T> {
+    /// The first place at a lane of its own, which has room for so many messages. `AllocError` where memory is refused.
+    pub fn new(alloc: Global, room: usize) -> Result<Berth<T>, AllocError>
+        requires { 0 < room }
+        ensures { IfOk result (λ b. (b.put ≡ []) × (b.taken ≡ [])) }
+    {
+        let (sender, receiver, ticket) = bounded_with(alloc, room)?;
+        Ok(Berth {
+            sender,
+            receiver,
+            ticket,
+        })
+    }
+
+    /// One more place at the same lane. `AllocError` where memory is refused.
+    pub fn another(&mut self) -> Result<Berth<T>, AllocError>
+        ensures same { self.new ≡ self.old }
+        ensures fresh { IfOk result (λ b. (b.put ≡ []) × (b.taken ≡ [])) }
+    {
+        let sender = self.sender.try_clone()?;
+        let receiver = self.receiver.try_clone()?;
+        let ticket = self.sender.another::<Fresh>(&mut self.ticket);
+        Ok(Berth {
+            sender,
+            receiver,
+            ticket,
+        })
+    }
+
+    #[tactic(auto, using(crate::proofs::Items::items_item))]
+    /// Waits for room and puts an item in. Where it can't it gives the item back.
+    pub fn put<R: Wait>(&mut self, rt: &R, item: T) -> Result<(), T>
+        ensures put { MatchResult result (λ _. self.new.put ≡ self.old.put ++ item ∷ []) (λ e. (e ≡ item) × (self.new.put ≡ self.old.put)) }
+        ensures taken { self.new.taken ≡ self.old.taken }
+    {
+        match self
+            .sender
+            .send_as::<Puts, R>(rt, &mut self.ticket, Message::Item(item))
+        {
+            Ok(()) => Ok(()),
+            Err(SendError::Disconnected(Message::Item(item))) => Err(item),
+            Err(SendError::OutOfMemory(Message::Item(item))) => Err(item),
+            Err(SendError::Disconnected(Message::End)) => unreachable!(),
+            Err(SendError::OutOfMemory(Message::End)) => unreachable!(),
+        }
+    }
+
+    #[tactic(auto, using(crate::proofs::Items::items_end))]
+    /// Waits for room and puts the end in: whoever takes from now on finds what was put in before, and then the end.
+    pub fn end<R: Wait>(&mut self, rt: &R)
+        ensures { self.new ≡ self.old }
+    {
+        let _said = self
+            .sender
+            .send_as::<Puts, R>(rt, &mut self.ticket, Message::End);
+    }
+
+    #[tactic(auto, using(crate::proofs::Items::items_end, crate::proofs::Items::items_item))]
+    /// Waits, asleep, for an item and takes it out. `None` at the end, which it puts in again.
+    pub fn take<R: Wait>(&mut self, rt: &R) -> Option<T>
+        ensures some { IfSome result (λ x. self.new.taken ≡ self.old.taken ++ x ∷ []) }
+        ensures none { IfNone result (self.new.taken ≡ self.old.taken) }
+        ensures put { self.new.put ≡ self.old.put }
+    {
+        match self.receiver.recv_as::<Takes, R>(rt, &mut self.ticket) {
+            Ok(Message::Item(item)) => Some(item),
+            Ok(Message::End) => {
+                self.end(rt);
+                None
+            }
+            Err(_) => None,
+        }
+    }
+}
+
+/// What threads share of a lane: it makes a place for any of them.
+#[derive(Drop)]
+pub struct Quay<T: Drop> {
+    first: Mutex<Berth<T>>,
+}
+
+impl<T: Drop> Quay<T> {
+    /// A lane of its own, with room for so many messages. `AllocError` where memory is refused.
+    pub fn new(alloc: Global, room: usize) -> Result<Quay<T>, AllocError>
+        requires { 0 < room }
+    {
+        Ok(Quay {
+            first: Mutex::new(Berth::new(alloc, room)?),
+        })
+    }
+
+    /// A place at the lane. `AllocError` where memory is refused.
+    pub fn berth<R: Wait>(&self, rt: &R) -> Result<Berth<T>, AllocError>
+        ensures { IfOk result (λ b. (b.put ≡ []) × (b.taken ≡ [])) }
+    {
+        self.first.lock(rt).another()
+    }
+}

@@ -1,0 +1,4 @@
+mod Adding
+mod Examples
+mod Moves
+mod Prefixes
