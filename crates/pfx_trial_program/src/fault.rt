@@ -141,16 +141,18 @@ fn is_front(alloc: Global, fault: Fault, text: &str) -> bool {
     }
 }
 
+/// Whether a refusal is shown by this text in each place, and has this exit status.
+fn is_right(alloc: Global, fault: Fault, status: u8, text: &str) -> bool {
+    has_line(alloc, fault, text)
+        && is_shown(alloc, fault, text) == Some(true)
+        && is_front(alloc, fault, text)
+        && fault.status() == status
+}
+
 #[test]
 fn prints_each_refusal(rt: HostRuntime) {
-    for (fault, status, text) in ROWS {
-        assert!(rt; has_line(rt.alloc(), fault, text), "the line of {text}");
-        assert!(rt;
-            is_shown(rt.alloc(), fault, text) == Some(true),
-            "refused {text}"
-        );
-        assert!(rt; is_front(rt.alloc(), fault, text), "the name of {text}");
-        assert!(rt; fault.status() == status, "the status of {text}");
+    for (fault, status, text) in ROWS.as_slice() {
+        assert!(rt; is_right(rt.alloc(), *fault, *status, text), "{text}");
     }
 }
 
