@@ -1,5 +1,5 @@
 -- The items of a lane, one message more.
-use Rattle.std.proofs.Common.{◌≡◌, List, [], ◌∷◌, ◌++◌, refl, ap}
+use Rattle.std.proofs.Common.{◌≡◌, List, [], ◌∷◌, ◌++◌, refl, ap, sym, ◌∙◌, append-nil}
 use Rattle.pfx_crew.specs.declared.lane.Message.{Message}
 use Rattle.pfx_crew.specs.declared.lane.Message.TheVariants.{Item, End}
 use Rattle.pfx_crew.specs.Lane.{items_of}
@@ -14,3 +14,7 @@ module _ {T : Type 0} where
   items_end [] = refl
   items_end (Item y ∷ xs) = ap (λ l. y ∷ l) (items_end xs)
   items_end (End ∷ xs) = items_end xs
+
+  pub items_more : (xs : List (Message T)) (m : Message T) → items_of (xs ++ m ∷ []) ≡ items_of xs ++ items_of (m ∷ [])
+  items_more xs (Item x) = items_item xs x
+  items_more xs End = items_end xs ∙ sym (append-nil (items_of xs))

@@ -12,6 +12,10 @@ use crossbeam_channel::{Pass, RuledReceiver, RuledSender, SendError, bounded_wit
 use std::alloc::{AllocError, Global};
 use std::marker::Model;
 use std::sync::{Mutex, Wait};
+use std::thread;
+
+/// For how many turns a thread looks for a message, and yields, before it sleeps.
+const TURNS: u32 = 32;
 
 /// What a lane carries.
 #[derive(Drop)]
@@ -98,20 +102,64 @@ impl<T: Drop> Berth<T> {
             .send_as::<Puts, R>(rt, &mut self.ticket, Message::End);
     }
 
-    #[tactic(auto, using(crate::proofs::Items::items_end, crate::proofs::Items::items_item))]
-    /// Waits, asleep, for an item and takes it out. `None` at the end, which it puts in again.
+    #[tactic(auto, using(crate::proofs::Items::items_more))]
+    /// Takes a message out if there is one now.
+    fn look<R: Wait>(&mut self, rt: &R) -> Option<Message<T>>
+        ensures some { IfSome result (λ m. self.new.taken ≡ self.old.taken ++ items_of (m ∷ [])) }
+        ensures none { IfNone result (self.new.taken ≡ self.old.taken) }
+        ensures put { self.new.put ≡ self.old.put }
+    {
+        match self.receiver.try_recv_as::<Takes, R>(rt, &mut self.ticket) {
+            Ok(message) => Some(message),
+            Err(_) => None,
+        }
+    }
+
+    /// Takes a message out if one comes within some turns, in each of which it yields to other threads.
+    fn linger<R: Wait>(&mut self, rt: &R) -> Option<Message<T>>
+        ensures some { IfSome result (λ m. self.new.taken ≡ self.old.taken ++ items_of (m ∷ [])) }
+        ensures none { IfNone result (self.new.taken ≡ self.old.taken) }
+        ensures put { self.new.put ≡ self.old.put }
+    {
+        for _turn in 0..TURNS {
+            let message = self.look(rt);
+            if message.is_some() {
+                return message;
+            }
+            thread::yield_now();
+        }
+        None
+    }
+
+    #[tactic(auto, using(crate::proofs::Items::items_more))]
+    /// Waits for a message, asleep behind some turns, and takes it out.
+    fn receive<R: Wait>(&mut self, rt: &R) -> Option<Message<T>>
+        ensures some { IfSome result (λ m. self.new.taken ≡ self.old.taken ++ items_of (m ∷ [])) }
+        ensures none { IfNone result (self.new.taken ≡ self.old.taken) }
+        ensures put { self.new.put ≡ self.old.put }
+    {
+        if let Some(message) = self.linger(rt) {
+            return Some(message);
+        }
+        match self.receiver.recv_as::<Takes, R>(rt, &mut self.ticket) {
+            Ok(message) => Some(message),
+            Err(_) => None,
+        }
+    }
+
+    /// Waits for an item and takes it out: some turns awake, then asleep. `None` at the end, which it puts in again.
     pub fn take<R: Wait>(&mut self, rt: &R) -> Option<T>
         ensures some { IfSome result (λ x. self.new.taken ≡ self.old.taken ++ x ∷ []) }
         ensures none { IfNone result (self.new.taken ≡ self.old.taken) }
         ensures put { self.new.put ≡ self.old.put }
     {
-        match self.receiver.recv_as::<Takes, R>(rt, &mut self.ticket) {
-            Ok(Message::Item(item)) => Some(item),
-            Ok(Message::End) => {
+        match self.receive(rt) {
+            Some(Message::Item(item)) => Some(item),
+            Some(Message::End) => {
                 self.end(rt);
                 None
             }
-            Err(_) => None,
+            None => None,
         }
     }
 }

@@ -10,7 +10,9 @@ use std::sync::atomic::{AtomicU64, Ordering};
 pub fn turned(turns: u64) -> u64 {
     let mut value = turns;
     for turn in 0..turns {
-        value = (value ^ (value >> 7)).wrapping_mul(0x9e37_79b9_7f4a_7c15).wrapping_add(turn);
+        value = (value ^ (value >> 7))
+            .wrapping_mul(0x9e37_79b9_7f4a_7c15)
+            .wrapping_add(turn);
     }
     value
 }
@@ -35,8 +37,7 @@ impl<K: Drop> BusyDesk<K> {
 }
 
 impl<K: Desk<Quantum<AnyJob>, Done<AnyJob>> + Drop> Desk<Quantum<AnyJob>, Done<AnyJob>>
-    for BusyDesk<K>
-{
+    for BusyDesk<K> {
     type Seat = K::Seat;
 
     ghost dealt = { K.dealt };
@@ -51,7 +52,12 @@ impl<K: Desk<Quantum<AnyJob>, Done<AnyJob>> + Drop> Desk<Quantum<AnyJob>, Done<A
         self.desk.seat(rt)
     }
 
-    fn deal<R: Wait>(&self, rt: &R, seat: &mut K::Seat, quantum: Quantum<AnyJob>) -> Result<(), Quantum<AnyJob>> {
+    fn deal<R: Wait>(
+        &self,
+        rt: &R,
+        seat: &mut K::Seat,
+        quantum: Quantum<AnyJob>,
+    ) -> Result<(), Quantum<AnyJob>> {
         self.desk.deal(rt, seat, quantum)
     }
 
@@ -59,7 +65,12 @@ impl<K: Desk<Quantum<AnyJob>, Done<AnyJob>> + Drop> Desk<Quantum<AnyJob>, Done<A
         self.desk.next(rt, seat)
     }
 
-    fn hand_back<R: Wait>(&self, rt: &R, seat: &mut K::Seat, done: Done<AnyJob>) -> Result<(), Done<AnyJob>> {
+    fn hand_back<R: Wait>(
+        &self,
+        rt: &R,
+        seat: &mut K::Seat,
+        done: Done<AnyJob>,
+    ) -> Result<(), Done<AnyJob>> {
         if self.turns > 0 {
             self.kept.store(turned(self.turns), Ordering::SeqCst);
         }

@@ -12,20 +12,27 @@ mod rounds;
 use crate::busy::BusyDesk;
 use crate::rounds::{Bench, crew, rounds_alone};
 use pfx_crew::channel::ChannelDesk;
-use pfx_crew::desk::Desk;
-use pfx_kinds::any::AnyJob;
+use std::alloc::Global;
 use std::env;
 use std::process::ExitCode;
+use std::sync::Wait;
 use std::test::Fail;
-use std::time::Instant;
+use std::thread::Threads;
+use std::time::{Clock, Instant};
 
 fn number(words: &[String], at: usize) -> Result<u64, Fail> {
-    let word = words.get(at).ok_or("crew ROUNDS QUANTA WORKERS TURNS, or alone ROUNDS QUANTA TURNS")?;
+    let word = words.get(at).ok_or(
+        "crew ROUNDS QUANTA WORKERS TURNS, or alone ROUNDS QUANTA TURNS",
+    )?;
     Ok(word.parse::<u64>()?)
 }
 
-fn measure(rt: &HostRuntime, words: &[String]) -> Result<(), Fail> {
-    let alloc = rt.alloc();
+/// The sum over what was gathered, and how many nanoseconds it took.
+fn measure<R: Threads + Wait + Clock + Sync>(
+    rt: &R,
+    alloc: Global,
+    words: &[String],
+) -> Result<(u64, u128), Fail> {
     let mode = words.get(1).ok_or("crew or alone")?;
     let (rounds, quanta) = (number(words, 2)?, number(words, 3)?);
     let mut bench = Bench::new(alloc, quanta).ok_or("memory")?;
@@ -36,14 +43,13 @@ fn measure(rt: &HostRuntime, words: &[String]) -> Result<(), Fail> {
         let desk = BusyDesk::new(ChannelDesk::new(alloc)?, number(words, 5)?);
         crew(rt, alloc, &desk, &mut bench, rounds, number(words, 4)?).ok_or("a round")?
     };
-    let took = start.elapsed(rt)?;
-    println!(rt; "{sum}")?;
-    eprintln!(rt; "{}", took.as_nanos())?;
-    Ok(())
+    Ok((sum, start.elapsed(rt)?.as_nanos()))
 }
 
 fn main(rt: HostRuntime) -> Result<ExitCode, Fail> {
     let words = env::args(&rt)?.collect::<Vec<String>>(rt.alloc())?;
-    measure(&rt, words.as_slice())?;
+    let (sum, took) = measure(&rt, rt.alloc(), words.as_slice())?;
+    println!(&rt; "{sum}")?;
+    eprintln!(&rt; "{took}")?;
     Ok(ExitCode::from(0))
 }

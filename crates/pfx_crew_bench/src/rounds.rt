@@ -23,23 +23,24 @@ type JobSeat = ChannelSeat<Quantum<AnyJob>, Done<AnyJob>>;
 #[derive(Drop)]
 pub struct Bench {
     job: AnyJob,
-    count: u64,
+    count: u16,
     quanta: Vec<Quantum<AnyJob>>,
     places: Vec<Option<Done<AnyJob>>>,
 }
 
 /// A quantum of this job.
-fn quantum(round: u64, task: u64, job: &AnyJob) -> Option<Quantum<AnyJob>> {
+fn quantum(round: u64, task: u16, job: &AnyJob) -> Option<Quantum<AnyJob>> {
     let before = job.copy_of();
     if before.is_done() {
         return None;
     }
-    Some(Quantum::new(round, round, task as u16, before))
+    Some(Quantum::new(round, round, task, before))
 }
 
 impl Bench {
     /// Room for rounds of so many quanta, 64 at the most.
     pub fn new(alloc: Global, count: u64) -> Option<Bench> {
+        let count = u16::try_from(count).ok()?;
         if count > 64 {
             return None;
         }
@@ -56,7 +57,7 @@ impl Bench {
         self.quanta.clear();
         self.places.clear();
         for task in 0..self.count {
-            self.quanta.push(quantum(round, task & 63, &self.job)?).ok()?;
+            self.quanta.push(quantum(round, task, &self.job)?).ok()?;
             self.places.push(None).ok()?;
         }
         Some(())
@@ -93,7 +94,7 @@ pub fn rounds_alone(bench: &mut Bench, rounds: u64, turns: u64) -> Option<u64> {
     for round in 0..rounds {
         bench.prepare(round)?;
         for task in 0..bench.count {
-            let one = quantum(round, task & 63, &bench.job)?;
+            let one = quantum(round, task, &bench.job)?;
             let done = one.run();
             if turns > 0 {
                 kept ^= turned(turns.wrapping_add(kept & 1));
@@ -107,10 +108,16 @@ pub fn rounds_alone(bench: &mut Bench, rounds: u64, turns: u64) -> Option<u64> {
 }
 
 /// One round at a desk.
-fn round_at<R: Wait>(rt: &R, desk: &JobDesk, seat: &mut JobSeat, bench: &mut Bench, round: u64) -> Option<u64> {
+fn round_at<R: Wait>(
+    rt: &R,
+    desk: &JobDesk,
+    seat: &mut JobSeat,
+    bench: &mut Bench,
+    round: u64,
+) -> Option<u64> {
     bench.prepare(round)?;
     for task in 0..bench.count {
-        let one = quantum(round, task & 63, &bench.job)?;
+        let one = quantum(round, task, &bench.job)?;
         desk.deal(rt, seat, one).ok()?;
     }
     for _task in 0..bench.count {
@@ -121,7 +128,13 @@ fn round_at<R: Wait>(rt: &R, desk: &JobDesk, seat: &mut JobSeat, bench: &mut Ben
 }
 
 /// The sum over rounds at a desk, which is closed behind them.
-fn rounds_at<R: Wait>(rt: &R, desk: &JobDesk, mut seat: JobSeat, bench: &mut Bench, rounds: u64) -> Option<u64> {
+fn rounds_at<R: Wait>(
+    rt: &R,
+    desk: &JobDesk,
+    mut seat: JobSeat,
+    bench: &mut Bench,
+    rounds: u64,
+) -> Option<u64> {
     let mut sum = Some(0u64);
     for round in 0..rounds {
         sum = match (sum, round_at(rt, desk, &mut seat, bench, round)) {
@@ -150,13 +163,18 @@ pub fn crew<R: Threads + Wait + Sync>(
         rt,
         move || rounds_at(rt, desk, mine, bench, rounds),
         move || {
-            thread::map_indices(rt, alloc, workers as usize, &|_worker: usize| match desk.seat(rt) {
-                Ok(seat) => {
-                    let _seat = worker::<AnyJob, R, JobDesk>(rt, desk, seat);
-                    true
-                }
-                Err(_) => false,
-            })
+            thread::map_indices(
+                rt,
+                alloc,
+                workers as usize,
+                &|_worker: usize| match desk.seat(rt) {
+                    Ok(seat) => {
+                        let _seat = worker::<AnyJob, R, JobDesk>(rt, desk, seat);
+                        true
+                    }
+                    Err(_) => false,
+                },
+            )
         },
     );
     crew.ok()?;
