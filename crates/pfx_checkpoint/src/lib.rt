@@ -16,6 +16,3 @@ mod reading;
 pub use faults::CheckpointFault;
 pub use freezing::{freeze, frozen_len, state_len};
 pub use reading::read;
-
-#[cfg(test)]
-mod tests;

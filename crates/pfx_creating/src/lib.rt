@@ -14,8 +14,6 @@ mod fault;
 mod file;
 pub mod laws;
 mod pieces;
-#[cfg(test)]
-mod tests;
 
 pub use creation::create;
 pub use fault::CreateFault;

@@ -14,6 +14,3 @@ mod recording;
 
 pub use applying::{apply_all, apply_record};
 pub use recording::{Recorded, run_recorded};
-
-#[cfg(test)]
-mod tests;

@@ -21,10 +21,3 @@ mod keeping;
 pub mod laws;
 
 pub use durable::DurableEngine;
-
-#[cfg(test)]
-mod stops;
-#[cfg(test)]
-mod tests;
-#[cfg(test)]
-mod turns;

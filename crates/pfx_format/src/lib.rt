@@ -14,6 +14,3 @@ mod frames;
 pub mod laws;
 
 pub use frames::{number_after, number_of, state_after};
-
-#[cfg(test)]
-mod tests;

@@ -25,6 +25,3 @@ pub use faults::{HeaderFault, SegmentSizeFault};
 pub use reading::read_header;
 pub use sizes::{HEADER_MOST, LONGEST_SEGMENT, check_segment, header_len, least_segment};
 pub use writing::write_header;
-
-#[cfg(test)]
-mod tests;

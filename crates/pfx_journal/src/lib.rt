@@ -23,6 +23,3 @@ mod tending;
 pub use format::{FileFormat, FileHeader};
 pub use making::InitFault;
 pub use store::{Mark, Store};
-
-#[cfg(test)]
-mod tests;

@@ -31,8 +31,3 @@ pub use faults::{HeadFault, OpenFault, Part, Refusal};
 pub use format::Format;
 pub use opened::{Opened, open};
 pub use sizes::Sizes;
-
-#[cfg(test)]
-mod tests;
-#[cfg(test)]
-mod toy;

@@ -27,8 +27,6 @@ mod numbers;
 mod read;
 mod read_record;
 mod record;
-#[cfg(test)]
-mod tests;
 mod write;
 
 pub use batch::{Batch, fits, record_fits};
