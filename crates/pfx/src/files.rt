@@ -9,12 +9,12 @@ use pfx_header::SegmentSizeFault;
 use pfx_journal::InitFault;
 use pfx_opening::{OpenFault, Part as FilePart, Refusal};
 use std::fs::{File, OpenOptions, TryLockError};
-use std::io;
-use std::thread;
 use std::time::Duration;
+use std::{io, thread};
 
 /// How often a reader tries to lock a store's file, with a pause after each try: a second in all.
 const TRIES: u32 = 100;
+
 const PAUSE_MILLIS: u64 = 10;
 
 /// Want of memory is a fault of its own; any other error is this one.
