@@ -115,6 +115,10 @@ fn proved(program: &str, words: &[u64], mode: &str) -> (u64, f64) {
     (number(&ran.stdout), number(&ran.stderr) as f64 / 1e9)
 }
 
+fn least(times: &[f64]) -> f64 {
+    times.iter().copied().fold(f64::MAX, f64::min)
+}
+
 fn median(mut times: Vec<f64>) -> f64 {
     times.sort_by(f64::total_cmp);
     times[times.len() / 2]
@@ -132,12 +136,12 @@ fn both(program: &str, count: u64, workers: u64) -> [f64; 4] {
         assert_eq!(sum, same, "both programs make the same");
         other.push(seconds * 1e6 / rounds as f64);
     }
-    let least = |times: &[f64]| times.iter().copied().fold(f64::MAX, f64::min);
     [least(&plain), least(&other), median(plain), median(other)]
 }
 
-/// The proved program's median microseconds a round alone and with a worker for each quantum, whose quanta take so many turns.
-fn paying(program: &str, count: u64, turns: u64, micros: u64) -> (f64, f64) {
+/// The proved program's least and median microseconds a round alone, and with a worker for each quantum, whose quanta take so many
+/// turns.
+fn paying(program: &str, count: u64, turns: u64, micros: u64) -> [f64; 4] {
     let rounds = (20_000 / (micros * count).max(10)).max(50);
     let (mut alone, mut crew) = (Vec::new(), Vec::new());
     for _ in 0..RUNS {
@@ -147,7 +151,7 @@ fn paying(program: &str, count: u64, turns: u64, micros: u64) -> (f64, f64) {
         assert_eq!(one, other, "alone and with workers it makes the same");
         crew.push(seconds * 1e6 / rounds as f64);
     }
-    (median(alone), median(crew))
+    [least(&alone), least(&crew), median(alone), median(crew)]
 }
 
 fn main() {
@@ -160,11 +164,11 @@ fn main() {
     let long = 10_000_000;
     let turn = (0..5).map(|_| proved(&program, &[1, 1, long], "alone").1 * 1e6 / long as f64).fold(f64::MAX, f64::min);
     println!();
-    println!("{:<26} {:>10} {:>12} {:>12} {:>7}", "median us a round", "us each", "one thread", "a crew", "gain");
+    println!("{:<26} {:>10} {:>10} {:>7} {:>12} {:>12} {:>7}", "us a round, by us a quantum", "one thread", "a crew", "gain", "median", "median", "gain");
     for count in [2, 4] {
         for micros in [1, 5, 10, 20, 50, 100, 200] {
-            let (alone, crew) = paying(&program, count, (micros as f64 / turn) as u64, micros);
-            println!("{:<26} {micros:>10} {alone:>12.1} {crew:>12.1} {:>7.2}", format!("{count} quanta, {count} workers"), alone / crew);
+            let [a, b, c, d] = paying(&program, count, (micros as f64 / turn) as u64, micros);
+            println!("{:<26} {a:>10.1} {b:>10.1} {:>7.2} {c:>12.1} {d:>12.1} {:>7.2}", format!("{count}, {count} workers, {micros:>3} us"), a / b, c / d);
         }
     }
 }

@@ -2,10 +2,10 @@
 //!
 //! It is a bounded channel under the rule that what was put in is what was taken out and what is inside. A thread's berth
 //! owns its ends of the channel, so that it may lie under a lock or go to another thread.
-ghost use Rattle.std.specs.Prelude.{◌≡◌, [], ◌∷◌, ◌++◌, ◌<◌, IfOk, IfSome, IfNone, MatchResult};
+ghost use Rattle.std.specs.Prelude.{◌≡◌, [], ◌∷◌, ◌++◌, ◌+◌, ◌<◌, IfOk, IfSome, IfNone, MatchResult};
 ghost use Rattle.crossbeam_channel.specs.Claims.{view as ticket_view, IsSeatAt};
 ghost use Rattle.crossbeam_channel.specs.Ends.{sends_on, receives_on};
-ghost use Rattle.pfx_crew.specs.Lane.{Hands, items_of};
+ghost use Rattle.pfx_crew.specs.Lane.{Hands, items_of, ends_of};
 
 use crate::balance::{Fair, Fresh, Hand, Puts, Takes};
 use crossbeam_channel::{Pass, RuledReceiver, RuledSender, SendError, bounded_with};
@@ -29,7 +29,8 @@ pub enum Message<T> {
 /// What a thread put in and took out, as the channel's rule knows it.
 pub type Ticket<T> = Pass<Message<T>, Hand<Message<T>>>;
 
-/// A thread's place at a lane. Contracts see it as the items that it put in and took out.
+/// A thread's place at a lane. Contracts see it as the items that it put in and took out, and how many
+/// ends.
 #[derive(Drop)]
 pub struct Berth<T: Drop> {
     sender: RuledSender<Message<T>, Hand<Message<T>>, Fair>,
@@ -40,7 +41,7 @@ pub struct Berth<T: Drop> {
 impl<T: Drop> Model for Berth<T> {
     ghost Value = { Hands T };
 
-    ghost view = { λ b. record { put = items_of (ticket_view b.ticket).put; taken = items_of (ticket_view b.ticket).taken } };
+    ghost view = { λ b. record { put = items_of (ticket_view b.ticket).put; taken = items_of (ticket_view b.ticket).taken; ends_put = ends_of (ticket_view b.ticket).put; ends_taken = ends_of (ticket_view b.ticket).taken } };
 
     ghost invariant = { λ b. (receives_on b.receiver ≡ sends_on b.sender) × IsSeatAt (sends_on b.sender) b.ticket };
 }
@@ -74,11 +75,12 @@ impl<T: Drop> Berth<T> {
         })
     }
 
-    #[tactic(auto, using(crate::proofs::Items::items_item))]
+    #[tactic(auto, using(crate::proofs::Items::items_more, crate::proofs::Items::ends_more))]
     /// Waits for room and puts an item in. Where it can't it gives the item back.
     pub fn put<R: Wait>(&mut self, rt: &R, item: T) -> Result<(), T>
         ensures put { MatchResult result (λ _. self.new.put ≡ self.old.put ++ item ∷ []) (λ e. (e ≡ item) × (self.new.put ≡ self.old.put)) }
         ensures taken { self.new.taken ≡ self.old.taken }
+        ensures ends { (self.new.ends_put ≡ self.old.ends_put) × (self.new.ends_taken ≡ self.old.ends_taken) }
     {
         match self
             .sender
@@ -92,22 +94,31 @@ impl<T: Drop> Berth<T> {
         }
     }
 
-    #[tactic(auto, using(crate::proofs::Items::items_end))]
+    #[tactic(auto, using(crate::proofs::Items::items_end, crate::proofs::Items::ends_more))]
     /// Waits for room and puts the end in: whoever takes from now on finds what was put in before, and then the end.
     pub fn end<R: Wait>(&mut self, rt: &R)
-        ensures { self.new ≡ self.old }
+        ensures items { (self.new.put ≡ self.old.put) × (self.new.taken ≡ self.old.taken) }
+        ensures ends { (self.new.ends_put ≡ self.old.ends_put + 1) × (self.new.ends_taken ≡ self.old.ends_taken) }
     {
-        let _said = self
+        match self
             .sender
-            .send_as::<Puts, R>(rt, &mut self.ticket, Message::End);
+            .send_as::<Puts, R>(rt, &mut self.ticket, Message::End)
+        {
+            Ok(()) => {}
+            Err(_) => {
+                // It has a receiver of its own, so its sender is never left without one.
+                for _ in rt.forever() {}
+                unreachable!()
+            }
+        }
     }
 
-    #[tactic(auto, using(crate::proofs::Items::items_more))]
+    #[tactic(auto, using(crate::proofs::Items::items_more, crate::proofs::Items::ends_more))]
     /// Takes a message out if there is one now.
     fn look<R: Wait>(&mut self, rt: &R) -> Option<Message<T>>
-        ensures some { IfSome result (λ m. self.new.taken ≡ self.old.taken ++ items_of (m ∷ [])) }
-        ensures none { IfNone result (self.new.taken ≡ self.old.taken) }
-        ensures put { self.new.put ≡ self.old.put }
+        ensures some { IfSome result (λ m. (self.new.taken ≡ self.old.taken ++ items_of (m ∷ [])) × (self.new.ends_taken ≡ self.old.ends_taken + ends_of (m ∷ []))) }
+        ensures none { IfNone result ((self.new.taken ≡ self.old.taken) × (self.new.ends_taken ≡ self.old.ends_taken)) }
+        ensures put { (self.new.put ≡ self.old.put) × (self.new.ends_put ≡ self.old.ends_put) }
     {
         match self.receiver.try_recv_as::<Takes, R>(rt, &mut self.ticket) {
             Ok(message) => Some(message),
@@ -117,9 +128,9 @@ impl<T: Drop> Berth<T> {
 
     /// Takes a message out if one comes within some turns, in each of which it yields to other threads.
     fn linger<R: Wait>(&mut self, rt: &R) -> Option<Message<T>>
-        ensures some { IfSome result (λ m. self.new.taken ≡ self.old.taken ++ items_of (m ∷ [])) }
-        ensures none { IfNone result (self.new.taken ≡ self.old.taken) }
-        ensures put { self.new.put ≡ self.old.put }
+        ensures some { IfSome result (λ m. (self.new.taken ≡ self.old.taken ++ items_of (m ∷ [])) × (self.new.ends_taken ≡ self.old.ends_taken + ends_of (m ∷ []))) }
+        ensures none { IfNone result ((self.new.taken ≡ self.old.taken) × (self.new.ends_taken ≡ self.old.ends_taken)) }
+        ensures put { (self.new.put ≡ self.old.put) × (self.new.ends_put ≡ self.old.ends_put) }
     {
         for _turn in 0..TURNS {
             let message = self.look(rt);
@@ -131,35 +142,37 @@ impl<T: Drop> Berth<T> {
         None
     }
 
-    #[tactic(auto, using(crate::proofs::Items::items_more))]
+    #[tactic(auto, using(crate::proofs::Items::items_more, crate::proofs::Items::ends_more))]
     /// Waits for a message, asleep behind some turns, and takes it out.
-    fn receive<R: Wait>(&mut self, rt: &R) -> Option<Message<T>>
-        ensures some { IfSome result (λ m. self.new.taken ≡ self.old.taken ++ items_of (m ∷ [])) }
-        ensures none { IfNone result (self.new.taken ≡ self.old.taken) }
-        ensures put { self.new.put ≡ self.old.put }
+    fn receive<R: Wait>(&mut self, rt: &R) -> Message<T>
+        ensures taken { (self.new.taken ≡ self.old.taken ++ items_of (result ∷ [])) × (self.new.ends_taken ≡ self.old.ends_taken + ends_of (result ∷ [])) }
+        ensures put { (self.new.put ≡ self.old.put) × (self.new.ends_put ≡ self.old.ends_put) }
     {
         if let Some(message) = self.linger(rt) {
-            return Some(message);
+            return message;
         }
         match self.receiver.recv_as::<Takes, R>(rt, &mut self.ticket) {
-            Ok(message) => Some(message),
-            Err(_) => None,
+            Ok(message) => message,
+            Err(_) => {
+                // It has a sender of its own, so its receiver is never left without one.
+                for _ in rt.forever() {}
+                unreachable!()
+            }
         }
     }
 
-    /// Waits for an item and takes it out: some turns awake, then asleep. `None` at the end, which it puts in again.
+    /// Waits for an item and takes it out: some turns awake, then asleep. `None` only at an end, which it puts in again.
     pub fn take<R: Wait>(&mut self, rt: &R) -> Option<T>
-        ensures some { IfSome result (λ x. self.new.taken ≡ self.old.taken ++ x ∷ []) }
-        ensures none { IfNone result (self.new.taken ≡ self.old.taken) }
+        ensures some { IfSome result (λ x. (self.new.taken ≡ self.old.taken ++ x ∷ []) × (self.new.ends_taken ≡ self.old.ends_taken) × (self.new.ends_put ≡ self.old.ends_put)) }
+        ensures none { IfNone result ((self.new.taken ≡ self.old.taken) × (self.new.ends_taken ≡ self.old.ends_taken + 1) × (self.new.ends_put ≡ self.old.ends_put + 1)) }
         ensures put { self.new.put ≡ self.old.put }
     {
         match self.receive(rt) {
-            Some(Message::Item(item)) => Some(item),
-            Some(Message::End) => {
+            Message::Item(item) => Some(item),
+            Message::End => {
                 self.end(rt);
                 None
             }
-            None => None,
         }
     }
 }

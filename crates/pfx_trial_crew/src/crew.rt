@@ -26,7 +26,8 @@ fn call<R: Wait>(rt: &R, desk: &JobDesk, mut seat: JobSeat) -> Option<(u16, u16)
     Some((one?.task, other?.task))
 }
 
-/// One caller and two workers. Whether both results came, task 1's first, before the limit.
+/// One caller and two workers. Whether both results came, task 1's first, before the limit. The second worker's count may
+/// come behind the caller's last look, so it is read once all threads have ended.
 fn two_workers<R: Threads + Wait + Sync>(rt: &R, alloc: Global) -> Option<bool> {
     let desk: JobDesk = HoldingDesk::new(ChannelDesk::new(alloc).ok()?);
     let mine: JobSeat = desk.seat(rt).ok()?;

@@ -88,13 +88,16 @@ impl<K: Desk<Quantum<AnyJob>, Done<AnyJob>> + Drop> Desk<Quantum<AnyJob>, Done<A
         seat: &mut K::Seat,
         done: Done<AnyJob>,
     ) -> Result<(), Done<AnyJob>> {
-        if done.task == 0 {
+        let is_first = done.task == 0;
+        if is_first {
             self.hold();
-        } else {
+        }
+        let handed = self.desk.hand_back(rt, seat, done);
+        if !is_first {
             self.second.store(true, Ordering::SeqCst);
         }
         self.backs.fetch_add(1, Ordering::SeqCst);
-        self.desk.hand_back(rt, seat, done)
+        handed
     }
 
     fn collect<R: Wait>(&self, rt: &R, seat: &mut K::Seat) -> Option<Done<AnyJob>> {
