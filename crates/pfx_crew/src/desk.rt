@@ -29,7 +29,8 @@ pub trait Desk<Q, D> {
 
     /// Deals a quantum to whoever takes it, or gives it back.
     fn deal<R: Wait>(&self, rt: &R, seat: &mut Self::Seat, quantum: Q) -> Result<(), Q>
-        ensures dealt { MatchResult result (λ _. dealt seat.new ≡ dealt seat.old ++ quantum ∷ []) (λ q. (q ≡ quantum) × (dealt seat.new ≡ dealt seat.old)) }
+        ensures dealt { MatchResult result (λ _. dealt seat.new ≡ dealt seat.old ++ quantum ∷ [])
+            (λ q. (q ≡ quantum) × (dealt seat.new ≡ dealt seat.old)) }
         ensures same { (took seat.new ≡ took seat.old) × (handed seat.new ≡ handed seat.old) × (collected seat.new ≡ collected seat.old) };
 
     /// Takes the next quantum.
@@ -40,7 +41,8 @@ pub trait Desk<Q, D> {
 
     /// Hands a result back, or gives it back where it can't.
     fn hand_back<R: Wait>(&self, rt: &R, seat: &mut Self::Seat, done: D) -> Result<(), D>
-        ensures handed { MatchResult result (λ _. handed seat.new ≡ handed seat.old ++ done ∷ []) (λ d. (d ≡ done) × (handed seat.new ≡ handed seat.old)) }
+        ensures handed { MatchResult result (λ _. handed seat.new ≡ handed seat.old ++ done ∷ [])
+            (λ d. (d ≡ done) × (handed seat.new ≡ handed seat.old)) }
         ensures same { (dealt seat.new ≡ dealt seat.old) × (took seat.new ≡ took seat.old) × (collected seat.new ≡ collected seat.old) };
 
     /// Collects the next result.
@@ -51,5 +53,6 @@ pub trait Desk<Q, D> {
 
     /// Closes the desk. It may be closed again.
     fn close<R: Wait>(&self, rt: &R, seat: &mut Self::Seat)
-        ensures same { (dealt seat.new ≡ dealt seat.old) × (took seat.new ≡ took seat.old) × (handed seat.new ≡ handed seat.old) × (collected seat.new ≡ collected seat.old) };
+        ensures same { (dealt seat.new ≡ dealt seat.old) × (took seat.new ≡ took seat.old) × (handed seat.new ≡ handed seat.old)
+            × (collected seat.new ≡ collected seat.old) };
 }

@@ -27,8 +27,10 @@ pub enum GatherFault {
 /// The place of the first quantum that a result answers, from this place on. `None` where it answers none.
 fn place_from<J: Job>(quanta: &[Quantum<J>], done: &Done<J>, from: usize) -> Option<usize>
     requires { from ≤ length quanta.now }
-    ensures some { IfSome result (λ at. (at < length quanta.now) × IsFirst (map (λ q. deal q.number q.slot q.task q.before) quanta.now) (deal done.now.number done.now.slot done.now.task done.now.before) from at) }
-    ensures none { IfNone result (IsNowhere (map (λ q. deal q.number q.slot q.task q.before) quanta.now) (deal done.now.number done.now.slot done.now.task done.now.before) from) }
+    ensures some { IfSome result (λ at. (at < length quanta.now) × IsFirst (map (λ q. deal q.number q.slot q.task q.before) quanta.now)
+        (deal done.now.number done.now.slot done.now.task done.now.before) from at) }
+    ensures none { IfNone result (IsNowhere (map (λ q. deal q.number q.slot q.task q.before) quanta.now)
+        (deal done.now.number done.now.slot done.now.task done.now.before) from) }
 {
     for at in from..quanta.len() {
         if done.answers(&quanta[at]) {
@@ -46,8 +48,10 @@ pub fn gather<J: Job>(
     done: Done<J>,
 ) -> Result<(), GatherFault>
     requires { length places.old ≡ length quanta.now }
-    ensures ok { OnOk result (Puts (map (λ q. deal q.number q.slot q.task q.before) quanta.now) (deal done.number done.slot done.task done.before) places.old places.new (Some done)) }
-    ensures err { IfErr result (λ fault. Refuses (map (λ q. deal q.number q.slot q.task q.before) quanta.now) (deal done.number done.slot done.task done.before) places.old fault) }
+    ensures ok { OnOk result (Puts (map (λ q. deal q.number q.slot q.task q.before) quanta.now) (deal done.number done.slot done.task done.before)
+        places.old places.new (Some done)) }
+    ensures err { IfErr result (λ fault. Refuses (map (λ q. deal q.number q.slot q.task q.before) quanta.now)
+        (deal done.number done.slot done.task done.before) places.old fault) }
     ensures kept { OnErr result (places.new ≡ places.old) }
 {
     let task = done.task;

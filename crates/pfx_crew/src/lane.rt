@@ -41,7 +41,12 @@ pub struct Berth<T: Drop> {
 impl<T: Drop> Model for Berth<T> {
     ghost Value = { Hands T };
 
-    ghost view = { λ b. record { put = items_of (ticket_view b.ticket).put; taken = items_of (ticket_view b.ticket).taken; ends_put = ends_of (ticket_view b.ticket).put; ends_taken = ends_of (ticket_view b.ticket).taken } };
+    ghost view = { λ b. record {
+      put = items_of (ticket_view b.ticket).put;
+      taken = items_of (ticket_view b.ticket).taken;
+      ends_put = ends_of (ticket_view b.ticket).put;
+      ends_taken = ends_of (ticket_view b.ticket).taken;
+    } };
 
     ghost invariant = { λ b. (receives_on b.receiver ≡ sends_on b.sender) × IsSeatAt (sends_on b.sender) b.ticket };
 }
@@ -116,7 +121,8 @@ impl<T: Drop> Berth<T> {
     #[tactic(auto, using(crate::proofs::Items::items_more, crate::proofs::Items::ends_more))]
     /// Takes a message out if there is one now.
     fn look<R: Wait>(&mut self, rt: &R) -> Option<Message<T>>
-        ensures some { IfSome result (λ m. (self.new.taken ≡ self.old.taken ++ items_of (m ∷ [])) × (self.new.ends_taken ≡ self.old.ends_taken + ends_of (m ∷ []))) }
+        ensures some { IfSome result (λ m. (self.new.taken ≡ self.old.taken ++ items_of (m ∷ []))
+            × (self.new.ends_taken ≡ self.old.ends_taken + ends_of (m ∷ []))) }
         ensures none { IfNone result ((self.new.taken ≡ self.old.taken) × (self.new.ends_taken ≡ self.old.ends_taken)) }
         ensures put { (self.new.put ≡ self.old.put) × (self.new.ends_put ≡ self.old.ends_put) }
     {
@@ -128,7 +134,8 @@ impl<T: Drop> Berth<T> {
 
     /// Takes a message out if one comes within some turns, in each of which it yields to other threads.
     fn linger<R: Wait>(&mut self, rt: &R) -> Option<Message<T>>
-        ensures some { IfSome result (λ m. (self.new.taken ≡ self.old.taken ++ items_of (m ∷ [])) × (self.new.ends_taken ≡ self.old.ends_taken + ends_of (m ∷ []))) }
+        ensures some { IfSome result (λ m. (self.new.taken ≡ self.old.taken ++ items_of (m ∷ []))
+            × (self.new.ends_taken ≡ self.old.ends_taken + ends_of (m ∷ []))) }
         ensures none { IfNone result ((self.new.taken ≡ self.old.taken) × (self.new.ends_taken ≡ self.old.ends_taken)) }
         ensures put { (self.new.put ≡ self.old.put) × (self.new.ends_put ≡ self.old.ends_put) }
     {
@@ -145,7 +152,8 @@ impl<T: Drop> Berth<T> {
     #[tactic(auto, using(crate::proofs::Items::items_more, crate::proofs::Items::ends_more))]
     /// Waits for a message, asleep behind some turns, and takes it out.
     fn receive<R: Wait>(&mut self, rt: &R) -> Message<T>
-        ensures taken { (self.new.taken ≡ self.old.taken ++ items_of (result ∷ [])) × (self.new.ends_taken ≡ self.old.ends_taken + ends_of (result ∷ [])) }
+        ensures taken { (self.new.taken ≡ self.old.taken ++ items_of (result ∷ []))
+            × (self.new.ends_taken ≡ self.old.ends_taken + ends_of (result ∷ [])) }
         ensures put { (self.new.put ≡ self.old.put) × (self.new.ends_put ≡ self.old.ends_put) }
     {
         if let Some(message) = self.linger(rt) {
@@ -163,8 +171,10 @@ impl<T: Drop> Berth<T> {
 
     /// Waits for an item and takes it out: some turns awake, then asleep. `None` only at an end, which it puts in again.
     pub fn take<R: Wait>(&mut self, rt: &R) -> Option<T>
-        ensures some { IfSome result (λ x. (self.new.taken ≡ self.old.taken ++ x ∷ []) × (self.new.ends_taken ≡ self.old.ends_taken) × (self.new.ends_put ≡ self.old.ends_put)) }
-        ensures none { IfNone result ((self.new.taken ≡ self.old.taken) × (self.new.ends_taken ≡ self.old.ends_taken + 1) × (self.new.ends_put ≡ self.old.ends_put + 1)) }
+        ensures some { IfSome result (λ x. (self.new.taken ≡ self.old.taken ++ x ∷ []) × (self.new.ends_taken ≡ self.old.ends_taken)
+            × (self.new.ends_put ≡ self.old.ends_put)) }
+        ensures none { IfNone result ((self.new.taken ≡ self.old.taken) × (self.new.ends_taken ≡ self.old.ends_taken + 1)
+            × (self.new.ends_put ≡ self.old.ends_put + 1)) }
         ensures put { self.new.put ≡ self.old.put }
     {
         match self.receive(rt) {

@@ -13,7 +13,10 @@ fn serve<J: Job, R: Wait, K: Desk<Quantum<J>, Done<J>>>(
     desk: &K,
     seat: &mut K::Seat,
 ) -> bool
-    ensures serves { Serves result (map (λ q. deal q.number q.slot q.task q.before) (K.took seat.old)) (map (λ q. deal q.number q.slot q.task q.before) (K.took seat.new)) (map (λ d. deal d.number d.slot d.task d.before) (K.handed seat.old)) (map (λ d. deal d.number d.slot d.task d.before) (K.handed seat.new)) }
+    ensures serves { Serves result (map (λ q. deal q.number q.slot q.task q.before) (K.took seat.old))
+        (map (λ q. deal q.number q.slot q.task q.before) (K.took seat.new))
+        (map (λ d. deal d.number d.slot d.task d.before) (K.handed seat.old))
+        (map (λ d. deal d.number d.slot d.task d.before) (K.handed seat.new)) }
     ensures same { (K.dealt seat.new ≡ K.dealt seat.old) × (K.collected seat.new ≡ K.collected seat.old) }
 {
     let Some(quantum) = desk.next(rt, seat) else {
@@ -32,7 +35,10 @@ pub fn worker<J: Job, R: Wait, K: Desk<Quantum<J>, Done<J>>>(
     desk: &K,
     seat: K::Seat,
 ) -> K::Seat
-    ensures works { Works (map (λ q. deal q.number q.slot q.task q.before) (K.took seat)) (map (λ q. deal q.number q.slot q.task q.before) (K.took result)) (map (λ d. deal d.number d.slot d.task d.before) (K.handed seat)) (map (λ d. deal d.number d.slot d.task d.before) (K.handed result)) }
+    ensures works { Works (map (λ q. deal q.number q.slot q.task q.before) (K.took seat))
+        (map (λ q. deal q.number q.slot q.task q.before) (K.took result))
+        (map (λ d. deal d.number d.slot d.task d.before) (K.handed seat))
+        (map (λ d. deal d.number d.slot d.task d.before) (K.handed result)) }
     ensures same { (K.dealt result ≡ K.dealt seat) × (K.collected result ≡ K.collected seat) }
 {
     let mut seat = seat;

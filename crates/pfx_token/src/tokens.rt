@@ -66,7 +66,8 @@ impl<E: Drop, B: Room> Model for Keeper<E, B> {
 
     ghost view = { λ k. k.seat.me.0.lists };
 
-    ghost invariant = { λ k. (k.table.shared.table_id ≡ B.table) × (k.seat.table_id ≡ B.table) × (k.seat.me ≡ (keeper k.seat.me.0.lists, [])) × (k.table.shared.table_id.words ≡ 1) };
+    ghost invariant = { λ k. (k.table.shared.table_id ≡ B.table) × (k.seat.table_id ≡ B.table) × (k.seat.me ≡ (keeper k.seat.me.0.lists, []))
+        × (k.table.shared.table_id.words ≡ 1) };
 }
 
 /// A number, and the list of what was noted for it. Contracts see it as these two. There is one for each number.
