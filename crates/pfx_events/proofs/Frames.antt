@@ -1,0 +1,127 @@
+-- The frame of an acceptable batch: it leads from a state to the batch's outcome, and has room in an empty segment.
+use Rattle.std.specs.Prelude.{◌≡◌, ℕ, ◌+◌, ◌*◌, ◌<◌, ◌≤◌, ◌^◌, List, [], ◌∷◌, ◌++◌, ◌&&◌, length, drop, slice_index, Bool, true, false, Some, None, IsTrue, if◌then◌else◌, refl}
+use Rattle.std.proofs.Common.{sym, ◌∙◌, ap, subst, arith, length-append, append-nil}
+use Rattle.std.proofs.lemmas.Bool.{lt-ltb, le-leb}
+use Rattle.std.proofs.lemmas.Option.{none-some}
+use Rattle.std.proofs.lemmas.List.{get_or_at}
+use Rattle.byteorder.specs.Endian.{little_number}
+use Rattle.pfx_disk.specs.declared.gates.TheConstants.{GATE_OPEN}
+use Rattle.pfx_effect.specs.Applying.{applied, is_right, is_apt, after_record}
+use Rattle.pfx_effect.specs.Recording.{records_of}
+use Rattle.pfx_effect.proofs.Outcomes.{records_outcome}
+use Rattle.pfx_checkpoint.specs.Fitting.{fits}
+use Rattle.pfx_columns.specs.Ledgers.{total}
+use Rattle.pfx_format.specs.Format.{format}
+use Rattle.pfx_format.specs.Frames.{state_after}
+use Rattle.pfx_format.proofs.Batches.{head_there, number_there, split_batch}
+use Rattle.pfx_format.proofs.Nexts.{frame_leads}
+use Rattle.byteorder.specs.Numbers.{little_from-take}
+use Rattle.pfx_jobs.specs.Kind.{Kind, Laws}
+use Rattle.pfx_machine.specs.Plain.{Plain, IsState}
+use Rattle.pfx_machine.specs.Outcome.{outcome}
+use Rattle.pfx_machine.specs.Sessions.{IsAcceptable}
+use Rattle.pfx_machine.specs.declared.command.Command.{Command}
+use Rattle.pfx_machine.proofs.Keeping.{prefix_is_state}
+use Rattle.pfx_record.specs.Batches.{PlainBatch, all_fit, batch_bytes, batch_fits, counts_fit}
+use Rattle.pfx_record.specs.Numbers.{number_bytes}
+use Rattle.pfx_record.specs.Records.{Plain as Recorded, records_bytes, record_fits}
+use Rattle.pfx_record.proofs.Again.{length-number_bytes}
+use Rattle.pfx_record.proofs.Bodies.{short_batch}
+use Rattle.pfx_record.proofs.Heads.{parts_of}
+use Rattle.pfx_record.proofs.Rising.{both, of_both}
+use Rattle.pfx_segment.specs.Frames.{IsFrame, number_4}
+use Rattle.pfx_store.specs.Holding.{IsStart}
+use Rattle.pfx_world.proofs.Machine.{number_of}
+use Rattle.pfx_events.specs.Store.{frame_of, behind_of, start_of}
+
+-- records that are right have spellings
+fit_by : {J : Type 0} (K : Kind J) (s t : Plain J) (done : Recorded J) (records : List (Recorded J)) (b : Bool) → is_right K s done ≡ b → (if b then applied K (after_record s done) records else None) ≡ Some t →
+    IsTrue (record_fits s.ledger.set.workers done) × (applied K (after_record s done) records ≡ Some t)
+fit_by K s t done records true is h = ((both (record_fits s.ledger.set.workers done) (is_apt K (total s.ledger) s.jobs done && fits (after_record s done)) is).0, h)
+fit_by K s t done records false is h = absurd (none-some t h)
+
+all_fit_of : {J : Type 0} (K : Kind J) (s t : Plain J) (records : List (Recorded J)) → applied K s records ≡ Some t → IsTrue (all_fit s.ledger.set.workers records)
+all_fit_of K s t [] h = refl
+all_fit_of K s t (done ∷ records) h =
+    let first = fit_by K s t done records (is_right K s done) refl h in
+    of_both (record_fits s.ledger.set.workers done) (all_fit s.ledger.set.workers records) first.0 (all_fit_of K (after_record s done) t records first.1)
+
+length-records : {J : Type 0} (K : Kind J) (s : Plain J) (H : List (Command J)) → length (records_of K s H) ≡ length H
+length-records K s [] = refl
+length-records K s (c ∷ H) = omega (arith, length-records K (outcome K s (c ∷ [])) H)
+
+module _ {J : Type 0} (K : Kind J) (L : Laws K) (s : Plain J) (H : List (Command J)) (some : 0 < length H) (few : length H ≤ 16) (state : IsState s) (all : IsAcceptable K s H) where
+  abbrev batch : PlainBatch J
+  batch = record { first = s.number + 1; records = records_of K s H }
+
+  abbrev workers : ℕ
+  workers = s.ledger.set.workers
+
+  led : applied K s (records_of K s H) ≡ Some (outcome K s H)
+  led = records_outcome K L s H state all
+
+  after_state : IsState (outcome K s H)
+  after_state = prefix_is_state K L s state H [] (subst (λ l. IsAcceptable K s l) (sym (append-nil H)) all)
+
+  below : s.number + length H < 2 ^ 48
+  below = let n = after_state.number in let is = number_of K L s H in omega (arith, n, is)
+
+  batch_fits_here : IsTrue (batch_fits s.ledger.set.workers (record { first = s.number + 1; records = records_of K s H }))
+  batch_fits_here =
+      let long = length-records K s H in
+      let m = state.ledger.set.workers in
+      let counts : IsTrue (counts_fit workers (s.number + 1) (length (records_of K s H))) =
+      of_both _ _ (of_both _ _ (lt-ltb 0 workers (omega (arith, m.0))) (le-leb workers 64 m.1))
+      (of_both _ _ (of_both _ _ (lt-ltb 0 (length (records_of K s H)) (omega (arith, long, some))) (le-leb (length (records_of K s H)) 16 (omega (arith, long, few))))
+      (of_both _ _ (lt-ltb 0 (s.number + 1) (omega arith)) (le-leb (s.number + 1 + length (records_of K s H)) (2 ^ 48) (omega (arith, long, below))))) in
+      of_both _ _ counts (all_fit_of K s (outcome K s H) (records_of K s H) led)
+
+  pub frame_led : state_after K s (frame_of K s H) ≡ Some (outcome K s H)
+  frame_led = frame_leads K L s (outcome K s H) batch batch_fits_here refl (omega (arith, length-records K s H, below)) led
+
+  abbrev rest : List ℕ
+  rest = ((number_bytes 4 (length (records_bytes K batch.records)) ++ number_bytes 8 batch.first) ++ number_bytes 2 (length batch.records)) ++ records_bytes K batch.records
+
+  opens : frame_of K s H ≡ GATE_OPEN ∷ rest
+  opens = split_batch K L batch
+
+  pub opens_here : frame_of K s H ≡ GATE_OPEN ∷ drop 1 (frame_of K s H)
+  opens_here = opens ∙ ap (λ l. GATE_OPEN ∷ drop 1 l) (sym opens)
+
+  pub frame_long : length (behind_of (frame_of K s H)) ≤ 31 + 2096 * s.ledger.set.workers
+  frame_long =
+      let short = short_batch K L s.ledger.set.workers batch.first batch.records batch_fits_here in
+      let one = ap length opens_here in
+      omega (arith, short.body, short.whole, one, length-append (drop 1 (frame_of K s H)) (0 ∷ []))
+
+  frame_is : IsFrame (GATE_OPEN ∷ rest)
+  frame_is =
+      let short = short_batch K L s.ledger.set.workers batch.first batch.records batch_fits_here in
+      let head = head_there K L workers batch batch_fits_here in
+      let long = head.long in
+      let len = length (records_bytes K batch.records) in
+      let places = parts_of (batch_bytes K batch) len batch.first (length batch.records) (record { rest = records_bytes K batch.records; is = split_batch K L batch }) in
+      let read : little_number 4 (drop 1 (batch_bytes K batch)) ≡ len = ap (little_number 4) places.len_at.is ∙ number_there 4 len places.len_at.rest (omega (arith, short.body, short.few)) in
+      let there : little_number 4 rest ≡ len = ap (λ l. little_number 4 (drop 1 l)) (sym opens) ∙ read in
+      let whole : length (GATE_OPEN ∷ rest) ≡ 15 + len = ap length (sym opens) ∙ long in
+      record {
+        gate = refl;
+        whole = whole ∙ (let same : number_4 1 (GATE_OPEN ∷ rest) ≡ little_number 4 rest = omega arith in omega (arith, same, there));
+      }
+
+  pub frame_there : IsFrame (GATE_OPEN ∷ drop 1 (frame_of K s H))
+  frame_there = subst IsFrame (sym opens ∙ opens_here) frame_is
+
+-- the bytes behind the gate of a segment
+pub start_is : {J : Type 0} (K : Kind J) (s : Plain J) → IsState s → IsStart (format K) (s.number + 1) (start_of s)
+start_is K s state = record {
+  long = omega (arith, length-append (number_bytes 8 (s.number + 1)) (0 ∷ []), length-number_bytes 8 (s.number + 1));
+  number = little_from-take 0 8 8 (start_of s) (omega arith) ∙ number_there_here;
+  closed = closed_here (number_bytes 8 (s.number + 1)) (length-number_bytes 8 (s.number + 1));
+}
+  where
+    number_there_here : little_number 8 (number_bytes 8 (s.number + 1) ++ 0 ∷ []) ≡ s.number + 1
+    number_there_here = let n = state.number in number_there 8 (s.number + 1) (0 ∷ []) (omega (arith, n))
+
+    closed_here : (xs : List ℕ) → length xs ≡ 8 → slice_index (xs ++ 0 ∷ []) 8 ≡ 0
+    closed_here xs long = get_or_at xs 0 [] 0 8 long

@@ -1,0 +1,54 @@
+-- What is known of the states of a file that a store may leave.
+use Rattle.std.specs.Prelude.{◌≡◌, ℕ, List, [], ◌∷◌, length, Bool, true, false, Some}
+use Rattle.std.proofs.Common.{sym, ◌∙◌, ap, subst}
+use Rattle.pfx_checkpoint.specs.Found.{read_state}
+use Rattle.pfx_checkpoint.specs.Spelling.{place_of, state_bytes, state_len}
+use Rattle.pfx_checkpoint.proofs.Fronts.{length-front}
+use Rattle.pfx_checkpoint.proofs.Readings.{frozen_read, only_states}
+use Rattle.pfx_columns.specs.Ledgers.{total}
+use Rattle.pfx_effect.proofs.States.{applied_behind}
+use Rattle.pfx_format.specs.Format.{format}
+use Rattle.pfx_format.proofs.Nexts.{after_of}
+use Rattle.pfx_header.specs.Headers.{Header, IsHeader}
+use Rattle.pfx_header.proofs.Meanings.{read_filled, read_a_header}
+use Rattle.pfx_jobs.specs.Kind.{Kind, Laws}
+use Rattle.pfx_machine.specs.Plain.{Plain, IsState}
+use Rattle.pfx_recovery.specs.Store.{Parts, Replays, IsStore, Other}
+
+-- a state of this set
+pub record IsOf {J : Type 0} (h : Header) (s : Plain J) : Type 0 where
+  pub state : IsState s
+  pub set : s.ledger.set ≡ h.set
+
+module _ {J : Type 0} (K : Kind J) (L : Laws K) (h : Header) where
+  replayed : (s : Plain J) (frames : List (List ℕ)) (t : Plain J) → IsOf h s → Replays (format K) s frames t → IsOf h t
+  replayed s [] t of run = subst (IsOf h) run of
+  replayed s (frame ∷ frames) t of run =
+      let after = after_of K s frame run.0 run.1 in
+      let behind = applied_behind K s run.0 after.batch.records after.taken in
+      replayed run.0 frames t (record { state = behind.state of.state; set = behind.set ∙ of.set }) run.2
+
+  module _ (p : Parts (Plain J)) (s : Plain J) (image : List ℕ) (is : IsStore (format K) h p s image) where
+    pub header_is : IsHeader h
+    header_is = read_a_header image h is.head
+
+    base_is : IsOf h p.base
+    base_is = let only = only_states K h.set _ p.base (read_filled image h is.head) is.slot.body in record { state = only.0; set = only.1 }
+
+    middle_by : (t : Bool) → Other (format K) h t p s image → IsOf h p.middle
+    middle_by false other = subst (IsOf h) other.1 base_is
+    middle_by true other = replayed p.base p.before p.middle base_is other.1
+
+    pub middle_is : IsOf h p.middle
+    middle_is = middle_by p.turned is.other
+
+    pub state_is : IsOf h s
+    state_is = replayed p.middle p.frames s middle_is is.state
+
+state_long : {J : Type 0} (K : Kind J) (L : Laws K) (s : Plain J) → IsState s → length (state_bytes K s) ≡ state_len s.ledger.set
+unfolding state_bytes
+state_long K L s is = length-front K L s (total s.ledger) ∙ ap (λ n. place_of n (total s.ledger)) is.jobs
+
+-- the bytes of a state are read, and are as many as its set says
+pub spelled_read : {J : Type 0} (K : Kind J) (L : Laws K) (h : Header) (s : Plain J) → IsOf h s → (read_state K h.set (state_bytes K s) ≡ Some s) × (length (state_bytes K s) ≡ state_len h.set)
+spelled_read K L h s of = (ap (λ t. read_state K t (state_bytes K s)) (sym of.set) ∙ frozen_read K L s of.state, state_long K L s of.state ∙ ap state_len of.set)

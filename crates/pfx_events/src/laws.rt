@@ -1,0 +1,74 @@
+//! What holds of every list of events, each the contract of a function that does nothing.
+ghost use Rattle.std.specs.Prelude.{◌≡◌, ◌+◌, ◌++◌, List, ℕ, take, None, Some, Ok};
+ghost use Rattle.pfx_effect.specs.Recording.{records_of};
+ghost use Rattle.pfx_events.specs.Batches.{frames_of, joined, AreSmall, IsSeen};
+ghost use Rattle.pfx_events.specs.Store.{FileOf, recovered_file, store_of};
+ghost use Rattle.pfx_format.specs.Format.{format};
+ghost use Rattle.pfx_journal.specs.Standing.{Stands};
+ghost use Rattle.pfx_machine.specs.Outcome.{outcome};
+ghost use Rattle.pfx_machine.specs.Plain.{Plain, IsState};
+ghost use Rattle.pfx_machine.specs.Refusals.{refusal};
+ghost use Rattle.pfx_machine.specs.Sessions.{IsAcceptable};
+ghost use Rattle.pfx_machine.specs.declared.command.Command.{Command};
+ghost use Rattle.pfx_recovery.specs.Recovery.{recovered};
+ghost use Rattle.pfx_recovery.specs.Store.{Replays};
+ghost use Rattle.pfx_world.specs.Claims.{IsNew, IsReceipted, StaysOrderly, ShowsAppended, LosesNothing, RecoversPrefix, NeverGoesBack};
+ghost use Rattle.pfx_world.specs.Events.{Event, CanRun, run};
+ghost use Rattle.pfx_world.specs.Session.{IsQuick};
+ghost use Rattle.pfx_world.specs.World.{new_world};
+
+use pfx_disk::Disk;
+use pfx_jobs::job::Job;
+use pfx_journal::Store;
+
+/// Whatever happens, and in whatever order, to a store's file, its book and its readers: the accepted commands are
+/// acceptable throughout, and at every prefix of them every lag lies strictly between minus one and one; what is published
+/// and what each reader sees are beginnings of what the store appended; each image that a stop may leave, before or within
+/// the coming call, is recovered to the outcome of a beginning of the accepted commands that holds every receipted one; and
+/// so it is at every stop. Nothing that was marked, receipted or seen goes back.
+pub fn crash_prefix<J: Job>()
+    ensures orderly { StaysOrderly (store_of J.kind) }
+    ensures shown { ShowsAppended (store_of J.kind) }
+    ensures survives { LosesNothing (store_of J.kind) }
+    ensures recovers { RecoversPrefix (store_of J.kind) }
+    ensures later { NeverGoesBack (store_of J.kind) }
+{}
+
+/// A run can begin from every file that is recovered, and the recovery of a run is that of files.
+pub fn runs_begin_at_files<J: Job>()
+    ensures begins { (image : List ℕ) (s : Plain J) → recovered (format J.kind) image ≡ Ok s
+        → (f : FileOf J) × IsNew (store_of J.kind) s image f }
+    ensures means { (image : List ℕ) (s : Plain J) (f : FileOf J) → recovered_file J.kind image ≡ Some (s, f)
+        → recovered (format J.kind) image ≡ Ok s }
+{}
+
+/// From every such file, and for each Submit or Withdraw that isn't refused there, there is a run that takes the command,
+/// appends it and gives a receipt for it.
+pub fn commands_can_be_receipted<J: Job>()
+    ensures { (B : Plain J) (image : List ℕ) (f : FileOf J) (c : Command J)
+        → IsNew (store_of J.kind) B image f → IsQuick c → refusal J.kind B c ≡ None
+        → (events : List (Event J)) × CanRun (store_of J.kind) B (new_world (store_of J.kind) B image f) events
+        × IsReceipted (B.number + 1) (run (store_of J.kind) B (new_world (store_of J.kind) B image f) events).book.receipts }
+{}
+
+/// The records of a list of commands are those of its front, and those of the rest behind the front's outcome.
+pub fn records_split<J: Job>()
+    ensures { (s : Plain J) (H G : List (Command J))
+        → records_of J.kind s (H ++ G) ≡ records_of J.kind s H ++ records_of J.kind (outcome J.kind s H) G }
+{}
+
+/// The frames of the first so many batches lead to the outcome of these batches' commands, and nowhere else.
+pub fn frames_are_batches<J: Job>()
+    ensures leads { (s : Plain J) (batches : List (List (Command J)))
+        → IsState s → IsAcceptable J.kind s (joined batches) → AreSmall batches
+        → Replays (format J.kind) s (frames_of J.kind s batches) (outcome J.kind s (joined batches)) }
+    ensures only { (s : Plain J) (batches : List (List (Command J))) (k : ℕ) (t : Plain J)
+        → IsState s → IsAcceptable J.kind s (joined batches) → AreSmall batches
+        → Replays (format J.kind) s (take k (frames_of J.kind s batches)) t → t ≡ outcome J.kind s (joined (take k batches)) }
+{}
+
+/// A store that stands on its disk is a store as the events see it.
+pub fn standing_is_seen<D: Disk, J: Job>(store: &Store<D, J>)
+    ensures { Stands J.kind store.now.file.places store.now.state store.now.spelled.items (D.view store.now.file.disk)
+        → (f : FileOf J) × IsSeen J.kind store.now.file.places store.now.state f (D.view store.now.file.disk) }
+{}

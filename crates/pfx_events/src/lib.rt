@@ -1,0 +1,9 @@
+//! The theorem over every list of events, of this product's store.
+//!
+//! `specs/Store.antt` says which store the world of events (`pfx_world`) has here: its files are those of the codec in
+//! `pfx_format`, its calls those of the acts in `pfx_acts`. `proofs/Sound.antt` proves that this store is sound, from the laws
+//! of the crates below and those of the jobs' kind, and nothing else. So what the world's claims say holds of it, which is
+//! the contract of `laws::crash_prefix`.
+#![tactic(auto)]
+
+pub mod laws;
