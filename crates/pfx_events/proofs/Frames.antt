@@ -1,5 +1,5 @@
 -- The frame of an acceptable batch: it leads from a state to the batch's outcome, and has room in an empty segment.
-use Rattle.std.specs.Prelude.{◌≡◌, ℕ, ◌+◌, ◌*◌, ◌<◌, ◌≤◌, ◌^◌, List, [], ◌∷◌, ◌++◌, ◌&&◌, length, drop, slice_index, Bool, true, false, Some, None, IsTrue, if◌then◌else◌, refl}
+use Rattle.std.specs.Prelude.{◌≡◌, ℕ, ◌+◌, ◌*◌, ◌<◌, ◌≤◌, ◌^◌, List, [], ◌∷◌, ◌++◌, ◌&&◌, length, drop, slice_index, Bool, true, false, Some, None, IsTrue, if◌then◌else◌, refl, take, ◌-◌}
 use Rattle.std.proofs.Common.{sym, ◌∙◌, ap, subst, arith, length-append, append-nil}
 use Rattle.std.proofs.lemmas.Bool.{lt-ltb, le-leb}
 use Rattle.std.proofs.lemmas.Option.{none-some}
@@ -13,7 +13,7 @@ use Rattle.pfx_checkpoint.specs.Fitting.{fits}
 use Rattle.pfx_columns.specs.Ledgers.{total}
 use Rattle.pfx_format.specs.Format.{format}
 use Rattle.pfx_format.specs.Frames.{state_after}
-use Rattle.pfx_format.proofs.Batches.{head_there, number_there, split_batch}
+use Rattle.pfx_format.proofs.Batches.{number_there}
 use Rattle.pfx_format.proofs.Nexts.{frame_leads}
 use Rattle.byteorder.specs.Numbers.{little_from-take}
 use Rattle.pfx_jobs.specs.Kind.{Kind, Laws}
@@ -24,12 +24,13 @@ use Rattle.pfx_machine.specs.declared.command.Command.{Command}
 use Rattle.pfx_machine.proofs.Keeping.{prefix_is_state}
 use Rattle.pfx_record.specs.Batches.{PlainBatch, all_fit, batch_bytes, batch_fits, counts_fit}
 use Rattle.pfx_record.specs.Numbers.{number_bytes}
-use Rattle.pfx_record.specs.Records.{Plain as Recorded, records_bytes, record_fits}
+use Rattle.pfx_record.specs.Records.{Plain as Recorded, record_fits}
 use Rattle.pfx_record.proofs.Again.{length-number_bytes}
-use Rattle.pfx_record.proofs.Bodies.{short_batch}
-use Rattle.pfx_record.proofs.Heads.{parts_of}
+use Rattle.pfx_journal.proofs.Behinds.{behind_is}
+use Rattle.pfx_journal.specs.Standing.{IsBehind}
+use Rattle.pfx_record.proofs.Bodies.{Short, short_batch}
 use Rattle.pfx_record.proofs.Rising.{both, of_both}
-use Rattle.pfx_segment.specs.Frames.{IsFrame, number_4}
+use Rattle.pfx_segment.specs.Frames.{IsFrame}
 use Rattle.pfx_store.specs.Holding.{IsStart}
 use Rattle.pfx_world.proofs.Machine.{number_of}
 use Rattle.pfx_events.specs.Store.{frame_of, behind_of, start_of}
@@ -79,38 +80,23 @@ module _ {J : Type 0} (K : Kind J) (L : Laws K) (s : Plain J) (H : List (Command
   pub frame_led : state_after K s (frame_of K s H) ≡ Some (outcome K s H)
   frame_led = frame_leads K L s (outcome K s H) batch batch_fits_here refl (omega (arith, length-records K s H, below)) led
 
-  abbrev rest : List ℕ
-  rest = ((number_bytes 4 (length (records_bytes K batch.records)) ++ number_bytes 8 batch.first) ++ number_bytes 2 (length batch.records)) ++ records_bytes K batch.records
+  -- its length, and that it is one frame
+  short : Short K L workers batch.first batch.records
+  short = short_batch K L workers batch.first batch.records batch_fits_here
 
-  opens : frame_of K s H ≡ GATE_OPEN ∷ rest
-  opens = split_batch K L batch
+  spelled_so : IsBehind (batch_bytes K batch) (take (length (batch_bytes K batch ++ 0 ∷ []) - 1) (drop 1 (batch_bytes K batch ++ 0 ∷ [])))
+  spelled_so = behind_is K L batch workers (batch_bytes K batch ++ 0 ∷ []) batch_fits_here (omega (arith, short.body, short.whole)) refl
 
   pub opens_here : frame_of K s H ≡ GATE_OPEN ∷ drop 1 (frame_of K s H)
-  opens_here = opens ∙ ap (λ l. GATE_OPEN ∷ drop 1 l) (sym opens)
+  opens_here = spelled_so.1 ∙ ap (λ l. GATE_OPEN ∷ drop 1 l) (sym spelled_so.1)
 
   pub frame_long : length (behind_of (frame_of K s H)) ≤ 31 + 2096 * s.ledger.set.workers
   frame_long =
-      let short = short_batch K L s.ledger.set.workers batch.first batch.records batch_fits_here in
       let one = ap length opens_here in
       omega (arith, short.body, short.whole, one, length-append (drop 1 (frame_of K s H)) (0 ∷ []))
 
-  frame_is : IsFrame (GATE_OPEN ∷ rest)
-  frame_is =
-      let short = short_batch K L s.ledger.set.workers batch.first batch.records batch_fits_here in
-      let head = head_there K L workers batch batch_fits_here in
-      let long = head.long in
-      let len = length (records_bytes K batch.records) in
-      let places = parts_of (batch_bytes K batch) len batch.first (length batch.records) (record { rest = records_bytes K batch.records; is = split_batch K L batch }) in
-      let read : little_number 4 (drop 1 (batch_bytes K batch)) ≡ len = ap (little_number 4) places.len_at.is ∙ number_there 4 len places.len_at.rest (omega (arith, short.body, short.few)) in
-      let there : little_number 4 rest ≡ len = ap (λ l. little_number 4 (drop 1 l)) (sym opens) ∙ read in
-      let whole : length (GATE_OPEN ∷ rest) ≡ 15 + len = ap length (sym opens) ∙ long in
-      record {
-        gate = refl;
-        whole = whole ∙ (let same : number_4 1 (GATE_OPEN ∷ rest) ≡ little_number 4 rest = omega arith in omega (arith, same, there));
-      }
-
   pub frame_there : IsFrame (GATE_OPEN ∷ drop 1 (frame_of K s H))
-  frame_there = subst IsFrame (sym opens ∙ opens_here) frame_is
+  frame_there = subst IsFrame (sym spelled_so.1 ∙ opens_here) spelled_so.2.frame
 
 -- the bytes behind the gate of a segment
 pub start_is : {J : Type 0} (K : Kind J) (s : Plain J) → IsState s → IsStart (format K) (s.number + 1) (start_of s)

@@ -1,14 +1,13 @@
 -- What is known of the states of a file that a store may leave.
 use Rattle.std.specs.Prelude.{◌≡◌, ℕ, List, [], ◌∷◌, length, Bool, true, false, Some}
-use Rattle.std.proofs.Common.{sym, ◌∙◌, ap, subst}
+use Rattle.std.proofs.Common.{refl, ◌∙◌, ap, subst}
 use Rattle.pfx_checkpoint.specs.Found.{read_state}
-use Rattle.pfx_checkpoint.specs.Spelling.{place_of, state_bytes, state_len}
-use Rattle.pfx_checkpoint.proofs.Fronts.{length-front}
-use Rattle.pfx_checkpoint.proofs.Readings.{frozen_read, only_states}
-use Rattle.pfx_columns.specs.Ledgers.{total}
+use Rattle.pfx_checkpoint.specs.Spelling.{state_bytes, state_len}
+use Rattle.pfx_checkpoint.proofs.Readings.{only_states}
 use Rattle.pfx_effect.proofs.States.{applied_behind}
 use Rattle.pfx_format.specs.Format.{format}
 use Rattle.pfx_format.proofs.Nexts.{after_of}
+use Rattle.pfx_journal.proofs.Slots.{state_long, spelled_read as frozen_is_read}
 use Rattle.pfx_header.specs.Headers.{Header, IsHeader}
 use Rattle.pfx_header.proofs.Meanings.{read_filled, read_a_header}
 use Rattle.pfx_jobs.specs.Kind.{Kind, Laws}
@@ -45,10 +44,6 @@ module _ {J : Type 0} (K : Kind J) (L : Laws K) (h : Header) where
     pub state_is : IsOf h s
     state_is = replayed p.middle p.frames s middle_is is.state
 
-state_long : {J : Type 0} (K : Kind J) (L : Laws K) (s : Plain J) → IsState s → length (state_bytes K s) ≡ state_len s.ledger.set
-unfolding state_bytes
-state_long K L s is = length-front K L s (total s.ledger) ∙ ap (λ n. place_of n (total s.ledger)) is.jobs
-
 -- the bytes of a state are read, and are as many as its set says
 pub spelled_read : {J : Type 0} (K : Kind J) (L : Laws K) (h : Header) (s : Plain J) → IsOf h s → (read_state K h.set (state_bytes K s) ≡ Some s) × (length (state_bytes K s) ≡ state_len h.set)
-spelled_read K L h s of = (ap (λ t. read_state K t (state_bytes K s)) (sym of.set) ∙ frozen_read K L s of.state, state_long K L s of.state ∙ ap state_len of.set)
+spelled_read K L h s of = (frozen_is_read K L h.set s (state_bytes K s) of.state of.set refl, state_long K L s of.state ∙ ap state_len of.set)

@@ -1,6 +1,6 @@
 mod Appends
-mod Behinds
+pub mod Behinds
 mod Counts
 mod Made
-mod Slots
+pub mod Slots
 mod Standings

@@ -1,7 +1,8 @@
 -- Worked rows: a run of a small store, with a job, a slot, a checkpoint's step, receipts, a stop within a call, and on from there.
 use Rattle.std.specs.Prelude.{◌≡◌, ℕ, zero, suc, ◌+◌, ◌-◌, List, [], ◌∷◌, ◌++◌, length, take, slice_index, Option, Some, None, Ok, refl}
-use Rattle.std.proofs.Common.{true, arith, inr}
+use Rattle.std.proofs.Common.{true, false, inl, arith, inr}
 use Rattle.pfx_choice.specs.PfRows.{chosen}
+use Rattle.pfx_disk.specs.Disk.{Torn}
 use Rattle.pfx_disk.specs.Stop.{Act, Sync, Write}
 use Rattle.pfx_jobs.specs.Kind.{Kind}
 use Rattle.pfx_machine.specs.Outcome.{outcome}
@@ -11,7 +12,7 @@ use Rattle.pfx_machine.specs.declared.command.Command.{Command}
 use Rattle.pfx_machine.specs.declared.command.Command.TheVariants.{Submit, Slot}
 use Rattle.pfx_symbols.specs.Symbols.{substring_at}
 use Rattle.pfx_weights.specs.Sets.{FilledSet}
-use Rattle.pfx_world.specs.Events.{Event, Ask, Begin, Step, Give, Seal, Take, Tend, Device, Publish, Mark, Receipt, Look, Stop, run, CanRun}
+use Rattle.pfx_world.specs.Events.{Event, Ask, Begin, Step, Give, Seal, Take, Tend, Device, Publish, Mark, Receipt, Look, Stop, run, CanRun, Fail, Abandon}
 use Rattle.pfx_world.specs.Session.{Opened}
 use Rattle.pfx_world.specs.Setting.{Setting}
 use Rattle.pfx_world.specs.World.{World, new_world}
@@ -191,3 +192,36 @@ whole_can = can_join small begin at_first one_command (one_slot ++ one_stop) one
 -- another run begins at the image that is left
 another : Some (counts 3, 0) ≡ small.recovered (3 ∷ 1 ∷ [])
 another = refl
+
+-- The sync of an append fails: no call is to come, and a stop may leave the byte as it was. Then the command is gone, and no
+-- receipt was given for it.
+abbrev one_failure : List (Event ℕ)
+one_failure = Ask (Submit 0 3) ∷ Take 1 ∷ Device true ∷ Device false ∷ Fail ∷ []
+
+failure_coming : (run small begin at_first one_failure).coming ≡ []
+failure_coming = refl
+
+failure_kept : (run small begin at_first one_failure).kept ≡ 0
+failure_kept = refl
+
+not_written : Torn 0 1 (0 ∷ 0 ∷ []) (0 ∷ 0 ∷ [])
+not_written = record { no_shorter = omega arith; no_longer = omega arith; elsewhere = λ i inside out. refl }
+
+failure_can : CanRun small begin at_first (one_failure ++ Stop (0 ∷ 0 ∷ []) ∷ [])
+failure_can = (
+  (tt, refl, refl, refl),
+  (
+    (record { none = refl; whole = refl; goes_on = refl }, refl, omega arith, omega arith, omega arith),
+    ((λ none. cc, refl), ((λ none. cc, refl), (tt, (inl (0 ∷ 0 ∷ [], refl, not_written), tt)))),
+  ),
+)
+
+failure_accepted : (run small begin at_first (one_failure ++ Stop (0 ∷ 0 ∷ []) ∷ [])).book.accepted ≡ []
+failure_accepted = refl
+
+failure_receipts : (run small begin at_first (one_failure ++ Stop (0 ∷ 0 ∷ []) ∷ [])).book.receipts ≡ []
+failure_receipts = refl
+
+-- a slot that is given up leaves the book as it was
+given_up : (run small begin at_first (Begin ∷ Abandon ∷ [])).book ≡ at_first.book
+given_up = refl
