@@ -19,14 +19,15 @@ Fields = List (List ℕ)
 abbrev pub script_records : List ℕ → List Fields
 script_records bytes = records default_config (strip_bom bytes)
 
--- a script as its callers see it: the records that are left, where the bytes are known, and how many were read
+-- a script as its callers see it: the records that are left, if the bytes are known, how many were read, and whether reading has failed
 pub record Records : Type 0 where
   pub left : Option (List Fields)
   pub place : ℕ
+  pub failed : Bool
 
 -- a script of which nothing was read yet
 abbrev pub unread : Option (List ℕ) → Records
-unread bytes = record { left = option_map script_records bytes; place = 0 }
+unread bytes = record { left = option_map script_records bytes; place = 0; failed = false }
 
 -- so many records are at least those of the bytes that are left
 abbrev pub Covers : ℕ → State → List ℕ → Type 0
@@ -45,12 +46,12 @@ pub record ReadsScripts {R : Type 0} (r : Reader R) : Type 0 where
 
 -- a record was read: it is the first of those that were left, and the others are left
 abbrev pub Takes : Records → Fields → Records → Type 0
-Takes old fields new = (new.place ≡ old.place + 1) × IfSome old.left (λ rows. (rest : List Fields) × (rows ≡ fields ∷ rest) × (new.left ≡ Some rest))
+Takes old fields new = (new.place ≡ old.place + 1) × (new.failed ≡ false) × IfSome old.left (λ rows. (rest : List Fields) × (rows ≡ fields ∷ rest) × (new.left ≡ Some rest))
 
 -- whether there was a record
 abbrev pub Reads : Records → Bool → Fields → Records → Type 0
 Reads old true fields new = Takes old fields new
-Reads old false fields new = (new.place ≡ old.place) × IfSome old.left (λ rows. rows ≡ [])
+Reads old false fields new = (new.place ≡ old.place) × (new.failed ≡ false) × IfSome old.left (λ rows. rows ≡ [])
 
 -- why no record was read: the next one is no text and so has no form, or the reader or the memory failed
 abbrev pub ReadFails : Records → Fault → Type 0

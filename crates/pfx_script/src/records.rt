@@ -1,6 +1,6 @@
 //! The records of a script, one at a time.
 
-ghost use Rattle.std.specs.Prelude.{◌≡◌, ◌+◌, true, Some, IfOk, IfErr, OnOk, option_map};
+ghost use Rattle.std.specs.Prelude.{◌≡◌, ◌+◌, ◌<◌, ◌^◌, true, Some, Err, IfOk, IfErr, OnOk, OnErr, option_map};
 ghost use Rattle.csv.specs.Records.{fields_of, AllText};
 ghost use Rattle.csv.specs.Reading.{error_kind, source_of, reader_state, has_failed, strip_bom};
 ghost use Rattle.csv.specs.declared.parser.State.TheVariants as st;
@@ -14,8 +14,8 @@ use std::marker::Model;
 
 /// A script that is being read, in the memory of one record at a time.
 ///
-/// It is seen as the list of the records that are left, where the bytes of its reader are known, and the number of
-/// those that were read.
+/// It is seen as the list of the records that are left, if the bytes of its reader are known, the number of those that
+/// were read, and whether reading has failed.
 #[derive(Drop)]
 pub struct Script<R: Read + Drop> {
     reader: Reader<R>,
@@ -29,7 +29,7 @@ impl<R: Read + Drop> Model for Script<R> {
 
     ghost Value = { Records };
 
-    ghost view = { λ s. record { left = if s.failed then None else records_left R.remaining s.reader; place = s.place } };
+    ghost view = { λ s. record { left = if s.failed then None else records_left R.remaining s.reader; place = s.place; failed = s.failed } };
 
     ghost invariant = { λ s. s.failed ≡ false → ReadsScripts s.reader };
 }
@@ -77,14 +77,19 @@ impl<R: Read + Drop> Script<R> {
 
     /// Reads the next record into `row`: `true` where there is one, `false` at the script's end.
     ///
-    /// `BadScript` comes where the next record is no UTF-8 text, with its place; `InputFailed` where the reader fails,
-    /// `NoMemory` where a growth was refused. After these the script is read no further.
+    /// `BadScript` comes if the next record is no UTF-8 text, with its place; `InputFailed` if the reader fails (or 2^64 - 1
+    /// records were read), `NoMemory` if an allocation failed. Reading has failed then, at the same place: each further call
+    /// answers `InputFailed`, and reads nothing.
     pub fn next(&mut self, row: &mut StringRecord) -> Result<bool, Fault>
         ensures reads { IfOk result (λ found. Reads self.old found (fields_of row.new) self.new) }
         ensures text { OnOk result (AllText (fields_of row.new)) }
+        ensures counts { self.new.place < 2 ^ 64 }
         ensures fails { IfErr result (λ e. ReadFails self.old e) }
+        ensures stops { OnErr result ((self.new.failed ≡ true) × (self.new.place ≡ self.old.place)) }
+        ensures stopped { self.old.failed ≡ true → (result ≡ Err Fault.InputFailed) × (self.new ≡ self.old) }
     {
         if self.failed || self.place == u64::MAX {
+            self.failed = true;
             return Err(Fault::InputFailed);
         }
         match self.reader.read_record(row) {

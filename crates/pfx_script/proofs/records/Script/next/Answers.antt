@@ -9,13 +9,13 @@ pub returns-then-found-clause-reads : goal.returns-then-found-clause-reads
 returns-then-found-clause-reads g c =
     let plain = c.self.invariant c.if-self.false in
     let read : ReadRecord g.R.Read.remaining c.self.inside.reader c.read_record.new.self true (fields_of c.read_record.new.row) = rw c.if-found.true at (c.in-Ok.ensures.reads plain.trim plain.ready) in
-    rw (c.if-found.true, ← c.self.view_is, c.if-self.false) (refl, takes g.R.Read.remaining c.self.inside.reader c.read_record.new.self (fields_of c.read_record.new.row) plain.config read)
+    rw (c.if-found.true, ← c.self.view_is, c.if-self.false) (refl, refl, takes g.R.Read.remaining c.self.inside.reader c.read_record.new.self (fields_of c.read_record.new.row) plain.config read)
 
 pub returns-else-found-clause-reads : goal.returns-else-found-clause-reads
 returns-else-found-clause-reads g c =
     let plain = c.self.invariant c.if-self.false in
     let read : ReadRecord g.R.Read.remaining c.self.inside.reader c.read_record.new.self false (fields_of c.read_record.new.row) = rw c.if-found.false at (c.in-Ok.ensures.reads plain.trim plain.ready) in
-    rw (c.if-found.false, ← c.self.view_is, c.if-self.false) (refl, takes_none g.R.Read.remaining c.self.inside.reader c.read_record.new.self (fields_of c.read_record.new.row) plain.config read)
+    rw (c.if-found.false, ← c.self.view_is, c.if-self.false) (refl, refl, takes_none g.R.Read.remaining c.self.inside.reader c.read_record.new.self (fields_of c.read_record.new.row) plain.config read)
 
 pub returns-in-Err-clause-fails : goal.returns-in-Err-clause-fails
 returns-in-Err-clause-fails g c =
