@@ -1,6 +1,7 @@
 pub mod AnswerLemmas
 pub mod Appends
 pub mod JobLemmas
+pub mod StepLemmas
 pub mod SlotLemmas
 pub mod RunLemmas
 pub mod LedgerLemmas

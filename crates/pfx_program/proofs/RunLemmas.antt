@@ -1,130 +1,204 @@
 -- How far a run of a script has come, and what it leaves where it ends.
-use Rattle.std.proofs.Common.{◌≡◌, ℕ, ◌+◌, List, [], ◌∷◌, ◌++◌, Option, Some, None, Result, Ok, Err, IfSome, IfErr, OnOk, refl, sym, ap, ◌∙◌, append_assoc, append-nil}
-use Rattle.std.specs.Io.KnownBytes.{Appends}
-use Rattle.csv.proofs.WriteFacts.{appends-more}
+use Rattle.std.proofs.Common.{◌≡◌, ◌⊎◌, inl, inr, ℕ, suc, ◌+◌, List, [], ◌∷◌, ◌++◌, length, length-append, Bool, true, false, Option, Some, None, Result, Ok, Err, IfSome, IfErr, OnOk, refl, sym, ap, subst, ◌∙◌, append_assoc, append-nil, add-zero, arith}
 use Rattle.pfx_kinds.specs.declared.any.AnyJob.{AnyJob}
 use Rattle.pfx_machine.specs.Plain.{Plain}
 use Rattle.pfx_script.specs.Verbs.{Said, verb_of}
-use Rattle.pfx_script.specs.Records.{Fields, Records, unread, Takes, ReadFails}
+use Rattle.pfx_script.specs.Records.{Fields, Records, unread, Takes, Reads, ReadFails}
 use Rattle.pfx_fault.specs.declared.refusals.Fault.{Fault}
 use Rattle.pfx_fault.specs.declared.refusals.Fault.TheVariants as fault
-use Rattle.pfx_program.specs.Output.{AppendsFront}
 use Rattle.pfx_program.specs.Answers.{closed_line}
-use Rattle.pfx_program.specs.Script.{Run, Output, after, output_by, output_from, verb_effect, script_output}
-use Rattle.pfx_program.specs.Running.{Carried, Stopped, IsOfRun, Writes}
-use Rattle.pfx_program.proofs.Appends.{appends-nothing}
-use Rattle.pfx_program.proofs.SlotLemmas.{fronts-more}
+use Rattle.pfx_program.specs.Promises.{Promise, Laws}
+use Rattle.pfx_program.specs.Script.{Run, Step, Course, after, at_start, commands_of, course_by, course_from, moved, shown, verb_steps}
+use Rattle.pfx_program.specs.Running.{run_of, Carried, Halts, Stopped, Ends, Runs}
+use Rattle.pfx_program.proofs.StepLemmas.{carried_none, carried_then, stopped_after, stopped_before, stopped_anyway, stopped_reading, commands_append}
 
--- the records so far were run: what was written and what the records that are left write is the whole
-pub record Progress (whole : Output) (script : Records) (run : Run) (old now : Option (List ℕ)) : Type 0 where
+-- ---- courses of records one after the other
+
+from_none : (at : ℕ) (r : Run) → course_from at r [] ≡ record { steps = shown (closed_line r.state.number) ∷ []; ends_at = None }
+unfolding course_from
+from_none at r = refl
+
+from_record : (at : ℕ) (r : Run) (row : Fields) (rows : List Fields) → course_from at r (row ∷ rows) ≡ course_by (λ next. course_from (at + 1) next rows) at r (verb_of row)
+unfolding course_from
+from_record at r row rows = refl
+
+-- a record with a form
+pub from_verb : (at : ℕ) (r : Run) (row : Fields) (rows : List Fields) (verb : Said) → Some verb ≡ verb_of row
+    → course_from at r (row ∷ rows) ≡ after (verb_steps r verb) (course_from (at + 1) (moved r (commands_of (verb_steps r verb))) rows)
+from_verb at r row rows verb is = from_record at r row rows ∙ ap (course_by (λ next. course_from (at + 1) next rows) at r) (sym is)
+
+-- and one without
+pub from_nothing : (at : ℕ) (r : Run) (row : Fields) (rows : List Fields) → verb_of row ≡ None → course_from at r (row ∷ rows) ≡ record { steps = []; ends_at = Some at }
+from_nothing at r row rows is = from_record at r row rows ∙ ap (course_by (λ next. course_from (at + 1) next rows) at r) is
+
+after_after : (x y : List Step) (c : Course) → after x (after y c) ≡ after (x ++ y) c
+after_after x y c = ap (λ (l : List Step). record c { steps = l }) (sym (append_assoc x y c.steps))
+
+-- no field at all is no verb
+pub no_fields : verb_of [] ≡ None
+unfolding verb_of
+no_fields = refl
+
+-- ---- how far a run has come
+
+-- a run that stopped ended so
+stops_by : {E : Type 0} (P : Promise E) (f : Fault) (reading : Type 0) (course : Course) (a b : E) (u v : Option (List ℕ)) → Stopped P reading course.steps a b u v f → Ends P reading course a b u v (Err f)
+stops_by P (fault.BadScript at) reading course a b u v h = absurd h.why
+stops_by P other reading course a b u v h = h
+
+-- the records so far were run, and the others are left: whatever they are, their course goes on behind the steps so far
+pub record Progress {E : Type 0} (P : Promise E) (first script : Records) (begun now : E) (accepted : ℕ) (was is : Option (List ℕ)) : Type 0 where
   pub rows : List Fields
-  pub left : script.left ≡ Some rows
-  pub front : List ℕ
-  pub written : Appends old now front
-  pub same : whole ≡ after front (output_from (script.place + 1) run rows)
+  pub known : IfSome first.left (λ all. (rest : List Fields) × (all ≡ rows ++ rest) × (script.left ≡ Some rest))
+  pub steps : List Step
+  pub carried : Carried P steps begun now was is
+  pub counts : accepted ≡ length (commands_of steps)
+  pub same : (rest : List Fields) → course_from (first.place + 1) (at_start (P.state begun)) (rows ++ rest) ≡ after steps (course_from (script.place + 1) (run_of P now accepted) rest)
 
--- a record was read, and is to be run
-pub record Running (whole : Output) (script : Records) (run : Run) (fields : Fields) (old now : Option (List ℕ)) : Type 0 where
-  pub rows : List Fields
-  pub left : script.left ≡ Some rows
-  pub front : List ℕ
-  pub written : Appends old now front
-  pub same : whole ≡ after front (output_by (λ next. output_from (script.place + 1) next rows) script.place run (verb_of fields))
+module _ {E : Type 0} (P : Promise E) (L : Laws P) where
+  pub starts : (script : Records) (e : E) (w : Option (List ℕ)) → Progress P script script e e 0 w w
+  starts script e w = record {
+    rows = [];
+    known = all_left script.left refl;
+    steps = [];
+    carried = carried_none P L e w;
+    counts = refl;
+    same = λ rest. refl;
+  }
+    where
+      all_left : (left : Option (List Fields)) → script.left ≡ left → IfSome left (λ all. (rest : List Fields) × (all ≡ [] ++ rest) × (script.left ≡ Some rest))
+      all_left None is = tt
+      all_left (Some all) is = (all, refl, is)
 
-pub begins : (s : Plain AnyJob) (bytes : List ℕ) (script : Records) (old : Option (List ℕ)) → script ≡ unread (Some bytes)
-    → Progress (script_output s bytes) script (record { state = s; accepted = 0 }) old old
-begins s bytes script old is = rw is (record { rows = _; left = refl; front = []; written = appends-nothing old; same = refl })
+  -- what is known of the records that are left, where more is known of the script
+  left_then : {Q R : List Fields → Type 0} (left : Option (List Fields)) → ((all : List Fields) → Q all → R all) → IfSome left Q → IfSome left R
+  left_then None f h = tt
+  left_then (Some all) f h = f all h
 
-from_record : (at : ℕ) (run : Run) (fields : Fields) (rows : List Fields) → output_from at run (fields ∷ rows) ≡ output_by (λ next. output_from (at + 1) next rows) at run (verb_of fields)
-unfolding output_from
-from_record at run fields rows = refl
+  -- the next record is run
+  pub runs : (first script next : Records) (a b c : E) (before later : ℕ) (row : Fields) (verb : Said) (u v w : Option (List ℕ)) → Progress P first script a b before u v → Takes script row next → Some verb ≡ verb_of row
+      → Carried P (verb_steps (run_of P b before) verb) b c v w → later ≡ before + length (commands_of (verb_steps (run_of P b before) verb)) → Progress P first next a c later u w
+  runs first script next a b c before later row verb u v w h (place, whole, took) is done counts =
+      let x : List Step = verb_steps (run_of P b before) verb in
+      let now : moved (run_of P b before) (commands_of x) ≡ run_of P c later = λ i. record { state = sym done.state i; accepted = sym counts i } in
+      let long : length (commands_of (h.steps ++ x)) ≡ length (commands_of h.steps) + length (commands_of x) = ap length (commands_append h.steps x) ∙ length-append (commands_of h.steps) (commands_of x) in
+      let was = h.counts in
+      record {
+        rows = h.rows ++ row ∷ [];
+        known = left_then first.left (λ all (rest, split, left).
+            let (more, rows, ended) = rw left at took in
+            (more, split ∙ ap (λ (l : List Fields). h.rows ++ l) rows ∙ sym (append_assoc h.rows (row ∷ []) more), ended)) h.known;
+        steps = h.steps ++ x;
+        carried = carried_then P L h.steps x a b c u v w h.carried done;
+        counts = omega (arith, was, counts, long);
+        same = λ rest. ap (course_from (first.place + 1) (at_start (P.state a))) (append_assoc h.rows (row ∷ []) rest) ∙ h.same (row ∷ rest)
+            ∙ ap (after h.steps) (from_verb (script.place + 1) (run_of P b before) row rest verb is
+            ∙ ap (λ (r : Run). after x (course_from (script.place + 1 + 1) r rest)) now ∙ ap (λ (n : ℕ). after x (course_from (n + 1) (run_of P c later) rest)) (sym place))
+            ∙ after_after h.steps x (course_from (next.place + 1) (run_of P c later) rest);
+      }
 
-from_none : (at : ℕ) (run : Run) → output_from at run [] ≡ record { text = closed_line run.state.number; ends_at = None }
-unfolding output_from
-from_none at run = refl
+  -- ---- ends
 
-pub reads : (whole : Output) (a b : Records) (run : Run) (fields : Fields) (old now : Option (List ℕ)) → Progress whole a run old now → Takes a fields b → Running whole b run fields old now
-reads whole a b run fields old now h (place, took) =
-    let (rest, rows, left) = rw h.left at took in
-    record {
-      rows = rest;
-      left = left;
-      front = h.front;
-      written = h.written;
-      same = h.same ∙ ap (after h.front) (ap (output_from (a.place + 1) run) rows ∙ from_record (a.place + 1) run fields rest
-          ∙ ap (λ at. output_by (λ next. output_from (at + 1) next rest) at run (verb_of fields)) (sym place));
-    }
+  -- the records that the run's end is told by: those that were run and some more, and all of them where they are known
+  pub ends_with : (first script : Records) (a b c : E) (accepted : ℕ) (u v w : Option (List ℕ)) (failed : Bool) (result : Result (Unit {0}) Fault) (h : Progress P first script a b accepted u v) (rest : List Fields)
+      → IfSome first.left (λ all. all ≡ h.rows ++ rest) → Ends P (failed ≡ true) (after h.steps (course_from (script.place + 1) (run_of P b accepted) rest)) a c u w result → Runs P first failed a c u w result
+  ends_with first script a b c accepted u v w failed result h rest known ends = record {
+    records = h.rows ++ rest;
+    known = known;
+    ends = rw (h.same rest) ends;
+  }
 
-pub runs : (whole : Output) (script : Records) (run next : Run) (fields : Fields) (verb : Said) (old now new : Option (List ℕ)) → Running whole script run fields old now → Some verb ≡ verb_of fields
-    → Carried (verb_effect run verb) next now new → Progress whole script next old new
-runs whole script run next fields verb old now new h is done =
-    let e = verb_effect run verb in
-    record {
-      rows = h.rows;
-      left = h.left;
-      front = h.front ++ e.text;
-      written = appends-more old now new h.front e.text h.written done.text;
-      same = h.same ∙ ap (λ v. after h.front (output_by (λ r. output_from (script.place + 1) r h.rows) script.place run v)) (sym is)
-          ∙ ap (λ r. after h.front (after e.text (output_from (script.place + 1) r h.rows))) (sym done.moved)
-          ∙ ap (λ t. record (output_from (script.place + 1) next h.rows) { text = t }) (sym (append_assoc h.front e.text (output_from (script.place + 1) next h.rows).text));
-    }
+  -- the records that are left, or none where they aren't known
+  pub rest_of : (first script : Records) (a b : E) (accepted : ℕ) (u v : Option (List ℕ)) (h : Progress P first script a b accepted u v) → (rest : List Fields) × IfSome first.left (λ all. (all ≡ h.rows ++ rest) × (script.left ≡ Some rest))
+  rest_of first script a b accepted u v h = by first.left h.known
+    where
+      by : (left : Option (List Fields)) → IfSome left (λ all. (rest : List Fields) × (all ≡ h.rows ++ rest) × (script.left ≡ Some rest)) → (rest : List Fields) × IfSome left (λ all. (all ≡ h.rows ++ rest) × (script.left ≡ Some rest))
+      by None k = ([], tt)
+      by (Some all) (rest, split, left) = (rest, (split, left))
 
--- ---- ends
+  -- those behind the next one
+  one_more : (first script next : Records) (a b : E) (accepted : ℕ) (row : Fields) (u v : Option (List ℕ)) (h : Progress P first script a b accepted u v)
+      → IfSome script.left (λ rows. (rest : List Fields) × (rows ≡ row ∷ rest) × (next.left ≡ Some rest)) → (more : List Fields) × IfSome first.left (λ all. all ≡ h.rows ++ row ∷ more)
+  one_more first script next a b accepted row u v h took = by first.left h.known
+    where
+      by : (left : Option (List Fields)) → IfSome left (λ all. (rest : List Fields) × (all ≡ h.rows ++ rest) × (script.left ≡ Some rest)) → (more : List Fields) × IfSome left (λ all. all ≡ h.rows ++ row ∷ more)
+      by None k = ([], tt)
+      by (Some all) (rest, split, left) = let (more, rows, ended) = rw left at took in (more, split ∙ ap (λ (l : List Fields). h.rows ++ l) rows)
 
--- the record has no form
-pub stops : (whole : Output) (script : Records) (run : Run) (fields : Fields) (old now : Option (List ℕ)) → Running whole script run fields old now → None ≡ verb_of fields
-    → Writes whole old now (Err (fault.BadScript script.place))
-stops whole script run fields old now h is =
-    let ends : whole ≡ after h.front (record { text = []; ends_at = Some script.place }) =
-    h.same ∙ ap (λ v. after h.front (output_by (λ r. output_from (script.place + 1) r h.rows) script.place run v)) (sym is) in
-    rw ends (refl, rw append-nil h.written)
+  -- the next record has no form
+  pub stops : (first script next : Records) (a b : E) (accepted : ℕ) (row : Fields) (u v : Option (List ℕ)) (failed : Bool) → Progress P first script a b accepted u v → Takes script row next → None ≡ verb_of row
+      → Runs P first failed a b u v (Err (fault.BadScript next.place))
+  stops first script next a b accepted row u v failed h (place, whole, took) is =
+      let found = one_more first script next a b accepted row u v h took in
+      with_more found.0 found.1
+    where
+      with_more : (more : List Fields) → IfSome first.left (λ all. all ≡ h.rows ++ row ∷ more) → Runs P first failed a b u v (Err (fault.BadScript next.place))
+      with_more more all =
+          let none : after h.steps (course_from (script.place + 1) (run_of P b accepted) (row ∷ more)) ≡ record { steps = h.steps; ends_at = Some next.place } =
+          ap (after h.steps) (from_nothing (script.place + 1) (run_of P b accepted) row more (sym is)) ∙ (λ i. record { steps = append-nil h.steps i; ends_at = Some (sym place i) }) in
+          ends_with first script a b b accepted u v v failed (Err (fault.BadScript next.place)) h (row ∷ more) all
+          (subst (λ (o : Course). Ends P (failed ≡ true) o a b u v (Err (fault.BadScript next.place))) (sym none) (refl, h.carried))
 
--- a fault of the run leaves a beginning
-pub leaves_front : (whole : Output) (old new : Option (List ℕ)) (f : Fault) → IsOfRun f → AppendsFront old new whole.text → Writes whole old new (Err f)
-leaves_front whole old new (fault.BadScript at) of_run front = absurd (of_run at refl)
-leaves_front whole old new other of_run front = front
+  -- a record's run stopped
+  pub fails : (first script next : Records) (a b c : E) (accepted : ℕ) (row : Fields) (verb : Said) (f : Fault) (u v w : Option (List ℕ)) (failed : Bool) → Progress P first script a b accepted u v → Takes script row next
+      → Some verb ≡ verb_of row → Stopped P ⊥ (verb_steps (run_of P b accepted) verb) b c v w f → Runs P first failed a c u w (Err f)
+  fails first script next a b c accepted row verb f u v w failed h (place, whole, took) is stopped =
+      let found = one_more first script next a b accepted row u v h took in
+      with_more found.0 found.1
+    where
+      with_more : (more : List Fields) → IfSome first.left (λ all. all ≡ h.rows ++ row ∷ more) → Runs P first failed a c u w (Err f)
+      with_more more all =
+          let x : List Step = verb_steps (run_of P b accepted) verb in
+          let later : Course = course_from (script.place + 1 + 1) (moved (run_of P b accepted) (commands_of x)) more in
+          let course : course_from (script.place + 1) (run_of P b accepted) (row ∷ more) ≡ after x later = from_verb (script.place + 1) (run_of P b accepted) row more verb is in
+          ends_with first script a b c accepted u v w failed (Err f) h (row ∷ more) all
+          (subst (λ (o : Course). Ends P (failed ≡ true) (after h.steps o) a c u w (Err f)) (sym course) (stops_by P f (failed ≡ true) (after h.steps (after x later)) a c u w
+          (stopped_after P L (failed ≡ true) h.steps (x ++ later.steps) a b c u v w f h.carried (stopped_before P L (failed ≡ true) x later.steps b c v w f (stopped_anyway P L (failed ≡ true) x b c v w f stopped)))))
 
-pub fails : (whole : Output) (script : Records) (run : Run) (fields : Fields) (verb : Said) (f : Fault) (old now new : Option (List ℕ)) → Running whole script run fields old now → Some verb ≡ verb_of fields
-    → Stopped (verb_effect run verb).text now new f → Writes whole old new (Err f)
-fails whole script run fields verb f old now new h is stopped =
-    let e = verb_effect run verb in
-    let text : whole.text ≡ h.front ++ (e.text ++ (output_from (script.place + 1) e.run h.rows).text) =
-    ap (λ o. o.text) (h.same ∙ ap (λ v. after h.front (output_by (λ r. output_from (script.place + 1) r h.rows) script.place run v)) (sym is)) in
-    leaves_front whole old new f stopped.of_run (rw text (fronts-more old now new h.front e.text (output_from (script.place + 1) e.run h.rows).text h.written stopped.front))
+  -- there are no more records
+  pub closes : (first script : Records) (a b c : E) (accepted : ℕ) (u v w : Option (List ℕ)) (failed : Bool) (result : Result (Unit {0}) Fault) → Progress P first script a b accepted u v → IfSome script.left (λ rows. rows ≡ [])
+      → OnOk result (Carried P (shown (closed_line (P.state b).number) ∷ []) b c v w) → OnOk result (P.settled c) → IfErr result (Stopped P ⊥ (shown (closed_line (P.state b).number) ∷ []) b c v w) → Runs P first failed a c u w result
+  closes first script a b c accepted u v w failed result h over ok settled err =
+      ends_with first script a b c accepted u v w failed result h [] (none_left first.left h.known) (rw (from_none (script.place + 1) (run_of P b accepted)) (by result ok settled err))
+    where
+      none_left : (left : Option (List Fields)) → IfSome left (λ all. (rest : List Fields) × (all ≡ h.rows ++ rest) × (script.left ≡ Some rest)) → IfSome left (λ all. all ≡ h.rows ++ [])
+      none_left None k = tt
+      none_left (Some all) (rest, split, left) = let none : rest ≡ [] = rw left at over in split ∙ ap (λ (l : List Fields). h.rows ++ l) none
 
--- what was written is a beginning
-pub so_far : (whole : Output) (script : Records) (run : Run) (old now : Option (List ℕ)) → Progress whole script run old now → AppendsFront old now whole.text
-so_far whole script run old now h = (h.front, (output_from (script.place + 1) run h.rows).text, ap (λ o. o.text) h.same, h.written)
+      by : (result : Result (Unit {0}) Fault) → OnOk result (Carried P (shown (closed_line (P.state b).number) ∷ []) b c v w) → OnOk result (P.settled c) → IfErr result (Stopped P ⊥ (shown (closed_line (P.state b).number) ∷ []) b c v w)
+          → Ends P (failed ≡ true) (after h.steps (record { steps = shown (closed_line (P.state b).number) ∷ []; ends_at = None })) a c u w result
+      by (Ok x) ok settled err = (refl, carried_then P L h.steps (shown (closed_line (P.state b).number) ∷ []) a b c u v w h.carried ok, settled)
+      by (Err f) ok settled err = stops_by P f (failed ≡ true) (after h.steps (record { steps = shown (closed_line (P.state b).number) ∷ []; ends_at = None })) a c u w
+          (stopped_after P L (failed ≡ true) h.steps (shown (closed_line (P.state b).number) ∷ []) a b c u v w f h.carried (stopped_anyway P L (failed ≡ true) (shown (closed_line (P.state b).number) ∷ []) b c v w f err))
 
-closed_by : (front : List ℕ) (n : ℕ) (old now new : Option (List ℕ)) (r : Result (Unit {0}) Fault) → Appends old now front → OnOk r (Appends now new (closed_line n)) → IfErr r (Stopped (closed_line n) now new)
-    → Writes (after front (record { text = closed_line n; ends_at = None })) old new r
-closed_by front n old now new (Ok x) written ok err = (refl, appends-more old now new front (closed_line n) written ok)
-closed_by front n old now new (Err f) written ok err =
-    let all : front ++ (closed_line n ++ []) ≡ front ++ closed_line n = ap (λ t. front ++ t) (append-nil (closed_line n)) in
-    leaves_front (after front (record { text = closed_line n; ends_at = None })) old new f err.of_run (rw all at (fronts-more old now new front (closed_line n) [] written err.front))
+  -- the reading failed
+  halted : (first script : Records) (a b : E) (accepted : ℕ) (u v : Option (List ℕ)) (failed : Bool) (f : Fault) → Progress P first script a b accepted u v → (f ≡ fault.InputFailed) × (failed ≡ true) ⊎ (f ≡ fault.NoMemory)
+      → Runs P first failed a b u v (Err f)
+  halted first script a b accepted u v failed f h why =
+      let (rest, known) = rest_of first script a b accepted u v h in
+      let later : Course = course_from (script.place + 1) (run_of P b accepted) rest in
+      ends_with first script a b b accepted u v v failed (Err f) h rest (left_then first.left (λ all k. k.0) known)
+      (stops_by P f (failed ≡ true) (after h.steps later) a b u v (stopped_reading P L (failed ≡ true) h.steps later.steps a b u v f h.carried why))
 
--- there are no more records
-pub closes : (whole : Output) (script : Records) (run : Run) (old now new : Option (List ℕ)) (result : Result (Unit {0}) Fault) → Progress whole script run old now → IfSome script.left (λ rows. rows ≡ [])
-    → OnOk result (Appends now new (closed_line run.state.number)) → IfErr result (Stopped (closed_line run.state.number) now new) → Writes whole old new result
-closes whole script run old now new result h over ok err =
-    let none : h.rows ≡ [] = rw h.left at over in
-    let ends : whole ≡ after h.front (record { text = closed_line run.state.number; ends_at = None }) = h.same ∙ ap (after h.front) (ap (output_from (script.place + 1) run) none ∙ from_none (script.place + 1) run) in
-    rw ends (closed_by h.front run.state.number old now new result h.written ok err)
+  -- the next record is no text
+  unread_record : (first script : Records) (a b : E) (accepted at : ℕ) (u v : Option (List ℕ)) (failed : Bool) → Progress P first script a b accepted u v → ReadFails script (fault.BadScript at) → Runs P first failed a b u v (Err (fault.BadScript at))
+  unread_record first script a b accepted at u v failed h (place, bad) =
+      let found = by first.left h.known in
+      with_row found.0 found.1 found.2 found.3
+    where
+      by : (left : Option (List Fields)) → IfSome left (λ all. (rest : List Fields) × (all ≡ h.rows ++ rest) × (script.left ≡ Some rest)) → (row : Fields) × (more : List Fields) × (verb_of row ≡ None) × IfSome left (λ all. all ≡ h.rows ++ row ∷ more)
+      by None k = ([], [], no_fields, tt)
+      by (Some all) (rest, split, left) = let (row, more, rows, none) = rw left at bad in (row, more, none, split ∙ ap (λ (l : List Fields). h.rows ++ l) rows)
 
--- the next record is no text, or the reading failed
-pub refuses : (whole : Output) (script : Records) (run : Run) (e : Fault) (old now : Option (List ℕ)) → Progress whole script run old now → ReadFails script e → Writes whole old now (Err e)
-refuses whole script run (fault.BadScript at) old now h (place, read) =
-    let (fields, rest, rows, is) = rw h.left at read in
-    let ends : whole ≡ after h.front (record { text = []; ends_at = Some at }) =
-    h.same ∙ ap (after h.front) (ap (output_from (script.place + 1) run) rows ∙ from_record (script.place + 1) run fields rest
-    ∙ ap (λ v. output_by (λ next. output_from (script.place + 1 + 1) next rest) (script.place + 1) run v) is) ∙ ap (λ p. after h.front (record { text = []; ends_at = Some p })) (sym place) in
-    rw ends (refl, rw append-nil h.written)
-refuses whole script run fault.InputFailed old now h read = so_far whole script run old now h
-refuses whole script run fault.NoMemory old now h read = so_far whole script run old now h
-refuses whole script run other old now h read = absurd read
+      with_row : (row : Fields) (more : List Fields) → verb_of row ≡ None → IfSome first.left (λ all. all ≡ h.rows ++ row ∷ more) → Runs P first failed a b u v (Err (fault.BadScript at))
+      with_row row more none all =
+          let over : after h.steps (course_from (script.place + 1) (run_of P b accepted) (row ∷ more)) ≡ record { steps = h.steps; ends_at = Some at } =
+          ap (after h.steps) (from_nothing (script.place + 1) (run_of P b accepted) row more none) ∙ (λ i. record { steps = append-nil h.steps i; ends_at = Some (sym place i) }) in
+          ends_with first script a b b accepted u v v failed (Err (fault.BadScript at)) h (row ∷ more) all
+          (subst (λ (o : Course). Ends P (failed ≡ true) o a b u v (Err (fault.BadScript at))) (sym over) (refl, h.carried))
 
--- the run begins
-pub starts : (s : Plain AnyJob) (input : Option (List ℕ)) (script : Records) (old : Option (List ℕ)) → script ≡ unread input
-    → IfSome input (λ bytes. Progress (script_output s bytes) script (record { state = s; accepted = 0 }) old old)
-starts s None script old is = tt
-starts s (Some bytes) script old is = begins s bytes script old is
+  pub refuses : (first script : Records) (a b : E) (accepted : ℕ) (f : Fault) (u v : Option (List ℕ)) (failed : Bool) → Progress P first script a b accepted u v → ReadFails script f → failed ≡ true → Runs P first failed a b u v (Err f)
+  refuses first script a b accepted (fault.BadScript at) u v failed h read is = unread_record first script a b accepted at u v failed h read
+  refuses first script a b accepted fault.InputFailed u v failed h read is = halted first script a b accepted u v failed fault.InputFailed h (inl (refl, is))
+  refuses first script a b accepted fault.NoMemory u v failed h read is = halted first script a b accepted u v failed fault.NoMemory h (inr refl)
+  refuses first script a b accepted other u v failed h read is = absurd read

@@ -1,75 +1,94 @@
 -- Slots that are run one after the other.
-use Rattle.std.proofs.Common.{◌≡◌, ℕ, zero, suc, List, [], ◌++◌, Bool, true, false, Option, refl, sym, ap, ◌∙◌, append_assoc, append-nil}
-use Rattle.std.specs.Io.KnownBytes.{Appends}
-use Rattle.csv.proofs.WriteFacts.{appends-more}
+use Rattle.std.proofs.Common.{◌≡◌, ℕ, zero, suc, ◌+◌, List, [], ◌∷◌, ◌++◌, length, length-append, Bool, true, false, Option, Some, None, is_some, refl, sym, ap, subst, ◌∙◌, append_assoc, append-nil, add-zero, arith}
 use Rattle.pfx_fault.specs.declared.refusals.Fault.{Fault}
+use Rattle.pfx_machine.specs.declared.command.Command.{Command}
 use Rattle.pfx_machine.specs.declared.command.Command.TheVariants.{Slot}
-use Rattle.pfx_program.specs.Output.{AppendsFront}
-use Rattle.pfx_program.specs.Script.{Run, Effect, shown, behind, goes_on, command_effect, slots_effect}
-use Rattle.pfx_program.specs.Running.{Carried, CarriedOn, Stopped}
-use Rattle.pfx_program.proofs.Appends.{appends-nothing}
+use Rattle.pfx_kinds.specs.declared.any.AnyJob.{AnyJob}
+use Rattle.pfx_program.specs.Promises.{Promise, Laws}
+use Rattle.pfx_program.specs.Script.{Run, Step, commands_of, with_command, command_step, follows, moved, slot_steps, is_carried}
+use Rattle.pfx_program.specs.Running.{run_of, Carried, Stopped}
+use Rattle.pfx_program.proofs.StepLemmas.{carried_none, carried_then, stopped_after, stopped_before, commands_append}
 
--- a front of what comes behind a front
-pub fronts-more : (old now new : Option (List ℕ)) (front text rest : List ℕ) → Appends old now front → AppendsFront now new text → AppendsFront old new (front ++ (text ++ rest))
-fronts-more old now new front text rest written (more, left, same, added) =
-    (front ++ more, left ++ rest, rw (same, append_assoc, append_assoc) refl, appends-more old now new front more written added)
+-- the steps so far and those of the slots that are left are the whole
+pub record Slotting {E : Type 0} (P : Promise E) (whole : List Step) (begun now : E) (first accepted left : ℕ) (was is : Option (List ℕ)) : Type 0 where
+  pub steps : List Step
+  pub carried : Carried P steps begun now was is
+  pub counts : accepted ≡ first + length (commands_of steps)
+  pub same : whole ≡ steps ++ slot_steps (run_of P now accepted) left
 
--- what was written and what the slots that are left write is the whole
-pub record Slotting (whole : Effect) (run : Run) (left : ℕ) (old now : Option (List ℕ)) : Type 0 where
-  pub front : List ℕ
-  pub written : Appends old now front
-  pub same : whole ≡ behind front (slots_effect run left)
+one_slot : (r : Run) (n : ℕ) → slot_steps r (suc n) ≡ command_step r Slot ∷ follows (λ next. slot_steps next n) r (command_step r Slot).command
+unfolding slot_steps
+one_slot r n = refl
 
-pub slots_start : (run : Run) (count : ℕ) (old : Option (List ℕ)) → Slotting (slots_effect run count) run count old old
-slots_start run count old = record { front = []; written = appends-nothing old; same = refl }
+no_slot : (r : Run) → slot_steps r zero ≡ []
+unfolding slot_steps
+no_slot r = refl
 
-one_slot : (run : Run) (n : ℕ) → slots_effect run (suc n) ≡ goes_on (λ next. slots_effect next n) (command_effect run Slot)
-unfolding slots_effect
-one_slot run n = refl
+-- what follows a slot that is run, and one that is refused
+follows_run : (more : Run → List Step) (r : Run) (c : Option (Command AnyJob)) → is_some c ≡ true → follows more r c ≡ more (moved r (with_command c []))
+follows_run more r (Some c) h = refl
+follows_run more r None h = cc
 
-went_on : (more : Run → Effect) (e : Effect) → e.went ≡ true → goes_on more e ≡ behind e.text (more e.run)
-went_on more e h = rw h refl
+follows_refused : (more : Run → List Step) (r : Run) (c : Option (Command AnyJob)) → is_some c ≡ false → follows more r c ≡ []
+follows_refused more r None h = refl
+follows_refused more r (Some c) h = cc
 
-was_refused : (more : Run → Effect) (e : Effect) → e.went ≡ false → goes_on more e ≡ e
-was_refused more e h = rw h refl
+goes_on : (r : Run) (n : ℕ) → is_carried (command_step r Slot) ≡ true → slot_steps r (suc n) ≡ command_step r Slot ∷ slot_steps (moved r (commands_of (command_step r Slot ∷ []))) n
+goes_on r n went = one_slot r n ∙ ap (λ (l : List Step). command_step r Slot ∷ l) (follows_run (λ next. slot_steps next n) r (command_step r Slot).command went)
 
-pub slot_goes : (whole : Effect) (run next : Run) (left n : ℕ) (old now new : Option (List ℕ)) → left ≡ suc n → Slotting whole run left old now
-    → CarriedOn (command_effect run Slot) true next now new → Slotting whole next n old new
-slot_goes whole run next left n old now new is h done =
-    let e = command_effect run Slot in
-    let step : slots_effect run left ≡ behind e.text (slots_effect next n) =
-    ap (slots_effect run) is ∙ one_slot run n ∙ went_on (λ r. slots_effect r n) e (sym done.told) ∙ ap (λ r. behind e.text (slots_effect r n)) (sym done.carried.moved) in
-    record {
-      front = h.front ++ e.text;
-      written = appends-more old now new h.front e.text h.written done.carried.text;
-      same = h.same ∙ ap (behind h.front) step ∙ ap (λ t. record (slots_effect next n) { text = t }) (sym (append_assoc h.front e.text (slots_effect next n).text));
-    }
+ends : (r : Run) (n : ℕ) → is_carried (command_step r Slot) ≡ false → slot_steps r (suc n) ≡ command_step r Slot ∷ []
+ends r n went = one_slot r n ∙ ap (λ (l : List Step). command_step r Slot ∷ l) (follows_refused (λ next. slot_steps next n) r (command_step r Slot).command went)
 
-pub slot_stops : (whole : Effect) (run next : Run) (left n : ℕ) (old now new : Option (List ℕ)) → left ≡ suc n → Slotting whole run left old now
-    → CarriedOn (command_effect run Slot) false next now new → Carried whole next old new
-slot_stops whole run next left n old now new is h done =
-    let e = command_effect run Slot in
-    let step : whole ≡ behind h.front e = h.same ∙ ap (behind h.front) (ap (slots_effect run) is ∙ one_slot run n ∙ was_refused (λ r. slots_effect r n) e (sym done.told)) in
-    rw step (record { text = appends-more old now new h.front e.text h.written done.carried.text; moved = done.carried.moved })
+module _ {E : Type 0} (P : Promise E) (L : Laws P) where
+  pub slots_start : (e : E) (accepted count left : ℕ) (w : Option (List ℕ)) → left ≡ count → Slotting P (slot_steps (run_of P e accepted) count) e e accepted accepted left w w
+  slots_start e accepted count left w is = record {
+    steps = [];
+    carried = carried_none P L e w;
+    counts = sym (add-zero accepted);
+    same = ap (slot_steps (run_of P e accepted)) (sym is);
+  }
 
--- the text of what goes on begins with that of its first part
-first_text : (more : Run → Effect) (e : Effect) (went : Bool) → e.went ≡ went → (rest : List ℕ) × ((goes_on more e).text ≡ e.text ++ rest)
-first_text more e true h = ((more e.run).text, ap (λ x. x.text) (went_on more e h))
-first_text more e false h = ([], ap (λ x. x.text) (was_refused more e h) ∙ sym (append-nil e.text))
+  pub slot_goes : (whole : List Step) (a b c : E) (first before after left n : ℕ) (u v w : Option (List ℕ)) → left ≡ suc n → Slotting P whole a b first before left u v
+      → Carried P (command_step (run_of P b before) Slot ∷ []) b c v w → true ≡ is_carried (command_step (run_of P b before) Slot)
+      → after ≡ before + length (commands_of (command_step (run_of P b before) Slot ∷ [])) → Slotting P whole a c first after n u w
+  slot_goes whole a b c first before after left n u v w is h done went counts =
+      let r : Run = run_of P b before in
+      let x : List Step = command_step r Slot ∷ [] in
+      let next : moved r (commands_of x) ≡ run_of P c after = λ i. record { state = sym done.state i; accepted = sym counts i } in
+      let split : slot_steps r left ≡ x ++ slot_steps (run_of P c after) n =
+      ap (slot_steps r) is ∙ goes_on r n (sym went) ∙ ap (λ (t : Run). x ++ slot_steps t n) next in
+      let long : length (commands_of (h.steps ++ x)) ≡ length (commands_of h.steps) + length (commands_of x) = ap length (commands_append h.steps x) ∙ length-append (commands_of h.steps) (commands_of x) in
+      let was = h.counts in
+      record {
+        steps = h.steps ++ x;
+        carried = carried_then P L h.steps x a b c u v w h.carried done;
+        counts = omega (arith, was, counts, long);
+        same = h.same ∙ ap (λ (l : List Step). h.steps ++ l) split ∙ sym (append_assoc h.steps x (slot_steps (run_of P c after) n));
+      }
 
-pub slot_fails : (whole : Effect) (run : Run) (left n : ℕ) (old now new : Option (List ℕ)) (f : Fault) → left ≡ suc n → Slotting whole run left old now
-    → Stopped (command_effect run Slot).text now new f → Stopped whole.text old new f
-slot_fails whole run left n old now new f is h stopped =
-    let e = command_effect run Slot in
-    let (rest, begins) = first_text (λ r. slots_effect r n) e e.went refl in
-    let text : whole.text ≡ h.front ++ (e.text ++ rest) = ap (λ x. x.text) h.same ∙ ap (λ t. h.front ++ t) (ap (λ k. (slots_effect run k).text) is ∙ ap (λ x. x.text) (one_slot run n) ∙ begins) in
-    record { of_run = stopped.of_run; front = rw text (fronts-more old now new h.front e.text rest h.written stopped.front) }
+  pub slot_stops : (whole : List Step) (a b c : E) (first before after left n : ℕ) (u v w : Option (List ℕ)) → left ≡ suc n → Slotting P whole a b first before left u v
+      → Carried P (command_step (run_of P b before) Slot ∷ []) b c v w → false ≡ is_carried (command_step (run_of P b before) Slot)
+      → after ≡ before + length (commands_of (command_step (run_of P b before) Slot ∷ [])) → Carried P whole a c u w × (after ≡ first + length (commands_of whole))
+  slot_stops whole a b c first before after left n u v w is h done went counts =
+      let r : Run = run_of P b before in
+      let x : List Step = command_step r Slot ∷ [] in
+      let all : whole ≡ h.steps ++ x = h.same ∙ ap (λ (l : List Step). h.steps ++ l) (ap (slot_steps r) is ∙ ends r n (sym went)) in
+      let long : length (commands_of (h.steps ++ x)) ≡ length (commands_of h.steps) + length (commands_of x) = ap length (commands_append h.steps x) ∙ length-append (commands_of h.steps) (commands_of x) in
+      let was = h.counts in
+      let sum : after ≡ first + length (commands_of (h.steps ++ x)) = omega (arith, was, counts, long) in
+      rw all (carried_then P L h.steps x a b c u v w h.carried done, sum)
 
-none_left : (run : Run) → slots_effect run zero ≡ shown run []
-unfolding slots_effect
-none_left run = refl
+  pub slot_fails : (whole : List Step) (a b c : E) (first before left n : ℕ) (u v w : Option (List ℕ)) (f : Fault) → left ≡ suc n → Slotting P whole a b first before left u v
+      → Stopped P ⊥ (command_step (run_of P b before) Slot ∷ []) b c v w f → Stopped P ⊥ whole a c u w f
+  slot_fails whole a b c first before left n u v w f is h stopped =
+      let r : Run = run_of P b before in
+      let x : List Step = command_step r Slot ∷ [] in
+      let rest : List Step = follows (λ next. slot_steps next n) r (command_step r Slot).command in
+      let all : whole ≡ h.steps ++ (x ++ rest) = h.same ∙ ap (λ (l : List Step). h.steps ++ l) (ap (slot_steps r) is ∙ one_slot r n) in
+      rw all (stopped_after P L ⊥ h.steps (x ++ rest) a b c u v w f h.carried (stopped_before P L ⊥ x rest b c v w f stopped))
 
-pub slots_over : (whole : Effect) (run : Run) (left : ℕ) (old now : Option (List ℕ)) → left ≡ 0 → Slotting whole run left old now → Carried whole run old now
-slots_over whole run left old now is h =
-    let step : whole ≡ behind h.front (shown run []) = h.same ∙ ap (behind h.front) (ap (slots_effect run) is ∙ none_left run) in
-    rw step (record { text = rw append-nil h.written; moved = refl })
+  pub slots_over : (whole : List Step) (a b : E) (first accepted left : ℕ) (u v : Option (List ℕ)) → left ≡ 0 → Slotting P whole a b first accepted left u v
+      → Carried P whole a b u v × (accepted ≡ first + length (commands_of whole))
+  slots_over whole a b first accepted left u v is h =
+      let all : whole ≡ h.steps = h.same ∙ ap (λ (l : List Step). h.steps ++ l) (ap (slot_steps (run_of P b accepted)) is ∙ no_slot (run_of P b accepted)) ∙ append-nil h.steps in
+      rw all (h.carried, h.counts)

@@ -4,6 +4,7 @@ pub mod Faults
 pub mod Ledger
 pub mod Lines
 pub mod Output
+pub mod Promises
 pub mod Plan
 pub mod Running
 pub mod Script

@@ -1,52 +1,61 @@
--- What a run of a script leaves, by its answer.
-use Rattle.std.specs.Prelude.{◌≡◌, ◌≢◌, ℕ, Bool, List, Option, Some, None, Result, Ok, Err}
-use Rattle.std.specs.Io.KnownBytes.{Appends}
+-- What a run of a script leaves, by its answer: of what was printed, of the engine's state, and of what is kept.
+use Rattle.std.specs.Prelude.{◌≡◌, ◌≤◌, ◌⊎◌, ℕ, ◌+◌, ◌++◌, Bool, true, length, List, [], Option, Some, None, Result, Ok, Err, IfSome, ⊤}
+use Rattle.std.specs.Io.KnownBytes.{Appends, Keeps}
 use Rattle.pfx_kinds.specs.AnyKind.{any_kind}
 use Rattle.pfx_kinds.specs.declared.any.AnyJob.{AnyJob}
 use Rattle.pfx_machine.specs.Plain.{Plain}
-use Rattle.pfx_machine.specs.Runs.{answer}
-use Rattle.pfx_machine.specs.Board.{all_lines}
-use Rattle.pfx_machine.specs.declared.board.Board.{Board}
-use Rattle.pfx_machine.specs.declared.command.Command.{Command}
+use Rattle.pfx_machine.specs.Outcome.{outcome}
 use Rattle.pfx_fault.specs.declared.refusals.Fault.{Fault}
 use Rattle.pfx_fault.specs.declared.refusals.Fault.TheVariants as fault
-use Rattle.pfx_program.specs.declared.engine.CallFault.{CallFault}
-use Rattle.pfx_program.specs.declared.engine.CallFault.TheVariants as callfault
+use Rattle.pfx_script.specs.Records.{Fields, Records}
 use Rattle.pfx_program.specs.Output.{AppendsFront}
-use Rattle.pfx_program.specs.Script.{Run, Effect, Output}
+use Rattle.pfx_program.specs.Promises.{Promise}
+use Rattle.pfx_program.specs.Script.{Run, Step, Course, at_start, commands_of, course_from, moved, text_of}
 
--- the fault isn't of the script's form
-abbrev pub IsOfRun : Fault → Type 0
-IsOfRun f = (at : ℕ) → f ≢ fault.BadScript at
+-- how far a run has come over an engine
+abbrev pub run_of : {E : Type 0} → Promise E → E → ℕ → Run
+run_of P engine accepted = record { state = P.state engine; accepted = accepted }
 
--- why an engine accepted no command: the machine refuses it, and the state is as before; or the run ends
-abbrev pub NotAccepted : Plain AnyJob → Command AnyJob → Plain AnyJob → CallFault → Type 0
-NotAccepted s c new (callfault.Refused f) = (answer any_kind s c ≡ Err f) × (new ≡ s)
-NotAccepted s c new (callfault.Failed f) = IsOfRun f
+-- a line wasn't written: the writer failed, and a beginning of it was written, or memory was refused
+abbrev pub LineFails : List ℕ → Option (List ℕ) → Option (List ℕ) → Fault → Type 0
+LineFails text old new fault.OutputFailed = AppendsFront old new text
+LineFails text old new fault.NoMemory = Keeps old new
+LineFails text old new other = ⊥
 
--- the board is that of the state
-pub record Shows (s : Plain AnyJob) (board : Board) : Type 0 where
-  pub number : board.number ≡ s.number
-  pub slot : board.slot ≡ s.ledger.slot
-  pub lines : board.lines.items ≡ all_lines any_kind s
+-- the steps were carried out and printed, and their commands are kept
+pub record Carried {E : Type 0} (P : Promise E) (steps : List Step) (old new : E) (was is : Option (List ℕ)) : Type 0 where
+  pub text : Appends was is (text_of steps)
+  pub state : P.state new ≡ outcome any_kind (P.state old) (commands_of steps)
+  pub settled : P.settled old → P.settled new
+  pub keeps : P.keeps old (commands_of steps) (length (commands_of steps)) new
 
--- the effect was carried out: its text was written, and the run is where it leads
-pub record Carried (e : Effect) (run : Run) (old new : Option (List ℕ)) : Type 0 where
-  pub text : Appends old new e.text
-  pub moved : run ≡ e.run
+-- Why a run stopped behind the steps that it printed, with one step at most tried besides: of this the writer took a
+-- beginning, or nothing was written. `reading` says that the script's reading has failed.
+abbrev pub Halts : Type 0 → (Plain AnyJob → Fault → Type 0) → Plain AnyJob → List ℕ → List Step → Plain AnyJob → Option (List ℕ) → Option (List ℕ) → Fault → Type 0
+Halts reading faults s text tried t was is fault.OutputFailed = (t ≡ outcome any_kind s (commands_of tried)) × (front rest : List ℕ) × (text_of tried ≡ front ++ rest) × Appends was is (text ++ front)
+Halts reading faults s text tried t was is fault.InputFailed = reading × (t ≡ s) × Appends was is text
+Halts reading faults s text tried t was is fault.NoMemory = ((t ≡ s) ⊎ (t ≡ outcome any_kind s (commands_of tried))) × Appends was is text
+Halts reading faults s text tried t was is (fault.BadScript at) = ⊥
+Halts reading faults s text tried t was is other = faults s other × ((t ≡ s) ⊎ (t ≡ outcome any_kind s (commands_of tried))) × Appends was is text
 
--- and whether nothing was refused was told
-pub record CarriedOn (e : Effect) (went : Bool) (run : Run) (old new : Option (List ℕ)) : Type 0 where
-  pub carried : Carried e run old new
-  pub told : went ≡ e.went
+-- some first steps were carried out and printed, whole, and at most one more was tried; the commands of those are kept
+pub record Stopped {E : Type 0} (P : Promise E) (reading : Type 0) (steps : List Step) (old new : E) (was is : Option (List ℕ)) (f : Fault) : Type 0 where
+  pub printed : List Step
+  pub tried : List Step
+  pub rest : List Step
+  pub split : steps ≡ printed ++ (tried ++ rest)
+  pub one : length tried ≤ 1
+  pub why : Halts reading P.faults (outcome any_kind (P.state old) (commands_of printed)) (text_of printed) tried (P.state new) was is f
+  pub keeps : P.keeps old (commands_of printed ++ commands_of tried) (length (commands_of printed)) new
 
--- a fault of the run stopped it, and a beginning of the text was written
-pub record Stopped (text : List ℕ) (old new : Option (List ℕ)) (f : Fault) : Type 0 where
-  pub of_run : IsOfRun f
-  pub front : AppendsFront old new text
+-- the whole course was run, and everything is kept; that up to a record without form; or the run stopped
+abbrev pub Ends : {E : Type 0} → Promise E → Type 0 → Course → E → E → Option (List ℕ) → Option (List ℕ) → Result (Unit {0}) Fault → Type 0
+Ends P reading course old new was is (Ok x) = (course.ends_at ≡ None) × Carried P course.steps old new was is × P.settled new
+Ends P reading course old new was is (Err (fault.BadScript at)) = (course.ends_at ≡ Some at) × Carried P course.steps old new was is
+Ends P reading course old new was is (Err other) = Stopped P reading course.steps old new was is other
 
--- all of the output was written; that up to a record without form; or a beginning
-abbrev pub Writes : Output → Option (List ℕ) → Option (List ℕ) → Result (Unit {0}) Fault → Type 0
-Writes o old new (Ok x) = (o.ends_at ≡ None) × Appends old new o.text
-Writes o old new (Err (fault.BadScript at)) = (o.ends_at ≡ Some at) × Appends old new o.text
-Writes o old new (Err other) = AppendsFront old new o.text
+-- The records are the script's, as far as it is known, and the run ended so on their course.
+pub record Runs {E : Type 0} (P : Promise E) (script : Records) (failed : Bool) (old new : E) (was is : Option (List ℕ)) (result : Result (Unit {0}) Fault) : Type 0 where
+  pub records : List Fields
+  pub known : IfSome script.left (λ all. all ≡ records)
+  pub ends : Ends P (failed ≡ true) (course_from (script.place + 1) (at_start (P.state old)) records) old new was is result

@@ -1,5 +1,5 @@
--- What a run of a script prints: a function of the script's bytes and of the state that it begins with.
-use Rattle.std.specs.Prelude.{◌++◌, ℕ, zero, suc, ◌+◌, Bool, true, false, nat_lt, if◌then◌else◌, List, [], ◌∷◌, Option, Some, None, Result, Ok, Err}
+-- What a run of a script does: steps, each with what it prints and the command that it carries out; a function of the script's records and of the state that it begins with.
+use Rattle.std.specs.Prelude.{◌++◌, ℕ, zero, suc, ◌+◌, nat_lt, if◌then◌else◌, Bool, length, List, [], ◌∷◌, Option, Some, None, is_some, Result, Ok, Err}
 use Rattle.pfx_kinds.specs.AnyKind.{any_kind, any_decoded}
 use Rattle.pfx_kinds.specs.Counts.{count_bytes}
 use Rattle.pfx_kinds.specs.Rules.{rule_bytes}
@@ -27,44 +27,58 @@ pub record Run : Type 0 where
   pub state : Plain AnyJob
   pub accepted : ℕ
 
--- what is printed, how far the run is then, and whether nothing was refused
-pub record Effect : Type 0 where
+-- a step of a run: the lines that it prints, and the command that it carries out, if there is one
+pub record Step : Type 0 where
   pub text : List ℕ
-  pub run : Run
-  pub went : Bool
+  pub command : Option (Command AnyJob)
+
+-- what steps print
+abbrev pub text_of : List Step → List ℕ
+text_of [] = []
+text_of (x ∷ steps) = x.text ++ text_of steps
+
+-- the commands that they carry out
+abbrev pub with_command : Option (Command AnyJob) → List (Command AnyJob) → List (Command AnyJob)
+with_command None H = H
+with_command (Some c) H = c ∷ H
+
+abbrev pub commands_of : List Step → List (Command AnyJob)
+commands_of [] = []
+commands_of (x ∷ steps) = with_command x.command (commands_of steps)
+
+-- how far a run has come with these commands
+abbrev pub moved : Run → List (Command AnyJob) → Run
+moved r H = record { state = outcome any_kind r.state H; accepted = r.accepted + length H }
+
+-- lines alone
+abbrev pub shown : List ℕ → Step
+shown text = record { text = text; command = None }
 
 -- a refused command changes nothing
-abbrev pub refused : Run → Fault → Effect
-refused r f = record { text = refused_line f; run = r; went = false }
+abbrev pub refused : Fault → Step
+refused f = shown (refused_line f)
 
--- a line is printed, and nothing changes
-abbrev pub shown : Run → List ℕ → Effect
-shown r text = record { text = text; run = r; went = true }
-
-abbrev pub answered : Run → Command AnyJob → Result Reply MachineFault → Effect
-answered r c (Ok said) = record {
-  text = reply_line (r.state.number + 1) said;
-  run = record { state = outcome any_kind r.state (c ∷ []); accepted = r.accepted + 1 };
-  went = true;
-}
-answered r c (Err f) = refused r (fault_of_machine f)
+abbrev pub answered : Run → Command AnyJob → Result Reply MachineFault → Step
+answered r c (Ok reply) = record { text = reply_line (r.state.number + 1) reply; command = Some c }
+answered r c (Err f) = refused (fault_of_machine f)
 
 -- a command: one run accepts 1,048,576 of them
-abbrev pub command_effect : Run → Command AnyJob → Effect
-command_effect r c = if nat_lt r.accepted 1048576 then answered r c (answer any_kind r.state c) else refused r fault.SessionFull
+abbrev pub command_step : Run → Command AnyJob → Step
+command_step r c = if nat_lt r.accepted 1048576 then answered r c (answer any_kind r.state c) else refused fault.SessionFull
 
--- a text before an effect
-abbrev pub behind : List ℕ → Effect → Effect
-behind text e = record e { text = text ++ e.text }
+-- whether a step carries a command out
+abbrev pub is_carried : Step → Bool
+is_carried x = is_some x.command
 
--- more follows what went
-abbrev pub goes_on : (Run → Effect) → Effect → Effect
-goes_on more e = if e.went then behind e.text (more e.run) else e
+-- more follows a command that is accepted
+abbrev pub follows : (Run → List Step) → Run → Option (Command AnyJob) → List Step
+follows more r None = []
+follows more r (Some c) = more (moved r (c ∷ []))
 
 -- so many slots, up to the first one that is refused
-unfoldable pub slots_effect : Run → ℕ → Effect
-slots_effect r zero = shown r []
-slots_effect r (suc n) = goes_on (λ next. slots_effect next n) (command_effect r Slot)
+unfoldable pub slot_steps : Run → ℕ → List Step
+slot_steps r zero = []
+slot_steps r (suc n) = command_step r Slot ∷ follows (λ next. slot_steps next n) r (command_step r Slot).command
 
 -- the job that has these numbers: the one that their encoding gives
 abbrev pub job_of : AnyFields → Option AnyJob
@@ -77,39 +91,43 @@ job_by (Ok f) = or_bad_data (job_of f)
 job_by (Err f) = Err f
 
 -- a job of a kind, a goal and a text, for a task
-abbrev pub submitted : Run → ℕ → Result AnyJob StartFault → Effect
-submitted r task (Ok job) = command_effect r (Submit task job)
-submitted r task (Err f) = refused r (fault_of_start f)
+abbrev pub submitted : Run → ℕ → Result AnyJob StartFault → Step
+submitted r task (Ok job) = command_step r (Submit task job)
+submitted r task (Err f) = refused (fault_of_start f)
 
 -- the board of a state
 abbrev pub board_of : Plain AnyJob → List ℕ
 board_of s = board_text s.number s.ledger.slot (all_lines any_kind s)
 
-abbrev pub verb_effect : Run → Said → Effect
-verb_effect r (submit task kind goal text) = submitted r task (job_by (any_start kind goal text))
-verb_effect r (slot n) = slots_effect r n
-verb_effect r (withdraw task) = command_effect r (Withdraw task)
-verb_effect r settle = shown r (settled_line r.state.number)
-verb_effect r status = shown r (board_of r.state)
+abbrev pub verb_steps : Run → Said → List Step
+verb_steps r (submit task kind goal text) = submitted r task (job_by (any_start kind goal text)) ∷ []
+verb_steps r (slot n) = slot_steps r n
+verb_steps r (withdraw task) = command_step r (Withdraw task) ∷ []
+verb_steps r settle = shown (settled_line r.state.number) ∷ []
+verb_steps r status = shown (board_of r.state) ∷ []
 
--- what a run prints, and the place, counted from 1, of the record without form that ends it
-pub record Output : Type 0 where
-  pub text : List ℕ
+-- the steps of a script, and the place, counted from 1, of the record without form that ends them
+pub record Course : Type 0 where
+  pub steps : List Step
   pub ends_at : Option ℕ
 
-abbrev pub after : List ℕ → Output → Output
-after text o = record { text = text ++ o.text; ends_at = o.ends_at }
+abbrev pub after : List Step → Course → Course
+after steps o = record { steps = steps ++ o.steps; ends_at = o.ends_at }
 
--- a record's text, and then what follows; a record without form ends the run
-abbrev pub output_by : (Run → Output) → ℕ → Run → Option Said → Output
-output_by more at r None = record { text = []; ends_at = Some at }
-output_by more at r (Some verb) = after (verb_effect r verb).text (more (verb_effect r verb).run)
+-- a record's steps, and then what follows; a record without form ends the run
+abbrev pub course_by : (Run → Course) → ℕ → Run → Option Said → Course
+course_by more at r None = record { steps = []; ends_at = Some at }
+course_by more at r (Some verb) = after (verb_steps r verb) (more (moved r (commands_of (verb_steps r verb))))
 
--- the output of records, of which the first has the place `at`
-unfoldable pub output_from : ℕ → Run → List Fields → Output
-output_from at r [] = record { text = closed_line r.state.number; ends_at = None }
-output_from at r (row ∷ rows) = output_by (λ next. output_from (at + 1) next rows) at r (verb_of row)
+-- the course of records, of which the first has the place `at`; at the end the last number is printed
+unfoldable pub course_from : ℕ → Run → List Fields → Course
+course_from at r [] = record { steps = shown (closed_line r.state.number) ∷ []; ends_at = None }
+course_from at r (row ∷ rows) = course_by (λ next. course_from (at + 1) next rows) at r (verb_of row)
 
--- the output of a script's bytes, from a state on
-abbrev pub script_output : Plain AnyJob → List ℕ → Output
-script_output s bytes = output_from 1 (record { state = s; accepted = 0 }) (script_records bytes)
+-- how far a run has come that begins with a state
+abbrev pub at_start : Plain AnyJob → Run
+at_start s = record { state = s; accepted = 0 }
+
+-- the course of a script's bytes, from a state on
+abbrev pub script_course : Plain AnyJob → List ℕ → Course
+script_course s bytes = course_from 1 (at_start s) (script_records bytes)

@@ -1,12 +1,7 @@
 //! What carries the commands of a script out.
 
-ghost use Rattle.std.specs.Prelude.{◌≡◌, ◌+◌, ◌∷◌, [], Ok, IfOk, IfErr, OnOk};
-ghost use Rattle.pfx_kinds.specs.AnyKind.{any_kind};
-ghost use Rattle.pfx_kinds.specs.declared.any.AnyJob.{AnyJob};
-ghost use Rattle.pfx_machine.specs.Plain.{Plain};
-ghost use Rattle.pfx_machine.specs.Outcome.{outcome};
-ghost use Rattle.pfx_machine.specs.Runs.{answer};
-ghost use Rattle.pfx_program.specs.Running.{IsOfRun, NotAccepted, Shows};
+ghost use Rattle.std.specs.Prelude.{◌≡◌, IfOk, IfErr, OnOk};
+ghost use Rattle.pfx_program.specs.Promises.{Promise, Laws, IsDone, IsNotDone, IsSame, IsEngineFault, Shows};
 
 use pfx_fault::Fault;
 use pfx_kinds::any::AnyJob;
@@ -24,25 +19,31 @@ pub enum CallFault {
 
 /// What carries commands out, one after the other.
 pub trait Engine {
-    // the state that the accepted commands made
-    ghost state: { Self → Plain AnyJob };
+    /// What the engine promises: the state that its accepted commands made, the faults of its calls, and what is kept.
+    ghost promise: { Promise Self };
 
-    /// Carries a command out: its number and its reply.
+    /// Carries a command out: its number and its reply. The command is kept then.
+    ///
+    /// A command that the machine refuses changes nothing. `NoMemory` leaves the state. After another fault it isn't known
+    /// whether the command is kept, if the machine accepts it.
     fn call(&mut self, alloc: Global, command: Command<AnyJob>) -> Result<(u64, Reply), CallFault>
-        ensures number { IfOk result (λ r. r.0 ≡ (state self.old).number + 1) }
-        ensures reply { IfOk result (λ r. answer any_kind (state self.old) command ≡ Ok r.1) }
-        ensures moves { OnOk result (state self.new ≡ outcome any_kind (state self.old) (command ∷ [])) }
-        ensures refused { IfErr result (NotAccepted (state self.old) command (state self.new)) };
+        ensures done { IfOk result (λ r. IsDone promise command r.0 r.1 self.old self.new) }
+        ensures not_done { IfErr result (IsNotDone promise command self.old self.new) };
 
-    /// Waits until every accepted command is kept: the last one's number.
+    /// Waits until every accepted command is kept: the last one's number. The state stays.
     fn settled(&mut self, alloc: Global) -> Result<u64, Fault>
-        ensures number { IfOk result (λ n. n ≡ (state self.old).number) }
-        ensures same { OnOk result (state self.new ≡ state self.old) }
-        ensures fails { IfErr result IsOfRun };
+        ensures number { IfOk result (λ n. n ≡ (promise.state self.old).number) }
+        ensures settled { OnOk result (promise.settled self.new) }
+        ensures same { IsSame promise self.old self.new }
+        ensures fails { IfErr result (IsEngineFault promise.faults (promise.state self.old)) };
 
-    /// The board, once every accepted command is kept.
+    /// The board, once every accepted command is kept. The state stays.
     fn status(&mut self, alloc: Global) -> Result<Board, Fault>
-        ensures shows { IfOk result (Shows (state self.old)) }
-        ensures same { OnOk result (state self.new ≡ state self.old) }
-        ensures fails { IfErr result IsOfRun };
+        ensures shows { IfOk result (Shows (promise.state self.old)) }
+        ensures settled { OnOk result (promise.settled self.new) }
+        ensures same { IsSame promise self.old self.new }
+        ensures fails { IfErr result (IsEngineFault promise.faults (promise.state self.old)) };
+
+    /// What is kept of no command, of some commands and then of more, and that fewer are kept where more are.
+    ghost laws: { Laws promise };
 }

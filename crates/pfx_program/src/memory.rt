@@ -1,9 +1,7 @@
 //! The engine that keeps nothing: a state in memory, where every accepted command counts as kept.
 
-ghost use Rattle.std.specs.Prelude.{◌≡◌, ◌+◌, ◌∷◌, [], Ok, IfOk, IfErr, OnOk};
-ghost use Rattle.pfx_kinds.specs.AnyKind.{any_kind};
-ghost use Rattle.pfx_machine.specs.Outcome.{outcome};
-ghost use Rattle.pfx_machine.specs.Runs.{answer};
+ghost use Rattle.std.specs.Prelude.{◌≡◌, IfOk, IfErr, OnOk, ⊤};
+ghost use Rattle.pfx_program.specs.Promises.{Promise, Laws, IsDone, IsNotDone, IsSame, IsEngineFault, Shows};
 
 use crate::engine::{CallFault, Engine};
 use pfx_fault::Fault;
@@ -12,7 +10,8 @@ use pfx_machine::{Board, Command, MachineFault, Reply, State};
 use std::alloc::Global;
 
 impl Engine for State<AnyJob> {
-    ghost state = { λ s. s };
+    ghost promise = { record { state = λ s. s; faults = λ s f. ⊥; settled = λ s. ⊤; keeps = λ a H n b. ⊤ } };
+    ghost laws = { record { none = λ e. tt; more = λ a b c H G n settled one two. tt; fewer = λ a b H n m le one. tt } };
 
     fn call(
         &mut self,

@@ -1,13 +1,13 @@
 //! `pfx run`, over any engine.
 
-ghost use Rattle.std.specs.Prelude.{◌≡◌, IfSome, IfOk, IfErr, OnOk};
+ghost use Rattle.std.specs.Prelude.{◌≡◌, ◌+◌, ◌∷◌, [], length, IfOk, IfErr, OnOk};
 ghost use Rattle.std.specs.Io.KnownBytes.{Appends};
 ghost use Rattle.pfx_kinds.specs.Starts.{any_start};
 ghost use Rattle.pfx_script.specs.Verbs.{said_by};
 ghost use Rattle.pfx_fault.specs.declared.refusals.Fault.TheVariants as fault;
 ghost use Rattle.pfx_program.specs.Answers.{reply_line, refused_line, settled_line, closed_line};
-ghost use Rattle.pfx_program.specs.Script.{command_effect, slots_effect, job_by, submitted, verb_effect, board_of, script_output};
-ghost use Rattle.pfx_program.specs.Running.{Carried, CarriedOn, Stopped, Writes};
+ghost use Rattle.pfx_program.specs.Script.{Step, at_start, command_step, slot_steps, job_by, submitted, verb_steps, shown, board_of, is_carried, commands_of};
+ghost use Rattle.pfx_program.specs.Running.{run_of, LineFails, Carried, Stopped, Runs};
 
 use crate::answers::{board_text, closed_line, refused_line, reply_line, settled_line};
 use crate::engine::{CallFault, Engine};
@@ -27,7 +27,7 @@ const MOST: u32 = 1_048_576;
 
 fn put_text<W: Write>(output: &mut W, text: &str) -> Result<(), Fault>
     ensures ok { OnOk result (Appends (W.contents output.old) (W.contents output.new) text.now) }
-    ensures err { IfErr result (Stopped text.now (W.contents output.old) (W.contents output.new)) }
+    ensures err { IfErr result (LineFails text.now (W.contents output.old) (W.contents output.new)) }
 {
     match put(output, text.as_bytes()) {
         Ok(()) => Ok(()),
@@ -42,7 +42,7 @@ fn put_reply<W: Write>(
     said: &Reply,
 ) -> Result<(), Fault>
     ensures ok { OnOk result (Appends (W.contents output.old) (W.contents output.new) (reply_line number said.now)) }
-    ensures err { IfErr result (Stopped (reply_line number said.now) (W.contents output.old) (W.contents output.new)) }
+    ensures err { IfErr result (LineFails (reply_line number said.now) (W.contents output.old) (W.contents output.new)) }
 {
     match reply_line(alloc, number, said) {
         Ok(line) => put_text(output, line.as_str()),
@@ -52,7 +52,7 @@ fn put_reply<W: Write>(
 
 fn put_refused<W: Write>(alloc: Global, output: &mut W, fault: Fault) -> Result<(), Fault>
     ensures ok { OnOk result (Appends (W.contents output.old) (W.contents output.new) (refused_line fault)) }
-    ensures err { IfErr result (Stopped (refused_line fault) (W.contents output.old) (W.contents output.new)) }
+    ensures err { IfErr result (LineFails (refused_line fault) (W.contents output.old) (W.contents output.new)) }
 {
     match refused_line(alloc, fault) {
         Ok(line) => put_text(output, line.as_str()),
@@ -68,10 +68,10 @@ fn run_command<W: Write, E: Engine>(
     output: &mut W,
     engine: &mut E,
 ) -> Result<bool, Fault>
-    ensures ok { IfOk result (λ went. CarriedOn (command_effect (record { state = E.state engine.old; accepted = accepted.old }) command) went
-        (record { state = E.state engine.new; accepted = accepted.new }) (W.contents output.old) (W.contents output.new)) }
-    ensures err { IfErr result (Stopped (command_effect (record { state = E.state engine.old; accepted = accepted.old }) command).text
-        (W.contents output.old) (W.contents output.new)) }
+    ensures ok { OnOk result (Carried E.promise (command_step (run_of E.promise engine.old accepted.old) command ∷ []) engine.old engine.new (W.contents output.old) (W.contents output.new)) }
+    ensures told { IfOk result (λ went. went ≡ is_carried (command_step (run_of E.promise engine.old accepted.old) command)) }
+    ensures counts { OnOk result (accepted.new ≡ accepted.old + length (commands_of (command_step (run_of E.promise engine.old accepted.old) command ∷ []))) }
+    ensures err { IfErr result (Stopped E.promise ⊥ (command_step (run_of E.promise engine.old accepted.old) command ∷ []) engine.old engine.new (W.contents output.old) (W.contents output.new)) }
 {
     if *accepted >= MOST {
         put_refused(alloc, output, Fault::SessionFull)?;
@@ -106,10 +106,9 @@ fn run_slots<W: Write, E: Engine>(
     output: &mut W,
     engine: &mut E,
 ) -> Result<(), Fault>
-    ensures ok { OnOk result (Carried (slots_effect (record { state = E.state engine.old; accepted = accepted.old }) count)
-        (record { state = E.state engine.new; accepted = accepted.new }) (W.contents output.old) (W.contents output.new)) }
-    ensures err { IfErr result (Stopped (slots_effect (record { state = E.state engine.old; accepted = accepted.old }) count).text
-        (W.contents output.old) (W.contents output.new)) }
+    ensures ok { OnOk result (Carried E.promise (slot_steps (run_of E.promise engine.old accepted.old) count) engine.old engine.new (W.contents output.old) (W.contents output.new)) }
+    ensures counts { OnOk result (accepted.new ≡ accepted.old + length (commands_of (slot_steps (run_of E.promise engine.old accepted.old) count))) }
+    ensures err { IfErr result (Stopped E.promise ⊥ (slot_steps (run_of E.promise engine.old accepted.old) count) engine.old engine.new (W.contents output.old) (W.contents output.new)) }
 {
     for _ in 0..count {
         if !run_command(alloc, Command::Slot, accepted, output, engine)? {
@@ -128,10 +127,9 @@ fn run_submit<W: Write, E: Engine>(
     output: &mut W,
     engine: &mut E,
 ) -> Result<(), Fault>
-    ensures ok { OnOk result (Carried (submitted (record { state = E.state engine.old; accepted = accepted.old }) task job)
-        (record { state = E.state engine.new; accepted = accepted.new }) (W.contents output.old) (W.contents output.new)) }
-    ensures err { IfErr result (Stopped (submitted (record { state = E.state engine.old; accepted = accepted.old }) task job).text
-        (W.contents output.old) (W.contents output.new)) }
+    ensures ok { OnOk result (Carried E.promise (submitted (run_of E.promise engine.old accepted.old) task job ∷ []) engine.old engine.new (W.contents output.old) (W.contents output.new)) }
+    ensures counts { OnOk result (accepted.new ≡ accepted.old + length (commands_of (submitted (run_of E.promise engine.old accepted.old) task job ∷ []))) }
+    ensures err { IfErr result (Stopped E.promise ⊥ (submitted (run_of E.promise engine.old accepted.old) task job ∷ []) engine.old engine.new (W.contents output.old) (W.contents output.new)) }
 {
     match job {
         Ok(job) => {
@@ -153,9 +151,8 @@ fn run_settle<W: Write, E: Engine>(
     output: &mut W,
     engine: &mut E,
 ) -> Result<(), Fault>
-    ensures ok { OnOk result (Appends (W.contents output.old) (W.contents output.new) (settled_line (E.state engine.old).number)) }
-    ensures same { OnOk result (E.state engine.new ≡ E.state engine.old) }
-    ensures err { IfErr result (Stopped (settled_line (E.state engine.old).number) (W.contents output.old) (W.contents output.new)) }
+    ensures ok { OnOk result (Carried E.promise (shown (settled_line (E.promise.state engine.old).number) ∷ []) engine.old engine.new (W.contents output.old) (W.contents output.new)) }
+    ensures err { IfErr result (Stopped E.promise ⊥ (shown (settled_line (E.promise.state engine.old).number) ∷ []) engine.old engine.new (W.contents output.old) (W.contents output.new)) }
 {
     let number = engine.settled(alloc)?;
     match settled_line(alloc, number) {
@@ -171,9 +168,9 @@ pub fn run_status<W: Write, E: Engine>(
     output: &mut W,
     engine: &mut E,
 ) -> Result<(), Fault>
-    ensures ok { OnOk result (Appends (W.contents output.old) (W.contents output.new) (board_of (E.state engine.old))) }
-    ensures same { OnOk result (E.state engine.new ≡ E.state engine.old) }
-    ensures err { IfErr result (Stopped (board_of (E.state engine.old)) (W.contents output.old) (W.contents output.new)) }
+    ensures ok { OnOk result (Carried E.promise (shown (board_of (E.promise.state engine.old)) ∷ []) engine.old engine.new (W.contents output.old) (W.contents output.new)) }
+    ensures settled { OnOk result (E.promise.settled engine.new) }
+    ensures err { IfErr result (Stopped E.promise ⊥ (shown (board_of (E.promise.state engine.old)) ∷ []) engine.old engine.new (W.contents output.old) (W.contents output.new)) }
 {
     let board = engine.status(alloc)?;
     match board_text(alloc, &board) {
@@ -183,8 +180,9 @@ pub fn run_status<W: Write, E: Engine>(
 }
 
 fn close<W: Write, E: Engine>(alloc: Global, output: &mut W, engine: &mut E) -> Result<(), Fault>
-    ensures ok { OnOk result (Appends (W.contents output.old) (W.contents output.new) (closed_line (E.state engine.old).number)) }
-    ensures err { IfErr result (Stopped (closed_line (E.state engine.old).number) (W.contents output.old) (W.contents output.new)) }
+    ensures ok { OnOk result (Carried E.promise (shown (closed_line (E.promise.state engine.old).number) ∷ []) engine.old engine.new (W.contents output.old) (W.contents output.new)) }
+    ensures settled { OnOk result (E.promise.settled engine.new) }
+    ensures err { IfErr result (Stopped E.promise ⊥ (shown (closed_line (E.promise.state engine.old).number) ∷ []) engine.old engine.new (W.contents output.old) (W.contents output.new)) }
 {
     let number = engine.settled(alloc)?;
     match closed_line(alloc, number) {
@@ -200,10 +198,9 @@ fn run_verb<W: Write, E: Engine>(
     output: &mut W,
     engine: &mut E,
 ) -> Result<(), Fault>
-    ensures ok { OnOk result (Carried (verb_effect (record { state = E.state engine.old; accepted = accepted.old }) (said_by verb.entry))
-        (record { state = E.state engine.new; accepted = accepted.new }) (W.contents output.old) (W.contents output.new)) }
-    ensures err { IfErr result (Stopped (verb_effect (record { state = E.state engine.old; accepted = accepted.old }) (said_by verb.entry)).text
-        (W.contents output.old) (W.contents output.new)) }
+    ensures ok { OnOk result (Carried E.promise (verb_steps (run_of E.promise engine.old accepted.old) (said_by verb.entry)) engine.old engine.new (W.contents output.old) (W.contents output.new)) }
+    ensures counts { OnOk result (accepted.new ≡ accepted.old + length (commands_of (verb_steps (run_of E.promise engine.old accepted.old) (said_by verb.entry)))) }
+    ensures err { IfErr result (Stopped E.promise ⊥ (verb_steps (run_of E.promise engine.old accepted.old) (said_by verb.entry)) engine.old engine.new (W.contents output.old) (W.contents output.new)) }
 {
     match verb {
         Verb::Submit {
@@ -225,27 +222,26 @@ fn run_verb<W: Write, E: Engine>(
     }
 }
 
-/// Runs a script over an engine: prints a line for each command, in the script's order, and `closed` with the last
-/// number at the end.
+/// Runs the records of a script that are left over an engine: prints a line for each command, in the script's order, and
+/// `closed` with the last number at the end, once every accepted command is kept.
 ///
 /// A command that is refused has a line `refused`, takes no number and changes nothing, and the script goes on; a
 /// record of slots ends with its first refusal. After 1,048,576 accepted commands each further one is refused as
 /// SessionFull. `BadScript` tells the place, counted from 1, of the first record that has no form; the lines before it
-/// are printed, and its commands stand. Any other fault is the reader's, the writer's, the memory's or the engine's:
-/// a beginning of the output is printed then.
+/// are printed, and its commands stand. After any other fault whole lines are printed, but for the writer's own, and the
+/// command of each of them is carried out and kept; of one command more it isn't known: `InputFailed` says that the
+/// script's reading failed, `OutputFailed` that the writer did, and all others come from the memory or the engine.
 pub fn run_script<R: Read + Drop, W: Write, E: Engine>(
     alloc: Global,
-    input: R,
+    script: &mut Script<R>,
     output: &mut W,
     engine: &mut E,
 ) -> Result<(), Fault>
-    ensures { IfSome (R.remaining input) (λ bytes. Writes (script_output (E.state engine.old) bytes)
-        (W.contents output.old) (W.contents output.new) result) }
+    ensures { Runs E.promise script.old script.new.failed engine.old engine.new (W.contents output.old) (W.contents output.new) result }
 {
-    let mut script = Script::new(alloc, input);
     let mut row = StringRecord::new(alloc);
     let mut accepted = 0;
-    for _ in 0..u64::MAX {
+    loop {
         match script.next(&mut row) {
             Ok(true) => {}
             Ok(false) => return close(alloc, output, engine),
@@ -256,5 +252,4 @@ pub fn run_script<R: Read + Drop, W: Write, E: Engine>(
         };
         run_verb(alloc, verb, &mut accepted, output, engine)?;
     }
-    Err(Fault::InputFailed)
 }

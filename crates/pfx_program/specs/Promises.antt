@@ -1,0 +1,74 @@
+-- What an engine is to the callers of its calls.
+use Rattle.std.specs.Prelude.{◌≡◌, ℕ, ◌+◌, ◌≤◌, ◌++◌, ◌⊎◌, length, List, [], ◌∷◌, Result, Ok, Err, ⊤}
+use Rattle.pfx_kinds.specs.AnyKind.{any_kind}
+use Rattle.pfx_kinds.specs.declared.any.AnyJob.{AnyJob}
+use Rattle.pfx_machine.specs.Plain.{Plain}
+use Rattle.pfx_machine.specs.Outcome.{outcome}
+use Rattle.pfx_machine.specs.Runs.{answer}
+use Rattle.pfx_machine.specs.Board.{all_lines}
+use Rattle.pfx_machine.specs.declared.board.Board.{Board}
+use Rattle.pfx_machine.specs.declared.command.Command.{Command}
+use Rattle.pfx_machine.specs.declared.command.Reply.{Reply}
+use Rattle.pfx_fault.specs.declared.refusals.Fault.{Fault}
+use Rattle.pfx_fault.specs.declared.refusals.Fault.TheVariants as fault
+use Rattle.pfx_program.specs.declared.engine.CallFault.{CallFault}
+use Rattle.pfx_program.specs.declared.engine.CallFault.TheVariants as callfault
+
+-- What an engine of this type is: the state that its accepted commands made; what its calls fail with in a state, besides
+-- NoMemory; whether all that was accepted is kept; and what is kept from one engine to a later one: these commands were
+-- accepted between them, and so many of them are kept for good.
+pub record Promise (E : Type 0) : Type 1 where
+  pub state : E → Plain AnyJob
+  pub faults : Plain AnyJob → Fault → Type 0
+  pub settled : E → Type 0
+  pub keeps : E → List (Command AnyJob) → ℕ → E → Type 0
+
+-- what is kept of no command, of some commands and then of more, and that fewer are kept where more are
+pub record Laws {E : Type 0} (P : Promise E) : Type 0 where
+  pub none : (e : E) → P.keeps e [] 0 e
+  pub more : (a b c : E) (H G : List (Command AnyJob)) (n : ℕ) → (P.settled a → P.settled b) → P.keeps a H (length H) b → P.keeps b G n c → P.keeps a (H ++ G) (length H + n) c
+  pub fewer : (a b : E) (H : List (Command AnyJob)) (n m : ℕ) → m ≤ n → P.keeps a H n b → P.keeps a H m b
+
+-- a fault of an engine's call
+abbrev pub IsEngineFault : (Plain AnyJob → Fault → Type 0) → Plain AnyJob → Fault → Type 0
+IsEngineFault faults s fault.NoMemory = ⊤
+IsEngineFault faults s fault.InputFailed = ⊥
+IsEngineFault faults s fault.OutputFailed = ⊥
+IsEngineFault faults s (fault.BadScript at) = ⊥
+IsEngineFault faults s other = faults s other
+
+-- nothing was done
+pub record IsSame {E : Type 0} (P : Promise E) (old new : E) : Type 0 where
+  pub state : P.state new ≡ P.state old
+  pub keeps : P.keeps old [] 0 new
+
+-- a command was carried out, and is kept
+pub record IsDone {E : Type 0} (P : Promise E) (c : Command AnyJob) (number : ℕ) (reply : Reply) (old new : E) : Type 0 where
+  pub accepted : answer any_kind (P.state old) c ≡ Ok reply
+  pub next : number ≡ (P.state old).number + 1
+  pub state : P.state new ≡ outcome any_kind (P.state old) (c ∷ [])
+  pub keeps : P.keeps old (c ∷ []) 1 new
+  pub settled : P.settled new
+
+-- a command was accepted, and it isn't known whether it is kept
+pub record IsInDoubt {E : Type 0} (P : Promise E) (c : Command AnyJob) (old new : E) : Type 0 where
+  pub reply : Reply
+  pub accepted : answer any_kind (P.state old) c ≡ Ok reply
+  pub state : (P.state new ≡ P.state old) ⊎ (P.state new ≡ outcome any_kind (P.state old) (c ∷ []))
+  pub keeps : P.keeps old (c ∷ []) 0 new
+
+-- a failed call leaves the state for want of memory, and else has done nothing or leaves its command in doubt
+abbrev pub IsLeftBy : {E : Type 0} → Promise E → Command AnyJob → E → E → Fault → Type 0
+IsLeftBy P c old new fault.NoMemory = IsSame P old new
+IsLeftBy P c old new other = IsSame P old new ⊎ IsInDoubt P c old new
+
+-- why a command has no answer: the machine refuses it, which changes nothing, or the engine failed
+abbrev pub IsNotDone : {E : Type 0} → Promise E → Command AnyJob → E → E → CallFault → Type 0
+IsNotDone P c old new (callfault.Refused f) = (answer any_kind (P.state old) c ≡ Err f) × IsSame P old new × (P.settled old → P.settled new)
+IsNotDone P c old new (callfault.Failed f) = IsEngineFault P.faults (P.state old) f × IsLeftBy P c old new f
+
+-- the board is that of the state
+pub record Shows (s : Plain AnyJob) (board : Board) : Type 0 where
+  pub number : board.number ≡ s.number
+  pub slot : board.slot ≡ s.ledger.slot
+  pub lines : board.lines.items ≡ all_lines any_kind s
