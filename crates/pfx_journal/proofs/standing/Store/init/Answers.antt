@@ -1,6 +1,6 @@
 use Rattle.pfx_machine.specs.Plain.{empty}
 use Rattle.pfx_journal.proofs.Made.{left_alone, still_none}
-use Rattle.pfx_journal.proofs.store.Store.init.Goals as goal
+use Rattle.pfx_journal.proofs.standing.Store.init.Goals as goal
 
 pub returns-in-Err-SegmentTooSmall-clause-recovers : goal.returns-in-Err-SegmentTooSmall-clause-recovers
 returns-in-Err-SegmentTooSmall-clause-recovers g c honest = still_none g.J.Job.kind (empty c.args.set.now) (g.D.Disk.view c.args.disk)
