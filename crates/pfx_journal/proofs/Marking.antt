@@ -1,20 +1,25 @@
 -- Stores and their marks, after a call.
-use Rattle.std.specs.Prelude.{◌≡◌, ◌≤◌, ◌+◌, ℕ, List, [], ◌∷◌, ◌++◌, length, take, Bool, true, false, Some, Result, Ok, Err, OnOk, IfOk, IsErrOf, refl}
+use Rattle.std.specs.Prelude.{◌≡◌, ◌≤◌, ◌+◌, ℕ, List, [], ◌∷◌, ◌++◌, length, take, if◌then◌else◌, Bool, true, false, Some, Result, Ok, Err, OnOk, IfOk, IsErrOf, refl}
 use Rattle.std.proofs.Common.{sym, ◌∙◌, ap, arith, length-append, subst}
 use Rattle.std.proofs.lemmas.Bool.{true≢false}
 use Rattle.std.proofs.lemmas.List.{take_all, take-append-le}
 use Rattle.pfx_disk.specs.Disk.{View, IsHonest}
 use Rattle.pfx_format.specs.Format.{format}
 use Rattle.pfx_format.specs.Frames.{state_after}
-use Rattle.pfx_jobs.specs.Kind.{Kind}
+use Rattle.pfx_format.proofs.Keeping.{format_laws}
+use Rattle.pfx_jobs.specs.Kind.{Kind, Laws}
 use Rattle.pfx_machine.specs.Plain.{Plain}
 use Rattle.pfx_recovery.specs.Store.{Replays}
+use Rattle.pfx_recovery.specs.Recovery.{recovered}
+use Rattle.pfx_recovery.proofs.Recovers.{recovers}
 use Rattle.pfx_recovery.proofs.Runs.{replays_one}
 use Rattle.pfx_store.specs.Calls.{Works}
 use Rattle.pfx_store.specs.Holding.{KeepsAll, Survives}
 use Rattle.pfx_store.specs.declared.faults.StoreFault.{StoreFault}
 use Rattle.pfx_store.specs.declared.faults.StoreFault.TheVariants.{Device, Broken, NoRoom}
+use Rattle.pfx_store.specs.declared.places.Places.{Places}
 use Rattle.pfx_journal.specs.Marks.{AreKept, Covers, IsKept, marked}
+use Rattle.pfx_journal.specs.Standing.{Stands}
 use Rattle.pfx_journal.specs.declared.store.Mark.{Mark}
 
 pub by_broken : {C : Type 0} (b : Bool) → (b ≡ false → C) → (b ≡ true → C) → C
@@ -28,6 +33,16 @@ was_whole a b true is x works = absurd (ok_no_err x Broken (works.broken.1 refl)
   where
     ok_no_err : {T E : Type 0} (x : T) (e : E) → Ok x ≡ Err e → ⊥
     ok_no_err x e is = cc
+
+-- what a call on a store that isn't broken says of its success
+pub on_ok_when : {T : Type 0} (P : Type 0) (a b : View) (was is : Bool) (result : Result T StoreFault) → Works a b was is result → (was ≡ false → OnOk result P) → OnOk result P
+on_ok_when P a b was is (Ok x) works said = said (was_whole a b was is x works)
+on_ok_when P a b was is (Err fault) works said = tt
+
+-- a store that isn't broken after a call wasn't before it
+pub whole_before : {T : Type 0} (a b : View) (was is : Bool) (result : Result T StoreFault) → Works a b was is result → (IsErrOf result Broken → is ≡ was) → is ≡ false → was ≡ false
+whole_before a b false is result works still here = refl
+whole_before a b true is result works still here = sym (still (works.broken.1 refl)) ∙ here
 
 -- what held before a call, unless the store was broken, holds after it, unless the store is
 pub holds_after : {T : Type 0} (a b : View) (was is : Bool) (before after : Type 0) (result : Result T StoreFault) → Works a b was is result → (IsErrOf result NoRoom → ⊥) → (IsErrOf result Broken → is ≡ was) → (IsHonest b → IsHonest a) →
@@ -61,7 +76,7 @@ module _ {J : Type 0} (K : Kind J) (start : Plain J) (all : List (List ℕ)) whe
     marks = are_kept_on all marks a b (omega arith) (λ k few. refl) later keeps covers.marks;
   }
 
-  module _ (frame : List ℕ) (marks : List Mark) (a b : View) (was is : Bool) (s t : Plain J) (later : a.clock ≤ b.clock) (keeps : KeepsAll (format K) start all (all ++ frame ∷ []) a b) (covers : Covers K start all marks was s a) where
+  module _ (L : Laws K) (frame : List ℕ) (marks : List Mark) (a b : View) (was is : Bool) (s t : Plain J) (later : a.clock ≤ b.clock) (keeps : KeepsAll (format K) start all (all ++ frame ∷ []) a b) (covers : Covers K start all marks was s a) where
     still_kept : AreKept K start (all ++ frame ∷ []) marks b
     still_kept = are_kept_on (all ++ frame ∷ []) marks a b (omega (arith, length-append all (frame ∷ []))) (λ k few. take-append-le k all (frame ∷ []) few) later keeps covers.marks
 
@@ -70,15 +85,15 @@ module _ {J : Type 0} (K : Kind J) (start : Plain J) (all : List (List ℕ)) whe
         (was ≡ false → OnOk result ((image : List ℕ) → b.since b.clock image → Survives (format K) start (all ++ frame ∷ []) (length all + 1) image)) → Covers K start (all ++ frame ∷ []) (marked result marks) is t b
     covers_appended (Ok mark) works room still led is_mark acknowledged =
         let whole = was_whole a b was is mark works in
-        let leads : Replays (format K) start (all ++ frame ∷ []) t = replays_one (format K) start all s frame t (covers.leads whole) led in
+        let run : Replays (format K) start (all ++ frame ∷ []) t = replays_one (format K) (format_laws K L) start all s frame t (covers.leads whole) led in
         let long = length-append all (frame ∷ []) in
         record {
-          leads = λ _. leads;
+          leads = λ _. run;
           marks = (record {
             count = length all + 1;
             few = omega (arith, long);
             state = t;
-            leads = subst (λ (l : List (List ℕ)). Replays (format K) start l t) (sym (take_all (length all + 1) (all ++ frame ∷ []) (omega (arith, long)))) leads;
+            leads = subst (λ (l : List (List ℕ)). Replays (format K) start l t) (sym (take_all (length all + 1) (all ++ frame ∷ []) (omega (arith, long)))) run;
             number = sym is_mark.0;
             past = omega (arith, is_mark.1);
             images = λ image here. acknowledged whole image (subst (λ (c : ℕ). b.since c image) is_mark.1 here);
@@ -88,9 +103,29 @@ module _ {J : Type 0} (K : Kind J) (start : Plain J) (all : List (List ℕ)) whe
     covers_appended (Err Broken) works room still led is_mark acknowledged = record { leads = λ here. absurd (true≢false (sym (works.broken.0 refl) ∙ (sym (still refl) ∙ here))); marks = still_kept }
     covers_appended (Err NoRoom) works room still led is_mark acknowledged = absurd (room refl)
 
--- where a store begins
-pub covers_begun : {J : Type 0} (K : Kind J) (s : Plain J) (broken : Bool) (disk : View) → ((image : List ℕ) → disk.since disk.clock image → Survives (format K) s [] 0 image) → Covers K s [] (record { number = s.number; clock = disk.clock } ∷ []) broken s disk
-covers_begun K s broken disk images = record {
-  leads = λ _. refl;
-  marks = (record { count = 0; few = omega arith; state = s; leads = refl; number = refl; past = omega arith; images = images }, tt);
-}
+-- Where a store stands each image of now is recovered to its state, and where the disk knows no other, each image since now.
+module _ {J : Type 0} (K : Kind J) (L : Laws K) (places : Places) (s : Plain J) (spelled : List ℕ) (disk : View) (stands : Stands K places s spelled disk) where
+  pub recovered_now : (image : List ℕ) → disk.now image → recovered (format K) image ≡ Ok s
+  recovered_now image here = recovers (format K) (format_laws K L) stands.header image stands.parts s (stands.holds.images image here).store
+
+  module _ (only_now : (image : List ℕ) → disk.since disk.clock image → disk.now image) where
+    pub recovered_since : (image : List ℕ) → disk.since disk.clock image → recovered (format K) image ≡ Ok s
+    recovered_since image here = recovered_now image (only_now image here)
+
+    pub covers_begun : (broken : Bool) → Covers K s [] (record { number = s.number; clock = disk.clock } ∷ []) broken s disk
+    covers_begun broken = record {
+      leads = λ _. refl;
+      marks = (record {
+        count = 0;
+        few = omega arith;
+        state = s;
+        leads = refl;
+        number = refl;
+        past = omega arith;
+        images = λ image here. record { count = 0; at_least = omega arith; at_most = omega arith; state = s; replays = refl; recovered = recovered_since image here };
+      }, tt);
+    }
+
+-- the steps that are left where none has been taken
+pub left_by : (turned begun t : Bool) (a b : ℕ) → begun ≡ false → turned ≡ t → (if turned then (if begun then a else b) else 0) ≡ (if t then b else 0)
+left_by turned begun t a b unbegun same = ap (λ (u : Bool). if u then (if begun then a else b) else 0) same ∙ ap (λ (v : Bool). if t then (if v then a else b) else 0) unbegun

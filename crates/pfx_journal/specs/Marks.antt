@@ -30,6 +30,6 @@ module _ {J : Type 0} (K : Kind J) (start : Plain J) (all : List (List ℕ)) whe
   AreKept (mark ∷ marks) disk = IsKept mark disk × AreKept marks disk
 
   -- The frames lead to the store's state, unless it is broken, and each of its marks is kept.
-  pub record Covers (marks : List Mark) (broken : Bool) (s : Plain J) (disk : View) : Type 0 where
+  pub record Covers (noted : List Mark) (broken : Bool) (s : Plain J) (disk : View) : Type 0 where
     pub leads : broken ≡ false → Replays (format K) start all s
-    pub marks : AreKept marks disk
+    pub marks : AreKept noted disk

@@ -53,7 +53,7 @@ impl<D: Disk, J: Job> Model for Store<D, J> {
 impl<D: Disk, J: Job> Store<D, J> {
     /// The state: that of every command up to the last mark.
     pub fn state(&self) -> &State<J>
-        ensures state { result.now ≡ self.now.state }
+        ensures { result.now ≡ self.now.state }
     {
         &self.journal.state
     }
