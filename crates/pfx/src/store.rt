@@ -23,7 +23,7 @@ pub(crate) fn init(rt: &HostRuntime, alloc: Global, set: &str, file: &str) -> Re
         Ok(store) => store,
         Err((fault, _disk)) => return Err(init_fault(fault)),
     };
-    let Ok(line) = created_line(alloc, &set, store.file.places.len) else {
+    let Ok(line) = created_line(alloc, &set, store.places().len) else {
         return Err(Fault::NoMemory);
     };
     match io::writer(rt).write_all(line.as_bytes()) {

@@ -15,7 +15,6 @@ ghost use Rattle.pfx_program.specs.Running.{IsOfRun, NotAccepted, Shows};
 ghost use Rattle.pfx_recovery.specs.Recovery.{recovered};
 ghost use Rattle.pfx_segment.specs.Segment.{Takes};
 ghost use Rattle.pfx_store.specs.Calls.{GoesOn};
-ghost use Rattle.pfx_journal.specs.Standing.{Stands};
 ghost use Rattle.pfx_engine.specs.Failing.{Fails, IsServed, last_kept, stopped_at};
 ghost use Rattle.pfx_engine.specs.Stepping.{command_calls, frame_len};
 ghost use Rattle.pfx_engine.specs.Surviving.{KeepsAll};
@@ -88,7 +87,7 @@ impl<D: Disk> DurableEngine<D> {
         ensures number { IfOk result (λ n. n ≡ self.now.state.number) }
 
         // Each image that a stop now may leave is recovered to the state.
-        ensures durable { Stands any_kind self.now.store.file.places self.now.store.state self.now.store.spelled.items (D.view self.now.store.file.disk)
+        ensures durable { IsHonest (D.view self.now.store.file.disk)
             → OnOk result ((image : List ℕ) → (D.view self.now.store.file.disk).now image → recovered (format any_kind) image ≡ Ok self.now.state) }
     {
         if self.store.is_broken() {
@@ -131,18 +130,14 @@ impl<D: Disk> DurableEngine<D> {
         ensures honest { IsHonest (D.view self.new.store.file.disk) → IsHonest (D.view self.old.store.file.disk) }
         ensures kept { IsHonest (D.view self.old.store.file.disk) → IsHonest (D.view self.new.store.file.disk) }
 
-        // The store goes on behind the command.
-        ensures stands { Stands any_kind self.old.store.file.places self.old.store.state self.old.store.spelled.items (D.view self.old.store.file.disk)
-            → OnOk result (Stands any_kind self.new.store.file.places self.new.store.state self.new.store.spelled.items (D.view self.new.store.file.disk)) }
-
         // From the mark on, each image is recovered to the state behind the command.
-        ensures acknowledged { Stands any_kind self.old.store.file.places self.old.store.state self.old.store.spelled.items (D.view self.old.store.file.disk)
+        ensures acknowledged { IsHonest (D.view self.old.store.file.disk)
             → IfOk result (λ r. (image : List ℕ) → (D.view self.new.store.file.disk).since r.0.clock image
             → recovered (format any_kind) image ≡ Ok self.new.state) }
 
         // At every moment of the call, whatever it answers, the commands that survived before survive, with this one or
         // without.
-        ensures keeps { Stands any_kind self.old.store.file.places self.old.store.state self.old.store.spelled.items (D.view self.old.store.file.disk)
+        ensures keeps { IsHonest (D.view self.old.store.file.disk)
             → (start : Plain AnyJob) → (H : List (Command AnyJob))
             → IsState start → IsAcceptable any_kind start H → self.old.store.state ≡ outcome any_kind start H
             → KeepsAll start H (H ++ command ∷ []) (D.view self.old.store.file.disk) (D.view self.new.store.file.disk) }
@@ -176,6 +171,7 @@ impl<D: Disk> Engine for DurableEngine<D> {
         ensures number { IfOk result (λ r. r.0 ≡ self.old.state.number + 1) }
         ensures reply { IfOk result (λ r. answer any_kind self.old.state command ≡ Ok r.1) }
         ensures moves { OnOk result (self.new.state ≡ outcome any_kind self.old.state (command ∷ [])) }
+        ensures whole { OnOk result (self.new.store.file.broken ≡ false) }
         ensures refused { IfErr result (NotAccepted self.old.state command self.new.state) }
 
         // Where fair schedules of every length go on from the state, as in each store that `init` made, the limits alone refuse
@@ -184,17 +180,19 @@ impl<D: Disk> Engine for DurableEngine<D> {
         ensures endless { IsEndless self.old.state.ledger → OnOk result (IsEndless self.new.state.ledger) }
         ensures fails { IfErr result (Fails self.old.store.state.number (self.new.store.file.broken ≡ true)
             ((self.new.state ≡ self.old.state) × (self.new.store ≡ self.old.store))) }
-        ensures stands { Stands any_kind self.old.store.file.places self.old.store.state self.old.store.spelled.items (D.view self.old.store.file.disk)
-            → OnOk result (Stands any_kind self.new.store.file.places self.new.store.state self.new.store.spelled.items (D.view self.new.store.file.disk)) }
+
+        ensures goes { GoesOn (D.view self.old.store.file.disk) (D.view self.new.store.file.disk) }
+        ensures honest { IsHonest (D.view self.new.store.file.disk) → IsHonest (D.view self.old.store.file.disk) }
+        ensures kept { IsHonest (D.view self.old.store.file.disk) → IsHonest (D.view self.new.store.file.disk) }
 
         // From the return on, each image is recovered to the state behind the command.
-        ensures acknowledged { Stands any_kind self.old.store.file.places self.old.store.state self.old.store.spelled.items (D.view self.old.store.file.disk)
+        ensures acknowledged { IsHonest (D.view self.old.store.file.disk)
             → OnOk result ((image : List ℕ) → (D.view self.new.store.file.disk).since (D.view self.new.store.file.disk).clock image
             → recovered (format any_kind) image ≡ Ok self.new.state) }
 
         // At every moment of the call, whatever it answers, the commands that survived before survive, with this one or
         // without.
-        ensures keeps { Stands any_kind self.old.store.file.places self.old.store.state self.old.store.spelled.items (D.view self.old.store.file.disk)
+        ensures keeps { IsHonest (D.view self.old.store.file.disk)
             → (start : Plain AnyJob) → (H : List (Command AnyJob))
             → IsState start → IsAcceptable any_kind start H → self.old.store.state ≡ outcome any_kind start H
             → KeepsAll start H (H ++ command ∷ []) (D.view self.old.store.file.disk) (D.view self.new.store.file.disk) }

@@ -13,7 +13,6 @@ ghost use Rattle.pfx_machine.specs.declared.command.Command.{Command};
 ghost use Rattle.pfx_record.specs.Records.{plain};
 ghost use Rattle.pfx_recovery.specs.Recovery.{recovered};
 ghost use Rattle.pfx_store.specs.Calls.{Works, GoesOn};
-ghost use Rattle.pfx_journal.specs.Standing.{Stands};
 ghost use Rattle.pfx_segment.specs.Segment.{Takes};
 ghost use Rattle.pfx_engine.specs.Stepping.{command_calls, frame_len};
 ghost use Rattle.pfx_engine.specs.Surviving.{IsRecordOf, KeepsAll};
@@ -61,19 +60,15 @@ pub(crate) fn keep<D: Disk>(
     ensures mark { IfOk result (λ mark. (mark.number ≡ store.new.state.number)
         × (mark.clock ≡ (D.view store.new.file.disk).clock)) }
 
-    // The store goes on behind the command.
-    ensures stands { Stands any_kind store.old.file.places store.old.state store.old.spelled.items (D.view store.old.file.disk)
-        → OnOk result (Stands any_kind store.new.file.places store.new.state store.new.spelled.items (D.view store.new.file.disk)) }
-
     // At every moment of the call, whatever it answers, what survived before survives, with the command or without.
-    ensures keeps { Stands any_kind store.old.file.places store.old.state store.old.spelled.items (D.view store.old.file.disk)
+    ensures keeps { IsHonest (D.view store.old.file.disk)
         → (start : Plain AnyJob) → (H : List (Command AnyJob)) → (c : Command AnyJob)
         → IsState start → IsAcceptable any_kind start H → store.old.state ≡ outcome any_kind start H
         → IsRecordOf store.old.state c (map plain records.items)
         → KeepsAll start H (H ++ c ∷ []) (D.view store.old.file.disk) (D.view store.new.file.disk) }
 
     // From the return on, each image is recovered to the state behind the command.
-    ensures acknowledged { Stands any_kind store.old.file.places store.old.state store.old.spelled.items (D.view store.old.file.disk)
+    ensures acknowledged { IsHonest (D.view store.old.file.disk)
         → OnOk result ((image : List ℕ) → (D.view store.new.file.disk).since (D.view store.new.file.disk).clock image
         → recovered (format any_kind) image ≡ Ok store.new.state) }
 {

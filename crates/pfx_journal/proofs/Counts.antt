@@ -1,5 +1,5 @@
 -- How a call behind another one answers, and how many calls of the disk the two take.
-use Rattle.std.specs.Prelude.{◌≡◌, ◌≤◌, ◌+◌, ◌-◌, ℕ, Bool, true, false, Result, Err, IsErrAnd, nat_lt, if◌then◌else◌}
+use Rattle.std.specs.Prelude.{◌≡◌, ◌≤◌, ◌+◌, ◌-◌, ℕ, Bool, true, false, Result, Err, IsErrAnd, IsOk, nat_lt, if◌then◌else◌}
 use Rattle.std.proofs.Common.{sym, ◌∙◌, subst, arith, inl, inr}
 use Rattle.std.proofs.lemmas.Bool.{true≢false}
 use Rattle.pfx_disk.specs.Disk.{View, HasFailed}
@@ -65,3 +65,7 @@ module _ (n a b : ℕ) (old mid new : Places) (is_a : a ≡ n) (is_b : b ≡ n) 
     room = λ room. subst (λ (q : Places). MovesOn n q new) (there (omega (arith, is_a, room))) (subst (λ (k : ℕ). MovesOn k mid new) is_b (taken.room (room_between room)));
     full = λ none. subst (λ (k : ℕ). IsTurnedBefore k new) is_b (taken.full (λ room. none (room_before room)));
   }
+
+-- the same calls, told of another answer
+pub takes_told : {S T E F : Type 0} (m n : ℕ) (a b : View) (first : Result S E) (result : Result T F) → m ≡ n → (IsOk result → IsOk first) → Takes m a b first → Takes n a b result
+takes_told m n a b first result is ok one = subst (λ (k : ℕ). Takes k a b result) is (record { ok = λ here. one.ok (ok here); later = one.later; at_most = one.at_most; no_fewer = one.no_fewer })

@@ -2,5 +2,6 @@ mod Appends
 pub mod Behinds
 mod Counts
 mod Made
+mod Marking
 pub mod Slots
 mod Standings

@@ -17,11 +17,14 @@ use Rattle.pfx_header.proofs.Stages.{no_store}
 use Rattle.pfx_header.proofs.Written.{header_long, written_read}
 use Rattle.pfx_jobs.specs.Kind.{Kind, Laws}
 use Rattle.pfx_machine.specs.Plain.{Plain, IsState, empty}
+use Rattle.pfx_recovery.specs.Layout.{file_len}
 use Rattle.pfx_recovery.specs.NewFile.{new_parts}
 use Rattle.pfx_recovery.specs.Recovery.{found, from_head, on_ok, recovered}
 use Rattle.pfx_recovery.specs.Refusals.{NotAStore}
 use Rattle.pfx_store.specs.Holding.{Holds}
+use Rattle.pfx_store.specs.Tending.{pieces}
 use Rattle.pfx_store.specs.declared.places.Places.{Places}
+use Rattle.pfx_journal.specs.Making.{making_calls}
 use Rattle.pfx_journal.specs.Standing.{Stands}
 use Rattle.pfx_journal.proofs.Slots.{spelled_read, state_long}
 
@@ -90,6 +93,12 @@ file_short h head body segment is head_is body_is segment_is =
     let long : state_len h.set ≡ 16 + 137 * h.set.real + 8 * (length h.set.weights - h.set.real) = place_out h.set.real (length h.set.weights) front in
     let most = is.segment.1 in
     omega (arith, head_is, body_is, segment_is, real, number, long, most)
+
+-- how many calls the making of a file with parts of these lengths takes
+pub made_calls : (h : Header) (head body segment : ℕ) → IsHeader h → head ≡ header_len h.set → body ≡ state_len h.set → segment ≡ h.segment → 6 + pieces (head + 2 * (1 + body) + 2 * segment - 1) ≡ making_calls h.set h.segment
+made_calls h head body segment is head_is body_is segment_is =
+    let long : head + 2 * (1 + body) + 2 * segment ≡ file_len (layout h) = (let same = segment_same h is in omega (arith, head_is, body_is, segment_is, same)) in
+    ap (λ (n : ℕ). 6 + pieces (n - 1)) long
 
 -- a disk that nothing is done with
 pub left_alone : (disk : View) → IsHonest disk → Leaves Same disk disk

@@ -12,7 +12,7 @@ use Rattle.pfx_header.specs.Headers.{Header}
 use Rattle.pfx_jobs.specs.Kind.{Kind, Laws}
 use Rattle.pfx_machine.specs.Plain.{Plain, IsState}
 use Rattle.pfx_opening.specs.Finding.{IsMiddle, IsOpened}
-use Rattle.pfx_recovery.specs.Recovery.{found, found_of, on_ok, recovered}
+use Rattle.pfx_recovery.specs.Recovery.{Found, found, found_of, on_ok, recovered}
 use Rattle.pfx_recovery.specs.Store.{Parts, Replays, finished, turned_at, with_frame}
 use Rattle.pfx_store.specs.Holding.{Holds, KeepsAll}
 use Rattle.pfx_store.specs.Tending.{settled, settled_unless, made_room}
@@ -141,6 +141,16 @@ opened_stands K h bytes places s middle spelled disk opened set kept = record {
 pub found_recovered : {J : Type 0} (K : Kind J) (h : Header) (bytes : List ℕ) (p : Parts (Plain J)) (s : Plain J) → found (format K) bytes ≡ Ok (found_of h p s) → recovered (format K) bytes ≡ Ok s
 unfolding recovered
 found_recovered K h bytes p s is = ap (λ r. on_ok r (λ f. Ok f.state)) is
+
+abbrev result : {A E : Type 0} → A → Result A E
+result a = Ok a
+
+same_turned : {H S E : Type 0} (a b : Found H S) → result {E = E} a ≡ Ok b → a.parts.turned ≡ b.parts.turned
+same_turned a b is = cc
+
+-- two segments were read where the parts say so
+pub opened_turned : {J : Type 0} (K : Kind J) (h : Header) (bytes : List ℕ) (places : Places) (s : Plain J) (middle : Option (Vec ℕ Global)) (disk : View) → IsOpened (format K) h bytes places s middle disk → (f : Found Header (Plain J)) → found (format K) bytes ≡ Ok f → places.turned ≡ f.parts.turned
+opened_turned K h bytes places s middle disk opened f is = (opened.holds []).turned ∙ same_turned (found_of h opened.parts s) f (sym opened.found ∙ is)
 
 pub on_ok_then : {T E P Q : Type 0} (r : Result T E) → (P → Q) → OnOk r P → OnOk r Q
 on_ok_then (Ok x) f p = f p

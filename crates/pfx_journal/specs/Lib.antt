@@ -1,2 +1,4 @@
 pub mod Standing
+pub mod Stores
 pub mod Making
+pub mod Marks

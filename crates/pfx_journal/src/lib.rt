@@ -17,9 +17,11 @@
 mod format;
 mod making;
 mod opening;
+mod standing;
 mod store;
 mod tending;
 
 pub use format::{FileFormat, FileHeader};
 pub use making::InitFault;
-pub use store::{Mark, Store};
+pub use standing::Store;
+pub use store::Mark;

@@ -1,18 +1,22 @@
 // Making a store.
-ghost use Rattle.std.specs.Prelude.{◌≡◌, ◌<◌, ◌≤◌, ◌+◌, ◌-◌, ◌*◌, ◌^◌, ◌⊎◌, [], ℕ, length, false, vec_capacity, IfOk, IfErr, MatchResult, IsErr};
+ghost use Rattle.std.specs.Prelude.{◌≡◌, ◌↔◌, ◌<◌, ◌≤◌, ◌+◌, ◌-◌, ◌*◌, ◌^◌, ◌⊎◌, ◌∷◌, [], ℕ, List, length, false, vec_capacity, Ok, IfOk, IfErr, MatchResult, IsErr};
 ghost use Rattle.pfx_checkpoint.specs.Spelling.{state_bytes};
 ghost use Rattle.pfx_disk.specs.Disk.{IsHonest, HasFailed, Leaves, Same};
 ghost use Rattle.pfx_creating.specs.Attempts.{IsNoneOrMade};
-ghost use Rattle.pfx_store.specs.Tending.{pieces};
+ghost use Rattle.pfx_recovery.specs.Recovery.{recovered};
+ghost use Rattle.pfx_segment.specs.Segment.{Takes};
+ghost use Rattle.pfx_store.specs.Tending.{pieces, steps_left};
 ghost use Rattle.pfx_format.specs.Format.{format};
 ghost use Rattle.pfx_header.specs.Headers.{IsHeader, IsSegmentSize, header_bytes};
 ghost use Rattle.pfx_machine.specs.Plain.{Plain, empty};
+ghost use Rattle.pfx_journal.specs.Marks.{Covers};
 ghost use Rattle.pfx_journal.specs.Standing.{Stands};
-ghost use Rattle.pfx_journal.specs.Making.{IsBeforeAnyCall, IsSizeFault};
+ghost use Rattle.pfx_journal.specs.Making.{IsBeforeAnyCall, IsSizeFault, making_calls};
 
 use crate::format::FileHeader;
 use crate::opening::longest_frame;
-use crate::store::Store;
+use crate::standing::Store;
+use crate::store::Journal;
 use pfx_checkpoint::{freeze, frozen_len};
 use pfx_creating::{CreateFault, create_file};
 use pfx_disk::Disk;
@@ -70,7 +74,7 @@ fn placed<D: Disk, J: Job>(
     spelled: Vec<u8>,
     frame: Vec<u8>,
     segment: u32,
-) -> Result<Store<D, J>, (InitFault, D)>
+) -> Result<Journal<D, J>, (InitFault, D)>
     requires header { IsHeader (record { set = set.now; segment = segment }) }
     requires empty { state ≡ empty set.now }
     requires head { head.now ≡ header_bytes (record { set = set.now; segment = segment }) }
@@ -87,6 +91,12 @@ fn placed<D: Disk, J: Job>(
         → IfErr result (λ e. Leaves Same (D.view disk) (D.view e.1)) }
     ensures calls { IfOk result (λ store. (D.view store.file.disk).clock
         ≡ (D.view disk).clock + 6 + pieces (store.file.places.len - 1)) }
+    ensures honest { MatchResult result (λ store. IsHonest (D.view disk) ↔ IsHonest (D.view store.file.disk))
+        (λ e. IsHonest (D.view disk) ↔ IsHonest (D.view e.1)) }
+    ensures takes { MatchResult result
+        (λ store. Takes (making_calls set.now segment) (D.view disk) (D.view store.file.disk) result)
+        (λ e. Takes (making_calls set.now segment) (D.view disk) (D.view e.1) result) }
+    ensures left { IfOk result (λ store. steps_left store.file.places ≡ 0) }
     ensures segment { IfOk result (λ store. store.file.places.segment_len ≡ segment) }
     ensures made { IfOk result (λ store. store.state ≡ empty set.now) }
     ensures whole { IfOk result (λ store. store.file.broken ≡ false) }
@@ -98,7 +108,7 @@ fn placed<D: Disk, J: Job>(
 {
     let _number = state.number();
     match create_file::<D, FileHeader, State<J>>(disk, head, &spelled, segment as usize) {
-        Ok(file) => Ok(Store {
+        Ok(file) => Ok(Journal {
             file,
             state,
             spelled,
@@ -109,13 +119,13 @@ fn placed<D: Disk, J: Job>(
     }
 }
 
-// Makes the store of a set at its empty state.
+// Makes the journal of a set at its empty state.
 fn made<D: Disk, J: Job>(
     alloc: Global,
     disk: D,
     set: &TaskSet,
     segment: u32,
-) -> Result<Store<D, J>, (InitFault, D)>
+) -> Result<Journal<D, J>, (InitFault, D)>
     requires { IsSegmentSize set.now.workers segment }
     ensures fault { IfErr result (λ e. (e.0 ≡ InitFault.Device) ⊎ ((e.0 ≡ InitFault.NotEmpty) ⊎ (e.0 ≡ InitFault.NoMemory))) }
     ensures device { IfErr result (λ e. e.0 ≡ InitFault.Device → HasFailed (D.view disk) (D.view e.1)) }
@@ -128,6 +138,12 @@ fn made<D: Disk, J: Job>(
         → IfErr result (λ e. Leaves Same (D.view disk) (D.view e.1)) }
     ensures calls { IfOk result (λ store. (D.view store.file.disk).clock
         ≡ (D.view disk).clock + 6 + pieces (store.file.places.len - 1)) }
+    ensures honest { MatchResult result (λ store. IsHonest (D.view disk) ↔ IsHonest (D.view store.file.disk))
+        (λ e. IsHonest (D.view disk) ↔ IsHonest (D.view e.1)) }
+    ensures takes { MatchResult result
+        (λ store. Takes (making_calls set.now segment) (D.view disk) (D.view store.file.disk) result)
+        (λ e. Takes (making_calls set.now segment) (D.view disk) (D.view e.1) result) }
+    ensures left { IfOk result (λ store. steps_left store.file.places ≡ 0) }
     ensures segment { IfOk result (λ store. store.file.places.segment_len ≡ segment) }
     ensures made { IfOk result (λ store. store.state ≡ empty set.now) }
     ensures whole { IfOk result (λ store. store.file.broken ≡ false) }
@@ -182,12 +198,25 @@ impl<D: Disk, J: Job> Store<D, J> {
         ensures calls { IfOk result (λ store. (D.view store.file.disk).clock
             ≡ (D.view disk).clock + 6 + pieces (store.file.places.len - 1)) }
 
+        // No answer takes more calls, and an honest disk is so before as after.
+        ensures honest { MatchResult result (λ store. IsHonest (D.view disk) ↔ IsHonest (D.view store.file.disk))
+            (λ e. IsHonest (D.view disk) ↔ IsHonest (D.view e.1)) }
+        ensures takes { MatchResult result
+            (λ store. Takes (making_calls set.now segment) (D.view disk) (D.view store.file.disk) result)
+            (λ e. Takes (making_calls set.now segment) (D.view disk) (D.view e.1) result) }
+
         // The store, with segments of that length, at its empty state.
         ensures segment { IfOk result (λ store. store.file.places.segment_len ≡ segment) }
         ensures made { IfOk result (λ store. store.state ≡ empty set.now) }
         ensures whole { IfOk result (λ store. store.file.broken ≡ false) }
-        ensures stands { IsHonest (D.view disk) → IfOk result (λ store.
-            Stands J.kind store.file.places store.state store.spelled.items (D.view store.file.disk)) }
+        ensures left { IfOk result (λ store. steps_left store.file.places ≡ 0) }
+
+        // From the return on each image is recovered to the state: a mark stands for it.
+        ensures begins { IsHonest (D.view disk) → IfOk result (λ store. (image : List ℕ)
+            → (D.view store.file.disk).since (D.view store.file.disk).clock image → recovered (format J.kind) image ≡ Ok store.state) }
+        ensures marks { IsHonest (D.view disk) → IfOk result (λ store. Covers J.kind store.state []
+            (record { number = store.state.number; clock = (D.view store.file.disk).clock } ∷ [])
+            store.file.broken store.state (D.view store.file.disk)) }
 
         // Where the disk was empty since some moment, each image since then is no store's, or the empty state's: at every
         // moment of the call, whatever it answers.
@@ -196,7 +225,10 @@ impl<D: Disk, J: Job> Store<D, J> {
             (λ e. IsNoneOrMade (format J.kind) (empty set.now) (D.view disk) (D.view e.1)) }
     {
         match check_segment(set, segment) {
-            Ok(()) => made(alloc, disk, set, segment),
+            Ok(()) => match made(alloc, disk, set, segment) {
+                Ok(journal) => Ok(Store { journal }),
+                Err(refused) => Err(refused),
+            },
             Err(SegmentSizeFault::SegmentTooSmall { least }) => {
                 Err((InitFault::SegmentTooSmall { least }, disk))
             }

@@ -1,17 +1,22 @@
 // Opening a store.
-ghost use Rattle.std.specs.Prelude.{◌≡◌, ◌≤◌, ◌+◌, ◌*◌, ℕ, List, length, false, Vec, vec_capacity, Some, Ok, Err, IfOk, IfErr, MatchResult};
+ghost use Rattle.std.specs.Prelude.{◌≡◌, ◌≤◌, ◌+◌, ◌*◌, ◌∷◌, [], ℕ, List, length, if◌then◌else◌, false, Vec, vec_capacity, Some, Ok, Err, IfOk, IfErr, MatchResult};
 ghost use Rattle.std.specs.declared.alloc.Global.{Global};
 ghost use Rattle.pfx_disk.specs.Disk.{IsHonest, HasFailed};
 ghost use Rattle.pfx_format.specs.Format.{format, layout};
+ghost use Rattle.pfx_header.specs.Headers.{Header};
+ghost use Rattle.pfx_machine.specs.Plain.{Plain};
 ghost use Rattle.pfx_opening.specs.Answers.{IsRefusal};
 ghost use Rattle.pfx_opening.specs.Finding.{IsOpened};
 ghost use Rattle.pfx_opening.specs.Looking.{Looks};
-ghost use Rattle.pfx_recovery.specs.Recovery.{recovered};
+ghost use Rattle.pfx_recovery.specs.Recovery.{Found, found, recovered};
 ghost use Rattle.pfx_store.specs.Fitting.{Fits};
+ghost use Rattle.pfx_store.specs.Tending.{pieces, steps_left};
+ghost use Rattle.pfx_journal.specs.Marks.{Covers};
 ghost use Rattle.pfx_journal.specs.Standing.{Stands};
 
 use crate::format::{FileFormat, FileHeader};
-use crate::store::Store;
+use crate::standing::Store;
+use crate::store::Journal;
 use pfx_checkpoint::state_len;
 use pfx_disk::Disk;
 use pfx_jobs::job::Job;
@@ -38,20 +43,23 @@ fn body_of(alloc: Global, middle: Option<Vec<u8>>, len: usize) -> Result<Vec<u8>
     }
 }
 
-// The store of a file, with its room.
+// The journal of a file, with its room.
 fn furnished<D: Disk, J: Job>(
     alloc: Global,
     file: StoreFile<D>,
     header: &FileHeader,
     state: State<J>,
     middle: Option<Vec<u8>>,
-) -> Result<Store<D, J>, (OpenFault, D)>
+) -> Result<Journal<D, J>, (OpenFault, D)>
     requires sized { Fits (layout header.now) file.places }
     requires set { state.ledger.set ≡ header.now.set }
     ensures file { IfOk result (λ store. store.file ≡ file) }
     ensures state { IfOk result (λ store. store.state ≡ state) }
     ensures found { (bytes : List ℕ) → IsOpened (format J.kind) header.now bytes file.places state middle (D.view file.disk)
         → IfOk result (λ store. recovered (format J.kind) bytes ≡ Ok store.state) }
+    ensures turned { (bytes : List ℕ) → IsOpened (format J.kind) header.now bytes file.places state middle (D.view file.disk)
+        → (f : Found Header (Plain J)) → found (format J.kind) bytes ≡ Ok f
+        → IfOk result (λ store. store.file.places.turned ≡ f.parts.turned) }
     ensures stands { (bytes : List ℕ) → IsOpened (format J.kind) header.now bytes file.places state middle (D.view file.disk)
         → IfOk result (λ store. Stands J.kind store.file.places store.state store.spelled.items (D.view store.file.disk)) }
     ensures fault { IfErr result (λ e. (e.0 ≡ OpenFault.NoMemory) × (e.1 ≡ file.disk)) }
@@ -63,7 +71,7 @@ fn furnished<D: Disk, J: Job>(
     let Ok(frame) = Vec::with_capacity(alloc, longest_frame(set.workers())) else {
         return Err((OpenFault::NoMemory, file.into_disk()));
     };
-    Ok(Store {
+    Ok(Journal {
         file,
         state,
         spelled,
@@ -85,8 +93,19 @@ impl<D: Disk, J: Job> Store<D, J> {
         ensures looks { MatchResult result
             (λ store. Looks (D.view disk) (D.view store.file.disk)) (λ e. Looks (D.view disk) (D.view e.1)) }
         ensures whole { IfOk result (λ store. store.file.broken ≡ false) }
-        ensures stands { IsHonest (D.view disk) → IfOk result (λ store.
-            Stands J.kind store.file.places store.state store.spelled.items (D.view store.file.disk)) }
+        ensures begun { IfOk result (λ store. store.file.places.begun ≡ false) }
+
+        // Where two segments were read a checkpoint is in progress, with all its steps to come; else there is none.
+        ensures left { IsHonest (D.view disk) → IfOk result (λ store. (f : Found Header (Plain J))
+            → found (format J.kind) (D.view disk).contents ≡ Ok f
+            → steps_left store.file.places ≡ (if f.parts.turned then 2 + pieces store.file.places.body else 0)) }
+
+        // From the return on each image is recovered to the state: a mark stands for it.
+        ensures begins { IsHonest (D.view disk) → IfOk result (λ store. (image : List ℕ)
+            → (D.view store.file.disk).since (D.view store.file.disk).clock image → recovered (format J.kind) image ≡ Ok store.state) }
+        ensures marks { IsHonest (D.view disk) → IfOk result (λ store. Covers J.kind store.state []
+            (record { number = store.state.number; clock = (D.view store.file.disk).clock } ∷ [])
+            store.file.broken store.state (D.view store.file.disk)) }
     {
         match open::<FileFormat<J>, D>(alloc, disk) {
             Err(fault) => Err(fault),
@@ -97,7 +116,10 @@ impl<D: Disk, J: Job> Store<D, J> {
                     state,
                     middle,
                 } = opened;
-                furnished(alloc, file, &header, state, middle)
+                match furnished(alloc, file, &header, state, middle) {
+                    Ok(journal) => Ok(Store { journal }),
+                    Err(refused) => Err(refused),
+                }
             }
         }
     }

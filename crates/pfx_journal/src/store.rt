@@ -1,4 +1,4 @@
-// The durable store: a state, and the file that keeps it.
+// A state and the file that keeps it, with nothing said yet of whether they agree.
 ghost use Rattle.std.specs.Prelude.{◌≡◌, ◌≤◌, ◌<◌, ◌+◌, ◌*◌, ◌^◌, ◌++◌, ◌∷◌, [], ℕ, List, length, map, take, slice_index, vec_capacity, Some, OnOk, OnErr, IfOk, IsErrOf};
 ghost use Rattle.byteorder.specs.Endian.{little_number};
 ghost use Rattle.pfx_checkpoint.specs.Spelling.{state_bytes, state_len};
@@ -35,12 +35,12 @@ pub struct Mark {
     pub clock: u64,
 }
 
-/// A state, and the file on a disk that keeps it.
+/// A state, and the file on a disk that is to keep it. That the file stands for the state is a store's promise.
 #[derive(Drop)]
-pub struct Store<D: Disk, J: Job> {
+pub(crate) struct Journal<D: Disk, J: Job> {
     /// The file.
     pub file: StoreFile<D>,
-    /// The state that the file stands for.
+    /// The state.
     pub state: State<J>,
     /// The body of the slot that the checkpoint in progress writes.
     pub spelled: Vec<u8>,
@@ -107,28 +107,7 @@ fn take_over<J: Job>(state: &mut State<J>, batch: &Batch<J>)
     let _taken = apply_all(state, &batch.records);
 }
 
-impl<D: Disk, J: Job> Store<D, J> {
-    /// The state: that of every command up to the last mark.
-    pub fn state(&self) -> &State<J>
-        ensures { result.now ≡ self.now.state }
-    {
-        &self.state
-    }
-
-    /// Whether the disk has failed in an earlier call: then the store does nothing any more, and has to be opened again.
-    pub fn is_broken(&self) -> bool
-        ensures { result ≡ self.now.file.broken }
-    {
-        self.file.broken
-    }
-
-    /// The disk.
-    pub fn into_disk(self) -> D
-        ensures { result ≡ self.file.disk }
-    {
-        self.file.into_disk()
-    }
-
+impl<D: Disk, J: Job> Journal<D, J> {
     // Where a frame of n bytes has no room: ends the checkpoint in progress, and spells the state for the next one.
     fn make_room(&mut self, n: usize) -> Result<(), StoreFault>
         ensures works { Works (D.view self.old.file.disk) (D.view self.new.file.disk) self.old.file.broken self.new.file.broken result }
@@ -163,15 +142,8 @@ impl<D: Disk, J: Job> Store<D, J> {
         Ok(())
     }
 
-    /// Appends a batch: from the mark on it is durable. Where its frame doesn't fit, the checkpoint in progress is ended
-    /// first, if there is one, and the file turned to its other segment. It takes no memory.
-    ///
-    /// It makes four calls of the disk where the frame fits, and otherwise six more and those of the checkpoint's steps that
-    /// are left: never more than 15 and one for each 4,096 bytes of a slot.
-    ///
-    /// The batch begins with the next number, has rows of the state's workers, and is right at the state. `Device` breaks
-    /// the store, and it keeps its state; a broken store answers `Broken` and does nothing.
-    pub fn append(&mut self, batch: &Batch<J>) -> Result<Mark, StoreFault>
+    // Appends a batch, as a store does.
+    pub(crate) fn append(&mut self, batch: &Batch<J>) -> Result<Mark, StoreFault>
         requires workers { batch.now.workers ≡ self.old.state.ledger.set.workers }
         requires first { batch.now.first ≡ self.old.state.number + 1 }
         requires right { (t : Plain J) × (applied J.kind self.old.state (map plain batch.now.records.items) ≡ Some t) }
@@ -188,6 +160,7 @@ impl<D: Disk, J: Job> Store<D, J> {
         ensures state { OnOk result (applied J.kind self.old.state (map plain batch.now.records.items) ≡ Some self.new.state) }
         ensures frame { let n = length (batch_bytes J.kind (batch_of batch.now.first batch.now.records.items)) in
             OnOk result (TakesFrame n self.old.file.places self.new.file.places) }
+        ensures parts { SameParts self.old.file.places self.new.file.places }
         ensures mark { IfOk result (λ mark. (mark.number ≡ self.new.state.number)
             × (mark.clock ≡ (D.view self.new.file.disk).clock)) }
 

@@ -13,19 +13,15 @@ ghost use Rattle.pfx_store.specs.declared.checkpoint.TheConstants.{PIECE};
 ghost use Rattle.pfx_journal.specs.Standing.{Stands};
 
 use crate::format::FileHeader;
-use crate::store::{Store, spell, start_behind};
+use crate::store::{Journal, spell, start_behind};
 use pfx_disk::Disk;
 use pfx_jobs::job::Job;
 use pfx_machine::State;
 use pfx_store::{StoreFault, Tended};
 
-impl<D: Disk, J: Job> Store<D, J> {
-    /// Takes one step of the checkpoint in progress, if there is one: two calls of the disk for the first, one for each
-    /// piece of at most 4,096 bytes, three for the last. It takes no memory.
-    ///
-    /// The checkpoint holds the state at the turn, whatever was appended since. `Device` breaks the store; a broken store
-    /// answers `Broken` and does nothing.
-    pub fn tend(&mut self) -> Result<Tended, StoreFault>
+impl<D: Disk, J: Job> Journal<D, J> {
+    // Takes one step of the checkpoint in progress, as a store does.
+    pub(crate) fn tend(&mut self) -> Result<Tended, StoreFault>
         ensures works { Works (D.view self.old.file.disk) (D.view self.new.file.disk) self.old.file.broken self.new.file.broken result }
         ensures calls { Takes (calls_of (next_step self.old.file.places)) (D.view self.old.file.disk) (D.view self.new.file.disk) result }
         ensures honest { IsHonest (D.view self.new.file.disk) → IsHonest (D.view self.old.file.disk) }
@@ -60,12 +56,8 @@ impl<D: Disk, J: Job> Store<D, J> {
         self.file.tend::<FileHeader, State<J>>(&self.spelled)
     }
 
-    /// Turns the store to its other segment, by six calls of the disk: a checkpoint of the state is in progress then.
-    /// `false`, and nothing done, where that isn't lawful: a checkpoint is in progress, or the segment that frames go to has
-    /// none. It takes no memory.
-    ///
-    /// `Device` breaks the store; a broken store answers `Broken` and does nothing.
-    pub fn turn(&mut self) -> Result<bool, StoreFault>
+    // Turns to the other segment, as a store does.
+    pub(crate) fn turn(&mut self) -> Result<bool, StoreFault>
         ensures works { Works (D.view self.old.file.disk) (D.view self.new.file.disk) self.old.file.broken self.new.file.broken result }
         ensures calls { Takes (turn_calls self.old.file.places) (D.view self.old.file.disk) (D.view self.new.file.disk) result }
         ensures honest { IsHonest (D.view self.new.file.disk) → IsHonest (D.view self.old.file.disk) }

@@ -44,6 +44,8 @@ pub fn open<F: Format, D: Disk>(alloc: Global, disk: D) -> Result<Opened<D, F>, 
     ensures looks { MatchResult result
         (λ o. Looks (D.view disk) (D.view o.file.disk)) (λ e. Looks (D.view disk) (D.view e.1)) }
     ensures whole { IfOk result (λ o. o.file.broken ≡ false) }
+    // No checkpoint is begun, also where one is in progress.
+    ensures unbegun { IfOk result (λ o. o.file.places.begun ≡ false) }
     ensures sized { IfOk result (λ o. Fits (F.codec.layout o.header) o.file.places) }
     ensures fits { IfOk result (λ o. F.fits o.header o.state) }
 {

@@ -1,5 +1,5 @@
 // The records of one segment or of two, where the heads of all frames are right.
-ghost use Rattle.std.specs.Prelude.{◌≡◌, ◌≤◌, ◌<◌, ◌+◌, ◌^◌, ℕ, List, not, IfOk, IsErrOf};
+ghost use Rattle.std.specs.Prelude.{◌≡◌, ◌≤◌, ◌<◌, ◌+◌, ◌^◌, ℕ, List, false, not, IfOk, IsErrOf};
 ghost use Rattle.pfx_segment.specs.Reading.{views};
 ghost use Rattle.pfx_recovery.specs.Layout.{segment_at, segment_end, IsOpenAt};
 ghost use Rattle.pfx_recovery.specs.Recovery.{slot_taken, segment_begun, from_one, from_two};
@@ -78,6 +78,7 @@ pub(crate) fn read_single<F: Format>(
     ensures fits { IfOk result (λ c. F.fits file.now.header c.state) }
     ensures len { IfOk result (λ c. c.places.len ≡ total_len file.now.sizes) }
     ensures sized { IfOk result (λ c. Fits (F.codec.layout file.now.header) c.places) }
+    ensures unbegun { IfOk result (λ c. c.places.begun ≡ false) }
     ensures exact { (bytes : List ℕ)
         → IsSlot F.codec file.now.header bytes slot (slot_taken F.codec file.now.header bytes)
         → (n : ℕ)
@@ -125,6 +126,7 @@ pub(crate) fn read_double<F: Format>(
     ensures fits { IfOk result (λ c. F.fits file.now.header c.state) }
     ensures len { IfOk result (λ c. c.places.len ≡ total_len file.now.sizes) }
     ensures sized { IfOk result (λ c. Fits (F.codec.layout file.now.header) c.places) }
+    ensures unbegun { IfOk result (λ c. c.places.begun ≡ false) }
     ensures exact { (bytes : List ℕ)
         → IsSlot F.codec file.now.header bytes slot (slot_taken F.codec file.now.header bytes)
         → IsOpenAt (segment_at (F.codec.layout file.now.header) second) bytes

@@ -1,5 +1,5 @@
 // A synced disk, read in the order of the tests.
-ghost use Rattle.std.specs.Prelude.{◌≡◌, ◌≤◌, ◌<◌, ◌+◌, ◌^◌, ℕ, List, length, IfOk, OnOk, IsErrOf};
+ghost use Rattle.std.specs.Prelude.{◌≡◌, ◌≤◌, ◌<◌, ◌+◌, ◌^◌, ℕ, List, false, length, IfOk, OnOk, IsErrOf};
 ghost use Rattle.pfx_disk.specs.Disk.{IsHonest, HasFailed};
 ghost use Rattle.pfx_segment.specs.Reading.{views};
 ghost use Rattle.pfx_recovery.specs.Recovery.{slot_taken, segment_begun, from_frames, from_state, from_slot, found, on_ok};
@@ -41,6 +41,7 @@ fn read_on<F: Format, D: Disk>(
     ensures fits { IfOk result (λ c. F.fits file.now.header c.state) }
     ensures len { IfOk result (λ c. c.places.len ≡ total_len file.now.sizes) }
     ensures sized { IfOk result (λ c. Fits (F.codec.layout file.now.header) c.places) }
+    ensures unbegun { IfOk result (λ c. c.places.begun ≡ false) }
     ensures exact { (bytes : List ℕ) → IsKept bytes (D.view disk.old)
         → IsSlot F.codec file.now.header bytes slot (slot_taken F.codec file.now.header bytes)
         → (n : ℕ)
@@ -74,6 +75,7 @@ fn read_segments<F: Format, D: Disk>(
     ensures fits { IfOk result (λ c. F.fits file.now.header c.state) }
     ensures len { IfOk result (λ c. c.places.len ≡ total_len file.now.sizes) }
     ensures sized { IfOk result (λ c. Fits (F.codec.layout file.now.header) c.places) }
+    ensures unbegun { IfOk result (λ c. c.places.begun ≡ false) }
     ensures exact { (bytes : List ℕ) → IsKept bytes (D.view disk.old)
         → IsSlot F.codec file.now.header bytes slot (slot_taken F.codec file.now.header bytes)
         → Gives (λ c. IsFound F.codec file.now.header bytes c.places c.state c.middle)
@@ -99,6 +101,7 @@ fn read_contents<F: Format, D: Disk>(
     ensures fits { IfOk result (λ c. F.fits file.now.header c.state) }
     ensures len { IfOk result (λ c. c.places.len ≡ total_len file.now.sizes) }
     ensures sized { IfOk result (λ c. Fits (F.codec.layout file.now.header) c.places) }
+    ensures unbegun { IfOk result (λ c. c.places.begun ≡ false) }
     ensures exact { (bytes : List ℕ) → IsKept bytes (D.view disk.old)
         → Gives (λ c. IsFound F.codec file.now.header bytes c.places c.state c.middle)
         (on_ok (slot_taken F.codec file.now.header bytes) (from_slot F.codec file.now.header bytes)) result }
@@ -134,6 +137,7 @@ fn read_synced<F: Format, D: Disk>(
     ensures device { IsErrOf result OpenFault.Device → HasFailed (D.view disk.old) (D.view disk.new) }
     ensures fits { IfOk result (λ r. F.fits r.0.header r.1.state) }
     ensures sized { IfOk result (λ r. Fits (F.codec.layout r.0.header) r.1.places) }
+    ensures unbegun { IfOk result (λ r. r.1.places.begun ≡ false) }
     ensures inside { IfOk result (λ r. Reaches r.1.places.len (D.view disk.new)) }
     ensures exact { (bytes : List ℕ) → IsKept bytes (D.view disk.old)
         → Gives (λ r. IsFound F.codec r.0.header bytes r.1.places r.1.state r.1.middle)
@@ -162,6 +166,7 @@ pub(crate) fn read_file<F: Format, D: Disk>(
     ensures device { IsErrOf result OpenFault.Device → HasFailed (D.view disk.old) (D.view disk.new) }
     ensures fits { IfOk result (λ r. F.fits r.0.header r.1.state) }
     ensures sized { IfOk result (λ r. Fits (F.codec.layout r.0.header) r.1.places) }
+    ensures unbegun { IfOk result (λ r. r.1.places.begun ≡ false) }
     ensures inside { IfOk result (λ r. Reaches r.1.places.len (D.view disk.new)) }
     ensures kept { IsHonest (D.view disk.old)
         → OnOk result (IsKept (D.view disk.old).contents (D.view disk.new)) }

@@ -12,10 +12,10 @@ use Rattle.pfx_engine.proofs.Stepping.{takes_both, takes_step_alone}
 use Rattle.pfx_engine.proofs.keeping.keep.Goals as goal
 
 pub returns-in_err-_tended-clause-keeps : goal.returns-in_err-_tended-clause-keeps
-returns-in_err-_tended-clause-keeps g c stands start H done h all at given =
+returns-in_err-_tended-clause-keeps g c honest start H done h all at given =
     let V = g.D.Disk.view in
     keeps_behind start H (H ++ done ∷ []) (V c.args.store.now.file.disk) (V c.tend.new.self.file.disk) (V c.tend.new.self.file.disk) h all c.tend.ensures.calls.later
-    (c.tend.ensures.keeps stands start (frames_of any_kind start H) (replays_to start c.args.store.now.state H h all at)) (keeps_more start H done (V c.tend.new.self.file.disk))
+    (c.tend.ensures.keeps honest start (frames_of any_kind start H) (replays_to start c.args.store.now.state H h all at)) (keeps_more start H done (V c.tend.new.self.file.disk))
 
 pub returns-clause-state : goal.returns-clause-state
 returns-clause-state g c done given =
@@ -26,19 +26,19 @@ returns-clause-state g c done given =
     on_ok_then c.append.result (λ taken. state_with s done (map plain c.next_batch-batch.result.records.items) c.append.new.self.state h is taken ∙ ap (λ (t : Plain AnyJob). outcome any_kind t (done ∷ [])) same) c.append.ensures.state
 
 pub returns-clause-keeps : goal.returns-clause-keeps
-returns-clause-keeps g c stands start H done h all at given =
+returns-clause-keeps g c honest start H done h all at given =
     let V = g.D.Disk.view in
     let s = c.tend.new.self.state in
     let same : s ≡ c.args.store.now.state = c.tend.ensures.state in
     let is : IsRecordOf s done (map plain c.next_batch-batch.result.records.items) = rw c.next_batch-batch.ensures.records (subst (λ (t : Plain AnyJob). IsRecordOf t done (map plain c.args.records.items)) (sym same) given) in
     let next : c.next_batch-batch.result.first ≡ s.number + 1 = c.next_batch-batch.ensures.first ∙ ap (λ (t : Plain AnyJob). t.number + 1) c.state.ensures in
     keeps_behind start H (H ++ done ∷ []) (V c.args.store.now.file.disk) (V c.tend.new.self.file.disk) (V c.append.new.self.file.disk) h all c.tend.ensures.calls.later
-    (c.tend.ensures.keeps stands start (frames_of any_kind start H) (replays_to start c.args.store.now.state H h all at))
+    (c.tend.ensures.keeps honest start (frames_of any_kind start H) (replays_to start c.args.store.now.state H h all at))
     (keeps_with s done (map plain c.next_batch-batch.result.records.items) start H c.next_batch-batch.result.first (V c.tend.new.self.file.disk) (V c.append.new.self.file.disk) h all (same ∙ at) is next
-    (c.append.ensures.keeps (c.in_ok-_tended.ensures.stands stands) start (frames_of any_kind start H) (replays_to start s H h all (same ∙ at))))
+    (c.append.ensures.keeps (c.tend.ensures.kept honest) start (frames_of any_kind start H) (replays_to start s H h all (same ∙ at))))
 
 pub returns-clause-acknowledged : goal.returns-clause-acknowledged
-returns-clause-acknowledged g c stands =
+returns-clause-acknowledged g c honest =
     let s = c.tend.new.self.state in
     let same : s ≡ c.args.store.now.state = c.tend.ensures.state in
     let h : IsState s = subst (λ (t : Plain AnyJob). IsState t) c.state.ensures c.next_batch-batch.ensures.state in
@@ -46,10 +46,7 @@ returns-clause-acknowledged g c stands =
     let next : c.next_batch-batch.result.first ≡ s.number + 1 = c.next_batch-batch.ensures.first ∙ ap (λ (t : Plain AnyJob). t.number + 1) c.state.ensures in
     on_ok_two c.append.result
     (λ taken survives image here. acknowledged_with s c.requires.0 (map plain c.next_batch-batch.result.records.items) c.append.new.self.state c.next_batch-batch.result.first h is next taken image (survives image here))
-    c.append.ensures.state (c.append.ensures.acknowledged (c.in_ok-_tended.ensures.stands stands) s [] refl)
-
-pub returns-clause-stands : goal.returns-clause-stands
-returns-clause-stands g c = λ stands. c.append.ensures.stands (c.in_ok-_tended.ensures.stands stands)
+    c.append.ensures.state (c.append.ensures.acknowledged (c.tend.ensures.kept honest) s [] refl)
 
 pub returns-in_err-_tended-clause-calls : goal.returns-in_err-_tended-clause-calls
 returns-in_err-_tended-clause-calls g c = λ done given.

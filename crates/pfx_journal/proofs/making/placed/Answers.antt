@@ -6,7 +6,9 @@ use Rattle.pfx_header.specs.Headers.{Header}
 use Rattle.pfx_header.proofs.Written.{header_long}
 use Rattle.pfx_machine.specs.Plain.{Plain, IsState, empty}
 use Rattle.pfx_journal.specs.Standing.{Stands}
-use Rattle.pfx_journal.proofs.Made.{file_short, gate_of, made_of, new_stands, unmade_refused}
+use Rattle.std.proofs.lemmas.Bool.{true≢false}
+use Rattle.pfx_journal.proofs.Counts.{takes_told}
+use Rattle.pfx_journal.proofs.Made.{file_short, gate_of, made_calls, made_of, new_stands, unmade_refused}
 use Rattle.pfx_journal.proofs.Slots.{state_long}
 use Rattle.pfx_journal.proofs.making.placed.Goals as goal
 
@@ -72,3 +74,27 @@ returns-clause-recovers g c honest =
     let state : IsState (empty set) = subst IsState c.requires.empty c.number-number.ensures.state in
     let made = made_of K g.met.J.Job.laws h c.args.head.now c.deref.result.now c.args.segment c.requires.header state c.requires.head (c.deref.ensures.value ∙ c.requires.spelled) refl in
     c.in-Err-NotEmpty-default.ensures.recovers (format K) h (empty set) made (unmade_refused K) honest
+
+pub returns-in-Ok-clause-takes : goal.returns-in-Ok-clause-takes
+returns-in-Ok-clause-takes g c =
+    let h : Header = record { set = c.args.set.now; segment = c.args.segment } in
+    let state : IsState (empty c.args.set.now) = subst IsState c.requires.empty c.number-number.ensures.state in
+    let head = ap length c.requires.head ∙ header_long h c.requires.header in
+    let body = ap length (c.deref.ensures.value ∙ c.requires.spelled) ∙ state_long g.J.Job.kind g.met.J.Job.laws (empty c.args.set.now) state in
+    takes_told _ _ _ _ _ _ (made_calls h (length c.args.head.now) (length c.deref.result.now) c.args.segment c.requires.header head body refl) (λ _. refl) c.in-Ok.ensures.calls
+
+pub returns-in-Err-Device-default-clause-takes : goal.returns-in-Err-Device-default-clause-takes
+returns-in-Err-Device-default-clause-takes g c =
+    let h : Header = record { set = c.args.set.now; segment = c.args.segment } in
+    let state : IsState (empty c.args.set.now) = subst IsState c.requires.empty c.number-number.ensures.state in
+    let head = ap length c.requires.head ∙ header_long h c.requires.header in
+    let body = ap length (c.deref.ensures.value ∙ c.requires.spelled) ∙ state_long g.J.Job.kind g.met.J.Job.laws (empty c.args.set.now) state in
+    takes_told _ _ _ _ _ _ (made_calls h (length c.args.head.now) (length c.deref.result.now) c.args.segment c.requires.header head body refl) (λ is. absurd (true≢false (sym is))) c.in-Err-Device-default.ensures.calls
+
+pub returns-clause-takes : goal.returns-clause-takes
+returns-clause-takes g c =
+    let h : Header = record { set = c.args.set.now; segment = c.args.segment } in
+    let state : IsState (empty c.args.set.now) = subst IsState c.requires.empty c.number-number.ensures.state in
+    let head = ap length c.requires.head ∙ header_long h c.requires.header in
+    let body = ap length (c.deref.ensures.value ∙ c.requires.spelled) ∙ state_long g.J.Job.kind g.met.J.Job.laws (empty c.args.set.now) state in
+    takes_told _ _ _ _ _ _ (made_calls h (length c.args.head.now) (length c.deref.result.now) c.args.segment c.requires.header head body refl) (λ is. absurd (true≢false (sym is))) c.in-Err-NotEmpty-default.ensures.calls

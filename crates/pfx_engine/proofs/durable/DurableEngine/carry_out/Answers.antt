@@ -19,21 +19,21 @@ use Rattle.std.specs.Prelude.{IsOk}
 use Rattle.pfx_engine.proofs.durable.DurableEngine.carry_out.Goals as goal
 
 pub returns-then-is_broken-clause-keeps : goal.returns-then-is_broken-clause-keeps
-returns-then-is_broken-clause-keeps g c stands start H h all at = keeps_more start H c.args.command (g.D.Disk.view c.args.self.now.store.file.disk)
+returns-then-is_broken-clause-keeps g c honest start H h all at = keeps_more start H c.args.command (g.D.Disk.view c.args.self.now.store.file.disk)
 
 pub returns-in_default-clause-keeps : goal.returns-in_default-clause-keeps
-returns-in_default-clause-keeps g c stands start H h all at = keeps_more start H c.args.command (g.D.Disk.view c.args.self.now.store.file.disk)
+returns-in_default-clause-keeps g c honest start H h all at = keeps_more start H c.args.command (g.D.Disk.view c.args.self.now.store.file.disk)
 
 pub returns-in-Err-clause-keeps : goal.returns-in-Err-clause-keeps
-returns-in-Err-clause-keeps g c stands start H h all at = keeps_more start H c.args.command (g.D.Disk.view c.args.self.now.store.file.disk)
+returns-in-Err-clause-keeps g c honest start H h all at = keeps_more start H c.args.command (g.D.Disk.view c.args.self.now.store.file.disk)
 
 pub returns-in-Err-2-clause-keeps : goal.returns-in-Err-2-clause-keeps
-returns-in-Err-2-clause-keeps g c stands start H h all at = keeps_more start H c.args.command (g.D.Disk.view c.args.self.now.store.file.disk)
+returns-in-Err-2-clause-keeps g c honest start H h all at = keeps_more start H c.args.command (g.D.Disk.view c.args.self.now.store.file.disk)
 
 pub invariant_of-self-in-Ok-run_recorded : goal.invariant_of-self-in-Ok-run_recorded
 invariant_of-self-in-Ok-run_recorded g c = record {
   same = λ whole.
-      let before = sym c.is_broken.ensures ∙ c.if-is_broken.false in
+      let before = sym c.is_broken.ensures.broken ∙ c.if-is_broken.false in
       let at = c.args.self.now.same before in
       let done = c.in-Ok-run_recorded.ensures in
       let mine : IsRecordOf c.args.self.now.store.state c.args.command (map plain c.push_reserved.new.self.items) =
@@ -44,20 +44,20 @@ invariant_of-self-in-Ok-run_recorded g c = record {
 }
 
 pub returns-in-Ok-keep-clause-keeps : goal.returns-in-Ok-keep-clause-keeps
-returns-in-Ok-keep-clause-keeps g c stands start H h all there =
-    let at = c.args.self.now.same (sym c.is_broken.ensures ∙ c.if-is_broken.false) in
+returns-in-Ok-keep-clause-keeps g c honest start H h all there =
+    let at = c.args.self.now.same (sym c.is_broken.ensures.broken ∙ c.if-is_broken.false) in
     let done = c.in-Ok-run_recorded.ensures in
     let mine : IsRecordOf c.args.self.now.store.state c.args.command (map plain c.push_reserved.new.self.items) =
     (subst (λ (t : Plain AnyJob). refusal any_kind t c.args.command ≡ None) at done.exact, rw (c.push_reserved.ensures.items, c.in-Ok.ensures.items) (ap (λ r. r ∷ []) (done.kept_as ∙ ap (λ (t : Plain AnyJob). record_of any_kind t c.args.command) at))) in
-    c.keep.ensures.keeps stands start H c.args.command h all there mine
+    c.keep.ensures.keeps honest start H c.args.command h all there mine
 
 pub returns-clause-keeps : goal.returns-clause-keeps
-returns-clause-keeps g c stands start H h all there =
-    let at = c.args.self.now.same (sym c.is_broken.ensures ∙ c.if-is_broken.false) in
+returns-clause-keeps g c honest start H h all there =
+    let at = c.args.self.now.same (sym c.is_broken.ensures.broken ∙ c.if-is_broken.false) in
     let done = c.in-Ok-run_recorded.ensures in
     let mine : IsRecordOf c.args.self.now.store.state c.args.command (map plain c.push_reserved.new.self.items) =
     (subst (λ (t : Plain AnyJob). refusal any_kind t c.args.command ≡ None) at done.exact, rw (c.push_reserved.ensures.items, c.in-Ok.ensures.items) (ap (λ r. r ∷ []) (done.kept_as ∙ ap (λ (t : Plain AnyJob). record_of any_kind t c.args.command) at))) in
-    c.keep.ensures.keeps stands start H c.args.command h all there mine
+    c.keep.ensures.keeps honest start H c.args.command h all there mine
 
 pub returns-in-Ok-keep-clause-endless : goal.returns-in-Ok-keep-clause-endless
 returns-in-Ok-keep-clause-endless g c = λ endless.
@@ -86,7 +86,7 @@ returns-in-Err-2-clause-calls g c = takes_no_call (command_calls (frame_len c.ar
 pub returns-in-Ok-keep-clause-calls : goal.returns-in-Ok-keep-clause-calls
 returns-in-Ok-keep-clause-calls g c =
     let V = g.D.Disk.view in
-    let at = c.args.self.now.same (sym c.is_broken.ensures ∙ c.if-is_broken.false) in
+    let at = c.args.self.now.same (sym c.is_broken.ensures.broken ∙ c.if-is_broken.false) in
     let done = c.in-Ok-run_recorded.ensures in
     let mine : IsRecordOf c.args.self.now.store.state c.args.command (map plain c.push_reserved.new.self.items) =
     (subst (λ (t : Plain AnyJob). refusal any_kind t c.args.command ≡ None) at done.exact, rw (c.push_reserved.ensures.items, c.in-Ok.ensures.items) (ap (λ r. r ∷ []) (done.kept_as ∙ ap (λ (t : Plain AnyJob). record_of any_kind t c.args.command) at))) in
@@ -96,7 +96,7 @@ returns-in-Ok-keep-clause-calls g c =
 pub returns-clause-calls : goal.returns-clause-calls
 returns-clause-calls g c =
     let V = g.D.Disk.view in
-    let at = c.args.self.now.same (sym c.is_broken.ensures ∙ c.if-is_broken.false) in
+    let at = c.args.self.now.same (sym c.is_broken.ensures.broken ∙ c.if-is_broken.false) in
     let done = c.in-Ok-run_recorded.ensures in
     let mine : IsRecordOf c.args.self.now.store.state c.args.command (map plain c.push_reserved.new.self.items) =
     (subst (λ (t : Plain AnyJob). refusal any_kind t c.args.command ≡ None) at done.exact, rw (c.push_reserved.ensures.items, c.in-Ok.ensures.items) (ap (λ r. r ∷ []) (done.kept_as ∙ ap (λ (t : Plain AnyJob). record_of any_kind t c.args.command) at))) in

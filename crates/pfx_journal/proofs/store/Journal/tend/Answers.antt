@@ -3,7 +3,7 @@ use Rattle.pfx_format.specs.Format.{format}
 use Rattle.pfx_format.proofs.Keeping.{format_laws}
 use Rattle.pfx_journal.specs.Standing.{Stands}
 use Rattle.pfx_journal.proofs.Standings.{on_ok_then, stands_tended}
-use Rattle.pfx_journal.proofs.store.Store.tend.Goals as goal
+use Rattle.pfx_journal.proofs.store.Journal.tend.Goals as goal
 
 pub returns-clause-stands : goal.returns-clause-stands
 returns-clause-stands g c stands =

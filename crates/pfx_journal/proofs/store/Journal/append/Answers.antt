@@ -14,7 +14,7 @@ use Rattle.pfx_journal.specs.Standing.{IsReady, Stands}
 use Rattle.pfx_journal.proofs.Appends.{batch_leads}
 use Rattle.pfx_journal.proofs.Counts.{append_most, takes_both, takes_frame, works_behind}
 use Rattle.pfx_journal.proofs.Standings.{keeps_appended, keeps_more, keeps_still, stands_behind}
-use Rattle.pfx_journal.proofs.store.Store.append.Goals as goal
+use Rattle.pfx_journal.proofs.store.Journal.append.Goals as goal
 
 pub returns-then-self-clause-keeps : goal.returns-then-self-clause-keeps
 returns-then-self-clause-keeps g c stands start all replays = keeps_more g.J.Job.kind start all _ (g.D.Disk.view c.args.self.now.file.disk) (g.D.Disk.view c.args.self.now.file.disk) (keeps_still g.J.Job.kind start all (g.D.Disk.view c.args.self.now.file.disk))

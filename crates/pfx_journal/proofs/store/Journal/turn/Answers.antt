@@ -3,7 +3,7 @@ use Rattle.pfx_format.specs.Format.{format}
 use Rattle.pfx_format.proofs.Keeping.{format_laws}
 use Rattle.pfx_store.specs.Holding.{IsStart}
 use Rattle.pfx_journal.proofs.Standings.{stands_turned}
-use Rattle.pfx_journal.proofs.store.Store.turn.Goals as goal
+use Rattle.pfx_journal.proofs.store.Journal.turn.Goals as goal
 
 pub returns-in_err-turn-clause-keeps : goal.returns-in_err-turn-clause-keeps
 returns-in_err-turn-clause-keeps g c stands start all replays =

@@ -3,7 +3,7 @@ use Rattle.pfx_format.specs.Format.{format}
 use Rattle.pfx_format.proofs.Keeping.{format_laws}
 use Rattle.pfx_journal.specs.Standing.{Stands}
 use Rattle.pfx_journal.proofs.Standings.{stands_settled}
-use Rattle.pfx_journal.proofs.store.Store.make_room.Goals as goal
+use Rattle.pfx_journal.proofs.store.Journal.make_room.Goals as goal
 
 pub returns-in_err-end_checkpoint-clause-keeps : goal.returns-in_err-end_checkpoint-clause-keeps
 returns-in_err-end_checkpoint-clause-keeps g c stands start all replays =
