@@ -1,3 +1,5 @@
+mod RunningLemmas
+pub mod Promising
 mod Commands
 mod Keeps
 mod Serving

@@ -19,7 +19,7 @@ use Rattle.pfx_machine.specs.declared.command.Command.TheVariants.{Slot}
 use Rattle.pfx_machine.specs.declared.command.Reply.{Reply}
 use Rattle.pfx_machine.specs.declared.faults.MachineFault.{MachineFault}
 use Rattle.pfx_machine.proofs.Compose.{outcome-none}
-use Rattle.pfx_program.specs.Running.{NotAccepted}
+use Rattle.pfx_engine.specs.Failing.{NotAccepted}
 use Rattle.pfx_program.specs.declared.engine.CallFault.{CallFault}
 use Rattle.pfx_program.specs.declared.engine.CallFault.TheVariants as callfault
 use Rattle.pfx_recovery.specs.Recovery.{recovered}

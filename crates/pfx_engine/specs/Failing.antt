@@ -5,9 +5,12 @@ use Rattle.pfx_fault.specs.declared.parts.Cause.TheVariants as cause
 use Rattle.pfx_fault.specs.declared.refusals.Fault.{Fault}
 use Rattle.pfx_fault.specs.declared.refusals.Fault.TheVariants as fault
 use Rattle.pfx_kinds.specs.declared.any.AnyJob.{AnyJob}
+use Rattle.pfx_kinds.specs.AnyKind.{any_kind}
 use Rattle.pfx_machine.specs.Plain.{Plain}
+use Rattle.pfx_machine.specs.Runs.{answer}
 use Rattle.pfx_machine.specs.declared.command.Command.{Command}
 use Rattle.pfx_machine.specs.declared.command.Command.TheVariants.{Slot}
+use Rattle.pfx_engine.specs.Keeping.{IsAccepted}
 use Rattle.pfx_program.specs.declared.engine.CallFault.{CallFault}
 use Rattle.pfx_program.specs.declared.engine.CallFault.TheVariants as callfault
 
@@ -26,7 +29,18 @@ Fails marked failed same (callfault.Refused f) = same
 Fails marked failed same (callfault.Failed fault.NoMemory) = same
 Fails marked failed same (callfault.Failed other) = (other ≡ stopped_at marked) × failed
 
+-- the machine refuses the command, and the state is as before, or the engine failed
+abbrev pub NotAccepted : Plain AnyJob → Command AnyJob → Plain AnyJob → CallFault → Type 0
+NotAccepted s c new (callfault.Refused f) = (answer any_kind s c ≡ Err f) × (new ≡ s)
+NotAccepted s c new (callfault.Failed f) = ⊤
+
 -- where a Slot is refused, the limits on numbers and slots refuse it
 abbrev pub IsServed : Plain AnyJob → Command AnyJob → CallFault → Type 0
 IsServed s c (callfault.Refused f) = c ≡ Slot → limit_fault s ≡ Some f
 IsServed s c (callfault.Failed f) = ⊤
+
+-- where the store was whole and has failed, the machine accepts the command
+abbrev pub IsInDoubt : Plain AnyJob → Command AnyJob → CallFault → Type 0
+IsInDoubt s c (callfault.Refused f) = ⊤
+IsInDoubt s c (callfault.Failed fault.NoMemory) = ⊤
+IsInDoubt s c (callfault.Failed other) = IsAccepted s c

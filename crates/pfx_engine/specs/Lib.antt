@@ -1,3 +1,6 @@
 pub mod Failing
+pub mod Keeping
+pub mod KeepingLaws
+pub mod Running
 pub mod Stepping
 pub mod Surviving

@@ -1,6 +1,6 @@
 //! The engine that keeps each command in a store before it answers it.
 
-ghost use Rattle.std.specs.Prelude.{◌≡◌, ◌↔◌, IsTrue, ◌+◌, ◌++◌, ◌∷◌, [], List, ℕ, true, false, Ok, Err, IfOk, IfErr, OnOk};
+ghost use Rattle.std.specs.Prelude.{◌≡◌, ◌↔◌, IsTrue, ◌+◌, ◌++◌, ◌∷◌, [], List, ℕ, true, false, Ok, Err, IfOk, IfErr, OnOk, OnErr};
 ghost use Rattle.pfx_disk.specs.Disk.{IsHonest, HasFailed};
 ghost use Rattle.pfx_endless.specs.Endless.{IsEndless};
 ghost use Rattle.pfx_format.specs.Format.{format};
@@ -11,11 +11,13 @@ ghost use Rattle.pfx_machine.specs.Plain.{Plain, IsState};
 ghost use Rattle.pfx_machine.specs.Runs.{answer};
 ghost use Rattle.pfx_machine.specs.Sessions.{IsAcceptable};
 ghost use Rattle.pfx_machine.specs.declared.command.Command.{Command};
-ghost use Rattle.pfx_program.specs.Running.{IsOfRun, NotAccepted, Shows};
+ghost use Rattle.pfx_program.specs.Promises.{Promise, Laws, IsDone, IsNotDone, IsSame, IsEngineFault, Shows};
 ghost use Rattle.pfx_recovery.specs.Recovery.{recovered};
 ghost use Rattle.pfx_segment.specs.Segment.{Takes};
 ghost use Rattle.pfx_store.specs.Calls.{GoesOn};
-ghost use Rattle.pfx_engine.specs.Failing.{Fails, IsServed, last_kept, stopped_at};
+ghost use Rattle.pfx_engine.specs.Failing.{Fails, IsInDoubt, IsServed, NotAccepted, last_kept, stopped_at};
+ghost use Rattle.pfx_engine.specs.Keeping.{KeepsFrom};
+ghost use Rattle.pfx_engine.specs.KeepingLaws.{keeps_none, keeps_more, keeps_fewer};
 ghost use Rattle.pfx_engine.specs.Stepping.{command_calls, frame_len};
 ghost use Rattle.pfx_engine.specs.Surviving.{KeepsAll};
 
@@ -112,6 +114,10 @@ impl<D: Disk> DurableEngine<D> {
         ensures moves { OnOk result (self.new.state ≡ outcome any_kind self.old.state (command ∷ [])) }
         ensures whole { OnOk result (self.new.store.file.broken ≡ false) }
         ensures refused { IfErr result (NotAccepted self.old.state command self.new.state) }
+        ensures stays { OnErr result (self.new.store.state ≡ self.old.store.state) }
+
+        // What the store fails on is a command that the machine accepts.
+        ensures doubt { self.old.store.file.broken ≡ false → IfErr result (IsInDoubt self.old.state command) }
 
         // Where fair schedules of every length go on from the state, as in each store that `init` made, the limits alone refuse
         // a Slot, and such schedules go on from the new state.
@@ -165,10 +171,17 @@ impl<D: Disk> DurableEngine<D> {
 }
 
 impl<D: Disk> Engine for DurableEngine<D> {
-    ghost state = { λ engine. engine.state };
+    // The state is that of the store: the one behind the commands that are known to be durable.
+    ghost promise = { record {
+        state = λ engine. engine.store.state;
+        faults = λ s f. f ≡ stopped_at s.number;
+        settled = λ engine. engine.store.file.broken ≡ false;
+        keeps = λ a H n b. KeepsFrom (D.view a.store.file.disk) a.store.file.broken a.store.state H n (D.view b.store.file.disk) b.store.state
+    } };
 
     fn call(&mut self, alloc: Global, command: Command<AnyJob>) -> Result<(u64, Reply), CallFault>
-        ensures number { IfOk result (λ r. r.0 ≡ self.old.state.number + 1) }
+        ensures done { IfOk result (λ r. IsDone ⟦<DurableEngine<D> as Engine>⟧.promise command r.0 r.1 self.old self.new) }
+        ensures not_done { IfErr result (IsNotDone ⟦<DurableEngine<D> as Engine>⟧.promise command self.old self.new) }
         ensures reply { IfOk result (λ r. answer any_kind self.old.state command ≡ Ok r.1) }
         ensures moves { OnOk result (self.new.state ≡ outcome any_kind self.old.state (command ∷ [])) }
         ensures whole { OnOk result (self.new.store.file.broken ≡ false) }
@@ -197,6 +210,7 @@ impl<D: Disk> Engine for DurableEngine<D> {
             → IsState start → IsAcceptable any_kind start H → self.old.store.state ≡ outcome any_kind start H
             → KeepsAll start H (H ++ command ∷ []) (D.view self.old.store.file.disk) (D.view self.new.store.file.disk) }
     {
+        let _number = self.store.state().number();
         match self.carry_out(alloc, command) {
             Ok((mark, reply)) => Ok((mark.number, reply)),
             Err(fault) => Err(fault),
@@ -204,20 +218,24 @@ impl<D: Disk> Engine for DurableEngine<D> {
     }
 
     fn settled(&mut self, _alloc: Global) -> Result<u64, Fault>
+        ensures number { IfOk result (λ n. n ≡ self.old.store.state.number) }
+        ensures settled { OnOk result (self.new.store.file.broken ≡ false) }
+        ensures same { IsSame ⟦<DurableEngine<D> as Engine>⟧.promise self.old self.new }
+        ensures fails { IfErr result (IsEngineFault ⟦<DurableEngine<D> as Engine>⟧.promise.faults self.old.store.state) }
         ensures answer { result ≡ last_kept self.old.store.file.broken self.old.store.state.number }
-        ensures number { IfOk result (λ n. n ≡ self.old.state.number) }
-        ensures same { self.new ≡ self.old }
-        ensures fails { IfErr result IsOfRun }
+        ensures stays { self.new ≡ self.old }
     {
         self.last_kept()
     }
 
     fn status(&mut self, alloc: Global) -> Result<Board, Fault>
-        ensures shows { IfOk result (Shows self.old.state) }
+        ensures shows { IfOk result (Shows self.old.store.state) }
+        ensures settled { OnOk result (self.new.store.file.broken ≡ false) }
+        ensures same { IsSame ⟦<DurableEngine<D> as Engine>⟧.promise self.old self.new }
+        ensures fails { IfErr result (IsEngineFault ⟦<DurableEngine<D> as Engine>⟧.promise.faults self.old.store.state) }
         ensures broken { self.old.store.file.broken ≡ true → result ≡ Err (stopped_at self.old.store.state.number) }
         ensures whole { self.old.store.file.broken ≡ false → IfErr result (λ fault. fault ≡ Fault.NoMemory) }
-        ensures same { self.new ≡ self.old }
-        ensures fails { IfErr result IsOfRun }
+        ensures stays { self.new ≡ self.old }
     {
         if let Err(fault) = self.last_kept() {
             return Err(fault);
@@ -227,4 +245,6 @@ impl<D: Disk> Engine for DurableEngine<D> {
             Err(_) => Err(Fault::NoMemory),
         }
     }
+
+    ghost laws = { record { none = λ e. keeps_none _ _ _; more = λ a b c H G n settled one two. keeps_more _ _ _ _ _ _ _ _ H G n settled one two; fewer = λ a b H n m le one. keeps_fewer _ _ _ H n m _ _ le one } };
 }

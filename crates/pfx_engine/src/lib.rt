@@ -19,5 +19,7 @@
 mod durable;
 mod keeping;
 pub mod laws;
+mod scripts;
 
 pub use durable::DurableEngine;
+pub use scripts::run_durable;

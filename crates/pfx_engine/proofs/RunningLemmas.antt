@@ -1,0 +1,81 @@
+-- What a run's end leaves on the disk.
+use Rattle.std.proofs.Common.{◌≡◌, ◌≤◌, ℕ, ◌+◌, Bool, true, false, List, [], ◌∷◌, ◌++◌, length, length-append, take, Option, Result, Ok, Err, IfSome, refl, sym, ap, subst, ◌∙◌, append_assoc, append-nil, arith}
+use Rattle.std.proofs.lemmas.List.{take-append-le}
+use Rattle.std.specs.Io.KnownBytes.{Appends}
+use Rattle.pfx_disk.specs.Disk.{View, IsHonest}
+use Rattle.pfx_fault.specs.declared.refusals.Fault.{Fault}
+use Rattle.pfx_fault.specs.declared.refusals.Fault.TheVariants as fault
+use Rattle.pfx_kinds.specs.AnyKind.{any_kind}
+use Rattle.pfx_kinds.specs.declared.any.AnyJob.{AnyJob}
+use Rattle.pfx_machine.specs.Plain.{Plain}
+use Rattle.pfx_machine.specs.Outcome.{outcome}
+use Rattle.pfx_machine.specs.declared.command.Command.{Command}
+use Rattle.pfx_script.specs.Records.{Fields, Records}
+use Rattle.pfx_program.specs.Promises.{Promise}
+use Rattle.pfx_program.specs.Script.{Step, Course, at_start, commands_of, course_from, text_of}
+use Rattle.pfx_program.specs.Running.{Carried, Halts, Stopped, Ends, Runs}
+use Rattle.pfx_program.proofs.StepLemmas.{commands_append}
+use Rattle.pfx_engine.specs.Keeping.{Anchors, Kept, KeepsFrom}
+use Rattle.pfx_engine.specs.Running.{IsKeptAsPrinted}
+use Rattle.pfx_engine.specs.Surviving.{Survives}
+use Rattle.pfx_engine.proofs.Promising.{promise}
+
+-- commands that come later
+survives_more : (s : Plain AnyJob) (H G : List (Command AnyJob)) (n : ℕ) (image : List ℕ) → Survives s H n image → Survives s (H ++ G) n image
+survives_more s H G n image v = record {
+  count = v.count;
+  at_least = v.at_least;
+  at_most = (let most = v.at_most in omega (arith, most, length-append H G));
+  recovered = v.recovered ∙ ap (λ (l : List (Command AnyJob)). Ok (outcome any_kind s l)) (sym (take-append-le v.count H G v.at_most));
+}
+
+module _ {E : Type 0} (view : E → View) (broken : E → Bool) (kept : E → Plain AnyJob) where
+  -- what was printed at a halt
+  part_of : (reading : Type 0) (faults : Plain AnyJob → Fault → Type 0) (s : Plain AnyJob) (text : List ℕ) (tried : List Step) (t : Plain AnyJob) (was is : Option (List ℕ)) (f : Fault) → Halts reading faults s text tried t was is f
+      → (part : List ℕ) × Appends was is (text ++ part)
+  part_of reading faults s text tried t was is fault.OutputFailed h = (h.1, h.4)
+  part_of reading faults s text tried t was is fault.InputFailed h = ([], subst (Appends was is) (sym (append-nil text)) h.2)
+  part_of reading faults s text tried t was is fault.NoMemory h = ([], subst (Appends was is) (sym (append-nil text)) h.1)
+  part_of reading faults s text tried t was is (fault.BadScript at) h = absurd h
+  part_of reading faults s text tried t was is other h = ([], subst (Appends was is) (sym (append-nil text)) h.2)
+
+  carried_kept : (script : Records) (records : List Fields) (a b : E) (was is : Option (List ℕ)) → broken a ≡ false → IsHonest (view a) → Anchors (view a) (kept a)
+      → Carried (promise view broken kept) (course_from (script.place + 1) (at_start (kept a)) records).steps a b was is → IsKeptAsPrinted (kept a) script records was is (view b)
+  carried_kept script records a b was is whole honest anchors h =
+      let steps : List Step = (course_from (script.place + 1) (at_start (kept a)) records).steps in
+      let all : steps ≡ steps ++ [] = sym (append-nil steps) in
+      record {
+        printed = steps;
+        rest = [];
+        course = all;
+        part = [];
+        text = subst (Appends was is) (sym (append-nil (text_of steps))) h.text;
+        survive = λ image here. subst (λ (l : List Step). Survives (kept a) (commands_of l) (length (commands_of steps)) image) all ((h.keeps.kept whole honest anchors).survive image here);
+      }
+
+  stopped_kept : (reading : Type 0) (script : Records) (records : List Fields) (a b : E) (was is : Option (List ℕ)) (f : Fault) → broken a ≡ false → IsHonest (view a) → Anchors (view a) (kept a)
+      → Stopped (promise view broken kept) reading (course_from (script.place + 1) (at_start (kept a)) records).steps a b was is f → IsKeptAsPrinted (kept a) script records was is (view b)
+  stopped_kept reading script records a b was is f whole honest anchors h =
+      let part = part_of reading (λ s g. (promise view broken kept).faults s g) (outcome any_kind (kept a) (commands_of h.printed)) (text_of h.printed) h.tried (kept b) was is f h.why in
+      let split : (commands_of h.printed ++ commands_of h.tried) ++ commands_of h.rest ≡ commands_of (h.printed ++ (h.tried ++ h.rest)) =
+      append_assoc (commands_of h.printed) (commands_of h.tried) (commands_of h.rest)
+          ∙ ap (λ (l : List (Command AnyJob)). commands_of h.printed ++ l) (sym (commands_append h.tried h.rest)) ∙ sym (commands_append h.printed (h.tried ++ h.rest)) in
+      record {
+        printed = h.printed;
+        rest = h.tried ++ h.rest;
+        course = h.split;
+        part = part.0;
+        text = part.1;
+        survive = λ image here. subst (λ (l : List (Command AnyJob)). Survives (kept a) l (length (commands_of h.printed)) image) split
+            (survives_more (kept a) (commands_of h.printed ++ commands_of h.tried) (commands_of h.rest) (length (commands_of h.printed)) image ((h.keeps.kept whole honest anchors).survive image here));
+      }
+
+  ended : (reading : Type 0) (script : Records) (records : List Fields) (a b : E) (was is : Option (List ℕ)) (result : Result (Unit {0}) Fault) → broken a ≡ false → IsHonest (view a) → Anchors (view a) (kept a)
+      → Ends (promise view broken kept) reading (course_from (script.place + 1) (at_start (kept a)) records) a b was is result → IsKeptAsPrinted (kept a) script records was is (view b)
+  ended reading script records a b was is (Ok x) whole honest anchors h = carried_kept script records a b was is whole honest anchors h.1
+  ended reading script records a b was is (Err (fault.BadScript at)) whole honest anchors h = carried_kept script records a b was is whole honest anchors h.1
+  ended reading script records a b was is (Err other) whole honest anchors h = stopped_kept reading script records a b was is other whole honest anchors h
+
+  pub kept_as_printed : (script : Records) (failed : Bool) (a b : E) (was is : Option (List ℕ)) (result : Result (Unit {0}) Fault) → Runs (promise view broken kept) script failed a b was is result
+      → broken a ≡ false → IsHonest (view a) → Anchors (view a) (kept a) → (records : List Fields) × IfSome script.left (λ all. all ≡ records) × IsKeptAsPrinted (kept a) script records was is (view b)
+  kept_as_printed script failed a b was is result h whole honest anchors = (h.records, h.known, ended (failed ≡ true) script h.records a b was is result whole honest anchors h.ends)

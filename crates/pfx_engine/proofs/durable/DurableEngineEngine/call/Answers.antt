@@ -1,0 +1,44 @@
+use Rattle.std.proofs.Common.{rules, ◌≡◌, Bool, true, false, Ok, Err, refl, sym, ap, subst, ◌∙◌, [], ◌∷◌, ◌+◌}
+use Rattle.pfx_disk.specs.Disk.{View}
+use Rattle.pfx_kinds.specs.AnyKind.{any_kind}
+use Rattle.pfx_kinds.specs.declared.any.AnyJob.{AnyJob}
+use Rattle.pfx_machine.specs.Plain.{Plain, IsState}
+use Rattle.pfx_machine.specs.Outcome.{outcome}
+use Rattle.pfx_machine.specs.Runs.{answer}
+use Rattle.pfx_recovery.specs.Recovery.{recovered}
+use Rattle.pfx_engine.specs.Keeping.{Anchors, KeepsFrom, IsAccepted}
+use Rattle.pfx_engine.specs.KeepingLaws.{keeps_none}
+use Rattle.pfx_engine.proofs.Promising.{keeps_one, keeps_doubt, not_done, not_broken, err_is}
+use Rattle.pfx_engine.proofs.durable.DurableEngineEngine.call.Goals as goal
+
+pub returns-in-Ok-clause-done : goal.returns-in-Ok-clause-done
+returns-in-Ok-clause-done g c =
+    let V = g.D.Disk.view in
+    let old = c.args.self.now in
+    let new = c.carry_out.new.self in
+    let h = c.in-Ok.ensures in
+    let whole : old.store.file.broken ≡ false = not_broken old.store.file.broken c.carry_out.result (c.in-Ok.mark, c.in-Ok.reply) c.in-Ok.is (λ was. (c.carry_out.ensures.broken was).0) in
+    let at = old.same whole in
+    let next = new.same h.whole in
+    let moved : new.store.state ≡ outcome any_kind old.store.state (c.args.command ∷ []) = sym next ∙ h.moves ∙ ap (λ (s : Plain AnyJob). outcome any_kind s (c.args.command ∷ [])) at in
+    let accepted : answer any_kind old.store.state c.args.command ≡ Ok c.in-Ok.reply = subst (λ (s : Plain AnyJob). answer any_kind s c.args.command ≡ Ok c.in-Ok.reply) at h.reply in
+    record {
+      accepted = accepted;
+      next = h.number ∙ ap (λ (s : Plain AnyJob). s.number + 1) at;
+      state = moved;
+      keeps = keeps_one (V old.store.file.disk) (V new.store.file.disk) old.store.file.broken old.store.state new.store.state c.args.command (c.in-Ok.reply, accepted) moved h.kept
+          (λ honest image here. h.acknowledged honest image (subst (λ n. (V new.store.file.disk).since n image) (sym h.clock) here) ∙ ap Ok next);
+      settled = h.whole;
+    }
+
+pub returns-in-Err-clause-not_done : goal.returns-in-Err-clause-not_done
+returns-in-Err-clause-not_done g c =
+    let V = g.D.Disk.view in
+    let old = c.args.self.now in
+    let new = c.carry_out.new.self in
+    let h = c.in-Err.ensures in
+    not_done (λ engine. V engine.store.file.disk) (λ engine. engine.store.file.broken) (λ engine. engine.store.state) c.args.command old new old.state new.state _ _ c.in-Err.fault
+    old.same h.refused h.stays h.doubt h.fails
+    (λ y. rw y.1 (keeps_none (V old.store.file.disk) old.store.file.broken old.store.state, λ whole. whole))
+    (λ was. let t = c.carry_out.ensures.broken was in (err_is c.carry_out.result _ c.in-Err.fault c.in-Err.is t.0, (t.1, t.2)))
+    (λ accepted. keeps_doubt (V old.store.file.disk) (V new.store.file.disk) old.store.file.broken old.store.state new.store.state c.args.command (subst IsState c.state.ensures c.number-number.ensures.state) accepted h.goes.later h.kept h.keeps)
