@@ -2,12 +2,13 @@
 
 use crate::files::{disk, fault_of, init_fault, input, open_fault, shared_disk, size_fault};
 use pfx_disk::FileDisk;
-use pfx_engine::DurableEngine;
+use pfx_engine::{DurableEngine, run_durable};
 use pfx_fault::Fault;
 use pfx_header::check_segment;
 use pfx_journal::Store;
 use pfx_kinds::any::AnyJob;
-use pfx_program::{created_line, read_task_set, run_script, run_status};
+use pfx_program::{created_line, read_task_set, run_status};
+use pfx_script::Script;
 use std::alloc::Global;
 use std::io;
 use std::io::{BufWriter, Write};
@@ -46,10 +47,10 @@ fn engine(alloc: Global, disk: FileDisk) -> Result<DurableEngine<FileDisk>, Faul
 
 /// Runs a script on the store of a file. Its lines are printed as they come.
 pub(crate) fn run(rt: &HostRuntime, alloc: Global, file: &str, script: &str) -> Result<(), Fault> {
-    let script = input(rt, script)?;
+    let mut script = Script::new(alloc, input(rt, script)?);
     let mut engine = engine(alloc, disk(rt, file, false)?)?;
     let mut output = io::writer(rt);
-    run_script(alloc, script, &mut output, &mut engine)
+    run_durable(alloc, &mut script, &mut output, &mut engine)
 }
 
 /// Prints the board of the store of a file.

@@ -184,8 +184,8 @@ fn close<W: Write, E: Engine>(alloc: Global, output: &mut W, engine: &mut E) -> 
     ensures settled { OnOk result (E.promise.settled engine.new) }
     ensures err { IfErr result (Stopped E.promise ⊥ (shown (closed_line (E.promise.state engine.old).number) ∷ []) engine.old engine.new (W.contents output.old) (W.contents output.new)) }
 {
-    let number = engine.settled(alloc)?;
-    match closed_line(alloc, number) {
+    let last = engine.settled(alloc)?;
+    match closed_line(alloc, last) {
         Ok(line) => put_text(output, line.as_str()),
         Err(_) => Err(Fault::NoMemory),
     }

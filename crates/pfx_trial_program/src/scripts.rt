@@ -5,6 +5,7 @@ use pfx_fault::Fault;
 use pfx_kinds::any::AnyJob;
 use pfx_machine::State;
 use pfx_program::run_script;
+use pfx_script::Script;
 use pfx_weights::TaskSet;
 use std::alloc::Global;
 use std::io;
@@ -30,7 +31,7 @@ fn prints(
     end: Result<(), Fault>,
 ) -> bool {
     let mut written = Vec::new(alloc);
-    let got = run_script(alloc, script.as_bytes(), &mut written, state);
+    let got = run_script(alloc, &mut Script::new(alloc, script.as_bytes()), &mut written, state);
     got == end && written.as_slice() == want.as_bytes()
 }
 
@@ -197,7 +198,7 @@ fn runs_up_to_the_tear(alloc: Global, state: &mut State<AnyJob>) -> bool {
         left: b"slot,,,,\nslot,",
     };
     let mut written = Vec::new(alloc);
-    let end = run_script(alloc, input, &mut written, state);
+    let end = run_script(alloc, &mut Script::new(alloc, input), &mut written, state);
     end == Err(Fault::InputFailed) && written.as_slice() == b"1 ran 0: 0 1\n".as_slice()
 }
 
@@ -207,7 +208,7 @@ fn writes_the_beginning(alloc: Global, state: &mut State<AnyJob>) -> bool {
         bytes: [0; 64],
         room: 20,
     };
-    let end = run_script(alloc, WEEK.as_bytes(), &mut output, state);
+    let end = run_script(alloc, &mut Script::new(alloc, WEEK.as_bytes()), &mut output, state);
     end == Err(Fault::OutputFailed) && output.bytes.ends_with(b"\x002 submitted 0\n3 ran ")
 }
 

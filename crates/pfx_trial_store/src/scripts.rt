@@ -7,6 +7,7 @@ use pfx_engine::{DurableEngine, laws};
 use pfx_fault::{Cause, Fault};
 use pfx_machine::{Command, Reply};
 use pfx_program::{CallFault, Engine, run_script};
+use pfx_script::Script;
 use std::alloc::Global;
 use std::fs::{File, OpenOptions};
 use std::path::PathBuf;
@@ -21,7 +22,7 @@ fn prints<D: Disk>(
     end: Option<Fault>,
 ) -> bool {
     let mut written = Vec::new(alloc);
-    let answer = run_script(alloc, script.as_bytes(), &mut written, engine);
+    let answer = run_script(alloc, &mut Script::new(alloc, script.as_bytes()), &mut written, engine);
     answer.err() == end && written.as_slice() == wanted.as_bytes()
 }
 
