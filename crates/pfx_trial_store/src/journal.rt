@@ -297,11 +297,18 @@ fn a_checkpoint_is_its_bytes(rt: HostRuntime) {
 
 /// The number of the last command where a stop so many calls into a disk's life leaves a store, all that isn't synced
 /// having met this fate; or that it is no store.
-fn left(alloc: Global, disk: &MemoryDisk, calls: usize, fate: Fate) -> Option<Result<u64, Refusal>> {
+fn left(
+    alloc: Global,
+    disk: &MemoryDisk,
+    calls: usize,
+    fate: Fate,
+) -> Option<Result<u64, Refusal>> {
     if disk.clock() < calls as u64 {
         return None;
     }
-    let left = disk.stopped(alloc, calls, &[fate, fate, fate, fate, fate]).ok()?;
+    let left = disk
+        .stopped(alloc, calls, &[fate, fate, fate, fate, fate])
+        .ok()?;
     match Store::<MemoryDisk, AnyJob>::open(alloc, left) {
         Ok(store) => Some(Ok(store.state().number())),
         Err((OpenFault::Refused(refusal), _)) => Some(Err(refusal)),
