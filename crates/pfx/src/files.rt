@@ -1,6 +1,6 @@
 //! The files that the program works on, and what goes wrong with them.
 
-ghost use Rattle.std.specs.Prelude.{◌≡◌, ◌⊎◌};
+ghost use Rattle.std.specs.Prelude.{◌≡◌, ◌⊎◌, IfErr};
 ghost use Rattle.pfx.specs.Faults.{fault_of_init, fault_of_open, fault_of_size, part_of};
 
 use pfx_disk::FileDisk;
@@ -9,6 +9,7 @@ use pfx_header::SegmentSizeFault;
 use pfx_journal::InitFault;
 use pfx_opening::{OpenFault, Part as FilePart, Refusal};
 use std::fs::{File, OpenOptions, TryLockError};
+use std::path::Path;
 use std::time::Duration;
 use std::{io, thread};
 
@@ -62,6 +63,24 @@ pub(crate) fn disk(rt: &HostRuntime, path: &str, create: bool) -> Result<FileDis
     match file.try_lock() {
         Ok(()) => Ok(FileDisk::new(file)),
         Err(error) => Err(lock_fault(error)),
+    }
+}
+
+/// Makes the name of a file durable, by a sync of the directory that it is in.
+pub(crate) fn sync_directory(rt: &HostRuntime, path: &str) -> Result<(), Fault>
+    ensures { IfErr result (λ fault. (fault ≡ Fault.Device) ⊎ (fault ≡ Fault.NoMemory)) }
+{
+    let parent = match Path::new(path).parent() {
+        Some(parent) => parent.as_str(),
+        None => "",
+    };
+    let synced = match File::open(rt, if parent.is_empty() { "." } else { parent }) {
+        Ok(directory) => directory.sync_all(),
+        Err(error) => Err(error),
+    };
+    match synced {
+        Ok(()) => Ok(()),
+        Err(error) => Err(fault_of(&error, Fault::Device)),
     }
 }
 

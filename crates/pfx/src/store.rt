@@ -1,6 +1,8 @@
 //! `pfx init SET FILE`, `pfx run FILE SCRIPT`, `pfx status FILE`.
 
-use crate::files::{disk, fault_of, init_fault, input, open_fault, shared_disk, size_fault};
+use crate::files::{
+    disk, fault_of, init_fault, input, open_fault, shared_disk, size_fault, sync_directory,
+};
 use pfx_disk::FileDisk;
 use pfx_engine::{DurableEngine, run_durable};
 use pfx_fault::Fault;
@@ -14,7 +16,7 @@ use std::io;
 use std::io::{BufWriter, Write};
 
 /// Makes a store of a set in a file, which is made where it is missing, and prints its line. The set's refusals and the
-/// segment's come before the file is touched.
+/// segment's come before the file is touched. The file's directory is synced before the line is printed.
 pub(crate) fn init(rt: &HostRuntime, alloc: Global, set: &str, file: &str) -> Result<(), Fault> {
     let (set, segment) = read_task_set(alloc, &mut input(rt, set)?)?;
     if let Err(fault) = check_segment(&set, segment) {
@@ -24,6 +26,7 @@ pub(crate) fn init(rt: &HostRuntime, alloc: Global, set: &str, file: &str) -> Re
         Ok(store) => store,
         Err((fault, _disk)) => return Err(init_fault(fault)),
     };
+    sync_directory(rt, file)?;
     let Ok(line) = created_line(alloc, &set, store.places().len) else {
         return Err(Fault::NoMemory);
     };

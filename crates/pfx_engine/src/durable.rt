@@ -193,7 +193,8 @@ impl<D: Disk> Engine for DurableEngine<D> {
         ensures endless { IsEndless self.old.state.ledger → OnOk result (IsEndless self.new.state.ledger) }
         ensures fails { IfErr result (Fails self.old.store.state.number (self.new.store.file.broken ≡ true)
             ((self.new.state ≡ self.old.state) × (self.new.store ≡ self.old.store))) }
-
+        ensures broken { self.old.store.file.broken ≡ true
+            → (result ≡ Err (CallFault.Failed (stopped_at self.old.store.state.number))) × (self.new.state ≡ self.old.state) × (self.new.store ≡ self.old.store) }
         ensures goes { GoesOn (D.view self.old.store.file.disk) (D.view self.new.store.file.disk) }
         ensures honest { IsHonest (D.view self.new.store.file.disk) → IsHonest (D.view self.old.store.file.disk) }
         ensures kept { IsHonest (D.view self.old.store.file.disk) → IsHonest (D.view self.new.store.file.disk) }

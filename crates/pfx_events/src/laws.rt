@@ -1,10 +1,10 @@
 //! What holds of every list of events, each the contract of a function that does nothing.
-ghost use Rattle.std.specs.Prelude.{◌≡◌, ◌+◌, ◌++◌, List, ℕ, take, None, Some, Ok};
+ghost use Rattle.std.specs.Prelude.{◌≡◌, ◌+◌, ◌++◌, List, ℕ, take, false, None, Some, Ok};
+ghost use Rattle.pfx_disk.specs.Disk.{IsHonest};
 ghost use Rattle.pfx_effect.specs.Recording.{records_of};
 ghost use Rattle.pfx_events.specs.Batches.{frames_of, joined, AreSmall, IsSeen};
 ghost use Rattle.pfx_events.specs.Store.{FileOf, recovered_file, store_of};
 ghost use Rattle.pfx_format.specs.Format.{format};
-ghost use Rattle.pfx_journal.specs.Standing.{Stands};
 ghost use Rattle.pfx_machine.specs.Outcome.{outcome};
 ghost use Rattle.pfx_machine.specs.Plain.{Plain, IsState};
 ghost use Rattle.pfx_machine.specs.Refusals.{refusal};
@@ -67,8 +67,10 @@ pub fn frames_are_batches<J: Job>()
         → Replays (format J.kind) s (take k (frames_of J.kind s batches)) t → t ≡ outcome J.kind s (joined (take k batches)) }
 {}
 
-/// A store that stands on its disk is a store as the events see it.
+/// A store that isn't broken, on an honest disk, is a store as the events see it.
 pub fn standing_is_seen<D: Disk, J: Job>(store: &Store<D, J>)
-    ensures { Stands J.kind store.now.file.places store.now.state store.now.spelled.items (D.view store.now.file.disk)
+    ensures { store.now.file.broken ≡ false → IsHonest (D.view store.now.file.disk)
         → (f : FileOf J) × IsSeen J.kind store.now.file.places store.now.state f (D.view store.now.file.disk) }
-{}
+{
+    let _broken = store.is_broken();
+}

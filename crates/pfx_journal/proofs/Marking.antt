@@ -89,15 +89,18 @@ module _ {J : Type 0} (K : Kind J) (start : Plain J) (all : List (List ℕ)) whe
         let long = length-append all (frame ∷ []) in
         record {
           leads = λ _. run;
-          marks = (record {
-            count = length all + 1;
-            few = omega (arith, long);
-            state = t;
-            leads = subst (λ (l : List (List ℕ)). Replays (format K) start l t) (sym (take_all (length all + 1) (all ++ frame ∷ []) (omega (arith, long)))) run;
-            number = sym is_mark.0;
-            past = omega (arith, is_mark.1);
-            images = λ image here. acknowledged whole image (subst (λ (c : ℕ). b.since c image) is_mark.1 here);
-          }, still_kept);
+          marks = (
+            record {
+              count = length all + 1;
+              few = omega (arith, long);
+              state = t;
+              leads = subst (λ (l : List (List ℕ)). Replays (format K) start l t) (sym (take_all (length all + 1) (all ++ frame ∷ []) (omega (arith, long)))) run;
+              number = sym is_mark.0;
+              past = omega (arith, is_mark.1);
+              images = λ image here. acknowledged whole image (subst (λ (c : ℕ). b.since c image) is_mark.1 here);
+            },
+            still_kept,
+          );
         }
     covers_appended (Err Device) works room still led is_mark acknowledged = record { leads = λ here. absurd (true≢false (sym (works.breaks refl) ∙ here)); marks = still_kept }
     covers_appended (Err Broken) works room still led is_mark acknowledged = record { leads = λ here. absurd (true≢false (sym (works.broken.0 refl) ∙ (sym (still refl) ∙ here))); marks = still_kept }
@@ -115,15 +118,18 @@ module _ {J : Type 0} (K : Kind J) (L : Laws K) (places : Places) (s : Plain J) 
     pub covers_begun : (broken : Bool) → Covers K s [] (record { number = s.number; clock = disk.clock } ∷ []) broken s disk
     covers_begun broken = record {
       leads = λ _. refl;
-      marks = (record {
-        count = 0;
-        few = omega arith;
-        state = s;
-        leads = refl;
-        number = refl;
-        past = omega arith;
-        images = λ image here. record { count = 0; at_least = omega arith; at_most = omega arith; state = s; replays = refl; recovered = recovered_since image here };
-      }, tt);
+      marks = (
+        record {
+          count = 0;
+          few = omega arith;
+          state = s;
+          leads = refl;
+          number = refl;
+          past = omega arith;
+          images = λ image here. record { count = 0; at_least = omega arith; at_most = omega arith; state = s; replays = refl; recovered = recovered_since image here };
+        },
+        tt,
+      );
     }
 
 -- the steps that are left where none has been taken

@@ -41,9 +41,9 @@ impl<D: Disk, J: Job> Model for Store<D, J> {
     ghost Value = { PlainStore D J };
 
     ghost view = { λ s. record {
-        file = record { disk = s.journal.file.disk; places = s.journal.file.places; broken = s.journal.file.broken };
-        state = s.journal.state;
-        spelled = s.journal.spelled.items;
+      file = record { disk = s.journal.file.disk; places = s.journal.file.places; broken = s.journal.file.broken };
+      state = s.journal.state;
+      spelled = s.journal.spelled.items;
     } };
 
     ghost invariant = { λ s. s.journal.file.broken ≡ false → IsHonest (D.view s.journal.file.disk)

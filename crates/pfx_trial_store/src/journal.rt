@@ -2,10 +2,12 @@
 
 use crate::check::{check, check_at};
 use crate::held::held;
-use pfx_disk::{Disk, FaultDisk, MemoryDisk};
+use crate::turns::append_slot;
+use pfx_disk::{Disk, Fate, FaultDisk, MemoryDisk};
 use pfx_journal::{InitFault, Store};
 use pfx_kinds::any::AnyJob;
 use pfx_opening::{OpenFault, Part, Refusal};
+use pfx_store::Tended;
 use pfx_weights::TaskSet;
 use std::alloc::Global;
 
@@ -227,5 +229,128 @@ fn stores_that_cant_be_made(rt: HostRuntime) {
     for k in 0..11 {
         let holds = fault_at(alloc, k) == Some(InitFault::Device);
         check_at(&rt, holds, "call", k as usize);
+    }
+}
+
+/// The new store on a disk in memory.
+fn store_in_memory(alloc: Global) -> Option<Store<MemoryDisk, AnyJob>> {
+    let disk = MemoryDisk::new(alloc, &[], LEN, 80, 30_000).ok()?;
+    made(alloc, disk, 8192).ok()
+}
+
+/// The bytes of the file to which a slot is appended.
+fn appended(alloc: Global) -> Option<Vec<u8>> {
+    let mut store = store_in_memory(alloc)?;
+    if append_slot(alloc, &mut store) {
+        held(alloc, &mut store.into_disk())
+    } else {
+        None
+    }
+}
+
+#[test]
+fn an_appended_frame_is_its_bytes(rt: HostRuntime) {
+    let alloc = rt.alloc();
+    let bytes = appended(alloc).unwrap_or(Vec::new(alloc));
+    check(&rt, bytes.len() == LEN, "appended");
+    let wanted = file_of_one_slot(alloc).unwrap_or(Vec::new(alloc));
+    for (i, byte) in bytes.iter().enumerate() {
+        check_at(&rt, wanted.get(i) == Some(byte), "byte", i);
+    }
+}
+
+/// The byte of the slot with the state behind one slot of tasks 0 and 1: its gate, the number, the slot, and a row of 137
+/// bytes for each task, which begins with what the task got.
+fn byte_of_checkpoint(i: usize) -> u8 {
+    match i {
+        0 => 0xc3,
+        1 | 9 | 17 | 154 => 1,
+        _ => 0,
+    }
+}
+
+/// The bytes of the file behind a slot, a turn and a whole checkpoint.
+fn checkpointed(alloc: Global) -> Option<Vec<u8>> {
+    let mut store = store_in_memory(alloc)?;
+    let is_ended = append_slot(alloc, &mut store)
+        && store.turn() == Ok(true)
+        && store.tend() == Ok(Tended::Closed)
+        && store.tend() == Ok(Tended::Piece)
+        && store.tend() == Ok(Tended::Finished);
+    if is_ended {
+        held(alloc, &mut store.into_disk())
+    } else {
+        None
+    }
+}
+
+#[test]
+fn a_checkpoint_is_its_bytes(rt: HostRuntime) {
+    let alloc = rt.alloc();
+    let bytes = checkpointed(alloc).unwrap_or(Vec::new(alloc));
+    check(&rt, bytes.len() == LEN, "checkpointed");
+    for i in 0..428 {
+        let holds = bytes.get(469 + i) == Some(&byte_of_checkpoint(i));
+        check_at(&rt, holds, "byte", i);
+    }
+}
+
+/// The number of the last command where a stop so many calls into a disk's life leaves a store, all that isn't synced
+/// having met this fate; or that it is no store.
+fn left(
+    alloc: Global,
+    disk: &MemoryDisk,
+    calls: usize,
+    fate: Fate,
+) -> Option<Result<u64, Refusal>> {
+    if disk.clock() < calls as u64 {
+        return None;
+    }
+    let left = disk
+        .stopped(alloc, calls, &[fate, fate, fate, fate, fate])
+        .ok()?;
+    match Store::<MemoryDisk, AnyJob>::open(alloc, left) {
+        Ok(store) => Some(Ok(store.state().number())),
+        Err((OpenFault::Refused(refusal), _)) => Some(Err(refusal)),
+        Err(_) => None,
+    }
+}
+
+#[test]
+fn a_making_is_stopped(rt: HostRuntime) {
+    // The ninth of eleven calls syncs all but the first gate, which the tenth opens.
+    let alloc = rt.alloc();
+    let Some(store) = store_in_memory(alloc) else {
+        return check(&rt, false, "made");
+    };
+    let disk = store.into_disk();
+    let none = Err(Refusal::NotAStore);
+    let rows = [
+        (8, Fate::Kept, none),
+        (8, Fate::Dropped, none),
+        (8, Fate::Filled(0xc3), none),
+        (9, Fate::Kept, none),
+        (10, Fate::Dropped, none),
+        (10, Fate::Filled(0x5a), none),
+        (10, Fate::Kept, Ok(0)),
+        (11, Fate::Dropped, Ok(0)),
+    ];
+    for (row, (calls, fate, wanted)) in rows.iter().enumerate() {
+        let holds = left(alloc, &disk, *calls, *fate) == Some(*wanted);
+        check_at(&rt, holds, "row", row);
+    }
+}
+
+#[test]
+fn an_append_is_stopped(rt: HostRuntime) {
+    let alloc = rt.alloc();
+    let Some(mut store) = store_in_memory(alloc) else {
+        return check(&rt, false, "made");
+    };
+    check(&rt, append_slot(alloc, &mut store), "appended");
+    let disk = store.into_disk();
+    for (calls, number) in [(12, 0), (13, 0), (14, 0), (15, 1)] {
+        let holds = left(alloc, &disk, calls, Fate::Filled(0x5a)) == Some(Ok(number));
+        check_at(&rt, holds, "calls", calls);
     }
 }

@@ -40,7 +40,7 @@ fn append(
 }
 
 /// Appends a slot, with no step of a checkpoint before it.
-fn append_slot(alloc: Global, store: &mut Store<MemoryDisk, AnyJob>) -> bool {
+pub fn append_slot(alloc: Global, store: &mut Store<MemoryDisk, AnyJob>) -> bool {
     let Some(entry) = slot_of(alloc, store.state()) else {
         return false;
     };
@@ -75,8 +75,8 @@ fn are_steps(store: &mut Store<MemoryDisk, AnyJob>, steps: &[Tended]) -> bool {
 
 /// The disk as a stop now leaves it.
 fn left(alloc: Global, store: &Store<MemoryDisk, AnyJob>) -> Option<MemoryDisk> {
-    let calls = store.file.disk.clock();
-    store.file.disk.stopped(alloc, calls as usize, &[]).ok()
+    let calls = store.disk().clock();
+    store.disk().stopped(alloc, calls as usize, &[]).ok()
 }
 
 /// The byte at a place, 0 past the end.
@@ -132,7 +132,7 @@ fn a_second_turn_leads_back(rt: HostRuntime) {
         return check(&rt, false, "opened again");
     };
     check(&rt, stands_at(&again, 12, 8), "state");
-    let places = again.store.file.places;
+    let places = again.store.places();
     let leads_back = places.slot && places.turned && !places.segment;
     check(&rt, leads_back, "places");
 }
@@ -220,7 +220,7 @@ fn a_checkpoint_ends_between_slots(rt: HostRuntime) {
         return check(&rt, false, "opened again");
     };
     check(&rt, stands_at(&after, 45, 30), "state");
-    let places = after.store.file.places;
+    let places = after.store.places();
     check(&rt, places.slot && !places.turned, "places");
 }
 
@@ -236,7 +236,7 @@ fn with_a_checkpoint(alloc: Global) -> Option<DurableEngine<MemoryDisk>> {
 
 /// Whether a slot takes so many calls, up to its mark.
 fn takes_calls(alloc: Global, engine: &mut DurableEngine<MemoryDisk>, calls: u64) -> bool {
-    let before = engine.store.file.disk.clock();
+    let before = engine.store.disk().clock();
     match engine.carry_out(alloc, Command::Slot) {
         Ok((mark, _reply)) => mark.clock >= before && mark.clock - before == calls,
         Err(_) => false,
@@ -367,7 +367,7 @@ fn first_loss(
 /// Tells whether marks survive stops behind each call of 62 commands over segments of the least length.
 fn marks_survive(alloc: Global, fate: Fate) -> Option<bool> {
     let mut engine = over_least_segments(alloc)?;
-    let made = engine.store.file.disk.clock();
+    let made = engine.store.disk().clock();
     let mut marks = Vec::new(alloc);
     let is_run = run_62(alloc, &mut marks, &mut engine);
     let disk = engine.into_store().into_disk();
