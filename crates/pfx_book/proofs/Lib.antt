@@ -5,3 +5,4 @@ mod Taking
 mod Asking
 mod Showing
 mod Marking
+mod Gathering

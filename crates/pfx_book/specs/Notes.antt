@@ -121,3 +121,8 @@ module _ {J : Type 0} where
   abbrev pub entries_of : List (ℕ × Note J) → List (ℕ × Note J)
   entries_of [] = []
   entries_of (x ∷ xs) = if is_entry x.1 then x ∷ entries_of xs else entries_of xs
+
+  -- a client's notes without losses
+  abbrev pub answers_of : List (Note J) → List (Note J)
+  answers_of [] = []
+  answers_of (x ∷ xs) = if is_entry x then x ∷ answers_of xs else answers_of xs

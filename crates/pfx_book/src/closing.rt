@@ -1,20 +1,17 @@
 //! Receipts, failures, and the end of a session.
-ghost use Rattle.std.specs.Prelude.{◌≡◌, ◌≢◌, ℕ, List, [], ◌∷◌, ◌++◌, ◌≤◌, ◌+◌, map, IfOk, OnErr, IfSome, Some, None, true, IsTrue};
-ghost use Rattle.pfx_machine.specs.Outcome.{outcome};
+ghost use Rattle.std.specs.Prelude.{◌≡◌, ◌≢◌, ◌≤◌, ◌+◌, map, IfOk, OnErr, Some, None, true, IsTrue};
 ghost use Rattle.pfx_world.specs.Session.{receipted};
 ghost use Rattle.pfx_book.specs.Calls.{entered, noted, once_lost};
 ghost use Rattle.pfx_book.specs.Merging.{of, IsMerge};
-ghost use Rattle.pfx_book.specs.Notes.{lost_in, AllBacked, Legal};
-ghost use Rattle.pfx_book.specs.declared.note.Note.{Note};
+ghost use Rattle.pfx_book.specs.Notes.{lost_in, answers_of};
 ghost use Rattle.pfx_book.specs.declared.note.Note.TheVariants.{Receipt as Receipted};
 
-use crate::book::{Book, Pass, Share};
+use crate::book::{Book, Pass};
 use crate::line::Line;
 use crate::name::Named;
 use crate::note::Note;
 use crate::room::make_room;
 use pfx_jobs::job::Job;
-use pfx_machine::State;
 use std::alloc::AllocError;
 
 /// An acknowledgement: the command of this number, and those before it, are durable since this clock of the disk.
@@ -74,5 +71,36 @@ impl<J: Job, B: Named<J>> Book<J, B> {
         ensures { self.new ≡ record self.old { shut = true } }
     {
         self.shut = true;
+    }
+
+    /// Whether this is the pass of that number. Then its entries are those of that number.
+    fn look(&mut self, pass: &mut Pass<J, B>, number: u64) -> bool
+        ensures same { (self.new ≡ self.old) × (pass.new ≡ pass.old) }
+        ensures its { IsTrue result → answers_of pass.old.1 ≡ of number self.old.history }
+    {
+        if u64::from(pass.number) != number {
+            return false;
+        }
+        self.keeper.look(&mut pass.token);
+        true
+    }
+
+    /// Whether these are all passes, in the order in which they were given out. Then the session is the merge of their entries.
+    pub fn gathered(&mut self, passes: &mut Vec<Pass<J, B>>) -> bool
+        ensures same { (self.new ≡ self.old) × (passes.new.items ≡ passes.old.items) }
+        ensures merge { IsTrue result → IsMerge (map (λ p. answers_of p.1) passes.old.items) self.old.history }
+    {
+        let mut i = 0;
+        while i < passes.len() {
+            let same = self.look(&mut passes[i], i as u64 + 1);
+            if !same {
+                return false;
+            }
+            i += 1;
+        }
+        if self.passes as usize != passes.len() {
+            return false;
+        }
+        true
     }
 }

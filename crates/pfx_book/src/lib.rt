@@ -13,7 +13,7 @@
 //! 4. an open slot is the state's, and has room for its entry, so that it can always be sealed.
 //!
 //! Of a value under a lock a client knows nothing but this. So each client has a `Pass` and the flusher a `Share`, whose lists
-//! the book's keeper knows: what was noted for them comes home with them.
+//! the book's keeper knows: once all passes are back, `Book::gathered` says that the session is the merge of their entries.
 #![tactic(auto)]
 
 pub mod book;
