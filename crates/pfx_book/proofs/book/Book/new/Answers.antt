@@ -1,0 +1,32 @@
+use Rattle.std.specs.Prelude.{None, Some, slice_get, slice_set, map}
+use Rattle.std.specs.VecDeque.{deque_items}
+use Rattle.std.proofs.Common.{◌≡◌, ◌++◌, ◌∷◌, [], ℕ, List, length, sym, subst, refl, ap, ◌∙◌, arith}
+use Rattle.pfx_machine.specs.Plain.{Plain}
+use Rattle.pfx_record.specs.Records.{plain, Plain as Recorded}
+use Rattle.pfx_book.specs.declared.note.Note.{Note}
+use Rattle.pfx_book.specs.declared.note.Note.TheVariants.{Marked}
+use Rattle.pfx_book.specs.declared.line.Line.{Line}
+use Rattle.pfx_book.specs.Lines.{told}
+use Rattle.pfx_book.specs.Kept.{IsKept}
+use Rattle.pfx_book.proofs.Marking.{kept_new}
+use Rattle.pfx_book.proofs.book.Book.new.Goals as goal
+
+pub invariant_of-book : goal.invariant_of-book
+invariant_of-book g c =
+    let K = g.J.Job.kind in
+    let B = g.B.Named.start in
+    let u = c.in_ok-state.state in
+    let n = c.number-began.result in
+    let e : Note g.row.J.Denot = Marked n c.args.clock in
+    let same = c.in_ok-state.ensures ∙ c.requires.start in
+    let t = c.issue-token.ensures.token in
+    let k = c.issue-token.ensures.keeper ∙ ap (λ l. l ++ [] ∷ []) c.named-keeper.ensures in
+    let zero : c.issue-token.result.0 ≡ 0 = ap (λ x. x.0) t ∙ ap length c.named-keeper.ensures in
+    let lists : c.note.new.self ≡ (e ∷ []) ∷ [] = c.note.ensures.keeper ∙ (λ i. slice_set (k i) (zero i) ((ap (λ x. x.1) t) i ++ e ∷ [])) in
+    let kept = kept_new K B u c.note.new.self n c.args.clock same c.number-began.ensures.state c.number-began.ensures.number lists in (
+      subst (λ (q : List (Line g.row.J.Denot) × List (Recorded g.row.J.Denot)). IsKept K B (told K B [] q.0) c.note.new.self 0 u q.1 0 0 c.args.clock None)
+          (λ i. (sym c.new.ensures.items i, sym (ap (map plain) c.in_ok-pending.ensures.items) i)) kept,
+      tt,
+      c.number-began.ensures.number ∙ ap (λ (z : Plain g.row.J.Denot). z.number) same,
+      c.in_ok-pending.ensures.capacity,
+    )

@@ -1,0 +1,53 @@
+-- What a book's type keeps.
+use Rattle.std.specs.Prelude.{◌≡◌, ℕ, ◌+◌, ◌<◌, ◌≤◌, List, [], ◌∷◌, ◌++◌, length, Option, None, Some, ⊤, true}
+use Rattle.pfx_fault.specs.declared.parts.Cause.{Cause}
+use Rattle.pfx_jobs.specs.Kind.{Kind}
+use Rattle.pfx_machine.specs.Plain.{Plain, IsState}
+use Rattle.pfx_machine.specs.Outcome.{outcome}
+use Rattle.pfx_record.specs.Records.{Plain as Recorded}
+use Rattle.pfx_effect.specs.Recording.{records_of}
+use Rattle.pfx_slot.specs.Dealt.{Dealt, StandsAt}
+use Rattle.pfx_book.specs.Merging.{lists_from, Tagged}
+use Rattle.pfx_book.specs.declared.note.Note.{Note}
+use Rattle.pfx_book.specs.declared.note.Note.TheVariants.{Marked, Failed}
+use Rattle.pfx_book.specs.Notes.{Noted, commands_of, Legal, records_in, AllBacked, entries_of}
+
+module _ {J : Type 0} where
+  -- the keeper's lists are the flusher's notes and those of each pass; the notes of the passes are legal from the start, their
+  -- commands come to the state, and their records are those that were taken and then those that are pending
+  pub record IsTold (K : Kind J) (start : Plain J) (flushed : List (Note J)) (all : List (ℕ × Note J)) (lists : List (List (Note J))) (passes : ℕ) (state : Plain J) (pending : List (Recorded J)) : Type 0 where
+    pub known : lists ≡ flushed ∷ lists_from 1 passes all
+    pub tagged : Tagged passes all ≡ true
+    pub is_legal : Legal K start [] all
+    pub outcome : state ≡ outcome K start (commands_of all)
+    pub few : passes < 65
+    pub valid : IsState start
+    pub records : records_of K start (commands_of all) ≡ records_in flushed ++ pending
+
+  -- a failure is among the flusher's notes
+  abbrev pub HasFailed : Option Cause → List (Note J) → Type 0
+  HasFailed None notes = ⊤
+  HasFailed (Some cause) notes = Noted (Failed cause) notes
+
+  -- the mark is among the flusher's notes, and at most what was taken; what is accepted is at most 64 beyond it; and receipts
+  -- and losses are backed
+  pub record IsMarked (first : ℕ) (flushed : List (Note J)) (all : List (ℕ × Note J)) (taken marked clock : ℕ) (failure : Option Cause) : Type 0 where
+    pub taken_is : taken ≡ length (records_in flushed)
+    pub behind : marked ≤ taken
+    pub noted : Noted (Marked (first + marked) clock) flushed
+    pub room : length (commands_of all) ≤ marked + 64
+    pub backed : AllBacked flushed all
+    pub failed : HasFailed failure flushed
+
+  -- the book's invariant, of its session, its keeper's lists and its numbers
+  pub record IsKept (K : Kind J) (start : Plain J) (session : List (ℕ × Note J)) (lists : List (List (Note J))) (passes : ℕ) (state : Plain J) (pending : List (Recorded J)) (taken marked clock : ℕ) (failure : Option Cause) : Type 0 where
+    pub flushed : List (Note J)
+    pub all : List (ℕ × Note J)
+    pub entries : session ≡ entries_of all
+    pub is_told : IsTold K start flushed all lists passes state pending
+    pub is_marked : IsMarked start.number flushed all taken marked clock failure
+
+  -- a slot is open: it is the state's, there is a place for its entry, and it has room before the mark is 64 behind
+  abbrev pub OpenFits : Kind J → Plain J → ℕ → Option (Dealt J) → ℕ → ℕ → ℕ → Type 0
+  OpenFits K state first None marked entries places = ⊤
+  OpenFits K state first (Some o) marked entries places = StandsAt K state o × (entries < places) × (state.number < first + marked + 64)

@@ -1,0 +1,7 @@
+pub mod Merging
+pub mod Notes
+pub mod Lines
+pub mod Register
+pub mod Kept
+pub mod Calls
+pub mod Trying

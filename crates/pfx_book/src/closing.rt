@@ -1,0 +1,106 @@
+//! Receipts, failures, and the end of a session.
+ghost use Rattle.std.specs.Prelude.{◌≡◌, ◌≢◌, ◌≤◌, ◌+◌, map, IfOk, OnErr, Some, None, true, IsTrue};
+ghost use Rattle.pfx_world.specs.Session.{receipted};
+ghost use Rattle.pfx_book.specs.Calls.{entered, noted, once_lost};
+ghost use Rattle.pfx_book.specs.Merging.{of, IsMerge};
+ghost use Rattle.pfx_book.specs.Notes.{lost_in, answers_of};
+ghost use Rattle.pfx_book.specs.declared.note.Note.TheVariants.{Receipt as Receipted};
+
+use crate::book::{Book, Pass};
+use crate::line::Line;
+use crate::name::Named;
+use crate::note::Note;
+use crate::room::make_room;
+use pfx_jobs::job::Job;
+use std::alloc::AllocError;
+
+/// An acknowledgement: the command of this number, and those before it, are durable since this clock of the disk.
+#[derive(Clone, Copy, Debug, PartialEq, Eq)]
+pub struct Receipt {
+    /// The number.
+    pub number: u64,
+    /// The clock of the mark that covers it.
+    pub clock: u64,
+}
+
+impl<J: Job, B: Named<J>> Book<J, B> {
+    /// A receipt for a number up to the mark, with an entry for the pass. `AllocError` where memory is refused; then nothing
+    /// changes.
+    pub fn receipt(&mut self, pass: &mut Pass<J, B>, number: u64) -> Result<Receipt, AllocError>
+        requires { number ≤ B.start.number + self.old.session.marked }
+        ensures event { IfOk result (λ r. self.new ≡ entered pass.old.0 (Receipted number self.old.session.marked_at) (receipted number self.old.session) self.old) }
+        ensures noted { IfOk result (λ r. pass.new ≡ noted (Receipted number self.old.session.marked_at) pass.old) }
+        ensures receipt { IfOk result (λ r. (r.number ≡ number) × (r.clock ≡ self.old.session.marked_at)) }
+        ensures err { OnErr result ((self.new ≡ self.old) × (pass.new ≡ pass.old)) }
+    {
+        let Book {
+            keeper,
+            history,
+            clock,
+            ..
+        } = self;
+        if !make_room(history, 2) {
+            return Err(AllocError);
+        }
+        keeper.note(&mut pass.token, &Note::Receipt(number, *clock));
+        history.push_reserved(Line::Receipt {
+            pass: pass.number,
+            number,
+            clock: *clock,
+        });
+        Ok(Receipt {
+            number,
+            clock: *clock,
+        })
+    }
+
+    /// Notes for a client that the flusher has given up, and why, unless it was told before. It takes no memory.
+    pub fn note_failure(&mut self, pass: &mut Pass<J, B>)
+        requires { self.old.failure ≢ None }
+        ensures same { self.new ≡ self.old }
+        ensures noted { (cause : _) → self.old.failure ≡ Some cause → pass.new ≡ (pass.old.0, once_lost (lost_in pass.old.1) cause pass.old.1) }
+    {
+        if let (Some(cause), None) = (self.failure, pass.cause) {
+            self.keeper.note(&mut pass.token, &Note::Lost(cause));
+            pass.cause = Some(cause);
+        }
+    }
+
+    /// From now on nothing is accepted.
+    pub fn shut(&mut self)
+        ensures { self.new ≡ record self.old { shut = true } }
+    {
+        self.shut = true;
+    }
+
+    /// Whether this is the pass of that number. Then its entries are those of that number.
+    fn look(&mut self, pass: &mut Pass<J, B>, number: u64) -> bool
+        ensures same { (self.new ≡ self.old) × (pass.new ≡ pass.old) }
+        ensures its { IsTrue result → answers_of pass.old.1 ≡ of number self.old.history }
+    {
+        if u64::from(pass.number) != number {
+            return false;
+        }
+        self.keeper.look(&mut pass.token);
+        true
+    }
+
+    /// Whether these are all passes, in the order in which they were given out. Then the session is the merge of their entries.
+    pub fn gathered(&mut self, passes: &mut Vec<Pass<J, B>>) -> bool
+        ensures same { (self.new ≡ self.old) × (passes.new.items ≡ passes.old.items) }
+        ensures merge { IsTrue result → IsMerge (map (λ p. answers_of p.1) passes.old.items) self.old.history }
+    {
+        let mut i = 0;
+        while i < passes.len() {
+            let same = self.look(&mut passes[i], i as u64 + 1);
+            if !same {
+                return false;
+            }
+            i += 1;
+        }
+        if self.passes as usize != passes.len() {
+            return false;
+        }
+        true
+    }
+}

@@ -1,0 +1,14 @@
+//! Why a command has no number.
+use pfx_machine::MachineFault;
+use thiserror::Error;
+
+/// Why a command isn't accepted.
+#[derive(Clone, Copy, Debug, PartialEq, Eq, Error)]
+pub enum BookFault {
+    /// The session has accepted as many commands as it may. This is tested before all else.
+    #[error("the session is full")]
+    SessionFull,
+    /// The machine refuses it. `NoMemory` says that a growth of memory was refused; then nothing was noted.
+    #[error("{0}")]
+    Machine(MachineFault),
+}

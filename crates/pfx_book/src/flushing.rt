@@ -1,0 +1,92 @@
+//! What the flusher calls.
+ghost use Rattle.std.specs.Prelude.{◌≡◌, [], ◌∷◌, ◌++◌, ◌≤◌, ◌+◌, length, map, IfOk, OnErr, Some, vec_capacity};
+ghost use Rattle.pfx_record.specs.Records.{plain};
+ghost use Rattle.pfx_world.specs.Session.{took, marked_now, gave_up};
+ghost use Rattle.pfx_book.specs.Notes.{records_in, took_in, GoesOn};
+ghost use Rattle.pfx_book.specs.declared.note.Note.TheVariants.{Took, Marked, Failed};
+
+use crate::book::{Book, Share};
+use crate::name::Named;
+use crate::note::Note;
+use crate::room::take_front;
+use pfx_fault::Cause;
+use pfx_jobs::job::Job;
+use pfx_record::{Batch, Record};
+
+/// The batch that a note holds.
+fn took_of<J: Job>(note: Note<J>) -> Option<Vec<Record<J>>>
+    ensures { result ≡ took_in note }
+{
+    match note {
+        Note::Took(_first, records) => Some(records),
+        _ => None,
+    }
+}
+
+impl<J: Job, B: Named<J>> Book<J, B> {
+    /// Takes the records of the next commands, 16 at the most, as a batch, which the share notes. Where there are none the
+    /// vector comes back, and nothing changes. It takes no memory.
+    pub fn take_batch(
+        &mut self,
+        share: &mut Share<J, B>,
+        room: Vec<Record<J>>,
+    ) -> Result<Batch<J>, Vec<Record<J>>>
+        requires empty { room.items ≡ [] }
+        requires room { 16 ≤ vec_capacity room }
+        ensures event { IfOk result (λ b. self.new ≡ record self.old { session = took (length b.records.items) self.old.session }) }
+        ensures noted { IfOk result (λ b. share.new ≡ share.old ++ Took b.first b.records ∷ []) }
+        ensures next { IfOk result (λ b. GoesOn J.kind B.start share.old b.workers b.first (map plain b.records.items)) }
+        ensures err { OnErr result ((self.old.session.taken ≡ length self.old.session.accepted) × (self.new ≡ self.old) × (share.new ≡ share.old)) }
+    {
+        let Book {
+            alloc,
+            keeper,
+            state,
+            pending,
+            taken,
+            ..
+        } = self;
+        let workers = state.columns().workers();
+        let count = pending.len() as u64;
+        let records = take_front(pending, room);
+        if records.is_empty() {
+            return Err(records);
+        }
+        let first = state.number() - count + 1;
+        let more = records.len() as u64;
+        let note = Note::Took(first, records);
+        keeper.note(&mut share.token, &note);
+        *taken += more;
+        match took_of(note) {
+            Some(records) => return Ok(Batch::new(workers, first, records)),
+            None => return Err(Vec::new(*alloc)),
+        }
+    }
+
+    /// All that was taken counts as durable, since this clock of the disk. `number` is that of the last command that the share
+    /// took, or of the start where it took none.
+    pub fn mark(&mut self, share: &mut Share<J, B>, number: u64, clock: u64)
+        requires { number ≡ B.start.number + length (records_in share.old) }
+        ensures event { self.new ≡ record self.old { session = marked_now clock self.old.session } }
+        ensures noted { share.new ≡ share.old ++ Marked number clock ∷ [] }
+    {
+        let Book {
+            keeper,
+            taken,
+            marked,
+            ..
+        } = self;
+        keeper.note(&mut share.token, &Note::Marked(number, clock));
+        *marked = *taken;
+        self.clock = clock;
+    }
+
+    /// The flusher gives up: from now on nothing is accepted.
+    pub fn fail(&mut self, share: &mut Share<J, B>, cause: Cause)
+        ensures event { self.new ≡ record self.old { session = gave_up self.old.session; failure = Some cause } }
+        ensures noted { share.new ≡ share.old ++ Failed cause ∷ [] }
+    {
+        self.keeper.note(&mut share.token, &Note::Failed(cause));
+        self.failure = Some(cause);
+    }
+}

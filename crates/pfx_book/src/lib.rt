@@ -1,0 +1,28 @@
+//! The book: the session of a store's clients, as the value that lies under a lock. No call waits.
+//!
+//! A book holds the machine's state, each command that was accepted or refused with the number of the client's pass, the open
+//! slot, the records that wait for the flusher, the mark, and whether the flusher has given up. Each of its calls is one event
+//! of the world in `pfx_world/specs/Session.antt`, in that world's own words, or changes nothing there.
+//!
+//! What its type keeps:
+//! 1. the session is legal: each command stands there with the number, the reply or the refusal that it has to have behind
+//!    those before it, and the accepted ones lead from the start to the state;
+//! 2. the records that the flusher took, and then those that wait, are those of the accepted commands;
+//! 3. the mark is at most what was taken, and what is accepted at most 64 beyond the mark; each receipt is of a number up to
+//!    one of the flusher's marks, with that mark's clock;
+//! 4. an open slot is the state's, and has room for its entry, so that it can always be sealed.
+//!
+//! Of a value under a lock a client knows nothing but this. So each client has a `Pass` and the flusher a `Share`, whose lists
+//! the book's keeper knows: once all passes are back, `Book::gathered` says that the session is the merge of their entries.
+#![tactic(auto)]
+
+pub mod book;
+pub mod closing;
+mod copies;
+pub mod faults;
+mod flushing;
+mod line;
+pub mod name;
+pub mod note;
+mod room;
+mod trying;
