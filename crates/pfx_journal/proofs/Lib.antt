@@ -4,3 +4,4 @@ mod Counts
 mod Made
 pub mod Slots
 mod Standings
+pub mod Filing
