@@ -33,10 +33,10 @@ behind_same frame bytes is = ap behind_of is.1 ∙ sym is.2.split
 
 module _ {J : Type 0} (K : Kind J) (f : FileOf J) (places : Places) (body : List ℕ) (has : HasFile K f places body) where
   tends_so : tend_acts (format K) f body ≡ tending K f
-  tends_so = tend_same (format K) f body (spelled K f) has.body
+  tends_so = tend_same (format K) f body (spelled K f) has.spells
 
   ends_so : end_acts (format K) f body ≡ end_acts (format K) f (spelled K f)
-  ends_so = end_same (format K) f body (spelled K f) has.body
+  ends_so = end_same (format K) f body (spelled K f) has.spells
 
   -- a step of the checkpoint
   module _ (old new : View) where
@@ -49,10 +49,10 @@ module _ {J : Type 0} (K : Kind J) (f : FileOf J) (places : Places) (body : List
     pub tend_within : HasKeptTo (tend_acts (format K) f body) old new → HasKeptTo (tending K f) old new
     tend_within within = subst (λ l. HasKeptTo l old new) tends_so within
 
-  pub tend_file : (then : Places) → AreOf (format K) (tended_file (format K) f) then → HasFile K (tended_file (format K) f) then body
-  tend_file then are = let kept = tended_kept (format K) f in record {
+  pub tend_file : (after : Places) → AreOf (format K) (tended_file (format K) f) after → HasFile K (tended_file (format K) f) after body
+  tend_file after are = let kept = tended_kept (format K) f in record {
     are = are;
-    body = λ turned. has.body (kept.turned turned) ∙ ap (state_bytes K) (sym kept.middle);
+    spells = λ turned. has.spells (kept.turned turned) ∙ ap (state_bytes K) (sym kept.middle);
   }
 
   -- room for a frame of n bytes
@@ -94,10 +94,10 @@ module _ {J : Type 0} (K : Kind J) (f : FileOf J) (places : Places) (body : List
       pub end_within : HasKeptTo (end_acts (format K) f body) a b → HasKeptTo (ending K f n) a b
       end_within within = subst (λ l. HasKeptTo l a b) (sym (full_acts none)) within
 
-      pub end_file : (then : Places) (other : List ℕ) → AreOf (format K) (ended_file (format K) f) then → HasFile K (ended K f n) then other
-      end_file then other are = subst (λ g. HasFile K g then other) (sym (full_file none)) (record {
+      pub end_file : (after : Places) (other : List ℕ) → AreOf (format K) (ended_file (format K) f) after → HasFile K (ended K f n) after other
+      end_file after other are = subst (λ g. HasFile K g after other) (sym (full_file none)) (record {
         are = are;
-        body = λ turned. absurd (true≢false (sym turned ∙ has_ended (format K) f));
+        spells = λ turned. absurd (true≢false (sym turned ∙ has_ended (format K) f));
       })
 
   -- A frame appended behind that.
@@ -140,17 +140,17 @@ module _ {J : Type 0} (K : Kind J) (f : FileOf J) (places : Places) (body : List
     spelled_by : (HasRoom n places → other ≡ body) → (¬ HasRoom n places → other ≡ state_bytes K s) → Spelled (appended K f s frame)
     spelled_by there full = elim (cases_lt (places.gate + n) places.end) [
       | inl room ↦ subst (λ b. Spelled (framed_file (format K) (if b then f else turned_file (format K) (ended_file (format K) f) s) frame))
-          (sym (subst (λ m. has_room (format K) f m ≡ true) (sym long) (room_is n room))) (λ turned. there room ∙ has.body turned)
+          (sym (subst (λ m. has_room (format K) f m ≡ true) (sym long) (room_is n room))) (λ turned. there room ∙ has.spells turned)
       | inr more ↦
           let none : ¬ HasRoom n places = λ room. omega (arith, more, room) in
           subst (λ b. Spelled (framed_file (format K) (if b then f else turned_file (format K) (ended_file (format K) f) s) frame))
           (sym (subst (λ m. has_room (format K) f m ≡ false) (sym long) (full_is n none))) (λ turned. full none)
     ]
 
-    pub append_file : (then : Places) → (HasRoom n places → other ≡ body) → (¬ HasRoom n places → other ≡ state_bytes K s) → AreOf (format K) (appended_file (format K) (ended K f n) s bytes frame) then → HasFile K (appended K f s frame) then other
-    append_file then there full are = record {
-      are = subst (λ g. AreOf (format K) g then) joins_file are;
-      body = spelled_by there full;
+    pub append_file : (after : Places) → (HasRoom n places → other ≡ body) → (¬ HasRoom n places → other ≡ state_bytes K s) → AreOf (format K) (appended_file (format K) (ended K f n) s bytes frame) after → HasFile K (appended K f s frame) after other
+    append_file after there full are = record {
+      are = subst (λ g. AreOf (format K) g after) joins_file are;
+      spells = spelled_by there full;
     }
 
   -- a turn
@@ -178,7 +178,7 @@ opened_file K h bytes places s middle body disk o reads = (
   ap (file_found K bytes) o.found,
   record {
     are = o.file;
-    body = λ turned. let holds = o.holds body in
+    spells = λ turned. let holds = o.holds body in
         body_same K h o.parts s body disk.contents (holds.images disk.contents holds.honest.here).store (reads turned);
   },
 )

@@ -24,7 +24,7 @@ spelled K f = state_bytes K f.parts.middle
 -- a store with these places has this file; where a checkpoint is in progress, this is its body
 pub record HasFile {J : Type 0} (K : Kind J) (f : FileOf J) (places : Places) (body : List ℕ) : Type 0 where
   pub are : AreOf (format K) f places
-  pub body : f.parts.turned ≡ true → body ≡ spelled K f
+  pub spells : f.parts.turned ≡ true → body ≡ spelled K f
 
 -- the bytes behind the gate of a segment that begins behind a state: the next number, and the first frame's closed gate
 abbrev pub start_of : {J : Type 0} → Plain J → List ℕ
