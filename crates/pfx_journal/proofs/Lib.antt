@@ -5,3 +5,4 @@ mod Made
 pub mod Slots
 mod Standings
 pub mod Filing
+mod Replies
