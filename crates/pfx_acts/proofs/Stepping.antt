@@ -25,7 +25,7 @@ module _ {H S : Type 0} (K : Codec H S) where
   abbrev pub Spells : File H S → List ℕ → Type 0
   Spells f spelling = f.parts.turned ≡ true → (K.read_state f.head spelling ≡ Some f.parts.middle) × (length spelling ≡ (K.layout f.head).body)
 
-  spells_on : (f g : File H S) (spelling : List ℕ) → Kept f g → Spells f spelling → Spells g spelling
+  spells_on : (f g : File H S) (spelling : List ℕ) → Kept K f g → Spells f spelling → Spells g spelling
   spells_on f g spelling kept spells turned =
       let was = spells (kept.turned turned) in
       (subst (λ h. K.read_state h spelling ≡ Some g.parts.middle) (sym kept.head) (subst (λ m. K.read_state f.head spelling ≡ Some m) (sym kept.middle) was.0), was.1 ∙ ap (λ h. (K.layout h).body) (sym kept.head))

@@ -2,8 +2,9 @@
 ghost use Rattle.std.specs.Prelude.{◌≡◌, ◌+◌, ◌++◌, List, ℕ, take, None, Some, Ok};
 ghost use Rattle.pfx_effect.specs.Recording.{records_of};
 ghost use Rattle.pfx_events.specs.Batches.{frames_of, joined, AreSmall, IsSeen};
-ghost use Rattle.pfx_events.specs.Store.{FileOf, recovered_file, store_of};
+ghost use Rattle.pfx_events.specs.Store.{store_of};
 ghost use Rattle.pfx_format.specs.Format.{format};
+ghost use Rattle.pfx_journal.specs.Files.{FileOf, recovered_file};
 ghost use Rattle.pfx_journal.specs.Standing.{Stands};
 ghost use Rattle.pfx_machine.specs.Outcome.{outcome};
 ghost use Rattle.pfx_machine.specs.Plain.{Plain, IsState};
@@ -70,5 +71,6 @@ pub fn frames_are_batches<J: Job>()
 /// A store that stands on its disk is a store as the events see it.
 pub fn standing_is_seen<D: Disk, J: Job>(store: &Store<D, J>)
     ensures { Stands J.kind store.now.file.places store.now.state store.now.spelled.items (D.view store.now.file.disk)
-        → (f : FileOf J) × IsSeen J.kind store.now.file.places store.now.state f (D.view store.now.file.disk) }
+        → (f : FileOf J) × IsSeen J.kind store.now.file.places store.now.state store.now.spelled.items f
+        (D.view store.now.file.disk) }
 {}

@@ -32,12 +32,12 @@ module _ {H S : Type 0} (K : Codec H S) where
   pub tended_kept : (f : File H S) → Kept f (tended_file K f)
   tended_kept f =
       by_if₂ (λ g (u : Unit {0}). Kept f g) f.parts.turned _ f tt tt
-        (λ turned. by_if₂ (λ g (u : Unit {0}). Kept f g) f.begun _ (closed_file K f) tt tt
-          (λ begun. by_if₂ (λ g (u : Unit {0}). Kept f g) (nat_lt f.done (K.layout f.head).body) (pieced_file K f) (finished_file K f) tt tt
-            (λ less. record { head = refl; middle = refl; segment = refl; frames = refl; turned = λ is. is })
-            (λ whole. record { head = refl; middle = refl; segment = refl; frames = refl; turned = λ is. turned }))
-          (λ none. record { head = refl; middle = refl; segment = refl; frames = refl; turned = λ is. is }))
-        (λ single. kept_all f)
+      (λ turned. by_if₂ (λ g (u : Unit {0}). Kept f g) f.begun _ (closed_file K f) tt tt
+      (λ begun. by_if₂ (λ g (u : Unit {0}). Kept f g) (nat_lt f.done (K.layout f.head).body) (pieced_file K f) (finished_file K f) tt tt
+      (λ less. record { head = refl; middle = refl; segment = refl; frames = refl; turned = λ is. is })
+      (λ whole. record { head = refl; middle = refl; segment = refl; frames = refl; turned = λ is. turned }))
+      (λ none. record { head = refl; middle = refl; segment = refl; frames = refl; turned = λ is. is }))
+      (λ single. kept_all f)
 
   kept_then : (f g e : File H S) → Kept f g → Kept g e → Kept f e
   kept_then f g e a b = record { head = b.head ∙ a.head; middle = b.middle ∙ a.middle; segment = b.segment ∙ a.segment; frames = b.frames ∙ a.frames; turned = λ is. a.turned (b.turned is) }
@@ -90,12 +90,12 @@ module _ {H S : Type 0} (K : Codec H S) where
   one_fewer : (f : File H S) (n : ℕ) → left f ≤ suc n → left (tended_file K f) ≤ n
   one_fewer f n low =
       by_if₂ (λ g (u : Unit {0}). left g ≤ n) f.parts.turned _ f tt tt
-        (λ turned. by_if₂ (λ g (u : Unit {0}). left g ≤ n) f.begun _ (closed_file K f) tt tt
-          (λ begun. by_if₂ (λ g (u : Unit {0}). left g ≤ n) (nat_lt f.done (K.layout f.head).body) (pieced_file K f) (finished_file K f) tt tt
-            (λ less. left_at f.parts.turned f.begun (K.layout f.head).body (f.done + piece_len K f) n turned begun (omega (arith, some_piece, ltb-true _ _ less, left_begun f.parts.turned f.begun (K.layout f.head).body f.done (suc n) turned begun low)))
-            (λ whole. left_none false false (K.layout f.head).body f.done n refl))
-          (λ none. left_at f.parts.turned true (K.layout f.head).body 0 n turned refl (omega (arith, left_first f.parts.turned f.begun (K.layout f.head).body f.done (suc n) turned none low))))
-        (λ single. left_none f.parts.turned f.begun (K.layout f.head).body f.done n single)
+      (λ turned. by_if₂ (λ g (u : Unit {0}). left g ≤ n) f.begun _ (closed_file K f) tt tt
+      (λ begun. by_if₂ (λ g (u : Unit {0}). left g ≤ n) (nat_lt f.done (K.layout f.head).body) (pieced_file K f) (finished_file K f) tt tt
+      (λ less. left_at f.parts.turned f.begun (K.layout f.head).body (f.done + piece_len K f) n turned begun (omega (arith, some_piece, ltb-true _ _ less, left_begun f.parts.turned f.begun (K.layout f.head).body f.done (suc n) turned begun low)))
+      (λ whole. left_none false false (K.layout f.head).body f.done n refl))
+      (λ none. left_at f.parts.turned true (K.layout f.head).body 0 n turned refl (omega (arith, left_first f.parts.turned f.begun (K.layout f.head).body f.done (suc n) turned none low))))
+      (λ single. left_none f.parts.turned f.begun (K.layout f.head).body f.done n single)
 
   ended : (n : ℕ) (f : File H S) → left f ≤ n → (stepped_file K n f).parts.turned ≡ false
   ended zero f low = none_left f.parts.turned f.begun (K.layout f.head).body f.done low

@@ -70,8 +70,8 @@ module _ {H S : Type 0} (K : Codec H S) where
             ap (λ l. end_acts K f spelling ++ l) (full_acts s start bytes next e other full_then
                 ∙ (ap (λ l. (l ++ turn_acts K (ended_file K e) start) ++ put_acts (gate_of K (turned_file K (ended_file K e) s)) bytes) none_more
                 ∙ ap (λ (g : File H S). turn_acts K g start ++ put_acts (gate_of K (turned_file K g s)) bytes) ended_still))
-            ∙ (sym (append_assoc (end_acts K f spelling) (turn_acts K e start) (put_acts (gate_of K (turned_file K e s)) bytes))
-            ∙ sym (full_acts s start bytes next f spelling full)),
+                ∙ (sym (append_assoc (end_acts K f spelling) (turn_acts K e start) (put_acts (gate_of K (turned_file K e s)) bytes))
+                ∙ sym (full_acts s start bytes next f spelling full)),
             full_file s start bytes next e full_then ∙ (ap (λ (g : File H S). framed_file K (turned_file K g s) next) ended_still ∙ sym (full_file s start bytes next f full)),
           )
 
