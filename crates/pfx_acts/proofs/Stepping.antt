@@ -1,7 +1,7 @@
 -- The checkpoint's steps, all of them, and an append, as chains of calls.
-use Rattle.std.proofs.Common.{◌≡◌, ⊎_elim, ℕ, zero, suc, ◌+◌, ◌-◌, ◌≤◌, ◌<◌, List, [], ◌∷◌, ◌++◌, length, refl, sym, ◌∙◌, ap, subst, arith, length-append, Bool, true, false, not, Some}
-use Rattle.std.specs.Prelude.{nat_lt, if◌then◌else◌}
-use Rattle.std.proofs.lemmas.Bool.{ltb-true, ltb-false, false≢true, true≢false}
+use Rattle.std.proofs.Common.{◌≡◌, ⊎_elim, ℕ, zero, suc, ◌+◌, ◌≤◌, ◌<◌, List, [], ◌∷◌, ◌++◌, length, refl, sym, ◌∙◌, ap, subst, arith, length-append, true, false, not, Some}
+use Rattle.std.specs.Prelude.{nat_lt}
+use Rattle.std.proofs.lemmas.Bool.{ltb-true, ltb-false, true≢false}
 use Rattle.pfx_disk.specs.Stop.{Act}
 use Rattle.pfx_disk.specs.declared.gates.TheConstants.{GATE_OPEN}
 use Rattle.pfx_segment.specs.Frames.{IsFrame, size}
@@ -10,11 +10,10 @@ use Rattle.pfx_recovery.specs.Layout.{segment_at, segment_end}
 use Rattle.pfx_recovery.specs.Store.{Parts, IsStore, next_gate, turned_at, finished}
 use Rattle.pfx_recovery.proofs.Regions.{slot_inside, segment_inside}
 use Rattle.pfx_store.specs.Holding.{IsStart}
-use Rattle.pfx_store.specs.declared.checkpoint.TheConstants.{PIECE}
 use Rattle.pfx_acts.specs.Files.{IsFile, IsWhole}
 use Rattle.pfx_segment.specs.Acts.{put_acts, close_acts, open_acts}
 use Rattle.pfx_store.specs.Files.{File, slot_of, segment_of}
-use Rattle.pfx_store.specs.Acts.{piece_len, piece_acts, tend_acts, closed_file, pieced_file, finished_file, tended_file, steps_acts, stepped_file, end_acts, ended_file, turn_acts, turned_file, gate_of, has_room, framed_file, append_acts, appended_file, roomy_file}
+use Rattle.pfx_store.specs.Acts.{piece_acts, tend_acts, closed_file, pieced_file, finished_file, tended_file, steps_acts, stepped_file, end_acts, ended_file, turn_acts, turned_file, gate_of, has_room, framed_file, append_acts, appended_file, roomy_file}
 use Rattle.pfx_store.proofs.Ends.{by_if₂, Kept, tended_kept, stepped_kept, has_ended}
 use Rattle.pfx_acts.proofs.Chains.{Chain, chain_then, chain_none, chain_with, chain_write}
 use Rattle.pfx_acts.proofs.Gating.{put_chain, close_chain, open_chain}

@@ -12,7 +12,7 @@ use Rattle.pfx_record.specs.Batches.{PlainBatch, batch_bytes}
 use Rattle.pfx_store.specs.declared.places.Places.{Places}
 use Rattle.pfx_world.specs.Setting.{Setting}
 use Rattle.pfx_world.specs.World.{World}
-use Rattle.pfx_world.specs.Events.{Event, Device, Stop, happens, run, CanRun, called, missed, stopped}
+use Rattle.pfx_world.specs.Events.{Device, Stop, happens, run, CanRun, called, missed, stopped}
 use Rattle.pfx_events.specs.Store.{frame_of, store_of}
 use Rattle.pfx_events.specs.Ties.{Carries, through, broken_off, IsIn}
 

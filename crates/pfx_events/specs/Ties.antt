@@ -1,5 +1,5 @@
 -- A store on its disk, and a world whose store it is.
-use Rattle.std.specs.Prelude.{◌≡◌, ℕ, ◌+◌, List, [], ◌∷◌, ◌++◌, true, false, map}
+use Rattle.std.specs.Prelude.{◌≡◌, ℕ, ◌+◌, List, [], ◌∷◌, ◌++◌, true, false}
 use Rattle.pfx_disk.specs.CallsMade.{IsAfter}
 use Rattle.pfx_disk.specs.Disk.{View}
 use Rattle.pfx_disk.specs.Stop.{Act}

@@ -1,4 +1,4 @@
-use Rattle.std.proofs.Common.{sym, subst, refl}
+use Rattle.std.proofs.Common.{subst, refl}
 use Rattle.pfx_disk.specs.CallsMade.{HasMade, HasBrokenOff}
 use Rattle.pfx_journal.specs.Files.{HasFile}
 use Rattle.pfx_record.specs.Batches.{batch_of}

@@ -1,6 +1,5 @@
 use Rattle.std.proofs.Common.{refl}
 use Rattle.pfx_journal.specs.Files.{tending}
-use Rattle.pfx_store.specs.Acts.{tended_file}
 use Rattle.pfx_world.specs.Events.{Tend, happens}
 use Rattle.pfx_events.specs.Store.{store_of}
 use Rattle.pfx_events.proofs.Tying.{all_made, broke, on_ok_both}
