@@ -2,8 +2,9 @@
 use Rattle.std.specs.Prelude.{◌≡◌, ℕ, List, [], ◌∷◌, true, false, refl}
 use Rattle.pfx_disk.specs.Stop.{Sync, Write, Look}
 use Rattle.pfx_recovery.specs.ToyCodec.{toy}
-use Rattle.pfx_acts.specs.Acts.{put_acts, close_acts, steps_acts, end_acts, ended_file, append_acts}
-use Rattle.pfx_acts.specs.Files.{File}
+use Rattle.pfx_segment.specs.Acts.{put_acts, close_acts}
+use Rattle.pfx_store.specs.Acts.{steps_acts, end_acts, ended_file, append_acts}
+use Rattle.pfx_store.specs.Files.{File}
 
 -- two bytes behind a gate
 put_row : put_acts 7 (8 ∷ 9 ∷ []) ≡ Write 8 (8 ∷ 9 ∷ []) ∷ Sync ∷ Write 7 (195 ∷ []) ∷ Sync ∷ []

@@ -6,7 +6,7 @@ use Rattle.pfx_disk.specs.Stop.{Sync, Write, Look, put}
 use Rattle.pfx_disk.proofs.Left.{put_torn}
 use Rattle.pfx_segment.specs.Segment.{Appended, StandAt}
 use Rattle.pfx_segment.specs.Turning.{Closing}
-use Rattle.pfx_acts.specs.Acts.{put_acts, close_acts, open_acts}
+use Rattle.pfx_segment.specs.Acts.{put_acts, close_acts, open_acts}
 use Rattle.pfx_acts.proofs.Chains.{Chain, chain_then, chain_write, chain_sync, chain_look}
 use Rattle.pfx_acts.proofs.Partly.{behind as torn_behind, opened, opens, put_gate}
 

@@ -1,7 +1,7 @@
 -- The checkpoint's steps, all of them, and an append, as chains of calls.
-use Rattle.std.proofs.Common.{◌≡◌, ⊎_elim, ℕ, zero, suc, ◌+◌, ◌-◌, ◌≤◌, ◌<◌, List, [], ◌∷◌, ◌++◌, length, refl, sym, ◌∙◌, ap, subst, arith, length-append, Bool, true, false, not, Some}
-use Rattle.std.specs.Prelude.{nat_lt, if◌then◌else◌}
-use Rattle.std.proofs.lemmas.Bool.{ltb-true, ltb-false, false≢true, true≢false}
+use Rattle.std.proofs.Common.{◌≡◌, ⊎_elim, ℕ, zero, suc, ◌+◌, ◌≤◌, ◌<◌, List, [], ◌∷◌, ◌++◌, length, refl, sym, ◌∙◌, ap, subst, arith, length-append, true, false, not, Some}
+use Rattle.std.specs.Prelude.{nat_lt}
+use Rattle.std.proofs.lemmas.Bool.{ltb-true, ltb-false, true≢false}
 use Rattle.pfx_disk.specs.Stop.{Act}
 use Rattle.pfx_disk.specs.declared.gates.TheConstants.{GATE_OPEN}
 use Rattle.pfx_segment.specs.Frames.{IsFrame, size}
@@ -10,109 +10,21 @@ use Rattle.pfx_recovery.specs.Layout.{segment_at, segment_end}
 use Rattle.pfx_recovery.specs.Store.{Parts, IsStore, next_gate, turned_at, finished}
 use Rattle.pfx_recovery.proofs.Regions.{slot_inside, segment_inside}
 use Rattle.pfx_store.specs.Holding.{IsStart}
-use Rattle.pfx_store.specs.declared.checkpoint.TheConstants.{PIECE}
-use Rattle.pfx_acts.specs.Files.{File, slot_of, segment_of, IsFile, IsWhole}
-use Rattle.pfx_acts.specs.Acts.{put_acts, close_acts, open_acts, piece_len, piece_acts, tend_acts, closed_file, pieced_file, finished_file, tended_file, steps_acts, stepped_file, end_acts, ended_file, turn_acts, turned_file, gate_of, has_room, framed_file, append_acts, appended_file, roomy_file}
+use Rattle.pfx_acts.specs.Files.{IsFile, IsWhole}
+use Rattle.pfx_segment.specs.Acts.{put_acts, close_acts, open_acts}
+use Rattle.pfx_store.specs.Files.{File, slot_of, segment_of}
+use Rattle.pfx_store.specs.Acts.{piece_acts, tend_acts, closed_file, pieced_file, finished_file, tended_file, steps_acts, stepped_file, end_acts, ended_file, turn_acts, turned_file, gate_of, has_room, framed_file, append_acts, appended_file, roomy_file}
+use Rattle.pfx_store.proofs.Ends.{by_if₂, Kept, tended_kept, stepped_kept, has_ended}
 use Rattle.pfx_acts.proofs.Chains.{Chain, chain_then, chain_none, chain_with, chain_write}
 use Rattle.pfx_acts.proofs.Gating.{put_chain, close_chain, open_chain}
 use Rattle.pfx_acts.proofs.Filing.{known_shut, append_any, append_whole, shut_any, shut_whole, turn_any, turned_whole, close_any, close_whole, piece_file, piece_whole, finish_inside, finish_stand, finish_any, finish_whole}
 
-by_if₂ : {A C : Type 0} (P : A → C → Type 0) (b : Bool) (x y : A) (u v : C) → (b ≡ true → P x u) → (b ≡ false → P y v) → P (if b then x else y) (if b then u else v)
-by_if₂ P true x y u v first second = first refl
-by_if₂ P false x y u v first second = second refl
-
 module _ {H S : Type 0} (K : Codec H S) where
-  -- what a step leaves
-  pub record Kept (f g : File H S) : Type 0 where
-    pub head : g.head ≡ f.head
-    pub middle : g.parts.middle ≡ f.parts.middle
-    pub segment : g.parts.segment ≡ f.parts.segment
-    pub frames : g.parts.frames ≡ f.parts.frames
-    pub turned : g.parts.turned ≡ true → f.parts.turned ≡ true
-
-  kept_all : (f : File H S) → Kept f f
-  kept_all f = record { head = refl; middle = refl; segment = refl; frames = refl; turned = λ is. is }
-
-  pub tended_kept : (f : File H S) → Kept f (tended_file K f)
-  tended_kept f =
-      by_if₂ (λ g (u : Unit {0}). Kept f g) f.parts.turned _ f tt tt
-      (λ turned. by_if₂ (λ g (u : Unit {0}). Kept f g) f.begun _ (closed_file K f) tt tt
-      (λ begun. by_if₂ (λ g (u : Unit {0}). Kept f g) (nat_lt f.done (K.layout f.head).body) (pieced_file K f) (finished_file K f) tt tt
-      (λ less. record { head = refl; middle = refl; segment = refl; frames = refl; turned = λ is. is })
-      (λ whole. record { head = refl; middle = refl; segment = refl; frames = refl; turned = λ is. turned }))
-      (λ none. record { head = refl; middle = refl; segment = refl; frames = refl; turned = λ is. is }))
-      (λ single. kept_all f)
-
-  kept_then : (f g e : File H S) → Kept f g → Kept g e → Kept f e
-  kept_then f g e a b = record { head = b.head ∙ a.head; middle = b.middle ∙ a.middle; segment = b.segment ∙ a.segment; frames = b.frames ∙ a.frames; turned = λ is. a.turned (b.turned is) }
-
-  pub stepped_kept : (n : ℕ) (f : File H S) → Kept f (stepped_file K n f)
-  stepped_kept zero f = kept_all f
-  stepped_kept (suc n) f = kept_then f (tended_file K f) (stepped_file K n (tended_file K f)) (tended_kept f) (stepped_kept n (tended_file K f))
-
-  -- how many steps are left at most
-  abbrev left_of : Bool → Bool → ℕ → ℕ → ℕ
-  left_of false begun body done = 0
-  left_of true false body done = 2 + body
-  left_of true true body done = 1 + (body - done)
-
-  none_left : (t b : Bool) (body done : ℕ) → left_of t b body done ≤ 0 → t ≡ false
-  none_left false b body done low = refl
-  none_left true false body done low = absurd (omega (arith, low))
-  none_left true true body done low = absurd (omega (arith, low))
-
-  most_left : (t b : Bool) (body done : ℕ) → left_of t b body done ≤ 2 + body
-  most_left false b body done = omega arith
-  most_left true false body done = omega arith
-  most_left true true body done = omega arith
-
-  abbrev left : File H S → ℕ
-  left f = left_of f.parts.turned f.begun (K.layout f.head).body f.done
-
-  left_at : (t b : Bool) (body done n : ℕ) → t ≡ true → b ≡ true → 1 + (body - done) ≤ n → left_of t b body done ≤ n
-  left_at true true body done n turned begun low = low
-  left_at false b body done n turned begun low = absurd (false≢true turned)
-  left_at true false body done n turned begun low = absurd (false≢true begun)
-
-  left_begun : (t b : Bool) (body done n : ℕ) → t ≡ true → b ≡ true → left_of t b body done ≤ n → 1 + (body - done) ≤ n
-  left_begun true true body done n turned begun low = low
-  left_begun false b body done n turned begun low = absurd (false≢true turned)
-  left_begun true false body done n turned begun low = absurd (false≢true begun)
-
-  left_first : (t b : Bool) (body done n : ℕ) → t ≡ true → b ≡ false → left_of t b body done ≤ n → 2 + body ≤ n
-  left_first true false body done n turned begun low = low
-  left_first false b body done n turned begun low = absurd (false≢true turned)
-  left_first true true body done n turned begun low = absurd (true≢false begun)
-
-  left_none : (t b : Bool) (body done n : ℕ) → t ≡ false → left_of t b body done ≤ n
-  left_none false b body done n single = omega arith
-  left_none true b body done n single = absurd (true≢false single)
-
-  some_piece : 0 < PIECE
-  some_piece = let p : PIECE ≡ 4096 = refl in omega (arith, p)
-
-  one_fewer : (f : File H S) (n : ℕ) → left f ≤ suc n → left (tended_file K f) ≤ n
-  one_fewer f n low =
-      by_if₂ (λ g (u : Unit {0}). left g ≤ n) f.parts.turned _ f tt tt
-      (λ turned. by_if₂ (λ g (u : Unit {0}). left g ≤ n) f.begun _ (closed_file K f) tt tt
-      (λ begun. by_if₂ (λ g (u : Unit {0}). left g ≤ n) (nat_lt f.done (K.layout f.head).body) (pieced_file K f) (finished_file K f) tt tt
-      (λ less. left_at f.parts.turned f.begun (K.layout f.head).body (f.done + piece_len K f) n turned begun (omega (arith, some_piece, ltb-true _ _ less, left_begun f.parts.turned f.begun (K.layout f.head).body f.done (suc n) turned begun low)))
-      (λ whole. left_none false false (K.layout f.head).body f.done n refl))
-      (λ none. left_at f.parts.turned true (K.layout f.head).body 0 n turned refl (omega (arith, left_first f.parts.turned f.begun (K.layout f.head).body f.done (suc n) turned none low))))
-      (λ single. left_none f.parts.turned f.begun (K.layout f.head).body f.done n single)
-
-  ended : (n : ℕ) (f : File H S) → left f ≤ n → (stepped_file K n f).parts.turned ≡ false
-  ended zero f low = none_left f.parts.turned f.begun (K.layout f.head).body f.done low
-  ended (suc n) f low = ended n (tended_file K f) (one_fewer f n low)
-
-  pub has_ended : (f : File H S) → (ended_file K f).parts.turned ≡ false
-  has_ended f = ended (2 + (K.layout f.head).body) f (most_left f.parts.turned f.begun (K.layout f.head).body f.done)
-
   -- what is spelled is the body of the checkpoint in progress
   abbrev pub Spells : File H S → List ℕ → Type 0
   Spells f spelling = f.parts.turned ≡ true → (K.read_state f.head spelling ≡ Some f.parts.middle) × (length spelling ≡ (K.layout f.head).body)
 
-  spells_on : (f g : File H S) (spelling : List ℕ) → Kept f g → Spells f spelling → Spells g spelling
+  spells_on : (f g : File H S) (spelling : List ℕ) → Kept K f g → Spells f spelling → Spells g spelling
   spells_on f g spelling kept spells turned =
       let was = spells (kept.turned turned) in
       (subst (λ h. K.read_state h spelling ≡ Some g.parts.middle) (sym kept.head) (subst (λ m. K.read_state f.head spelling ≡ Some m) (sym kept.middle) was.0), was.1 ∙ ap (λ h. (K.layout h).body) (sym kept.head))

@@ -33,7 +33,8 @@ use Rattle.pfx_record.proofs.Rising.{both, of_both}
 use Rattle.pfx_segment.specs.Frames.{IsFrame}
 use Rattle.pfx_store.specs.Holding.{IsStart}
 use Rattle.pfx_world.proofs.Machine.{number_of}
-use Rattle.pfx_events.specs.Store.{frame_of, behind_of, start_of}
+use Rattle.pfx_journal.specs.Files.{behind_of, start_of}
+use Rattle.pfx_events.specs.Store.{frame_of}
 
 -- records that are right have spellings
 fit_by : {J : Type 0} (K : Kind J) (s t : Plain J) (done : Recorded J) (records : List (Recorded J)) (b : Bool) → is_right K s done ≡ b → (if b then applied K (after_record s done) records else None) ≡ Some t →

@@ -1,18 +1,19 @@
 -- A store that stands, as the events see it.
 use Rattle.std.specs.Prelude.{◌≡◌, ℕ, ◌+◌, List, take, true}
 use Rattle.std.proofs.Common.{sym, subst, refl}
-use Rattle.pfx_acts.specs.Files.{IsFile, slot_of}
+use Rattle.pfx_acts.specs.Files.{IsFile}
 use Rattle.pfx_checkpoint.specs.Spelling.{state_bytes}
 use Rattle.pfx_checkpoint.proofs.Readings.{only_states}
 use Rattle.pfx_disk.specs.Disk.{View}
 use Rattle.pfx_format.specs.Format.{format}
 use Rattle.pfx_header.proofs.Meanings.{read_filled}
 use Rattle.pfx_jobs.specs.Kind.{Kind}
+use Rattle.pfx_journal.specs.Files.{FileOf}
 use Rattle.pfx_journal.specs.Standing.{Stands}
 use Rattle.pfx_machine.specs.Plain.{Plain}
 use Rattle.pfx_segment.specs.Segment.{StandAt}
 use Rattle.pfx_store.specs.declared.places.Places.{Places}
-use Rattle.pfx_events.specs.Store.{FileOf}
+use Rattle.pfx_store.specs.Files.{slot_of}
 use Rattle.pfx_events.specs.Batches.{IsSeen}
 
 module _ {J : Type 0} (K : Kind J) (places : Places) (s : Plain J) (body : List ℕ) (disk : View) (st : Stands K places s body disk) where
@@ -27,16 +28,19 @@ module _ {J : Type 0} (K : Kind J) (places : Places) (s : Plain J) (body : List 
       let here = each disk.contents st.holds.honest.here in
       sym (only_states K st.header.set body st.parts.middle (read_filled disk.contents st.header here.store.head) (st.middle turned)).2
 
-  pub seen : (f : FileOf J) × IsSeen K places s f disk
+  pub seen : (f : FileOf J) × IsSeen K places s body f disk
   seen = (
     file,
     record {
-      are = record {
-        are = record { fits = st.holds.fits; slot = st.holds.slot; segment = st.holds.segment; turned = st.holds.turned; gate = st.holds.gate; end = st.holds.end };
-        slot_open = refl;
-        segment_open = refl;
-        begun = refl;
-        done = refl;
+      has = record {
+        are = record {
+          are = record { fits = st.holds.fits; slot = st.holds.slot; segment = st.holds.segment; turned = st.holds.turned; gate = st.holds.gate; end = st.holds.end };
+          slot_open = refl;
+          segment_open = refl;
+          begun = refl;
+          done = refl;
+        };
+        spells = same;
       };
       whole = record {
         file = each disk.contents st.holds.honest.here;

@@ -1,6 +1,6 @@
 -- Batches, one behind the other, and a store that stands.
 use Rattle.std.specs.Prelude.{ℕ, ◌<◌, ◌≤◌, List, [], ◌∷◌, ◌++◌, length, ⊤}
-use Rattle.pfx_acts.specs.Files.{IsFile, IsWhole, AreOf}
+use Rattle.pfx_acts.specs.Files.{IsFile, IsWhole}
 use Rattle.pfx_disk.specs.Disk.{View}
 use Rattle.pfx_format.specs.Format.{format}
 use Rattle.pfx_jobs.specs.Kind.{Kind}
@@ -8,7 +8,8 @@ use Rattle.pfx_machine.specs.Plain.{Plain}
 use Rattle.pfx_machine.specs.Outcome.{outcome}
 use Rattle.pfx_machine.specs.declared.command.Command.{Command}
 use Rattle.pfx_store.specs.declared.places.Places.{Places}
-use Rattle.pfx_events.specs.Store.{FileOf, frame_of, spelled}
+use Rattle.pfx_journal.specs.Files.{FileOf, HasFile, spelled}
+use Rattle.pfx_events.specs.Store.{frame_of}
 
 -- the frames of batches, each behind those before it
 abbrev pub frames_of : {J : Type 0} → Kind J → Plain J → List (List (Command J)) → List (List ℕ)
@@ -25,8 +26,8 @@ abbrev pub AreSmall : {J : Type 0} → List (List (Command J)) → Type 0
 AreSmall [] = ⊤
 AreSmall (batch ∷ batches) = (0 < length batch) × (length batch ≤ 16) × AreSmall batches
 
--- a store with these places on this disk has this file, at this state: so the events see it
-pub record IsSeen {J : Type 0} (K : Kind J) (places : Places) (s : Plain J) (f : FileOf J) (disk : View) : Type 0 where
-  pub are : AreOf (format K) f places
+-- a store with these places and this body of a checkpoint on this disk has this file, at this state: so the events see it
+pub record IsSeen {J : Type 0} (K : Kind J) (places : Places) (s : Plain J) (body : List ℕ) (f : FileOf J) (disk : View) : Type 0 where
+  pub has : HasFile K f places body
   pub whole : IsWhole (format K) (spelled K f) s f disk.contents
   pub each : (image : List ℕ) → disk.now image → IsFile (format K) s f image

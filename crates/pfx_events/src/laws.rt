@@ -3,8 +3,9 @@ ghost use Rattle.std.specs.Prelude.{◌≡◌, ◌+◌, ◌++◌, List, ℕ, tak
 ghost use Rattle.pfx_disk.specs.Disk.{IsHonest};
 ghost use Rattle.pfx_effect.specs.Recording.{records_of};
 ghost use Rattle.pfx_events.specs.Batches.{frames_of, joined, AreSmall, IsSeen};
-ghost use Rattle.pfx_events.specs.Store.{FileOf, recovered_file, store_of};
+ghost use Rattle.pfx_events.specs.Store.{store_of};
 ghost use Rattle.pfx_format.specs.Format.{format};
+ghost use Rattle.pfx_journal.specs.Files.{FileOf, recovered_file};
 ghost use Rattle.pfx_machine.specs.Outcome.{outcome};
 ghost use Rattle.pfx_machine.specs.Plain.{Plain, IsState};
 ghost use Rattle.pfx_machine.specs.Refusals.{refusal};
@@ -70,7 +71,7 @@ pub fn frames_are_batches<J: Job>()
 /// A store that isn't broken, on an honest disk, is a store as the events see it.
 pub fn standing_is_seen<D: Disk, J: Job>(store: &Store<D, J>)
     ensures { store.now.file.broken ≡ false → IsHonest (D.view store.now.file.disk)
-        → (f : FileOf J) × IsSeen J.kind store.now.file.places store.now.state f (D.view store.now.file.disk) }
+        → (f : FileOf J) × IsSeen J.kind store.now.file.places store.now.state store.now.spelled f (D.view store.now.file.disk) }
 {
     let _broken = store.is_broken();
 }

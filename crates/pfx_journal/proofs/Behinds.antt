@@ -13,6 +13,7 @@ use Rattle.pfx_record.proofs.Heads.{counts_of, parts_of}
 use Rattle.pfx_record.proofs.Rising.{both}
 use Rattle.pfx_segment.specs.Frames.{IsFrame, number_4}
 use Rattle.pfx_format.proofs.Batches.{head_there, number_there, split_batch}
+use Rattle.pfx_journal.specs.Files.{behind_of}
 use Rattle.pfx_journal.specs.Standing.{IsBehind}
 
 module _ {J : Type 0} (K : Kind J) (L : Laws K) (batch : PlainBatch J) where
@@ -56,3 +57,8 @@ some_behind K L batch workers frame fits is =
     let long = (head_there K L workers batch fits).long in
     let all : length frame ≡ length (batch_bytes K batch) + 1 = ap length is ∙ length-append (batch_bytes K batch) (0 ∷ []) in
     omega (arith, long, all, length-take (length frame - 1) (drop 1 frame), length-drop 1 frame)
+
+-- what is written behind the gate is as long as the frame
+pub behind_long : {J : Type 0} (K : Kind J) (L : Laws K) (batch : PlainBatch J) → length (behind_of (batch_bytes K batch)) ≡ length (batch_bytes K batch)
+behind_long K L batch = let long = ap length (opens K L batch) in
+    omega (arith, long, length-append (drop 1 (batch_bytes K batch)) (0 ∷ []), length-drop 1 (batch_bytes K batch))

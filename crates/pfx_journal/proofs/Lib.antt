@@ -5,3 +5,5 @@ mod Made
 mod Marking
 pub mod Slots
 mod Standings
+pub mod Filing
+mod Replies

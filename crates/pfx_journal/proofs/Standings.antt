@@ -123,7 +123,7 @@ keeps_appended K start all frame other a b c later one same two =
     keeps_then (format K) start all all (all ++ frame ∷ []) a b c later one (subst (λ (f : List ℕ). KeepsAll (format K) start all (all ++ f ∷ []) b c) (sym same) two)
 
 -- a store that was opened
-middle_spelled : {J : Type 0} (K : Kind J) (h : Header) (p : Parts (Plain J)) (middle : Option (Vec ℕ Global)) (spelled : List ℕ) → IsMiddle (format K) h p middle →
+pub middle_spelled : {J : Type 0} (K : Kind J) (h : Header) (p : Parts (Plain J)) (middle : Option (Vec ℕ Global)) (spelled : List ℕ) → IsMiddle (format K) h p middle →
     ((v : Vec ℕ Global) → middle ≡ Some v → length v.items ≡ (layout h).body → spelled ≡ v.items) → p.turned ≡ true → read_state K h.set spelled ≡ Some p.middle
 middle_spelled K h p None spelled between kept turned = absurd (true≢false (sym turned ∙ between))
 middle_spelled K h p (Some v) spelled between kept turned = ap (read_state K h.set) (kept v refl between.1) ∙ between.2

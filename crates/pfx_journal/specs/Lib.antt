@@ -2,3 +2,4 @@ pub mod Standing
 pub mod Stores
 pub mod Making
 pub mod Marks
+pub mod Files

@@ -1,7 +1,9 @@
 // Opening a store.
 ghost use Rattle.std.specs.Prelude.{◌≡◌, ◌≤◌, ◌+◌, ◌*◌, ◌∷◌, [], ℕ, List, length, if◌then◌else◌, false, Vec, vec_capacity, Some, Ok, Err, IfOk, IfErr, MatchResult};
 ghost use Rattle.std.specs.declared.alloc.Global.{Global};
-ghost use Rattle.pfx_disk.specs.Disk.{IsHonest, HasFailed};
+ghost use Rattle.pfx_disk.specs.CallsMade.{HasMade, HasBrokenOff, HasKeptTo};
+ghost use Rattle.pfx_disk.specs.Disk.{IsHonest, HasFailed, Only};
+ghost use Rattle.pfx_disk.specs.Stop.{Sync};
 ghost use Rattle.pfx_format.specs.Format.{format, layout};
 ghost use Rattle.pfx_header.specs.Headers.{Header};
 ghost use Rattle.pfx_machine.specs.Plain.{Plain};
@@ -12,6 +14,7 @@ ghost use Rattle.pfx_recovery.specs.Recovery.{Found, found, recovered};
 ghost use Rattle.pfx_store.specs.Fitting.{Fits};
 ghost use Rattle.pfx_store.specs.Tending.{pieces, steps_left};
 ghost use Rattle.pfx_journal.specs.Marks.{Covers};
+ghost use Rattle.pfx_journal.specs.Files.{FileOf, HasFile, recovered_file};
 ghost use Rattle.pfx_journal.specs.Standing.{Stands};
 
 use crate::format::{FileFormat, FileHeader};
@@ -63,6 +66,9 @@ fn furnished<D: Disk, J: Job>(
     ensures stands { (bytes : List ℕ) → IsOpened (format J.kind) header.now bytes file.places state middle (D.view file.disk)
         → IfOk result (λ store. Stands J.kind store.file.places store.state store.spelled.items (D.view store.file.disk)) }
     ensures fault { IfErr result (λ e. (e.0 ≡ OpenFault.NoMemory) × (e.1 ≡ file.disk)) }
+    ensures place { (bytes : List ℕ) → IsOpened (format J.kind) header.now bytes file.places state middle (D.view file.disk)
+        → IfOk result (λ store. (f : FileOf J) × (recovered_file J.kind bytes ≡ Some (store.state, f))
+        × HasFile J.kind f store.file.places store.spelled.items) }
 {
     let set = header.set();
     let Ok(spelled) = body_of(alloc, middle, state_len(set)) else {
@@ -106,6 +112,18 @@ impl<D: Disk, J: Job> Store<D, J> {
         ensures marks { IsHonest (D.view disk) → IfOk result (λ store. Covers J.kind store.state []
             (record { number = store.state.number; clock = (D.view store.file.disk).clock } ∷ [])
             store.file.broken store.state (D.view store.file.disk)) }
+
+        // The sync, and no other call that a stop would tell: it was made, or it failed; and then a stop leaves what was read.
+        ensures acts { IsHonest (D.view disk) → IfOk result (λ store.
+            HasMade (Sync ∷ []) (D.view disk) (D.view store.file.disk)) }
+        ensures front { IsHonest (D.view disk) → IfErr result (λ e. HasBrokenOff (Sync ∷ []) (D.view disk) (D.view e.1)) }
+        ensures between { IsHonest (D.view disk) → MatchResult result
+            (λ store. HasKeptTo (Sync ∷ []) (D.view disk) (D.view store.file.disk)) (λ e. HasKeptTo (Sync ∷ []) (D.view disk) (D.view e.1)) }
+        ensures only { IsHonest (D.view disk) → IfOk result (λ store. Only (D.view disk).contents (D.view store.file.disk)) }
+        // Its file is the one that is found, with a checkpoint in progress to be begun anew.
+        ensures file { IsHonest (D.view disk) → IfOk result (λ store. (f : FileOf J)
+            × (recovered_file J.kind (D.view disk).contents ≡ Some (store.state, f))
+            × HasFile J.kind f store.file.places store.spelled) }
     {
         match open::<FileFormat<J>, D>(alloc, disk) {
             Err(fault) => Err(fault),

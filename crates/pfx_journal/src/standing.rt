@@ -1,5 +1,6 @@
 // A store: a journal that stands for its state.
 ghost use Rattle.std.specs.Prelude.{◌≡◌, ◌↔◌, ◌≤◌, ◌<◌, ◌+◌, ◌++◌, ◌∷◌, [], ℕ, List, length, map, min, true, false, Some, Ok, OnOk, OnErr, IfOk, IsTrue, IsErrOf};
+ghost use Rattle.pfx_disk.specs.CallsMade.{HasMade, HasBrokenOff, HasKeptTo};
 ghost use Rattle.pfx_disk.specs.Disk.{IsHonest};
 ghost use Rattle.pfx_effect.specs.Applying.{applied};
 ghost use Rattle.pfx_format.specs.Format.{format};
@@ -9,11 +10,13 @@ ghost use Rattle.pfx_record.specs.Records.{plain};
 ghost use Rattle.pfx_recovery.specs.Recovery.{recovered};
 ghost use Rattle.pfx_recovery.specs.Store.{Replays};
 ghost use Rattle.pfx_segment.specs.Segment.{Takes};
+ghost use Rattle.pfx_store.specs.Acts.{tended_file, turned_file};
 ghost use Rattle.pfx_store.specs.Calls.{Works, GoesOn};
 ghost use Rattle.pfx_store.specs.Fitting.{IsTurnable, SameParts};
 ghost use Rattle.pfx_store.specs.Holding.{KeepsAll, Survives};
 ghost use Rattle.pfx_store.specs.Tending.{IsTurned, StaysPut, TakesFrame, append_calls, calls_left, calls_of, next_step, pieces, steps_left, turn_calls};
 ghost use Rattle.pfx_store.specs.declared.checkpoint.TheConstants.{PIECE};
+ghost use Rattle.pfx_journal.specs.Files.{FileOf, HasFile, appending, appended, tending, turning};
 ghost use Rattle.pfx_journal.specs.Marks.{Covers, marked};
 ghost use Rattle.pfx_journal.specs.Standing.{Stands};
 
@@ -140,6 +143,21 @@ impl<D: Disk, J: Job> Store<D, J> {
             → OnOk result ((image : List ℕ) → (D.view self.new.file.disk).since (D.view self.new.file.disk).clock image
             → Survives (format J.kind) start (all ++ batch_bytes J.kind (batch_of batch.now.first batch.now.records.items) ∷ [])
             (length all + 1) image) }
+
+        // These calls, one after the other, of a store with this file: all of them, or some of them up to one that failed; and
+        // the file behind them.
+        ensures acts { let frame = batch_bytes J.kind (batch_of batch.now.first batch.now.records.items) in
+            (f : FileOf J) → HasFile J.kind f self.old.file.places self.old.spelled → IsHonest (D.view self.old.file.disk)
+            → OnOk result (HasMade (appending J.kind f self.old.state frame) (D.view self.old.file.disk) (D.view self.new.file.disk)) }
+        ensures front { let frame = batch_bytes J.kind (batch_of batch.now.first batch.now.records.items) in
+            (f : FileOf J) → HasFile J.kind f self.old.file.places self.old.spelled → IsHonest (D.view self.old.file.disk)
+            → IsErrOf result StoreFault.Device → HasBrokenOff (appending J.kind f self.old.state frame) (D.view self.old.file.disk) (D.view self.new.file.disk) }
+        ensures between { let frame = batch_bytes J.kind (batch_of batch.now.first batch.now.records.items) in
+            (f : FileOf J) → HasFile J.kind f self.old.file.places self.old.spelled → IsHonest (D.view self.old.file.disk)
+            → HasKeptTo (appending J.kind f self.old.state frame) (D.view self.old.file.disk) (D.view self.new.file.disk) }
+        ensures file { let frame = batch_bytes J.kind (batch_of batch.now.first batch.now.records.items) in
+            (f : FileOf J) → HasFile J.kind f self.old.file.places self.old.spelled → IsHonest (D.view self.old.file.disk)
+            → OnOk result (HasFile J.kind (appended J.kind f self.old.state frame) self.new.file.places self.new.spelled) }
     {
         self.journal.append(batch)
     }
@@ -179,6 +197,17 @@ impl<D: Disk, J: Job> Store<D, J> {
         ensures keeps { IsHonest (D.view self.old.file.disk)
             → (start : Plain J) → (all : List (List ℕ)) → Replays (format J.kind) start all self.old.state
             → KeepsAll (format J.kind) start all all (D.view self.old.file.disk) (D.view self.new.file.disk) }
+
+        // These calls, one after the other, of a store with this file: all of them, or some of them up to one that failed; and
+        // the file behind them.
+        ensures acts { (f : FileOf J) → HasFile J.kind f self.old.file.places self.old.spelled → IsHonest (D.view self.old.file.disk)
+            → OnOk result (HasMade (tending J.kind f) (D.view self.old.file.disk) (D.view self.new.file.disk)) }
+        ensures front { (f : FileOf J) → HasFile J.kind f self.old.file.places self.old.spelled → IsHonest (D.view self.old.file.disk)
+            → IsErrOf result StoreFault.Device → HasBrokenOff (tending J.kind f) (D.view self.old.file.disk) (D.view self.new.file.disk) }
+        ensures between { (f : FileOf J) → HasFile J.kind f self.old.file.places self.old.spelled → IsHonest (D.view self.old.file.disk)
+            → HasKeptTo (tending J.kind f) (D.view self.old.file.disk) (D.view self.new.file.disk) }
+        ensures file { (f : FileOf J) → HasFile J.kind f self.old.file.places self.old.spelled → IsHonest (D.view self.old.file.disk)
+            → OnOk result (HasFile J.kind (tended_file (format J.kind) f) self.new.file.places self.new.spelled) }
     {
         self.journal.tend()
     }
@@ -211,6 +240,17 @@ impl<D: Disk, J: Job> Store<D, J> {
         ensures keeps { IsHonest (D.view self.old.file.disk)
             → (start : Plain J) → (all : List (List ℕ)) → Replays (format J.kind) start all self.old.state
             → KeepsAll (format J.kind) start all all (D.view self.old.file.disk) (D.view self.new.file.disk) }
+
+        // These calls, one after the other, of a store with this file, where it turns: all of them, or some of them up to one
+        // that failed; and the file behind them.
+        ensures acts { (f : FileOf J) → HasFile J.kind f self.old.file.places self.old.spelled → IsHonest (D.view self.old.file.disk)
+            → result ≡ Ok true → HasMade (turning J.kind f self.old.state) (D.view self.old.file.disk) (D.view self.new.file.disk) }
+        ensures front { (f : FileOf J) → HasFile J.kind f self.old.file.places self.old.spelled → IsHonest (D.view self.old.file.disk)
+            → IsErrOf result StoreFault.Device → HasBrokenOff (turning J.kind f self.old.state) (D.view self.old.file.disk) (D.view self.new.file.disk) }
+        ensures between { (f : FileOf J) → HasFile J.kind f self.old.file.places self.old.spelled → IsHonest (D.view self.old.file.disk)
+            → HasKeptTo (turning J.kind f self.old.state) (D.view self.old.file.disk) (D.view self.new.file.disk) }
+        ensures file { (f : FileOf J) → HasFile J.kind f self.old.file.places self.old.spelled → IsHonest (D.view self.old.file.disk)
+            → result ≡ Ok true → HasFile J.kind (turned_file (format J.kind) f self.old.state) self.new.file.places self.new.spelled }
     {
         self.journal.turn()
     }

@@ -2,11 +2,13 @@
 ghost use Rattle.std.specs.Prelude.{◌≡◌, ◌≤◌, ◌<◌, ◌+◌, ◌*◌, ◌^◌, ◌++◌, ◌∷◌, [], ℕ, List, length, map, take, slice_index, vec_capacity, Some, OnOk, OnErr, IfOk, IsErrOf};
 ghost use Rattle.byteorder.specs.Endian.{little_number};
 ghost use Rattle.pfx_checkpoint.specs.Spelling.{state_bytes, state_len};
+ghost use Rattle.pfx_disk.specs.CallsMade.{HasMade, HasBrokenOff, HasKeptTo};
 ghost use Rattle.pfx_disk.specs.Disk.{IsHonest};
 ghost use Rattle.pfx_effect.specs.Applying.{applied};
 ghost use Rattle.pfx_format.specs.Format.{format};
 ghost use Rattle.pfx_machine.specs.Plain.{Plain, IsState};
 ghost use Rattle.pfx_record.specs.Batches.{batch_bytes, batch_of};
+ghost use Rattle.pfx_record.specs.Numbers.{number_bytes};
 ghost use Rattle.pfx_record.specs.Records.{plain};
 ghost use Rattle.pfx_recovery.specs.Store.{Replays};
 ghost use Rattle.pfx_store.specs.Calls.{Works, GoesOn};
@@ -14,6 +16,7 @@ ghost use Rattle.pfx_store.specs.Fitting.{HasRoom, SameParts};
 ghost use Rattle.pfx_segment.specs.Segment.{Takes};
 ghost use Rattle.pfx_store.specs.Holding.{KeepsAll, Survives};
 ghost use Rattle.pfx_store.specs.Tending.{TakesFrame, append_calls, pieces, room_calls};
+ghost use Rattle.pfx_journal.specs.Files.{FileOf, HasFile, appending, appended, ending, ended};
 ghost use Rattle.pfx_journal.specs.Standing.{IsBehind, IsReady, Stands};
 
 use crate::format::FileHeader;
@@ -58,6 +61,7 @@ pub(crate) fn start_behind(number: u64) -> [u8; 9]
     ensures long { length result ≡ 9 }
     ensures number { little_number 8 (take 8 result) ≡ number + 1 }
     ensures closed { slice_index result 8 ≡ 0 }
+    ensures bytes { result ≡ number_bytes 8 (number + 1) ++ 0 ∷ [] }
 {
     let mut start = [0; 9];
     LittleEndian::write_u64(&mut start[..8], number + 1);
@@ -129,6 +133,18 @@ impl<D: Disk, J: Job> Journal<D, J> {
         ensures keeps { Stands J.kind self.old.file.places self.old.state self.old.spelled.items (D.view self.old.file.disk)
             → (start : Plain J) → (all : List (List ℕ)) → Replays (format J.kind) start all self.old.state
             → KeepsAll (format J.kind) start all all (D.view self.old.file.disk) (D.view self.new.file.disk) }
+
+        // These calls, one after the other, of a store with this file: all of them, or some of them up to one that failed; and
+        // the file behind them.
+        ensures acts { (f : FileOf J) → HasFile J.kind f self.old.file.places self.old.spelled.items → IsHonest (D.view self.old.file.disk)
+            → OnOk result (HasMade (ending J.kind f n) (D.view self.old.file.disk) (D.view self.new.file.disk)) }
+        ensures front { (f : FileOf J) → HasFile J.kind f self.old.file.places self.old.spelled.items → IsHonest (D.view self.old.file.disk)
+            → IsErrOf result StoreFault.Device → HasBrokenOff (ending J.kind f n) (D.view self.old.file.disk) (D.view self.new.file.disk) }
+        ensures between { (f : FileOf J) → HasFile J.kind f self.old.file.places self.old.spelled.items → IsHonest (D.view self.old.file.disk)
+            → HasKeptTo (ending J.kind f n) (D.view self.old.file.disk) (D.view self.new.file.disk) }
+        ensures file { (f : FileOf J) → HasFile J.kind f self.old.file.places self.old.spelled.items → IsHonest (D.view self.old.file.disk)
+            → OnOk result (HasFile J.kind (ended J.kind f n) self.new.file.places self.new.spelled.items) }
+        ensures same { HasRoom n self.old.file.places → self.new.spelled.items ≡ self.old.spelled.items }
     {
         if self.file.broken {
             return Err(StoreFault::Broken);
@@ -180,6 +196,21 @@ impl<D: Disk, J: Job> Journal<D, J> {
             → OnOk result ((image : List ℕ) → (D.view self.new.file.disk).since (D.view self.new.file.disk).clock image
             → Survives (format J.kind) start (all ++ batch_bytes J.kind (batch_of batch.now.first batch.now.records.items) ∷ [])
             (length all + 1) image) }
+
+        // These calls, one after the other, of a store with this file: all of them, or some of them up to one that failed; and
+        // the file behind them.
+        ensures acts { let frame = batch_bytes J.kind (batch_of batch.now.first batch.now.records.items) in
+            (f : FileOf J) → HasFile J.kind f self.old.file.places self.old.spelled.items → IsHonest (D.view self.old.file.disk)
+            → OnOk result (HasMade (appending J.kind f self.old.state frame) (D.view self.old.file.disk) (D.view self.new.file.disk)) }
+        ensures front { let frame = batch_bytes J.kind (batch_of batch.now.first batch.now.records.items) in
+            (f : FileOf J) → HasFile J.kind f self.old.file.places self.old.spelled.items → IsHonest (D.view self.old.file.disk)
+            → IsErrOf result StoreFault.Device → HasBrokenOff (appending J.kind f self.old.state frame) (D.view self.old.file.disk) (D.view self.new.file.disk) }
+        ensures between { let frame = batch_bytes J.kind (batch_of batch.now.first batch.now.records.items) in
+            (f : FileOf J) → HasFile J.kind f self.old.file.places self.old.spelled.items → IsHonest (D.view self.old.file.disk)
+            → HasKeptTo (appending J.kind f self.old.state frame) (D.view self.old.file.disk) (D.view self.new.file.disk) }
+        ensures file { let frame = batch_bytes J.kind (batch_of batch.now.first batch.now.records.items) in
+            (f : FileOf J) → HasFile J.kind f self.old.file.places self.old.spelled.items → IsHonest (D.view self.old.file.disk)
+            → OnOk result (HasFile J.kind (appended J.kind f self.old.state frame) self.new.file.places self.new.spelled.items) }
     {
         if self.file.broken {
             return Err(StoreFault::Broken);

@@ -1,15 +1,18 @@
 // Turning a store to its other segment, and the checkpoint in progress.
 ghost use Rattle.std.specs.Prelude.{◌≡◌, ◌↔◌, ◌+◌, ℕ, List, min, true, false, Ok, OnOk, OnErr, IfOk, IsTrue, IsErrOf};
+ghost use Rattle.pfx_disk.specs.CallsMade.{HasMade, HasBrokenOff, HasKeptTo};
 ghost use Rattle.pfx_disk.specs.Disk.{IsHonest};
 ghost use Rattle.pfx_format.specs.Format.{format};
 ghost use Rattle.pfx_machine.specs.Plain.{Plain};
 ghost use Rattle.pfx_recovery.specs.Store.{Replays};
 ghost use Rattle.pfx_segment.specs.Segment.{Takes};
+ghost use Rattle.pfx_store.specs.Acts.{tended_file, turned_file};
 ghost use Rattle.pfx_store.specs.Calls.{Works};
 ghost use Rattle.pfx_store.specs.Fitting.{IsTurnable, SameParts};
 ghost use Rattle.pfx_store.specs.Holding.{KeepsAll};
 ghost use Rattle.pfx_store.specs.Tending.{StaysPut, next_step, calls_of, calls_left, steps_left, turn_calls, IsTurned};
 ghost use Rattle.pfx_store.specs.declared.checkpoint.TheConstants.{PIECE};
+ghost use Rattle.pfx_journal.specs.Files.{FileOf, HasFile, tending, turning};
 ghost use Rattle.pfx_journal.specs.Standing.{Stands};
 
 use crate::format::FileHeader;
@@ -49,6 +52,17 @@ impl<D: Disk, J: Job> Journal<D, J> {
         ensures keeps { Stands J.kind self.old.file.places self.old.state self.old.spelled.items (D.view self.old.file.disk)
             → (start : Plain J) → (all : List (List ℕ)) → Replays (format J.kind) start all self.old.state
             → KeepsAll (format J.kind) start all all (D.view self.old.file.disk) (D.view self.new.file.disk) }
+
+        // These calls, one after the other, of a store with this file: all of them, or some of them up to one that failed; and
+        // the file behind them.
+        ensures acts { (f : FileOf J) → HasFile J.kind f self.old.file.places self.old.spelled.items → IsHonest (D.view self.old.file.disk)
+            → OnOk result (HasMade (tending J.kind f) (D.view self.old.file.disk) (D.view self.new.file.disk)) }
+        ensures front { (f : FileOf J) → HasFile J.kind f self.old.file.places self.old.spelled.items → IsHonest (D.view self.old.file.disk)
+            → IsErrOf result StoreFault.Device → HasBrokenOff (tending J.kind f) (D.view self.old.file.disk) (D.view self.new.file.disk) }
+        ensures between { (f : FileOf J) → HasFile J.kind f self.old.file.places self.old.spelled.items → IsHonest (D.view self.old.file.disk)
+            → HasKeptTo (tending J.kind f) (D.view self.old.file.disk) (D.view self.new.file.disk) }
+        ensures file { (f : FileOf J) → HasFile J.kind f self.old.file.places self.old.spelled.items → IsHonest (D.view self.old.file.disk)
+            → OnOk result (HasFile J.kind (tended_file (format J.kind) f) self.new.file.places self.new.spelled.items) }
     {
         if self.file.broken {
             return Err(StoreFault::Broken);
@@ -78,6 +92,17 @@ impl<D: Disk, J: Job> Journal<D, J> {
         ensures keeps { Stands J.kind self.old.file.places self.old.state self.old.spelled.items (D.view self.old.file.disk)
             → (start : Plain J) → (all : List (List ℕ)) → Replays (format J.kind) start all self.old.state
             → KeepsAll (format J.kind) start all all (D.view self.old.file.disk) (D.view self.new.file.disk) }
+
+        // These calls, one after the other, of a store with this file, where it turns: all of them, or some of them up to one
+        // that failed; and the file behind them.
+        ensures acts { (f : FileOf J) → HasFile J.kind f self.old.file.places self.old.spelled.items → IsHonest (D.view self.old.file.disk)
+            → result ≡ Ok true → HasMade (turning J.kind f self.old.state) (D.view self.old.file.disk) (D.view self.new.file.disk) }
+        ensures front { (f : FileOf J) → HasFile J.kind f self.old.file.places self.old.spelled.items → IsHonest (D.view self.old.file.disk)
+            → IsErrOf result StoreFault.Device → HasBrokenOff (turning J.kind f self.old.state) (D.view self.old.file.disk) (D.view self.new.file.disk) }
+        ensures between { (f : FileOf J) → HasFile J.kind f self.old.file.places self.old.spelled.items → IsHonest (D.view self.old.file.disk)
+            → HasKeptTo (turning J.kind f self.old.state) (D.view self.old.file.disk) (D.view self.new.file.disk) }
+        ensures file { (f : FileOf J) → HasFile J.kind f self.old.file.places self.old.spelled.items → IsHonest (D.view self.old.file.disk)
+            → result ≡ Ok true → HasFile J.kind (turned_file (format J.kind) f self.old.state) self.new.file.places self.new.spelled.items }
     {
         if self.file.broken {
             return Err(StoreFault::Broken);

@@ -103,17 +103,20 @@ module _ {H S : Type 0} (K : Codec H S) (h : H) (bytes : List ℕ) where
   single_found slot segment taken begun s t walked places in_slot in_segment stand used run past = record {
     parts = single slot.second s segment.second (views walked.frames.items);
     found = from_one_as K h bytes slot.second s segment.second (views walked.frames.items) walked.last t run past;
-    are = record {
-      fits = used.fits;
-      slot = used.slot;
-      segment = used.segment;
-      turned = used.turned;
-      gate = used.gate ∙ stand.gate;
-      end = used.end;
+    file = record {
+      are = record {
+        fits = used.fits;
+        slot = used.slot;
+        segment = used.segment;
+        turned = used.turned;
+        gate = used.gate ∙ stand.gate;
+        end = used.end;
+      };
+      slot_open = used.slot_open ∙ in_slot.other;
+      segment_open = used.segment_open ∙ in_segment.other;
+      begun = used.unbegun;
+      done = used.undone;
     };
-    unbegun = used.unbegun;
-    slot_gate = gate_is places.slot_open _ (used.slot_open ∙ in_slot.other);
-    segment_gate = gate_is places.segment_open _ (used.segment_open ∙ in_segment.other);
     between = refl;
   }
 
@@ -125,18 +128,20 @@ module _ {H S : Type 0} (K : Codec H S) (h : H) (bytes : List ℕ) where
   double_found slot b taken s m t before walked places spelled in_slot gate stand used first second long read = record {
     parts = double slot.second s b (views before.frames.items) m (views walked.frames.items);
     found = from_two_as K h bytes slot.second s b (views before.frames.items) (views walked.frames.items) m t first second;
-    are = record {
-      fits = used.fits;
-      slot = used.slot;
-      segment = used.segment;
-      turned = used.turned;
-      gate = used.gate ∙ stand.gate;
-      end = used.end;
+    file = record {
+      are = record {
+        fits = used.fits;
+        slot = used.slot;
+        segment = used.segment;
+        turned = used.turned;
+        gate = used.gate ∙ stand.gate;
+        end = used.end;
+      };
+      slot_open = used.slot_open ∙ in_slot.other;
+      segment_open = subst (λ (k : Bool). places.segment_open ≡ is_open (segment_at (K.layout h) k) bytes) (sym (not_not b)) (used.segment_open ∙ sym (same_true _ _ gate));
+      begun = used.unbegun;
+      done = used.undone;
     };
-    unbegun = used.unbegun;
-    slot_gate = gate_is places.slot_open _ (used.slot_open ∙ in_slot.other);
-    segment_gate = subst (λ (k : Bool). IsGate places.segment_open (segment_at (K.layout h) k) bytes) (sym (not_not b))
-        (gate_is places.segment_open _ (used.segment_open ∙ sym (same_true _ _ gate)));
     between = (refl, long, read);
   }
 

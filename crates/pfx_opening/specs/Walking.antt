@@ -18,7 +18,7 @@ pub record StandIn (L : Layout) (second : Bool) (walked : Walked) : Type 0 where
   pub inside : walked.gate < segment_end L second
 
 -- These are the slot and the segment in use, how the gates of the others stand, and the next frame's gate; and no
--- checkpoint is begun.
+-- checkpoint is begun, nor anything of one done.
 pub record AreInUse (L : Layout) (in_slot other_slot is_turned second other_segment : Bool) (next : ℕ) (places : Places) : Type 0 where
   pub fits : Fits L places
   pub slot : places.slot ≡ in_slot
@@ -29,3 +29,4 @@ pub record AreInUse (L : Layout) (in_slot other_slot is_turned second other_segm
   pub gate : places.gate ≡ next
   pub end : places.end ≡ segment_end L second
   pub unbegun : places.begun ≡ false
+  pub undone : places.done ≡ 0

@@ -1,6 +1,8 @@
 // Bytes behind a gate, and gates that are closed and opened.
-ghost use Rattle.std.specs.Prelude.{◌≡◌, ◌≢◌, ◌≤◌, ◌<◌, ◌+◌, ◌^◌, ◌∷◌, ℕ, List, length, slice_index, OnOk, IsErr, false};
+ghost use Rattle.std.specs.Prelude.{◌≡◌, ◌≢◌, ◌≤◌, ◌<◌, ◌+◌, ◌^◌, ◌∷◌, ◌++◌, ℕ, List, length, slice_index, OnOk, IsErr, false};
+ghost use Rattle.pfx_disk.specs.CallsMade.{HasMade, HasBrokenOff, HasKeptTo};
 ghost use Rattle.pfx_disk.specs.Disk.{IsHonest, Leaves, Only, Written, HasFailed};
+ghost use Rattle.pfx_segment.specs.Acts.{put_acts, close_acts, open_acts};
 ghost use Rattle.pfx_segment.specs.Segment.{Appended, StandAt, Takes};
 ghost use Rattle.pfx_segment.specs.Turning.{Closing, Prepared};
 
@@ -22,6 +24,13 @@ pub fn put_behind<D: Disk>(disk: &mut D, gate: usize, bytes: &[u8]) -> Result<()
     ensures durable { IsHonest (D.view disk.old) → OnOk result (Only (D.view disk.new).contents (D.view disk.new)) }
     ensures written { IsHonest (D.view disk.old) → OnOk result (
         Written gate (GATE_OPEN ∷ bytes.now) (D.view disk.old).contents (D.view disk.new).contents) }
+    // These calls, one after the other: all of them, or some of them up to one that failed.
+    ensures acts { IsHonest (D.view disk.old)
+        → OnOk result (HasMade (put_acts gate bytes.now) (D.view disk.old) (D.view disk.new)) }
+    ensures front { IsHonest (D.view disk.old)
+        → IsErr result → HasBrokenOff (put_acts gate bytes.now) (D.view disk.old) (D.view disk.new) }
+    ensures between { IsHonest (D.view disk.old)
+        → HasKeptTo (put_acts gate bytes.now) (D.view disk.old) (D.view disk.new) }
 {
     disk.write_at(gate + 1, bytes)?;
     disk.sync()?;
@@ -48,6 +57,13 @@ pub fn close<D: Disk>(disk: &mut D, gate: usize, is_open: bool) -> Result<(), De
     ensures closed { IsHonest (D.view disk.old)
         → (is_open ≡ false → slice_index (D.view disk.old).contents gate ≢ GATE_OPEN)
         → OnOk result (slice_index (D.view disk.new).contents gate ≢ GATE_OPEN) }
+    // These calls, one after the other: all of them, or some of them up to one that failed.
+    ensures acts { IsHonest (D.view disk.old)
+        → OnOk result (HasMade (close_acts gate is_open) (D.view disk.old) (D.view disk.new)) }
+    ensures front { IsHonest (D.view disk.old)
+        → IsErr result → HasBrokenOff (close_acts gate is_open) (D.view disk.old) (D.view disk.new) }
+    ensures between { IsHonest (D.view disk.old)
+        → HasKeptTo (close_acts gate is_open) (D.view disk.old) (D.view disk.new) }
 {
     if is_open {
         disk.write_at(gate, &[0])?;
@@ -82,6 +98,13 @@ pub fn prepare<D: Disk>(
     ensures durable { IsHonest (D.view disk.old) → OnOk result (Only (D.view disk.new).contents (D.view disk.new)) }
     ensures stands { IsHonest (D.view disk.old)
         → OnOk result (StandAt gate (GATE_OPEN ∷ bytes.now) (D.view disk.new).contents) }
+    // These calls, one after the other: all of them, or some of them up to one that failed.
+    ensures acts { IsHonest (D.view disk.old)
+        → OnOk result (HasMade (close_acts gate is_open ++ put_acts gate bytes.now) (D.view disk.old) (D.view disk.new)) }
+    ensures front { IsHonest (D.view disk.old)
+        → IsErr result → HasBrokenOff (close_acts gate is_open ++ put_acts gate bytes.now) (D.view disk.old) (D.view disk.new) }
+    ensures between { IsHonest (D.view disk.old)
+        → HasKeptTo (close_acts gate is_open ++ put_acts gate bytes.now) (D.view disk.old) (D.view disk.new) }
 {
     close(disk, gate, is_open)?;
     put_behind(disk, gate, bytes)?;
@@ -106,6 +129,13 @@ pub fn open_gate<D: Disk>(disk: &mut D, gate: usize) -> Result<(), DeviceFailed>
     ensures durable { IsHonest (D.view disk.old) → OnOk result (Only (D.view disk.new).contents (D.view disk.new)) }
     ensures opened { IsHonest (D.view disk.old)
         → OnOk result (slice_index (D.view disk.new).contents gate ≡ GATE_OPEN) }
+    // These calls, one after the other: all of them, or some of them up to one that failed.
+    ensures acts { IsHonest (D.view disk.old)
+        → OnOk result (HasMade (open_acts gate) (D.view disk.old) (D.view disk.new)) }
+    ensures front { IsHonest (D.view disk.old)
+        → IsErr result → HasBrokenOff (open_acts gate) (D.view disk.old) (D.view disk.new) }
+    ensures between { IsHonest (D.view disk.old)
+        → HasKeptTo (open_acts gate) (D.view disk.old) (D.view disk.new) }
 {
     let open = [GATE_OPEN];
     disk.sync()?;

@@ -1,3 +1,5 @@
+pub mod Acts
+pub mod Files
 pub mod Calls
 pub mod Fitting
 pub mod Holding

@@ -1,10 +1,13 @@
 // Appending, whatever room is left.
 ghost use Rattle.std.specs.Prelude.{◌≡◌, ◌≢◌, ◌≤◌, ◌<◌, ◌+◌, ◌++◌, ◌∷◌, ◌↔◌, [], ℕ, List, take, drop, length, Some, true, false, OnOk, OnErr, IsTrue, IsErrOf};
+ghost use Rattle.pfx_disk.specs.CallsMade.{HasMade, HasBrokenOff, HasKeptTo};
 ghost use Rattle.pfx_disk.specs.Disk.{IsHonest};
 ghost use Rattle.pfx_disk.specs.declared.gates.TheConstants.{GATE_OPEN};
 ghost use Rattle.pfx_recovery.specs.Codec.{Codec, Laws};
 ghost use Rattle.pfx_recovery.specs.Store.{Parts, Replays, with_frame};
+ghost use Rattle.pfx_store.specs.Acts.{append_acts, appended_file};
 ghost use Rattle.pfx_store.specs.Calls.{Works, GoesOn};
+ghost use Rattle.pfx_store.specs.Files.{File, AreOf};
 ghost use Rattle.pfx_store.specs.Fitting.{HasRoom, SameParts};
 ghost use Rattle.pfx_store.specs.Holding.{Holds, KeepsAll, Survives, IsPending, IsStart};
 ghost use Rattle.pfx_segment.specs.Segment.{Takes};
@@ -72,6 +75,18 @@ impl<D: Disk> StoreFile<D> {
             → (from : S) → (all : List (List ℕ)) → Replays K from all s
             → OnOk result ((image : List ℕ) → (D.view self.new.disk).since (D.view self.new.disk).clock image
             → Survives K from (all ++ (GATE_OPEN ∷ body) ∷ []) (length all + 1) image) }
+
+        // These calls, one after the other: all of them, or some of them up to one that failed; and the file behind them.
+        ensures acts { (K : Codec H S) → (f : File H S) → (s : S) → AreOf K f self.old.places → IsHonest (D.view self.old.disk)
+            → OnOk result (HasMade (append_acts K f s spelling.now start.now frame.now) (D.view self.old.disk) (D.view self.new.disk)) }
+        ensures front { (K : Codec H S) → (f : File H S) → (s : S) → AreOf K f self.old.places → IsHonest (D.view self.old.disk)
+            → IsErrOf result StoreFault.Device → HasBrokenOff (append_acts K f s spelling.now start.now frame.now)
+            (D.view self.old.disk) (D.view self.new.disk) }
+        ensures between { (K : Codec H S) → (f : File H S) → (s : S) → AreOf K f self.old.places → IsHonest (D.view self.old.disk)
+            → HasKeptTo (append_acts K f s spelling.now start.now frame.now) (D.view self.old.disk) (D.view self.new.disk) }
+        ensures file { (K : Codec H S) → (f : File H S) → (s : S) → AreOf K f self.old.places → IsHonest (D.view self.old.disk)
+            → (next : List ℕ) → length next ≡ length frame.now
+            → OnOk result (AreOf K (appended_file K f s frame.now next) self.new.places) }
     {
         if self.broken {
             return Err(StoreFault::Broken);

@@ -1,10 +1,15 @@
 // The checkpoint in progress, step by step.
-ghost use Rattle.std.specs.Prelude.{◌≡◌, ◌≢◌, ◌≤◌, ◌<◌, ◌+◌, [], ℕ, List, take, drop, length, Some, Ok, min, true, false, OnOk, OnErr, IfOk, IsErrOf};
+ghost use Rattle.std.specs.Prelude.{◌≡◌, ◌≢◌, ◌≤◌, ◌<◌, ◌+◌, ◌∷◌, [], ℕ, List, take, drop, length, Some, Ok, min, true, false, OnOk, OnErr, IfOk, IsErrOf};
+ghost use Rattle.pfx_disk.specs.CallsMade.{HasMade, HasBrokenOff, HasKeptTo};
 ghost use Rattle.pfx_disk.specs.Disk.{IsHonest};
+ghost use Rattle.pfx_disk.specs.Stop.{Write};
 ghost use Rattle.pfx_recovery.specs.Codec.{Codec, Laws};
 ghost use Rattle.pfx_recovery.specs.Store.{Parts, Replays, finished};
+ghost use Rattle.pfx_segment.specs.Acts.{close_acts, open_acts};
 ghost use Rattle.pfx_segment.specs.Segment.{Takes};
+ghost use Rattle.pfx_store.specs.Acts.{closed_file, finished_file, tend_acts, tended_file, end_acts, ended_file};
 ghost use Rattle.pfx_store.specs.Calls.{Works, GoesOn};
+ghost use Rattle.pfx_store.specs.Files.{File, AreOf, slot_of};
 ghost use Rattle.pfx_store.specs.Fitting.{SameParts};
 ghost use Rattle.pfx_store.specs.Holding.{Holds, KeepsAll};
 ghost use Rattle.pfx_store.specs.Tending.{StaysPut, next_step, calls_of, calls_left, steps_left, settled, settled_unless};
@@ -53,6 +58,17 @@ impl<D: Disk> StoreFile<D> {
             → Holds K h self.old.places p s code (D.view self.old.disk)
             → (start : S) → (all : List (List ℕ)) → Replays K start all s
             → KeepsAll K start all all (D.view self.old.disk) (D.view self.new.disk) }
+
+        // These calls, one after the other: all of them, or some of them up to one that failed; and the file behind them.
+        ensures acts { (K : Codec H S) → (f : File H S) → AreOf K f self.old.places → IsHonest (D.view self.old.disk)
+            → OnOk result (HasMade (close_acts (slot_of K f) f.slot_open) (D.view self.old.disk) (D.view self.new.disk)) }
+        ensures front { (K : Codec H S) → (f : File H S) → AreOf K f self.old.places → IsHonest (D.view self.old.disk)
+            → IsErrOf result StoreFault.Device → HasBrokenOff (close_acts (slot_of K f) f.slot_open)
+            (D.view self.old.disk) (D.view self.new.disk) }
+        ensures between { (K : Codec H S) → (f : File H S) → AreOf K f self.old.places → IsHonest (D.view self.old.disk)
+            → HasKeptTo (close_acts (slot_of K f) f.slot_open) (D.view self.old.disk) (D.view self.new.disk) }
+        ensures file { (K : Codec H S) → (f : File H S) → AreOf K f self.old.places
+            → OnOk result (AreOf K (closed_file K f) self.new.places) }
     {
         let at = self.places.slot_at(!self.places.slot);
         self.broken = true;
@@ -89,6 +105,17 @@ impl<D: Disk> StoreFile<D> {
             → Holds K h self.old.places p s spelling.now (D.view self.old.disk)
             → (start : S) → (all : List (List ℕ)) → Replays K start all s
             → KeepsAll K start all all (D.view self.old.disk) (D.view self.new.disk) }
+
+        // This call, whole or a part of it; and the file behind it.
+        ensures acts { (K : Codec H S) → (f : File H S) → AreOf K f self.old.places → IsHonest (D.view self.old.disk)
+            → OnOk result (HasMade (Write (slot_of K f + 1 + f.done) (take n (drop f.done spelling.now)) ∷ []) (D.view self.old.disk) (D.view self.new.disk)) }
+        ensures front { (K : Codec H S) → (f : File H S) → AreOf K f self.old.places → IsHonest (D.view self.old.disk)
+            → IsErrOf result StoreFault.Device → HasBrokenOff (Write (slot_of K f + 1 + f.done) (take n (drop f.done spelling.now)) ∷ [])
+            (D.view self.old.disk) (D.view self.new.disk) }
+        ensures between { (K : Codec H S) → (f : File H S) → AreOf K f self.old.places → IsHonest (D.view self.old.disk)
+            → HasKeptTo (Write (slot_of K f + 1 + f.done) (take n (drop f.done spelling.now)) ∷ []) (D.view self.old.disk) (D.view self.new.disk) }
+        ensures file { (K : Codec H S) → (f : File H S) → AreOf K f self.old.places
+            → OnOk result (AreOf K (record f { done = f.done + n }) self.new.places) }
     {
         let at = self.places.slot_at(!self.places.slot);
         let done = self.places.done;
@@ -121,6 +148,17 @@ impl<D: Disk> StoreFile<D> {
             → Holds K h self.old.places p s spelling (D.view self.old.disk)
             → (start : S) → (all : List (List ℕ)) → Replays K start all s
             → KeepsAll K start all all (D.view self.old.disk) (D.view self.new.disk) }
+
+        // These calls, one after the other: all of them, or some of them up to one that failed; and the file behind them.
+        ensures acts { (K : Codec H S) → (f : File H S) → AreOf K f self.old.places → IsHonest (D.view self.old.disk)
+            → OnOk result (HasMade (open_acts (slot_of K f)) (D.view self.old.disk) (D.view self.new.disk)) }
+        ensures front { (K : Codec H S) → (f : File H S) → AreOf K f self.old.places → IsHonest (D.view self.old.disk)
+            → IsErrOf result StoreFault.Device → HasBrokenOff (open_acts (slot_of K f))
+            (D.view self.old.disk) (D.view self.new.disk) }
+        ensures between { (K : Codec H S) → (f : File H S) → AreOf K f self.old.places → IsHonest (D.view self.old.disk)
+            → HasKeptTo (open_acts (slot_of K f)) (D.view self.old.disk) (D.view self.new.disk) }
+        ensures file { (K : Codec H S) → (f : File H S) → AreOf K f self.old.places
+            → OnOk result (AreOf K (finished_file K f) self.new.places) }
     {
         let at = self.places.slot_at(!self.places.slot);
         self.broken = true;
@@ -179,6 +217,17 @@ impl<D: Disk> StoreFile<D> {
             → (p.turned ≡ true → K.read_state h spelling.now ≡ Some p.middle)
             → (start : S) → (all : List (List ℕ)) → Replays K start all s
             → KeepsAll K start all all (D.view self.old.disk) (D.view self.new.disk) }
+
+        // These calls, one after the other: all of them, or some of them up to one that failed; and the file behind them.
+        ensures acts { (K : Codec H S) → (f : File H S) → AreOf K f self.old.places → IsHonest (D.view self.old.disk)
+            → OnOk result (HasMade (tend_acts K f spelling.now) (D.view self.old.disk) (D.view self.new.disk)) }
+        ensures front { (K : Codec H S) → (f : File H S) → AreOf K f self.old.places → IsHonest (D.view self.old.disk)
+            → IsErrOf result StoreFault.Device → HasBrokenOff (tend_acts K f spelling.now)
+            (D.view self.old.disk) (D.view self.new.disk) }
+        ensures between { (K : Codec H S) → (f : File H S) → AreOf K f self.old.places → IsHonest (D.view self.old.disk)
+            → HasKeptTo (tend_acts K f spelling.now) (D.view self.old.disk) (D.view self.new.disk) }
+        ensures file { (K : Codec H S) → (f : File H S) → AreOf K f self.old.places
+            → OnOk result (AreOf K (tended_file K f) self.new.places) }
     {
         if self.broken {
             return Err(StoreFault::Broken);
@@ -226,6 +275,17 @@ impl<D: Disk> StoreFile<D> {
             → (p.turned ≡ true → K.read_state h spelling.now ≡ Some p.middle)
             → (start : S) → (all : List (List ℕ)) → Replays K start all s
             → KeepsAll K start all all (D.view self.old.disk) (D.view self.new.disk) }
+
+        // These calls, one after the other: all of them, or some of them up to one that failed; and the file behind them.
+        ensures acts { (K : Codec H S) → (f : File H S) → AreOf K f self.old.places → IsHonest (D.view self.old.disk)
+            → OnOk result (HasMade (end_acts K f spelling.now) (D.view self.old.disk) (D.view self.new.disk)) }
+        ensures front { (K : Codec H S) → (f : File H S) → AreOf K f self.old.places → IsHonest (D.view self.old.disk)
+            → IsErrOf result StoreFault.Device → HasBrokenOff (end_acts K f spelling.now)
+            (D.view self.old.disk) (D.view self.new.disk) }
+        ensures between { (K : Codec H S) → (f : File H S) → AreOf K f self.old.places → IsHonest (D.view self.old.disk)
+            → HasKeptTo (end_acts K f spelling.now) (D.view self.old.disk) (D.view self.new.disk) }
+        ensures file { (K : Codec H S) → (f : File H S) → AreOf K f self.old.places → IsHonest (D.view self.old.disk)
+            → OnOk result (AreOf K (ended_file K f) self.new.places) }
     {
         if self.broken {
             return Err(StoreFault::Broken);

@@ -1,13 +1,17 @@
 // A store's file: its disk, its places, and appending to it.
 ghost use Rattle.std.specs.Prelude.{◌≡◌, ◌≢◌, ◌≤◌, ◌<◌, ◌+◌, ◌++◌, ◌∷◌, ◌↔◌, [], ℕ, List, take, drop, length, not, Ok, Some, true, false, OnOk, OnErr, IsTrue, IsErrOf};
+ghost use Rattle.pfx_disk.specs.CallsMade.{HasMade, HasBrokenOff, HasKeptTo};
 ghost use Rattle.pfx_disk.specs.Disk.{IsHonest, Only};
 ghost use Rattle.pfx_disk.specs.declared.gates.TheConstants.{GATE_OPEN};
 ghost use Rattle.pfx_recovery.specs.Codec.{Codec, Laws};
 ghost use Rattle.pfx_recovery.specs.Layout.{slot_at, segment_at};
 ghost use Rattle.pfx_recovery.specs.Recovery.{found, found_of};
 ghost use Rattle.pfx_recovery.specs.Store.{Parts, Replays, with_frame, turned_at};
+ghost use Rattle.pfx_segment.specs.Acts.{put_acts};
 ghost use Rattle.pfx_segment.specs.Segment.{Takes};
+ghost use Rattle.pfx_store.specs.Acts.{gate_of, framed_file, turn_acts, turned_file};
 ghost use Rattle.pfx_store.specs.Calls.{Works};
+ghost use Rattle.pfx_store.specs.Files.{File, AreOf};
 ghost use Rattle.pfx_store.specs.Fitting.{IsTurnable, SameParts};
 ghost use Rattle.pfx_store.specs.Holding.{ArePlaces, Holds, IsGate, KeepsAll, Survives, IsPending, IsStart};
 ghost use Rattle.pfx_store.specs.Tending.{IsTurned, MovesOn};
@@ -97,6 +101,18 @@ impl<D: Disk> StoreFile<D> {
             → (start : S) → (all : List (List ℕ)) → Replays K start all s
             → OnOk result ((image : List ℕ) → (D.view self.new.disk).since (D.view self.new.disk).clock image
             → Survives K start (all ++ (GATE_OPEN ∷ body) ∷ []) (length all + 1) image) }
+
+        // These calls, one after the other: all of them, or some of them up to one that failed; and the file behind them.
+        ensures acts { (K : Codec H S) → (f : File H S) → AreOf K f self.old.places → IsHonest (D.view self.old.disk)
+            → OnOk result (HasMade (put_acts (gate_of K f) frame.now) (D.view self.old.disk) (D.view self.new.disk)) }
+        ensures front { (K : Codec H S) → (f : File H S) → AreOf K f self.old.places → IsHonest (D.view self.old.disk)
+            → IsErrOf result StoreFault.Device → HasBrokenOff (put_acts (gate_of K f) frame.now)
+            (D.view self.old.disk) (D.view self.new.disk) }
+        ensures between { (K : Codec H S) → (f : File H S) → AreOf K f self.old.places → IsHonest (D.view self.old.disk)
+            → HasKeptTo (put_acts (gate_of K f) frame.now) (D.view self.old.disk) (D.view self.new.disk) }
+        ensures file { (K : Codec H S) → (f : File H S) → AreOf K f self.old.places
+            → (next : List ℕ) → length next ≡ length frame.now
+            → OnOk result (AreOf K (framed_file K f next) self.new.places) }
     {
         if self.broken {
             return Err(StoreFault::Broken);
@@ -149,6 +165,17 @@ impl<D: Disk> StoreFile<D> {
             → IsStart K (K.number s + 1) start.now
             → (start_state : S) → (all : List (List ℕ)) → Replays K start_state all s
             → KeepsAll K start_state all all (D.view self.old.disk) (D.view self.new.disk) }
+
+        // These calls, one after the other: all of them, or some of them up to one that failed; and the file behind them.
+        ensures acts { (K : Codec H S) → (f : File H S) → AreOf K f self.old.places → IsHonest (D.view self.old.disk)
+            → OnOk result (HasMade (turn_acts K f start.now) (D.view self.old.disk) (D.view self.new.disk)) }
+        ensures front { (K : Codec H S) → (f : File H S) → AreOf K f self.old.places → IsHonest (D.view self.old.disk)
+            → IsErrOf result StoreFault.Device → HasBrokenOff (turn_acts K f start.now)
+            (D.view self.old.disk) (D.view self.new.disk) }
+        ensures between { (K : Codec H S) → (f : File H S) → AreOf K f self.old.places → IsHonest (D.view self.old.disk)
+            → HasKeptTo (turn_acts K f start.now) (D.view self.old.disk) (D.view self.new.disk) }
+        ensures file { (K : Codec H S) → (f : File H S) → AreOf K f self.old.places → (s : S)
+            → OnOk result (AreOf K (turned_file K f s) self.new.places) }
     {
         if self.broken {
             return Err(StoreFault::Broken);

@@ -23,7 +23,8 @@ use Rattle.pfx_machine.proofs.Serving.{Apart, apart_of, served-slot}
 use Rattle.pfx_machine.proofs.Snoc.{outcome-snoc}
 use Rattle.pfx_machine.proofs.SessionLemmas.{acceptable-snoc}
 use Rattle.pfx_disk.specs.Stop.{Act, Sync, Write, Look, Left}
-use Rattle.pfx_world.specs.Calls.{MayLeave, with_failed}
+use Rattle.pfx_disk.specs.CallsMade.{with_failed}
+use Rattle.pfx_world.specs.Calls.{MayLeave}
 use Rattle.pfx_world.specs.Setting.{Setting, StandsFor, Settled, Leads, IsSound}
 use Rattle.pfx_world.specs.World.{World, state_at}
 use Rattle.pfx_world.specs.Session.{Opened, AllBack, opening_of, given_in, given_back, back_in, gave, MayGive, sealed_in, marked_now, receipted, cut}

@@ -1,12 +1,6 @@
 -- What a stop may leave before or within the calls of a disk that are still to come.
 use Rattle.std.specs.Prelude.{◌⊎◌, ℕ, List, [], ◌∷◌, ◌++◌}
-use Rattle.pfx_disk.specs.Stop.{Act, Sync, Write, Look, Left}
-
--- the calls with one more that failed: a write may have done any part of its work, any other call nothing
-abbrev pub with_failed : List Act → Act → List Act
-with_failed done Sync = done
-with_failed done (Write at bytes) = done ++ Write at bytes ∷ []
-with_failed done Look = done
+use Rattle.pfx_disk.specs.Stop.{Act, Left}
 
 -- what a stop may leave within the call that comes next, where there is one
 abbrev pub Within : List ℕ → List Act → List Act → List ℕ → Type 0

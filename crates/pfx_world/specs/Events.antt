@@ -7,7 +7,8 @@ use Rattle.pfx_machine.specs.Slots.{Deal}
 use Rattle.pfx_machine.specs.Outcome.{outcome}
 use Rattle.pfx_machine.specs.declared.command.Command.{Command}
 use Rattle.pfx_disk.specs.Stop.{Act, Sync}
-use Rattle.pfx_world.specs.Calls.{with_failed, MayLeave}
+use Rattle.pfx_disk.specs.CallsMade.{with_failed}
+use Rattle.pfx_world.specs.Calls.{MayLeave}
 use Rattle.pfx_world.specs.Setting.{Setting}
 use Rattle.pfx_world.specs.World.{World, state_at}
 use Rattle.pfx_world.specs.Session.{Opened, MayAsk, MayBegin, MayGive, MaySeal}

@@ -1,11 +1,13 @@
 use Rattle.std.proofs.Common.{◌∙◌, ℕ, List, sym, subst, ap, not}
 use Rattle.pfx_recovery.specs.Layout.{slot_at, segment_at}
 use Rattle.pfx_recovery.specs.Recovery.{found}
+use Rattle.pfx_store.specs.Files.{AreOf, file_in}
 use Rattle.pfx_store.specs.Holding.{IsGate}
 use Rattle.pfx_opening.specs.Finding.{IsFound}
+use Rattle.pfx_opening.specs.Looking.{IsKept}
 use Rattle.pfx_opening.specs.declared.outline.Outline.{Outline}
 use Rattle.pfx_opening.specs.declared.parts.Contents.{Contents}
-use Rattle.pfx_opening.proofs.Stages.{refusal_as}
+use Rattle.pfx_opening.proofs.Stages.{gate_is, refusal_as}
 use Rattle.pfx_opening.proofs.opened.open.Goals as goal
 
 pub returns-in-Ok-clause-opened : goal.returns-in-Ok-clause-opened
@@ -16,13 +18,16 @@ returns-in-Ok-clause-opened g c honest =
     let of = c.in-Ok.ensures.exact honest in
     let kept = c.in-Ok.ensures.kept honest in
     let p = of.parts in
+    let bytes = (g.D.Disk.view c.args.disk).contents in
     record {
       parts = p;
       found = of.found;
+      file = subst (λ q. AreOf K (file_in K bytes h p) q) (sym c.new.ensures.places) of.file;
+      kept = subst (λ (d : g.row.D.Denot). IsKept bytes (g.D.Disk.view d)) (sym c.new.ensures.disk) kept;
       holds = c.new.ensures.holds K g.met.F.Format.laws h p c.in-Ok.contents.state kept.honest (λ image is. kept.only image is ∙ sym kept.contents)
-          (ap (λ (l : List ℕ). found K l) kept.contents ∙ of.found) of.are of.unbegun
-          (subst (λ (l : List ℕ). IsGate places.slot_open (slot_at (K.layout h) (not p.slot)) l) (sym kept.contents) of.slot_gate)
-          (subst (λ (l : List ℕ). IsGate places.segment_open (segment_at (K.layout h) (not p.segment)) l) (sym kept.contents) of.segment_gate);
+          (ap (λ (l : List ℕ). found K l) kept.contents ∙ of.found) of.file.are of.file.begun
+          (subst (λ (l : List ℕ). IsGate places.slot_open (slot_at (K.layout h) (not p.slot)) l) (sym kept.contents) (gate_is K h bytes places.slot_open _ of.file.slot_open))
+          (subst (λ (l : List ℕ). IsGate places.segment_open (segment_at (K.layout h) (not p.segment)) l) (sym kept.contents) (gate_is K h bytes places.segment_open _ of.file.segment_open));
       between = of.between;
     }
 

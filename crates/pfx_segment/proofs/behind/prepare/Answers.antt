@@ -1,8 +1,10 @@
-use Rattle.std.proofs.Common.{◌<◌, length, arith}
+use Rattle.std.proofs.Common.{◌<◌, length, refl, arith}
 use Rattle.pfx_disk.proofs.Steps.{written_stands}
 use Rattle.std.proofs.Common.{◌∷◌}
 use Rattle.pfx_disk.specs.declared.gates.TheConstants.{GATE_OPEN}
 use Rattle.pfx_segment.proofs.Turns.{closed, prepared, longer}
+use Rattle.pfx_segment.specs.Acts.{put_acts, close_acts}
+use Rattle.pfx_disk.proofs.CallsMade.{broken_first, within_first, broken_then, within_then, made_then}
 use Rattle.pfx_segment.proofs.behind.prepare.Goals as goal
 
 pub returns-in_err-close-clause-leaves : goal.returns-in_err-close-clause-leaves
@@ -38,3 +40,57 @@ returns-clause-stands g c honest =
     let first = c.close.ensures.leaves honest in
     written_stands c.args.gate (GATE_OPEN ∷ c.args.bytes.now) (view c.close.new.disk).contents (view c.put_behind.new.disk).contents
     (omega (arith, c.requires.inside honest, longer c.args.gate c.args.bytes.now c.args.is_open (view c.args.disk.now) (view c.close.new.disk) first)) (c.in_ok-put_behind.ensures.written first.honest)
+
+pub returns-in_err-close-clause-front : goal.returns-in_err-close-clause-front
+returns-in_err-close-clause-front g c honest is =
+    let view = g.D.Disk.view in
+    let a = view c.args.disk.now in
+    let b = view c.close.new.disk in
+    let one = close_acts c.args.gate c.args.is_open in
+    let two = put_acts c.args.gate c.args.bytes.now in
+    broken_first one two a b (c.in_err-close.ensures.front honest refl)
+
+pub returns-in_err-close-clause-between : goal.returns-in_err-close-clause-between
+returns-in_err-close-clause-between g c honest =
+    let view = g.D.Disk.view in
+    let a = view c.args.disk.now in
+    let b = view c.close.new.disk in
+    let one = close_acts c.args.gate c.args.is_open in
+    let two = put_acts c.args.gate c.args.bytes.now in
+    within_first one two a b (c.close.ensures.between honest)
+
+pub returns-in_err-put_behind-clause-front : goal.returns-in_err-put_behind-clause-front
+returns-in_err-put_behind-clause-front g c honest is =
+    let view = g.D.Disk.view in
+    let a = view c.args.disk.now in
+    let b = view c.close.new.disk in
+    let one = close_acts c.args.gate c.args.is_open in
+    let two = put_acts c.args.gate c.args.bytes.now in
+    let e = view c.put_behind.new.disk in
+    let mid = (c.close.ensures.leaves honest).honest in
+    let went = c.in_ok-close.ensures.acts honest in
+    broken_then one two a b e went (c.in_err-put_behind.ensures.front mid refl)
+
+pub returns-in_err-put_behind-clause-between : goal.returns-in_err-put_behind-clause-between
+returns-in_err-put_behind-clause-between g c honest =
+    let view = g.D.Disk.view in
+    let a = view c.args.disk.now in
+    let b = view c.close.new.disk in
+    let one = close_acts c.args.gate c.args.is_open in
+    let two = put_acts c.args.gate c.args.bytes.now in
+    let e = view c.put_behind.new.disk in
+    let mid = (c.close.ensures.leaves honest).honest in
+    let went = c.in_ok-close.ensures.acts honest in
+    within_then one two a b e went c.close.ensures.calls.later (c.close.ensures.between honest) (c.put_behind.ensures.between mid)
+
+pub returns-clause-between : goal.returns-clause-between
+returns-clause-between g c honest =
+    let view = g.D.Disk.view in
+    let a = view c.args.disk.now in
+    let b = view c.close.new.disk in
+    let one = close_acts c.args.gate c.args.is_open in
+    let two = put_acts c.args.gate c.args.bytes.now in
+    let e = view c.put_behind.new.disk in
+    let mid = (c.close.ensures.leaves honest).honest in
+    let went = c.in_ok-close.ensures.acts honest in
+    within_then one two a b e went c.close.ensures.calls.later (c.close.ensures.between honest) (c.put_behind.ensures.between mid)

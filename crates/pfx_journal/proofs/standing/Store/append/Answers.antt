@@ -47,3 +47,9 @@ pub returns-clause-acknowledged : goal.returns-clause-acknowledged
 returns-clause-acknowledged g c = rw (← c.self.view_is) (λ honest start all replays.
     on_ok_when _ _ _ c.self.inside.journal.file.broken c.append.new.self.file.broken c.append.result c.append.ensures.works
     (λ whole. c.append.ensures.acknowledged (c.self.invariant whole honest) start all replays))
+
+pub returns-clause-acts : goal.returns-clause-acts
+returns-clause-acts g c = rw (← c.self.view_is) c.append.ensures.acts
+
+pub returns-clause-between : goal.returns-clause-between
+returns-clause-between g c = rw (← c.self.view_is) c.append.ensures.between

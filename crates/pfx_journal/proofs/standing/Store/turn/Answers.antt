@@ -27,3 +27,12 @@ returns-clause-keeps g c = rw (← c.self.view_is) (λ honest start all replays.
     let a : View = g.D.Disk.view j.file.disk in
     by_broken j.file.broken (λ whole. c.turn.ensures.keeps (c.self.invariant whole honest) start all replays)
     (λ broken. subst (λ i. KeepsAll (format K) start all all a (g.D.Disk.view i.file.disk)) (sym (c.turn.ensures.broken (c.turn.ensures.works.broken.1 broken))) (keeps_still K start all a))))
+
+pub returns-clause-acts : goal.returns-clause-acts
+returns-clause-acts g c = rw (← c.self.view_is) c.turn.ensures.acts
+
+pub returns-clause-front : goal.returns-clause-front
+returns-clause-front g c = rw (← c.self.view_is) c.turn.ensures.front
+
+pub returns-clause-between : goal.returns-clause-between
+returns-clause-between g c = rw (← c.self.view_is) c.turn.ensures.between

@@ -14,6 +14,15 @@ use Rattle.pfx_journal.specs.Standing.{IsReady, Stands}
 use Rattle.pfx_journal.proofs.Appends.{batch_leads}
 use Rattle.pfx_journal.proofs.Counts.{append_most, takes_both, takes_frame, works_behind}
 use Rattle.pfx_journal.proofs.Standings.{keeps_appended, keeps_more, keeps_still, stands_behind}
+use Rattle.std.proofs.Common.{⊎_elim}
+use Rattle.pfx_checkpoint.specs.Spelling.{state_bytes}
+use Rattle.pfx_record.specs.Numbers.{number_bytes}
+use Rattle.pfx_store.specs.Fitting.{HasRoom}
+use Rattle.pfx_store.specs.declared.faults.StoreFault.TheVariants.{Device}
+use Rattle.pfx_store.proofs.Calling.{fault_back}
+use Rattle.pfx_journal.specs.Files.{HasFile, start_of, behind_of, ended, appended}
+use Rattle.pfx_journal.proofs.Behinds.{behind_long}
+use Rattle.pfx_journal.proofs.Filing.{behind_same, room_broken, room_within, append_made, append_broken, append_within, append_file}
 use Rattle.pfx_journal.proofs.store.Journal.append.Goals as goal
 
 pub returns-then-self-clause-keeps : goal.returns-then-self-clause-keeps
@@ -123,3 +132,166 @@ returns-clause-frame g c =
     takes_frame (length (batch_bytes g.J.Job.kind (batch_of c.args.batch.now.first c.args.batch.now.records.items))) c.batch_len-len.result (length c.behind_gate.result.now)
     c.args.self.now.file.places c.make_room.new.self.file.places c.append_or_turn.new.self.places c.batch_len-len.ensures.value c.behind_gate.ensures.len
     c.make_room.ensures.there c.make_room.ensures.full c.in_ok-append_or_turn.ensures.frame
+
+pub returns-in_err-make_room-clause-front : goal.returns-in_err-make_room-clause-front
+returns-in_err-make_room-clause-front g c f has honest is =
+    let K = g.J.Job.kind in
+    let L = g.met.J.Job.laws in
+    let V = g.D.Disk.view in
+    let old = c.args.self.now in
+    let s = old.state in
+    let record_batch : PlainBatch g.row.J.Denot = batch_of c.args.batch.now.first c.args.batch.now.records.items in
+    let frame = batch_bytes K record_batch in
+    let n = c.batch_len-len.result in
+    let long : length (behind_of frame) ≡ n = behind_long K L record_batch ∙ sym c.batch_len-len.ensures.value in
+    let a = V old.file.disk in
+    let b = V c.make_room.new.self.file.disk in
+    room_broken K f old.file.places old.spelled.items has s frame n long [] (start_of s) (behind_of frame) refl refl a b (c.make_room.ensures.front f has honest (fault_back _ c.make_room.result _ Device (c.in_err-make_room.was) c.from_residual.ensures.1 is))
+
+pub returns-in_err-make_room-clause-between : goal.returns-in_err-make_room-clause-between
+returns-in_err-make_room-clause-between g c f has honest =
+    let K = g.J.Job.kind in
+    let L = g.met.J.Job.laws in
+    let V = g.D.Disk.view in
+    let old = c.args.self.now in
+    let s = old.state in
+    let record_batch : PlainBatch g.row.J.Denot = batch_of c.args.batch.now.first c.args.batch.now.records.items in
+    let frame = batch_bytes K record_batch in
+    let n = c.batch_len-len.result in
+    let long : length (behind_of frame) ≡ n = behind_long K L record_batch ∙ sym c.batch_len-len.ensures.value in
+    let a = V old.file.disk in
+    let b = V c.make_room.new.self.file.disk in
+    room_within K f old.file.places old.spelled.items has s frame n long [] (start_of s) (behind_of frame) refl refl a b (c.make_room.ensures.between f has honest)
+
+pub returns-in_err-append_or_turn-clause-front : goal.returns-in_err-append_or_turn-clause-front
+returns-in_err-append_or_turn-clause-front g c f has honest is =
+    let K = g.J.Job.kind in
+    let L = g.met.J.Job.laws in
+    let V = g.D.Disk.view in
+    let old = c.args.self.now in
+    let s = old.state in
+    let record_batch : PlainBatch g.row.J.Denot = batch_of c.args.batch.now.first c.args.batch.now.records.items in
+    let frame = batch_bytes K record_batch in
+    let n = c.batch_len-len.result in
+    let long : length (behind_of frame) ≡ n = behind_long K L record_batch ∙ sym c.batch_len-len.ensures.value in
+    let a = V old.file.disk in
+    let b = V c.make_room.new.self.file.disk in
+    let mid = c.make_room.new.self in
+    let same : mid.state ≡ s = c.make_room.ensures.state in
+    let start = c.start_behind-start.result in
+    let starts : start ≡ start_of s = c.start_behind-start.ensures.bytes ∙ ap (λ k. number_bytes 8 (k + 1) ++ 0 ∷ []) (c.number.ensures.number ∙ ap (λ (t : Plain g.row.J.Denot). t.number) same) in
+    let bytes = c.behind_gate.result.now in
+    let behind : bytes ≡ behind_of frame = sym (behind_same frame bytes c.behind_gate.ensures.pending) in
+    let other = c.deref.result.now in
+    let e = V c.append_or_turn.new.self.disk in
+    let made = c.in_ok-make_room.ensures.acts f has honest in
+    let there = c.in_ok-make_room.ensures.file f has honest in
+    let honest_then = c.make_room.ensures.kept honest in
+    append_broken K f old.file.places old.spelled.items has s frame n long other start bytes starts behind a b e made (c.append_or_turn.ensures.front (format K) (ended K f n) s there.are honest_then (fault_back _ c.append_or_turn.result _ Device (c.in_err-append_or_turn.was) c.from_residual-in_err-append_or_turn.ensures.1 is))
+
+pub returns-in_err-append_or_turn-clause-between : goal.returns-in_err-append_or_turn-clause-between
+returns-in_err-append_or_turn-clause-between g c f has honest =
+    let K = g.J.Job.kind in
+    let L = g.met.J.Job.laws in
+    let V = g.D.Disk.view in
+    let old = c.args.self.now in
+    let s = old.state in
+    let record_batch : PlainBatch g.row.J.Denot = batch_of c.args.batch.now.first c.args.batch.now.records.items in
+    let frame = batch_bytes K record_batch in
+    let n = c.batch_len-len.result in
+    let long : length (behind_of frame) ≡ n = behind_long K L record_batch ∙ sym c.batch_len-len.ensures.value in
+    let a = V old.file.disk in
+    let b = V c.make_room.new.self.file.disk in
+    let mid = c.make_room.new.self in
+    let same : mid.state ≡ s = c.make_room.ensures.state in
+    let start = c.start_behind-start.result in
+    let starts : start ≡ start_of s = c.start_behind-start.ensures.bytes ∙ ap (λ k. number_bytes 8 (k + 1) ++ 0 ∷ []) (c.number.ensures.number ∙ ap (λ (t : Plain g.row.J.Denot). t.number) same) in
+    let bytes = c.behind_gate.result.now in
+    let behind : bytes ≡ behind_of frame = sym (behind_same frame bytes c.behind_gate.ensures.pending) in
+    let other = c.deref.result.now in
+    let e = V c.append_or_turn.new.self.disk in
+    let made = c.in_ok-make_room.ensures.acts f has honest in
+    let there = c.in_ok-make_room.ensures.file f has honest in
+    let honest_then = c.make_room.ensures.kept honest in
+    append_within K f old.file.places old.spelled.items has s frame n long other start bytes starts behind a b e made c.make_room.ensures.goes.later (c.make_room.ensures.between f has honest) (c.append_or_turn.ensures.between (format K) (ended K f n) s there.are honest_then)
+
+pub returns-clause-between : goal.returns-clause-between
+returns-clause-between g c f has honest =
+    let K = g.J.Job.kind in
+    let L = g.met.J.Job.laws in
+    let V = g.D.Disk.view in
+    let old = c.args.self.now in
+    let s = old.state in
+    let record_batch : PlainBatch g.row.J.Denot = batch_of c.args.batch.now.first c.args.batch.now.records.items in
+    let frame = batch_bytes K record_batch in
+    let n = c.batch_len-len.result in
+    let long : length (behind_of frame) ≡ n = behind_long K L record_batch ∙ sym c.batch_len-len.ensures.value in
+    let a = V old.file.disk in
+    let b = V c.make_room.new.self.file.disk in
+    let mid = c.make_room.new.self in
+    let same : mid.state ≡ s = c.make_room.ensures.state in
+    let start = c.start_behind-start.result in
+    let starts : start ≡ start_of s = c.start_behind-start.ensures.bytes ∙ ap (λ k. number_bytes 8 (k + 1) ++ 0 ∷ []) (c.number.ensures.number ∙ ap (λ (t : Plain g.row.J.Denot). t.number) same) in
+    let bytes = c.behind_gate.result.now in
+    let behind : bytes ≡ behind_of frame = sym (behind_same frame bytes c.behind_gate.ensures.pending) in
+    let other = c.deref.result.now in
+    let e = V c.append_or_turn.new.self.disk in
+    let made = c.in_ok-make_room.ensures.acts f has honest in
+    let there = c.in_ok-make_room.ensures.file f has honest in
+    let honest_then = c.make_room.ensures.kept honest in
+    append_within K f old.file.places old.spelled.items has s frame n long other start bytes starts behind a b e made c.make_room.ensures.goes.later (c.make_room.ensures.between f has honest) (c.append_or_turn.ensures.between (format K) (ended K f n) s there.are honest_then)
+
+pub returns-clause-acts : goal.returns-clause-acts
+returns-clause-acts g c f has honest =
+    let K = g.J.Job.kind in
+    let L = g.met.J.Job.laws in
+    let V = g.D.Disk.view in
+    let old = c.args.self.now in
+    let s = old.state in
+    let record_batch : PlainBatch g.row.J.Denot = batch_of c.args.batch.now.first c.args.batch.now.records.items in
+    let frame = batch_bytes K record_batch in
+    let n = c.batch_len-len.result in
+    let long : length (behind_of frame) ≡ n = behind_long K L record_batch ∙ sym c.batch_len-len.ensures.value in
+    let a = V old.file.disk in
+    let b = V c.make_room.new.self.file.disk in
+    let mid = c.make_room.new.self in
+    let same : mid.state ≡ s = c.make_room.ensures.state in
+    let start = c.start_behind-start.result in
+    let starts : start ≡ start_of s = c.start_behind-start.ensures.bytes ∙ ap (λ k. number_bytes 8 (k + 1) ++ 0 ∷ []) (c.number.ensures.number ∙ ap (λ (t : Plain g.row.J.Denot). t.number) same) in
+    let bytes = c.behind_gate.result.now in
+    let behind : bytes ≡ behind_of frame = sym (behind_same frame bytes c.behind_gate.ensures.pending) in
+    let other = c.deref.result.now in
+    let e = V c.append_or_turn.new.self.disk in
+    let made = c.in_ok-make_room.ensures.acts f has honest in
+    let there = c.in_ok-make_room.ensures.file f has honest in
+    let honest_then = c.make_room.ensures.kept honest in
+    append_made K f old.file.places old.spelled.items has s frame n long other start bytes starts behind a b e made (c.in_ok-append_or_turn.ensures.acts (format K) (ended K f n) s there.are honest_then)
+
+pub returns-clause-file : goal.returns-clause-file
+returns-clause-file g c f has honest =
+    let K = g.J.Job.kind in
+    let L = g.met.J.Job.laws in
+    let V = g.D.Disk.view in
+    let old = c.args.self.now in
+    let s = old.state in
+    let record_batch : PlainBatch g.row.J.Denot = batch_of c.args.batch.now.first c.args.batch.now.records.items in
+    let frame = batch_bytes K record_batch in
+    let n = c.batch_len-len.result in
+    let long : length (behind_of frame) ≡ n = behind_long K L record_batch ∙ sym c.batch_len-len.ensures.value in
+    let a = V old.file.disk in
+    let b = V c.make_room.new.self.file.disk in
+    let mid = c.make_room.new.self in
+    let same : mid.state ≡ s = c.make_room.ensures.state in
+    let start = c.start_behind-start.result in
+    let starts : start ≡ start_of s = c.start_behind-start.ensures.bytes ∙ ap (λ k. number_bytes 8 (k + 1) ++ 0 ∷ []) (c.number.ensures.number ∙ ap (λ (t : Plain g.row.J.Denot). t.number) same) in
+    let bytes = c.behind_gate.result.now in
+    let behind : bytes ≡ behind_of frame = sym (behind_same frame bytes c.behind_gate.ensures.pending) in
+    let other = c.deref.result.now in
+    let e = V c.append_or_turn.new.self.disk in
+    let made = c.in_ok-make_room.ensures.acts f has honest in
+    let there = c.in_ok-make_room.ensures.file f has honest in
+    let honest_then = c.make_room.ensures.kept honest in
+    let full : ¬ HasRoom n old.file.places → other ≡ state_bytes K s = λ none. ⊎_elim (λ room. absurd (none (c.make_room.ensures.full room))) (λ is. c.deref.ensures.value ∙ is.1 ∙ ap (state_bytes K) same) c.in_ok-make_room.ensures.ready in
+    subst (λ (l : List ℕ). HasFile K (appended K f s frame) c.append_or_turn.new.self.places l) c.deref.ensures.value
+    (append_file K f old.file.places old.spelled.items has s frame n long other start bytes starts behind c.append_or_turn.new.self.places (λ room. c.deref.ensures.value ∙ c.make_room.ensures.same room) full
+    (c.in_ok-append_or_turn.ensures.file (format K) (ended K f n) s there.are honest_then frame (sym c.behind_gate.ensures.len)))

@@ -7,6 +7,15 @@ use Rattle.pfx_store.specs.Tending.{settled}
 use Rattle.pfx_store.proofs.Keeping.{keeps_then, keeps_none, room_there, room_made, parts_then}
 use Rattle.pfx_store.proofs.Calling.{fault_back}
 use Rattle.pfx_store.specs.declared.faults.StoreFault.TheVariants.{NoRoom}
+use Rattle.std.proofs.Common.{List, ℕ, inl}
+use Rattle.pfx_disk.specs.Stop.{Act}
+use Rattle.pfx_segment.specs.Acts.{put_acts}
+use Rattle.pfx_disk.specs.CallsMade.{HasMade, HasBrokenOff, HasKeptTo}
+use Rattle.pfx_disk.proofs.CallsMade.{made_then, broken_first, broken_then, within_first, within_then}
+use Rattle.pfx_store.specs.Acts.{end_acts, ended_file, turn_acts, turned_file, gate_of}
+use Rattle.pfx_store.specs.Files.{AreOf}
+use Rattle.pfx_store.specs.declared.faults.StoreFault.TheVariants.{Device}
+use Rattle.pfx_store.proofs.Rooms.{there_acts, full_acts, there_file, full_file}
 use Rattle.pfx_store.proofs.file.StoreFile.append_or_turn.Goals as goal
 
 pub returns-then-self-clause-keeps : goal.returns-then-self-clause-keeps
@@ -123,3 +132,287 @@ returns-clause-frame g c =
         gate = omega (arith, moved.gate, moved.end, parts.segment_len, turned.empty);
       };
     }
+
+pub returns-then-self-clause-between : goal.returns-then-self-clause-between
+returns-then-self-clause-between g c K f s are honest start done follows k image le is =
+    inl is
+
+pub returns-in_err-append-clause-front : goal.returns-in_err-append-clause-front
+returns-in_err-append-clause-front g c K f s are honest is =
+    let view = g.D.Disk.view in
+    let old = c.args.self.now.places in
+    let sp = c.args.spelling.now in
+    let start = c.args.start.now in
+    let bytes = c.args.frame.now in
+    let a = view c.args.self.now.disk in
+    let acts = there_acts K f s sp start bytes old are (c.has_room.ensures.0 c.if-has_room.true) in
+    let e = view c.append.new.self.disk in
+    subst (λ (l : List Act). HasBrokenOff l a e) (sym acts) (c.append.ensures.front K f are honest (fault_back _ c.append.result _ Device (c.in_err-append.was) c.from_residual.ensures.1 is))
+
+pub returns-in_err-append-clause-between : goal.returns-in_err-append-clause-between
+returns-in_err-append-clause-between g c K f s are honest =
+    let view = g.D.Disk.view in
+    let old = c.args.self.now.places in
+    let sp = c.args.spelling.now in
+    let start = c.args.start.now in
+    let bytes = c.args.frame.now in
+    let a = view c.args.self.now.disk in
+    let acts = there_acts K f s sp start bytes old are (c.has_room.ensures.0 c.if-has_room.true) in
+    let e = view c.append.new.self.disk in
+    subst (λ (l : List Act). HasKeptTo l a e) (sym acts) (c.append.ensures.between K f are honest)
+
+pub returns-then-has_room-clause-acts : goal.returns-then-has_room-clause-acts
+returns-then-has_room-clause-acts g c K f s are honest =
+    let view = g.D.Disk.view in
+    let old = c.args.self.now.places in
+    let sp = c.args.spelling.now in
+    let start = c.args.start.now in
+    let bytes = c.args.frame.now in
+    let a = view c.args.self.now.disk in
+    let acts = there_acts K f s sp start bytes old are (c.has_room.ensures.0 c.if-has_room.true) in
+    let e = view c.append.new.self.disk in
+    subst (λ (l : List Act). HasMade l a e) (sym acts) (c.in_ok-append.ensures.acts K f are honest)
+
+pub returns-then-has_room-clause-between : goal.returns-then-has_room-clause-between
+returns-then-has_room-clause-between g c K f s are honest =
+    let view = g.D.Disk.view in
+    let old = c.args.self.now.places in
+    let sp = c.args.spelling.now in
+    let start = c.args.start.now in
+    let bytes = c.args.frame.now in
+    let a = view c.args.self.now.disk in
+    let acts = there_acts K f s sp start bytes old are (c.has_room.ensures.0 c.if-has_room.true) in
+    let e = view c.append.new.self.disk in
+    subst (λ (l : List Act). HasKeptTo l a e) (sym acts) (c.append.ensures.between K f are honest)
+
+pub returns-then-has_room-clause-file : goal.returns-then-has_room-clause-file
+returns-then-has_room-clause-file g c K f s are honest next long =
+    let view = g.D.Disk.view in
+    let old = c.args.self.now.places in
+    let sp = c.args.spelling.now in
+    let start = c.args.start.now in
+    let bytes = c.args.frame.now in
+    let a = view c.args.self.now.disk in
+    subst (λ q. AreOf K q c.append.new.self.places) (sym (there_file K f s sp start bytes old are next (c.has_room.ensures.0 c.if-has_room.true))) (c.in_ok-append.ensures.file K f are next long)
+
+pub returns-in_err-end_checkpoint-clause-front : goal.returns-in_err-end_checkpoint-clause-front
+returns-in_err-end_checkpoint-clause-front g c K f s are honest is =
+    let view = g.D.Disk.view in
+    let old = c.args.self.now.places in
+    let sp = c.args.spelling.now in
+    let start = c.args.start.now in
+    let bytes = c.args.frame.now in
+    let a = view c.args.self.now.disk in
+    let acts = full_acts K f s sp start bytes old are (λ room. false≢true (sym c.if-has_room.false ∙ c.has_room.ensures.1 room)) in
+    let ended = ended_file K f in
+    let turned = turned_file K ended s in
+    let one = end_acts K f sp in
+    let two = turn_acts K ended start in
+    let three = put_acts (gate_of K turned) bytes in
+    let b = view c.end_checkpoint.new.self.disk in
+    let l1 = c.end_checkpoint.ensures.goes.later in
+    let p1 = c.end_checkpoint.ensures.between K f are honest in
+    subst (λ (l : List Act). HasBrokenOff l a b) (sym acts) (broken_first (one ++ two) three a b (broken_first one two a b (c.end_checkpoint.ensures.front K f are honest (fault_back _ c.end_checkpoint.result _ Device (c.in_err-end_checkpoint.was) c.from_residual-in_err-end_checkpoint.ensures.1 is))))
+
+pub returns-in_err-end_checkpoint-clause-between : goal.returns-in_err-end_checkpoint-clause-between
+returns-in_err-end_checkpoint-clause-between g c K f s are honest =
+    let view = g.D.Disk.view in
+    let old = c.args.self.now.places in
+    let sp = c.args.spelling.now in
+    let start = c.args.start.now in
+    let bytes = c.args.frame.now in
+    let a = view c.args.self.now.disk in
+    let acts = full_acts K f s sp start bytes old are (λ room. false≢true (sym c.if-has_room.false ∙ c.has_room.ensures.1 room)) in
+    let ended = ended_file K f in
+    let turned = turned_file K ended s in
+    let one = end_acts K f sp in
+    let two = turn_acts K ended start in
+    let three = put_acts (gate_of K turned) bytes in
+    let b = view c.end_checkpoint.new.self.disk in
+    let l1 = c.end_checkpoint.ensures.goes.later in
+    let p1 = c.end_checkpoint.ensures.between K f are honest in
+    subst (λ (l : List Act). HasKeptTo l a b) (sym acts) (within_first (one ++ two) three a b (within_first one two a b p1))
+
+pub returns-in_err-turn-clause-front : goal.returns-in_err-turn-clause-front
+returns-in_err-turn-clause-front g c K f s are honest is =
+    let view = g.D.Disk.view in
+    let old = c.args.self.now.places in
+    let sp = c.args.spelling.now in
+    let start = c.args.start.now in
+    let bytes = c.args.frame.now in
+    let a = view c.args.self.now.disk in
+    let acts = full_acts K f s sp start bytes old are (λ room. false≢true (sym c.if-has_room.false ∙ c.has_room.ensures.1 room)) in
+    let ended = ended_file K f in
+    let turned = turned_file K ended s in
+    let one = end_acts K f sp in
+    let two = turn_acts K ended start in
+    let three = put_acts (gate_of K turned) bytes in
+    let b = view c.end_checkpoint.new.self.disk in
+    let l1 = c.end_checkpoint.ensures.goes.later in
+    let p1 = c.end_checkpoint.ensures.between K f are honest in
+    let d = view c.turn.new.self.disk in
+    let are1 = c.in_ok-end_checkpoint.ensures.file K f are honest in
+    let h1 = c.end_checkpoint.ensures.kept honest in
+    let w1 = c.in_ok-end_checkpoint.ensures.acts K f are honest in
+    let p2 = c.turn.ensures.between K ended are1 h1 in
+    subst (λ (l : List Act). HasBrokenOff l a d) (sym acts) (broken_first (one ++ two) three a d (broken_then one two a b d w1 (c.turn.ensures.front K ended are1 h1 (fault_back _ c.turn.result _ Device (c.in_err-turn.was) c.from_residual-in_err-turn.ensures.1 is))))
+
+pub returns-in_err-turn-clause-between : goal.returns-in_err-turn-clause-between
+returns-in_err-turn-clause-between g c K f s are honest =
+    let view = g.D.Disk.view in
+    let old = c.args.self.now.places in
+    let sp = c.args.spelling.now in
+    let start = c.args.start.now in
+    let bytes = c.args.frame.now in
+    let a = view c.args.self.now.disk in
+    let acts = full_acts K f s sp start bytes old are (λ room. false≢true (sym c.if-has_room.false ∙ c.has_room.ensures.1 room)) in
+    let ended = ended_file K f in
+    let turned = turned_file K ended s in
+    let one = end_acts K f sp in
+    let two = turn_acts K ended start in
+    let three = put_acts (gate_of K turned) bytes in
+    let b = view c.end_checkpoint.new.self.disk in
+    let l1 = c.end_checkpoint.ensures.goes.later in
+    let p1 = c.end_checkpoint.ensures.between K f are honest in
+    let d = view c.turn.new.self.disk in
+    let are1 = c.in_ok-end_checkpoint.ensures.file K f are honest in
+    let h1 = c.end_checkpoint.ensures.kept honest in
+    let w1 = c.in_ok-end_checkpoint.ensures.acts K f are honest in
+    let p2 = c.turn.ensures.between K ended are1 h1 in
+    subst (λ (l : List Act). HasKeptTo l a d) (sym acts) (within_first (one ++ two) three a d (within_then one two a b d w1 l1 p1 p2))
+
+pub returns-in_err-append-2-clause-front : goal.returns-in_err-append-2-clause-front
+returns-in_err-append-2-clause-front g c K f s are honest is =
+    let view = g.D.Disk.view in
+    let old = c.args.self.now.places in
+    let sp = c.args.spelling.now in
+    let start = c.args.start.now in
+    let bytes = c.args.frame.now in
+    let a = view c.args.self.now.disk in
+    let acts = full_acts K f s sp start bytes old are (λ room. false≢true (sym c.if-has_room.false ∙ c.has_room.ensures.1 room)) in
+    let ended = ended_file K f in
+    let turned = turned_file K ended s in
+    let one = end_acts K f sp in
+    let two = turn_acts K ended start in
+    let three = put_acts (gate_of K turned) bytes in
+    let b = view c.end_checkpoint.new.self.disk in
+    let l1 = c.end_checkpoint.ensures.goes.later in
+    let p1 = c.end_checkpoint.ensures.between K f are honest in
+    let d = view c.turn.new.self.disk in
+    let are1 = c.in_ok-end_checkpoint.ensures.file K f are honest in
+    let h1 = c.end_checkpoint.ensures.kept honest in
+    let w1 = c.in_ok-end_checkpoint.ensures.acts K f are honest in
+    let p2 = c.turn.ensures.between K ended are1 h1 in
+    let e = view c.append-2.new.self.disk in
+    let are2 = c.in_ok-turn.ensures.file K ended are1 s in
+    let h2 = c.turn.ensures.kept h1 in
+    let w12 = made_then one two a b d w1 (c.in_ok-turn.ensures.acts K ended are1 h1) in
+    let p12 = within_then one two a b d w1 l1 p1 p2 in
+    let l12 : a.clock ≤ d.clock = omega (arith, l1, c.turn.ensures.calls.later) in
+    let p3 = c.append-2.ensures.between K turned are2 h2 in
+    subst (λ (l : List Act). HasBrokenOff l a e) (sym acts) (broken_then (one ++ two) three a d e w12 (c.append-2.ensures.front K turned are2 h2 (fault_back _ c.append-2.result _ Device (c.in_err-append-2.was) c.from_residual-in_err-append-2.ensures.1 is)))
+
+pub returns-in_err-append-2-clause-between : goal.returns-in_err-append-2-clause-between
+returns-in_err-append-2-clause-between g c K f s are honest =
+    let view = g.D.Disk.view in
+    let old = c.args.self.now.places in
+    let sp = c.args.spelling.now in
+    let start = c.args.start.now in
+    let bytes = c.args.frame.now in
+    let a = view c.args.self.now.disk in
+    let acts = full_acts K f s sp start bytes old are (λ room. false≢true (sym c.if-has_room.false ∙ c.has_room.ensures.1 room)) in
+    let ended = ended_file K f in
+    let turned = turned_file K ended s in
+    let one = end_acts K f sp in
+    let two = turn_acts K ended start in
+    let three = put_acts (gate_of K turned) bytes in
+    let b = view c.end_checkpoint.new.self.disk in
+    let l1 = c.end_checkpoint.ensures.goes.later in
+    let p1 = c.end_checkpoint.ensures.between K f are honest in
+    let d = view c.turn.new.self.disk in
+    let are1 = c.in_ok-end_checkpoint.ensures.file K f are honest in
+    let h1 = c.end_checkpoint.ensures.kept honest in
+    let w1 = c.in_ok-end_checkpoint.ensures.acts K f are honest in
+    let p2 = c.turn.ensures.between K ended are1 h1 in
+    let e = view c.append-2.new.self.disk in
+    let are2 = c.in_ok-turn.ensures.file K ended are1 s in
+    let h2 = c.turn.ensures.kept h1 in
+    let w12 = made_then one two a b d w1 (c.in_ok-turn.ensures.acts K ended are1 h1) in
+    let p12 = within_then one two a b d w1 l1 p1 p2 in
+    let l12 : a.clock ≤ d.clock = omega (arith, l1, c.turn.ensures.calls.later) in
+    let p3 = c.append-2.ensures.between K turned are2 h2 in
+    subst (λ (l : List Act). HasKeptTo l a e) (sym acts) (within_then (one ++ two) three a d e w12 l12 p12 p3)
+
+pub returns-clause-acts : goal.returns-clause-acts
+returns-clause-acts g c K f s are honest =
+    let view = g.D.Disk.view in
+    let old = c.args.self.now.places in
+    let sp = c.args.spelling.now in
+    let start = c.args.start.now in
+    let bytes = c.args.frame.now in
+    let a = view c.args.self.now.disk in
+    let acts = full_acts K f s sp start bytes old are (λ room. false≢true (sym c.if-has_room.false ∙ c.has_room.ensures.1 room)) in
+    let ended = ended_file K f in
+    let turned = turned_file K ended s in
+    let one = end_acts K f sp in
+    let two = turn_acts K ended start in
+    let three = put_acts (gate_of K turned) bytes in
+    let b = view c.end_checkpoint.new.self.disk in
+    let l1 = c.end_checkpoint.ensures.goes.later in
+    let p1 = c.end_checkpoint.ensures.between K f are honest in
+    let d = view c.turn.new.self.disk in
+    let are1 = c.in_ok-end_checkpoint.ensures.file K f are honest in
+    let h1 = c.end_checkpoint.ensures.kept honest in
+    let w1 = c.in_ok-end_checkpoint.ensures.acts K f are honest in
+    let p2 = c.turn.ensures.between K ended are1 h1 in
+    let e = view c.append-2.new.self.disk in
+    let are2 = c.in_ok-turn.ensures.file K ended are1 s in
+    let h2 = c.turn.ensures.kept h1 in
+    let w12 = made_then one two a b d w1 (c.in_ok-turn.ensures.acts K ended are1 h1) in
+    let p12 = within_then one two a b d w1 l1 p1 p2 in
+    let l12 : a.clock ≤ d.clock = omega (arith, l1, c.turn.ensures.calls.later) in
+    let p3 = c.append-2.ensures.between K turned are2 h2 in
+    subst (λ (l : List Act). HasMade l a e) (sym acts) (made_then (one ++ two) three a d e w12 (c.in_ok-append-2.ensures.acts K turned are2 h2))
+
+pub returns-clause-between : goal.returns-clause-between
+returns-clause-between g c K f s are honest =
+    let view = g.D.Disk.view in
+    let old = c.args.self.now.places in
+    let sp = c.args.spelling.now in
+    let start = c.args.start.now in
+    let bytes = c.args.frame.now in
+    let a = view c.args.self.now.disk in
+    let acts = full_acts K f s sp start bytes old are (λ room. false≢true (sym c.if-has_room.false ∙ c.has_room.ensures.1 room)) in
+    let ended = ended_file K f in
+    let turned = turned_file K ended s in
+    let one = end_acts K f sp in
+    let two = turn_acts K ended start in
+    let three = put_acts (gate_of K turned) bytes in
+    let b = view c.end_checkpoint.new.self.disk in
+    let l1 = c.end_checkpoint.ensures.goes.later in
+    let p1 = c.end_checkpoint.ensures.between K f are honest in
+    let d = view c.turn.new.self.disk in
+    let are1 = c.in_ok-end_checkpoint.ensures.file K f are honest in
+    let h1 = c.end_checkpoint.ensures.kept honest in
+    let w1 = c.in_ok-end_checkpoint.ensures.acts K f are honest in
+    let p2 = c.turn.ensures.between K ended are1 h1 in
+    let e = view c.append-2.new.self.disk in
+    let are2 = c.in_ok-turn.ensures.file K ended are1 s in
+    let h2 = c.turn.ensures.kept h1 in
+    let w12 = made_then one two a b d w1 (c.in_ok-turn.ensures.acts K ended are1 h1) in
+    let p12 = within_then one two a b d w1 l1 p1 p2 in
+    let l12 : a.clock ≤ d.clock = omega (arith, l1, c.turn.ensures.calls.later) in
+    let p3 = c.append-2.ensures.between K turned are2 h2 in
+    subst (λ (l : List Act). HasKeptTo l a e) (sym acts) (within_then (one ++ two) three a d e w12 l12 p12 p3)
+
+pub returns-clause-file : goal.returns-clause-file
+returns-clause-file g c K f s are honest next long =
+    let view = g.D.Disk.view in
+    let old = c.args.self.now.places in
+    let sp = c.args.spelling.now in
+    let start = c.args.start.now in
+    let bytes = c.args.frame.now in
+    let a = view c.args.self.now.disk in
+    let are1 = c.in_ok-end_checkpoint.ensures.file K f are honest in
+    let are2 = c.in_ok-turn.ensures.file K (ended_file K f) are1 s in
+    subst (λ q. AreOf K q c.append-2.new.self.places) (sym (full_file K f s sp start bytes old are next (λ room. false≢true (sym c.if-has_room.false ∙ c.has_room.ensures.1 room)))) (c.in_ok-append-2.ensures.file K (turned_file K (ended_file K f) s) are2 next long)

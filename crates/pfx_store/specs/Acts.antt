@@ -1,30 +1,13 @@
 -- The calls of the acts of a store's file, one after the other, and the file after them.
 use Rattle.std.specs.Prelude.{ℕ, zero, suc, ◌+◌, ◌-◌, min, nat_lt, if◌then◌else◌}
 use Rattle.std.specs.Prelude.{List, [], ◌∷◌, ◌++◌, length, take, drop, Bool, true, false}
-use Rattle.pfx_disk.specs.Stop.{Act, Sync, Write, Look}
-use Rattle.pfx_disk.specs.declared.gates.TheConstants.{GATE_OPEN}
+use Rattle.pfx_disk.specs.Stop.{Act, Write}
+use Rattle.pfx_segment.specs.Acts.{put_acts, close_acts, open_acts}
 use Rattle.pfx_recovery.specs.Codec.{Codec}
 use Rattle.pfx_recovery.specs.Layout.{segment_end}
 use Rattle.pfx_recovery.specs.Store.{next_gate, with_frame, turned_at, finished}
 use Rattle.pfx_store.specs.declared.checkpoint.TheConstants.{PIECE}
-use Rattle.pfx_acts.specs.Files.{File, slot_of, segment_of}
-
--- bytes put behind a closed gate, and the gate opened
-abbrev pub put_acts : ℕ → List ℕ → List Act
-put_acts gate bytes = Write (gate + 1) bytes ∷ Sync ∷ Write gate (GATE_OPEN ∷ []) ∷ Sync ∷ []
-
--- a gate that stands open is closed, one that stands closed is read
-abbrev pub closing_act : ℕ → Bool → Act
-closing_act gate true = Write gate (0 ∷ [])
-closing_act gate false = Look
-
--- a gate closed where it stands open, and synced
-abbrev pub close_acts : ℕ → Bool → List Act
-close_acts gate is_open = closing_act gate is_open ∷ Sync ∷ []
-
--- a gate opened before bytes that were written behind it
-abbrev pub open_acts : ℕ → List Act
-open_acts gate = Sync ∷ Write gate (GATE_OPEN ∷ []) ∷ Sync ∷ []
+use Rattle.pfx_store.specs.Files.{File, slot_of, segment_of}
 
 module _ {H S : Type 0} (K : Codec H S) where
   -- how long the next piece of the checkpoint in progress is

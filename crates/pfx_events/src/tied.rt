@@ -1,0 +1,85 @@
+//! The store's calls as events of the world: what they do to the disk is what the world's device calls do.
+ghost use Rattle.std.specs.Prelude.{◌≡◌, ◌+◌, ◌∷◌, [], List, ℕ, length, map, true, false, Some, OnOk, IfOk, IfErr, IsErrOf};
+ghost use Rattle.pfx_disk.specs.CallsMade.{IsAfter, LeavesAtMost};
+ghost use Rattle.pfx_disk.specs.Disk.{IsHonest};
+ghost use Rattle.pfx_disk.specs.Stop.{Act};
+ghost use Rattle.pfx_effect.specs.Applying.{applied};
+ghost use Rattle.pfx_events.specs.Store.{store_of};
+ghost use Rattle.pfx_events.specs.Ties.{Carries, IsIn, through, broken_off};
+ghost use Rattle.pfx_journal.specs.Files.{recovered_file};
+ghost use Rattle.pfx_machine.specs.Plain.{Plain};
+ghost use Rattle.pfx_record.specs.Batches.{batch_of};
+ghost use Rattle.pfx_record.specs.Records.{plain};
+ghost use Rattle.pfx_world.specs.Events.{Take, Tend, Device, Stop, MayHappen, CanRun, next_of, run};
+ghost use Rattle.pfx_world.specs.World.{World, state_at};
+
+use pfx_disk::Disk;
+use pfx_jobs::job::Job;
+use pfx_journal::{Mark, Store};
+use pfx_opening::OpenFault;
+use pfx_record::Batch;
+use pfx_store::{StoreFault, Tended};
+use std::alloc::Global;
+
+/// `Store::append`, in each world whose store this is, where the flusher may take the batch's commands.
+///
+/// Where it succeeds, `Take` and its calls, all of which go through, lead to a world whose store this still is. Where the
+/// disk fails, some of them go through and the next fails, and a stop leaves no image but those of the world after that.
+pub fn append<D: Disk, J: Job>(
+    store: &mut Store<D, J>,
+    batch: &Batch<J>,
+) -> Result<Mark, StoreFault>
+    requires workers { batch.now.workers ≡ store.old.state.ledger.set.workers }
+    requires first { batch.now.first ≡ store.old.state.number + 1 }
+    requires right { (t : Plain J) × (applied J.kind store.old.state (map plain batch.now.records.items) ≡ Some t) }
+    ensures takes { let S = store_of J.kind in (B : Plain J) → (w : World (store_of J.kind)) → (n : ℕ) → MayHappen S B w (Take n)
+        → IsIn J.kind w store.old.file.places store.old.spelled (D.view store.old.file.disk)
+        → store.old.state ≡ state_at S B w.book.accepted w.book.taken
+        → Carries J.kind store.old.state (next_of S w n) (batch_of batch.now.first batch.now.records.items)
+        → IsHonest (D.view store.old.file.disk)
+        → OnOk result (let events = Take n ∷ through (S.calls w.place (state_at S B w.book.accepted w.book.taken) (next_of S w n)) in
+        CanRun S B w events
+        × IsIn J.kind (run S B w events) store.new.file.places store.new.spelled (D.view store.new.file.disk)) }
+    ensures breaks_off { let S = store_of J.kind in (B : Plain J) → (w : World (store_of J.kind)) → (n : ℕ) → MayHappen S B w (Take n)
+        → IsIn J.kind w store.old.file.places store.old.spelled (D.view store.old.file.disk)
+        → store.old.state ≡ state_at S B w.book.accepted w.book.taken
+        → Carries J.kind store.old.state (next_of S w n) (batch_of batch.now.first batch.now.records.items)
+        → IsHonest (D.view store.old.file.disk)
+        → IsErrOf result StoreFault.Device → (gone : List Act) × CanRun S B w (Take n ∷ broken_off gone)
+        × LeavesAtMost (D.view store.new.file.disk) (run S B w (Take n ∷ broken_off gone)).start (run S B w (Take n ∷ broken_off gone)).done }
+{
+    store.append(batch)
+}
+
+/// `Store::tend`, in each world whose store this is, where the flusher may take a step of a checkpoint: `Tend` and its
+/// calls, as for `append`.
+pub fn tend<D: Disk, J: Job>(store: &mut Store<D, J>) -> Result<Tended, StoreFault>
+    ensures tends { let S = store_of J.kind in (B : Plain J) → (w : World (store_of J.kind)) → MayHappen S B w Tend
+        → IsIn J.kind w store.old.file.places store.old.spelled (D.view store.old.file.disk)
+        → IsHonest (D.view store.old.file.disk)
+        → OnOk result (let events = Tend ∷ through (S.tends w.place) in
+        CanRun S B w events
+        × IsIn J.kind (run S B w events) store.new.file.places store.new.spelled (D.view store.new.file.disk)) }
+    ensures breaks_off { let S = store_of J.kind in (B : Plain J) → (w : World (store_of J.kind)) → MayHappen S B w Tend
+        → IsIn J.kind w store.old.file.places store.old.spelled (D.view store.old.file.disk)
+        → IsHonest (D.view store.old.file.disk)
+        → IsErrOf result StoreFault.Device → (gone : List Act) × CanRun S B w (Tend ∷ broken_off gone)
+        × LeavesAtMost (D.view store.new.file.disk) (run S B w (Tend ∷ broken_off gone)).start (run S B w (Tend ∷ broken_off gone)).done }
+{
+    store.tend()
+}
+
+/// `Store::open` on a disk that holds the image of a stop and nothing else, in each world that may stop with this image:
+/// `Stop` and its sync lead to a world whose store this is, at the state that recovery finds. With a fault a stop still leaves
+/// that image and no other.
+pub fn open<D: Disk, J: Job>(alloc: Global, disk: D) -> Result<Store<D, J>, (OpenFault, D)>
+    ensures stops { let S = store_of J.kind in (B : Plain J) → (w : World (store_of J.kind)) → (image : List ℕ)
+        → MayHappen S B w (Stop image) → IsHonest (D.view disk) → IsAfter (D.view disk) image []
+        → IfOk result (λ store. let events = Stop image ∷ Device true ∷ [] in
+        CanRun S B w events × (recovered_file J.kind image ≡ Some (store.state, (run S B w events).place))
+        × IsIn J.kind (run S B w events) store.file.places store.spelled (D.view store.file.disk)) }
+    ensures fails { (image : List ℕ) → IsHonest (D.view disk) → IsAfter (D.view disk) image []
+        → IfErr result (λ e. LeavesAtMost (D.view e.1) image []) }
+{
+    Store::open(alloc, disk)
+}

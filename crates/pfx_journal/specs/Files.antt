@@ -1,0 +1,67 @@
+-- A store's file in this format, the calls of its acts, and the file that is found in an image.
+use Rattle.std.specs.Prelude.{◌≡◌, ℕ, ◌+◌, if◌then◌else◌, List, [], ◌∷◌, ◌++◌, drop, true, Option, Some, None, Result, Ok, Err}
+use Rattle.pfx_checkpoint.specs.Spelling.{state_bytes}
+use Rattle.pfx_disk.specs.Stop.{Act}
+use Rattle.pfx_format.specs.Format.{format}
+use Rattle.pfx_header.specs.Headers.{Header}
+use Rattle.pfx_jobs.specs.Kind.{Kind}
+use Rattle.pfx_machine.specs.Plain.{Plain}
+use Rattle.pfx_record.specs.Numbers.{number_bytes}
+use Rattle.pfx_recovery.specs.Recovery.{Found, found}
+use Rattle.pfx_recovery.specs.Refusals.{Refusal}
+use Rattle.pfx_store.specs.Acts.{tend_acts, end_acts, ended_file, turn_acts, has_room, append_acts, appended_file}
+use Rattle.pfx_store.specs.Files.{File, AreOf, file_in}
+use Rattle.pfx_store.specs.declared.places.Places.{Places}
+
+-- a header and the rest of a file
+abbrev pub FileOf : Type 0 → Type 0
+FileOf J = File Header (Plain J)
+
+-- the body of the slot that the checkpoint in progress writes
+abbrev pub spelled : {J : Type 0} → Kind J → FileOf J → List ℕ
+spelled K f = state_bytes K f.parts.middle
+
+-- a store with these places has this file; where a checkpoint is in progress, this is its body
+pub record HasFile {J : Type 0} (K : Kind J) (f : FileOf J) (places : Places) (body : List ℕ) : Type 0 where
+  pub are : AreOf (format K) f places
+  pub spells : f.parts.turned ≡ true → body ≡ spelled K f
+
+-- the bytes behind the gate of a segment that begins behind a state: the next number, and the first frame's closed gate
+abbrev pub start_of : {J : Type 0} → Plain J → List ℕ
+start_of s = number_bytes 8 (s.number + 1) ++ 0 ∷ []
+
+-- what is written behind the gate of a frame: the rest of it, and the next gate, closed
+abbrev pub behind_of : List ℕ → List ℕ
+behind_of frame = drop 1 frame ++ 0 ∷ []
+
+module _ {J : Type 0} (K : Kind J) (f : FileOf J) where
+  -- the calls that append a frame at a state, and the file behind them
+  abbrev pub appending : Plain J → List ℕ → List Act
+  appending s frame = append_acts (format K) f s (spelled K f) (start_of s) (behind_of frame)
+
+  abbrev pub appended : Plain J → List ℕ → FileOf J
+  appended s frame = appended_file (format K) f s (behind_of frame) frame
+
+  -- the calls of the next step of the checkpoint in progress
+  abbrev pub tending : List Act
+  tending = tend_acts (format K) f (spelled K f)
+
+  -- the calls of a turn at a state
+  abbrev pub turning : Plain J → List Act
+  turning s = turn_acts (format K) f (start_of s)
+
+  -- where a frame of n bytes has no room, the calls that end the checkpoint in progress, and the file behind them
+  abbrev pub ending : ℕ → List Act
+  ending n = if has_room (format K) f n then [] else end_acts (format K) f (spelled K f)
+
+  abbrev pub ended : ℕ → FileOf J
+  ended n = if has_room (format K) f n then f else ended_file (format K) f
+
+-- the file that was found in an image, with the gates as they stand there
+abbrev pub file_found : {J : Type 0} → Kind J → List ℕ → Result (Found Header (Plain J)) Refusal → Option (Plain J × FileOf J)
+file_found K image (Ok f) = Some (f.state, file_in (format K) image f.head f.parts)
+file_found K image (Err refusal) = None
+
+-- recovery: the state that an image stands for, and the file in which it is found
+abbrev pub recovered_file : {J : Type 0} → Kind J → List ℕ → Option (Plain J × FileOf J)
+recovered_file K image = file_found K image (found (format K) image)

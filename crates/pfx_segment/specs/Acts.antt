@@ -1,0 +1,21 @@
+-- The calls of acts on gates.
+use Rattle.std.specs.Prelude.{ℕ, ◌+◌, List, [], ◌∷◌, ◌++◌, Bool, true, false}
+use Rattle.pfx_disk.specs.Stop.{Act, Sync, Write, Look}
+use Rattle.pfx_disk.specs.declared.gates.TheConstants.{GATE_OPEN}
+
+-- bytes put behind a closed gate, and the gate opened
+abbrev pub put_acts : ℕ → List ℕ → List Act
+put_acts gate bytes = Write (gate + 1) bytes ∷ Sync ∷ Write gate (GATE_OPEN ∷ []) ∷ Sync ∷ []
+
+-- a gate that stands open is closed, one that stands closed is read
+abbrev pub closing_act : ℕ → Bool → Act
+closing_act gate true = Write gate (0 ∷ [])
+closing_act gate false = Look
+
+-- a gate closed where it stands open, and synced
+abbrev pub close_acts : ℕ → Bool → List Act
+close_acts gate is_open = closing_act gate is_open ∷ Sync ∷ []
+
+-- a gate opened before bytes that were written behind it
+abbrev pub open_acts : ℕ → List Act
+open_acts gate = Sync ∷ Write gate (GATE_OPEN ∷ []) ∷ Sync ∷ []
