@@ -59,7 +59,7 @@ module _ {E : Type 0} (view : E → View) (broken : E → Bool) (kept : E → Pl
       let part = part_of reading (λ s g. (promise view broken kept).faults s g) (outcome any_kind (kept a) (commands_of h.printed)) (text_of h.printed) h.tried (kept b) was is f h.why in
       let split : (commands_of h.printed ++ commands_of h.tried) ++ commands_of h.rest ≡ commands_of (h.printed ++ (h.tried ++ h.rest)) =
       append_assoc (commands_of h.printed) (commands_of h.tried) (commands_of h.rest)
-          ∙ ap (λ (l : List (Command AnyJob)). commands_of h.printed ++ l) (sym (commands_append h.tried h.rest)) ∙ sym (commands_append h.printed (h.tried ++ h.rest)) in
+      ∙ ap (λ (l : List (Command AnyJob)). commands_of h.printed ++ l) (sym (commands_append h.tried h.rest)) ∙ sym (commands_append h.printed (h.tried ++ h.rest)) in
       record {
         printed = h.printed;
         rest = h.tried ++ h.rest;

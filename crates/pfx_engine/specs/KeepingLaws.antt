@@ -22,9 +22,10 @@ use Rattle.pfx_engine.specs.Keeping.{Anchors, Kept, KeepsFrom, IsAccepted}
 
 then_accepted : (s : Plain AnyJob) (H before G : List (Command AnyJob)) → AllAccepted any_kind (outcome any_kind s H) before G → AllAccepted any_kind s (H ++ before) G
 then_accepted s H before [] h = tt
-then_accepted s H before (c ∷ G) (one, rest) =
-    (subst (λ (t : Plain AnyJob). refusal any_kind t c ≡ None) (outcome-outcome any_kind any_laws s H before) one,
-    subst (λ (l : List (Command AnyJob)). AllAccepted any_kind s l G) (assoc H before (c ∷ [])) (then_accepted s H (before ++ c ∷ []) G rest))
+then_accepted s H before (c ∷ G) (one, rest) = (
+  subst (λ (t : Plain AnyJob). refusal any_kind t c ≡ None) (outcome-outcome any_kind any_laws s H before) one,
+  subst (λ (l : List (Command AnyJob)). AllAccepted any_kind s l G) (assoc H before (c ∷ [])) (then_accepted s H (before ++ c ∷ []) G rest),
+)
   where
     assoc : (a b c : List (Command AnyJob)) → a ++ (b ++ c) ≡ (a ++ b) ++ c
     assoc [] b c = refl

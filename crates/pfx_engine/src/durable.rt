@@ -173,10 +173,10 @@ impl<D: Disk> DurableEngine<D> {
 impl<D: Disk> Engine for DurableEngine<D> {
     // The state is that of the store: the one behind the commands that are known to be durable.
     ghost promise = { record {
-        state = λ engine. engine.store.state;
-        faults = λ s f. f ≡ stopped_at s.number;
-        settled = λ engine. engine.store.file.broken ≡ false;
-        keeps = λ a H n b. KeepsFrom (D.view a.store.file.disk) a.store.file.broken a.store.state H n (D.view b.store.file.disk) b.store.state
+      state = λ engine. engine.store.state;
+      faults = λ s f. f ≡ stopped_at s.number;
+      settled = λ engine. engine.store.file.broken ≡ false;
+      keeps = λ a H n b. KeepsFrom (D.view a.store.file.disk) a.store.file.broken a.store.state H n (D.view b.store.file.disk) b.store.state;
     } };
 
     fn call(&mut self, alloc: Global, command: Command<AnyJob>) -> Result<(u64, Reply), CallFault>

@@ -38,7 +38,7 @@ commands_append (x ∷ a) b = ap (with_command x.command) (commands_append a b) 
 pub then_state : (s t u : Plain AnyJob) (a b : List Step) → t ≡ outcome any_kind s (commands_of a) → u ≡ outcome any_kind t (commands_of b) → u ≡ outcome any_kind s (commands_of (a ++ b))
 then_state s t u a b first second =
     second ∙ ap (λ (v : Plain AnyJob). outcome any_kind v (commands_of b)) first ∙ outcome-outcome any_kind any_laws s (commands_of a) (commands_of b)
-        ∙ ap (outcome any_kind s) (sym (commands_append a b))
+    ∙ ap (outcome any_kind s) (sym (commands_append a b))
 
 pub same_state : (s t : Plain AnyJob) → t ≡ s → t ≡ outcome any_kind s []
 same_state s t is = is ∙ sym (outcome-none any_kind s)

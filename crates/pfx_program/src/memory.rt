@@ -11,6 +11,7 @@ use std::alloc::Global;
 
 impl Engine for State<AnyJob> {
     ghost promise = { record { state = λ s. s; faults = λ s f. ⊥; settled = λ s. ⊤; keeps = λ a H n b. ⊤ } };
+
     ghost laws = { record { none = λ e. tt; more = λ a b c H G n settled one two. tt; fewer = λ a b H n m le one. tt } };
 
     fn call(

@@ -93,6 +93,7 @@ module _ {J : Type 0} where
       at_index [] i y e b s = absurd (omega (arith, b))
       at_index (z ∷ zs) zero y e b s = e ∙ some_is z None s
       at_index (z ∷ zs) (suc i) y e b s = at_index zs i y e (omega (arith, b)) s
+
       empty : (y : Option D) → is_some y ≡ true → y ≡ None → ⊥
       empty None e n = true≢false (sym e)
       empty (Some d) e n = none-some d (sym n)
@@ -105,10 +106,11 @@ module _ {J : Type 0} where
   pub put_keeps : {D : Type 0} (f : D → Deal J) (quanta : List (Deal J)) (old new : List (Option D)) (done : D) → Puts quanta (f done) old new (Some done) → Answers quanta (map (option_map f) old)
       → Answers quanta (map (option_map f) new) × (length new ≡ length old) × Puts quanta (f done) (map (option_map f) old) (map (option_map f) new) (Some (f done))
   put_keeps f quanta old new done p h =
-      let e = ap (map (option_map f)) p.3 ∙ map_set (option_map f) old p.0 (Some done) in
-      (subst (λ b. Answers quanta b) (sym e) (answers_set quanta (map (option_map f) old) p.0 (f done) p.1.0 h),
+      let e = ap (map (option_map f)) p.3 ∙ map_set (option_map f) old p.0 (Some done) in (
+        subst (λ b. Answers quanta b) (sym e) (answers_set quanta (map (option_map f) old) p.0 (f done) p.1.0 h),
         ap length p.3 ∙ length_set old p.0 (Some done),
-        (p.0, p.1, get_map (option_map f) old p.0 None p.2, e))
+        (p.0, p.1, get_map (option_map f) old p.0 None p.2, e),
+      )
 
   pub refuses_too : {D : Type 0} (f : D → Deal J) (quanta : List (Deal J)) (d : Deal J) (old : List (Option D)) (fault : GatherFault) → Refuses quanta d old fault → Refuses quanta d (map (option_map f) old) fault
   refuses_too f quanta d old (Stranger task) r = r

@@ -31,9 +31,10 @@ impl<J: Job> Model for OpenSlot<J> {
     ghost Value = { Dealt J };
 
     ghost view = { λ o. record {
-        row = o.row;
-        quanta = map (λ q. deal q.number q.slot q.task q.before) o.quanta.items;
-        back = map (option_map (λ d. deal d.number d.slot d.task d.before)) o.back.items } };
+      row = o.row;
+      quanta = map (λ q. deal q.number q.slot q.task q.before) o.quanta.items;
+      back = map (option_map (λ d. deal d.number d.slot d.task d.before)) o.back.items;
+    } };
 
     ghost invariant = { λ o. (Answers (map (λ q. deal q.number q.slot q.task q.before) o.quanta.items) (map (option_map (λ d. deal d.number d.slot d.task d.before)) o.back.items))
         × (length o.back.items ≡ length o.quanta.items) × (o.dones.items ≡ []) × (o.places.items ≡ [])
@@ -64,7 +65,10 @@ fn copies<J: Job>(alloc: Global, quanta: &[Quantum<J>]) -> Result<Vec<Quantum<J>
 }
 
 // So many empty places.
-fn empty_places<J: Job>(alloc: Global, quanta: &[Quantum<J>]) -> Result<Vec<Option<Done<J>>>, AllocError>
+fn empty_places<J: Job>(
+    alloc: Global,
+    quanta: &[Quantum<J>],
+) -> Result<Vec<Option<Done<J>>>, AllocError>
     ensures length { IfOk result (λ back. length back.items ≡ length quanta.now) }
     ensures empty { IfOk result (λ back. map (option_map (λ d. deal d.number d.slot d.task d.before)) back.items ≡ map (λ q. None) quanta.now) }
 {
@@ -134,7 +138,11 @@ pub struct Ended<J: Job> {
 
 impl<J: Job> OpenSlot<J> {
     /// The slot of this row and these quanta, with all the memory that it needs, and copies of the quanta to be dealt.
-    pub fn of(alloc: Global, row: Row, quanta: Vec<Quantum<J>>) -> Result<(OpenSlot<J>, Vec<Quantum<J>>), AllocError>
+    pub fn of(
+        alloc: Global,
+        row: Row,
+        quanta: Vec<Quantum<J>>,
+    ) -> Result<(OpenSlot<J>, Vec<Quantum<J>>), AllocError>
         ensures row { IfOk result (λ r. r.0.row ≡ row) }
         ensures quanta { IfOk result (λ r. r.0.quanta ≡ map (λ q. deal q.number q.slot q.task q.before) quanta.items) }
         ensures none_back { IfOk result (λ r. r.0.back ≡ map (λ q. None) quanta.items) }
@@ -183,7 +191,13 @@ impl<J: Job> OpenSlot<J> {
         requires all { AllBack self.back }
         ensures { MatchOption result ⊥ (λ e. (e.row ≡ self.row) × (map (λ d. deal d.number d.slot d.task d.before) e.dones.items ≡ self.quanta) × (e.places.items ≡ places_with J.kind self.row self.quanta)) }
     {
-        let OpenSlot { row, quanta: _, back, dones, places } = self;
+        let OpenSlot {
+            row,
+            quanta: _,
+            back,
+            dones,
+            places,
+        } = self;
         let dones = collect(dones, back)?;
         let places = fill(places, &row, &dones);
         Some(Ended { row, dones, places })

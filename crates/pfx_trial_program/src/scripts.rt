@@ -31,7 +31,12 @@ fn prints(
     end: Result<(), Fault>,
 ) -> bool {
     let mut written = Vec::new(alloc);
-    let got = run_script(alloc, &mut Script::new(alloc, script.as_bytes()), &mut written, state);
+    let got = run_script(
+        alloc,
+        &mut Script::new(alloc, script.as_bytes()),
+        &mut written,
+        state,
+    );
     got == end && written.as_slice() == want.as_bytes()
 }
 
@@ -208,7 +213,12 @@ fn writes_the_beginning(alloc: Global, state: &mut State<AnyJob>) -> bool {
         bytes: [0; 64],
         room: 20,
     };
-    let end = run_script(alloc, &mut Script::new(alloc, WEEK.as_bytes()), &mut output, state);
+    let end = run_script(
+        alloc,
+        &mut Script::new(alloc, WEEK.as_bytes()),
+        &mut output,
+        state,
+    );
     end == Err(Fault::OutputFailed) && output.bytes.ends_with(b"\x002 submitted 0\n3 ran ")
 }
 

@@ -22,7 +22,12 @@ fn prints<D: Disk>(
     end: Option<Fault>,
 ) -> bool {
     let mut written = Vec::new(alloc);
-    let answer = run_script(alloc, &mut Script::new(alloc, script.as_bytes()), &mut written, engine);
+    let answer = run_script(
+        alloc,
+        &mut Script::new(alloc, script.as_bytes()),
+        &mut written,
+        engine,
+    );
     answer.err() == end && written.as_slice() == wanted.as_bytes()
 }
 

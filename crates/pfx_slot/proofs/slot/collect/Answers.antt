@@ -8,4 +8,4 @@ use Rattle.pfx_slot.proofs.slot.collect.Goals as goal
 pub returns-in-None-place : goal.returns-in-None-place
 returns-in-None-place g c =
     none_there (λ d. deal d.number d.slot d.task d.before) c.args.back.items c.loop-place.yielded c.next.new.self.rest.items
-      (c.loop-place.invariant.3 ∙ ap (λ l. c.loop-place.yielded ++ l) (c.in-Some.ensures.steps.0 ∙ ap (λ p. p ∷ c.next.new.self.rest.items) c.in-None-place.is)) c.requires.all
+    (c.loop-place.invariant.3 ∙ ap (λ l. c.loop-place.yielded ++ l) (c.in-Some.ensures.steps.0 ∙ ap (λ p. p ∷ c.next.new.self.rest.items) c.in-None-place.is)) c.requires.all

@@ -20,9 +20,14 @@ invariant_of-self g c =
     let n : length c.gather.new.places ≡ c.self.inside.back.len = k.1 ∙ c.deref_mut.ensures.len in
     let t = take_own c.self.inside.back.len c.gather.new.places (drop (length c.gather.new.places) c.self.inside.back.items) n in
     let same : length c.gather.new.places ≡ length c.self.inside.back.items = k.1 ∙ ap length c.deref_mut.ensures.value in
-    let long = ap length t in
-    (subst (λ b. Answers (map fq c.self.inside.quanta.items) (map (option_map f) b)) (sym t) (subst (λ Q. Answers Q (map (option_map f) c.gather.new.places)) q k.0),
-      long ∙ same ∙ i.1, i.2, i.3, omega (arith, long, same, i.4), i.5)
+    let long = ap length t in (
+      subst (λ b. Answers (map fq c.self.inside.quanta.items) (map (option_map f) b)) (sym t) (subst (λ Q. Answers Q (map (option_map f) c.gather.new.places)) q k.0),
+      long ∙ same ∙ i.1,
+      i.2,
+      i.3,
+      omega (arith, long, same, i.4),
+      i.5,
+    )
 
 pub returns-clause-ok : goal.returns-clause-ok
 returns-clause-ok g c =
@@ -40,7 +45,7 @@ returns-clause-ok g c =
     let e2 = o ∙ ap (λ (v : Dealt g.row.J.Denot). v.back) c.self.view_is in
     let e3 = ap (map (option_map f)) (sym t) in
     subst (λ (v : List (Deal g.row.J.Denot) × List (Option (Deal g.row.J.Denot)) × List (Option (Deal g.row.J.Denot))). OnOk c.gather.result (Puts v.0 (f c.args.done) v.1 v.2 (Some (f c.args.done))))
-      (λ j. (e1 j, e2 j, e3 j)) r
+    (λ j. (e1 j, e2 j, e3 j)) r
 
 pub returns-clause-err : goal.returns-clause-err
 returns-clause-err g c =
