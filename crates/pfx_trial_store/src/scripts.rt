@@ -150,7 +150,7 @@ fn segments_are_turned(rt: HostRuntime) {
     let mut written = Vec::new(alloc);
     let end = run_script(
         alloc,
-        b"slot,,,800,\n".as_slice(),
+        &mut Script::new(alloc, b"slot,,,800,\n".as_slice()),
         &mut written,
         &mut engine,
     );
