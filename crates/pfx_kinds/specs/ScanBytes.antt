@@ -5,7 +5,7 @@ use Rattle.std.proofs.lemmas.Bool.Decides.{nat_tests}
 use Rattle.std.proofs.lemmas.List.{length-replicate}
 use Rattle.byteorder.specs.Numbers.{little_number-reads_back}
 use Rattle.pfx_kinds.specs.Tests.{both-true, true-both, take_front, drop_front}
-use Rattle.pfx_kinds.specs.Scans.{ScanFields, places_of, stands_at, are_zeros, scan_numbers_fit, scan_lists_fit, scan_fits, scan_bytes, scan_found, found_after}
+use Rattle.pfx_kinds.specs.Scans.{ScanFields, places_of, stands_at, are_zeros, scan_numbers_fit, scan_lists_fit, scan_fits, scan_bytes, scan_found, found_after, are_searched}
 
 -- the tests by comparisons
 pub record ScanNumbers (left a b found : ℕ) : Type 0 where
@@ -48,11 +48,13 @@ pub record ScanLists (a b : ℕ) (text needle : List ℕ) : Type 0 where
   pub needle_long : length needle ≡ 16
   pub text_clear : IsTrue (are_zeros (drop a text))
   pub needle_clear : IsTrue (are_zeros (drop b needle))
+  pub searched : IsTrue (are_searched (take b needle) (take a text))
 
 pub scan_lists : (a b : ℕ) (text needle : List ℕ) → IsTrue (scan_lists_fit a b text needle) → ScanLists a b text needle
 scan_lists a b text needle h =
     let all_tests = both-true _ _ h in
-    let most_tests = both-true _ _ all_tests.0 in
+    let clear_tests = both-true _ _ all_tests.0 in
+    let most_tests = both-true _ _ clear_tests.0 in
     let some_tests = both-true _ _ most_tests.0 in
     let h3 : IsTrue (nat_eq (length text) 64) = some_tests.0 in
     let h4 : IsTrue (nat_eq (length needle) 16) = some_tests.1 in
@@ -60,7 +62,8 @@ scan_lists a b text needle h =
       text_long = grind (arith, nat_tests);
       needle_long = grind (arith, nat_tests);
       text_clear = most_tests.1;
-      needle_clear = all_tests.1;
+      needle_clear = clear_tests.1;
+      searched = all_tests.1;
     }
 
 pub scan_lists-of : (left a b found : ℕ) (text needle : List ℕ) → IsTrue (scan_fits left a b found text needle) → ScanLists a b text needle
@@ -126,9 +129,9 @@ padded_long bytes n a e h =
     let e2 : length zeros ≡ n - a = length-replicate (n - a) 0 in
     omega (arith, e1, e2)
 
-pub scan_fits-start : (text needle : List ℕ) → 0 < length needle → length needle ≤ 16 → length needle ≤ length text → length text ≤ 64
+pub scan_fits-start : (text needle : List ℕ) → 0 < length needle → length needle ≤ 16 → length needle ≤ length text → length text ≤ 64 → IsTrue (are_searched needle text)
     → IsTrue (scan_fits (places_of (length text) (length needle)) (length text) (length needle) 0 (text ++ replicate (64 - length text) 0) (needle ++ replicate (16 - length needle) 0))
-scan_fits-start text needle some short within text_short =
+scan_fits-start text needle some short within text_short searched =
     let a : ℕ = length text in
     let b : ℕ = length needle in
     let numbers = numbers_fit (places_of a b) a b 0 (record { some = some; short = short; text_short = text_short; within = within; counted = omega arith }) in
@@ -136,7 +139,10 @@ scan_fits-start text needle some short within text_short =
     let f : length (needle ++ replicate (16 - b) 0) ≡ 16 = padded_long needle 16 b refl short in
     let long : IsTrue (nat_eq (length (text ++ replicate (64 - a) 0)) 64) = ap (λ k. nat_eq k 64) e in
     let needle_long : IsTrue (nat_eq (length (needle ++ replicate (16 - b) 0)) 16) = ap (λ k. nat_eq k 16) f in
-    true-both _ _ numbers (true-both _ _ (true-both _ _ (true-both _ _ long needle_long) (clear_padding text (64 - a) a refl)) (clear_padding needle (16 - b) b refl))
+    let found : IsTrue (are_searched (take b (needle ++ replicate (16 - b) 0)) (take a (text ++ replicate (64 - a) 0))) =
+    ap₂ are_searched (take_front needle (replicate (16 - b) 0) b refl) (take_front text (replicate (64 - a) 0) a refl) ∙ searched in
+    let clear = true-both _ _ (true-both _ _ (true-both _ _ long needle_long) (clear_padding text (64 - a) a refl)) (clear_padding needle (16 - b) b refl) in
+    true-both _ _ numbers (true-both _ _ clear found)
 
 -- text and needle written behind the eight bytes in front
 pub lists_put : (text needle : List ℕ) → length text ≡ 64 → length needle ≡ 16 → take 64 (text ++ replicate 56 0) ++ (needle ++ drop 16 (drop 64 (text ++ replicate 56 0))) ≡ text ++ (needle ++ replicate 40 0)

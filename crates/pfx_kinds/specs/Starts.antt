@@ -3,13 +3,12 @@ use Rattle.std.specs.Prelude.{ℕ, ◌+◌, ◌-◌, ◌^◌, Bool, ◌&&◌, �
 use Rattle.std.specs.Option.{option_map, option_and_then}
 use Rattle.std.specs.List.{list_all}
 use Rattle.std.specs.Char.{is_ascii_digit}
-use Rattle.std.specs.Int.{is_in_range}
 use Rattle.std.specs.Str.{bytes_eq}
 use Rattle.std.specs.Str.Parse.{digits_value}
 use Rattle.pfx_kinds.specs.Cells.{packed}
 use Rattle.pfx_kinds.specs.Counts.{CountFields}
 use Rattle.pfx_kinds.specs.Rules.{RuleFields}
-use Rattle.pfx_kinds.specs.Scans.{ScanFields, places_of}
+use Rattle.pfx_kinds.specs.Scans.{ScanFields, places_of, are_searched}
 use Rattle.pfx_kinds.specs.declared.start.StartFault.{StartFault}
 use Rattle.pfx_kinds.specs.declared.start.StartFault.TheVariants.{BadKind, BadGoal, BadData}
 
@@ -67,11 +66,8 @@ unfoldable pub rule_start : ℕ → List ℕ → Result RuleFields StartFault
 rule_start goal text = cond (is_count_of_steps goal) (or_bad_data (option_and_then (λ at. rule_in goal (take at text) (drop (at + 1) text)) (at_colon text))) (Err BadGoal)
 
 -- Scan: a needle of 1 to 16 bytes, a colon, a text of at most 64 and at least as many, all of them printable
-abbrev pub is_printable : ℕ → Bool
-is_printable byte = is_in_range 32 126 byte
-
 abbrev pub is_search : List ℕ → List ℕ → Bool
-is_search needle text = nat_lt 0 (length needle) && nat_lt (length needle) 17 && nat_lt (length needle) (length text + 1) && nat_lt (length text) 65 && list_all is_printable needle && list_all is_printable text
+is_search needle text = nat_lt 0 (length needle) && nat_lt (length needle) 17 && nat_lt (length needle) (length text + 1) && nat_lt (length text) 65 && are_searched needle text
 
 abbrev pub scan_of : List ℕ → List ℕ → ScanFields
 scan_of needle text = record {

@@ -1,7 +1,7 @@
 ghost use Rattle.std.specs.Prelude.{◌≡◌, ◌+◌, ◌<◌, ◌≤◌, ◌-◌, ◌++◌, IsTrue, MatchResult, Ok, Err, length, replicate};
 ghost use Rattle.std.specs.List.{list_all};
-ghost use Rattle.pfx_kinds.specs.Scans.{scan_fits, scan_numbers_fit, are_zeros};
-ghost use Rattle.pfx_kinds.specs.Starts.{scan_start, scan_of, is_printable, is_search};
+ghost use Rattle.pfx_kinds.specs.Scans.{scan_fits, scan_numbers_fit, are_zeros, are_searched, is_of_needle, is_printable};
+ghost use Rattle.pfx_kinds.specs.Starts.{scan_start, scan_of, is_search};
 
 use crate::start::{StartFault, at_colon};
 use byteorder::{ByteOrder, LittleEndian};
@@ -18,8 +18,8 @@ pub const MOST_NEEDLE: usize = 16;
 
 /// A search for the places of a text at which a needle stands, overlaps included, one place a step.
 ///
-/// Its type keeps the lengths in range, that no more places are left than there are, and that no more were found than
-/// were examined.
+/// Its type keeps the lengths in range, that no more places are left than there are, that no more were found than
+/// were examined, that text and needle are bytes 0x20 to 0x7E, and that the needle has no colon.
 #[derive(Debug, Drop)]
 pub struct Scan {
     /// How many places are still to be examined.
@@ -71,6 +71,10 @@ fn is_scan(
     are_numbers(left, text_length, needle_length, found)
         && are_zeros(&text[text_length as usize..])
         && are_zeros(&needle[needle_length as usize..])
+        && are_searched(
+            &needle[..needle_length as usize],
+            &text[..text_length as usize],
+        )
 }
 
 /// Whether all bytes are 0x20 to 0x7E.
@@ -78,6 +82,22 @@ fn are_printable(bytes: &[u8]) -> bool
     ensures { result ≡ list_all is_printable bytes.now }
 {
     bytes.iter().all(|byte| 32 <= *byte && *byte <= 126)
+}
+
+/// Whether all bytes are 0x20 to 0x7E, and none is a colon.
+fn are_of_needle(bytes: &[u8]) -> bool
+    ensures { result ≡ list_all is_of_needle bytes.now }
+{
+    bytes
+        .iter()
+        .all(|byte| 32 <= *byte && *byte <= 126 && *byte != b':')
+}
+
+/// Whether these are the bytes of a needle and of a text.
+fn are_searched(needle: &[u8], text: &[u8]) -> bool
+    ensures { result ≡ are_searched needle.now text.now }
+{
+    are_of_needle(needle) && are_printable(text)
 }
 
 /// Whether this is a needle and a text that it is searched in.
@@ -88,8 +108,7 @@ fn is_search(needle: &[u8], text: &[u8]) -> bool
         && needle.len() <= MOST_NEEDLE
         && needle.len() <= text.len()
         && text.len() <= MOST_TEXT
-        && are_printable(needle)
-        && are_printable(text)
+        && are_searched(needle, text)
 }
 
 /// The bytes, followed by zeros.
@@ -105,10 +124,9 @@ fn padded<const N: usize>(bytes: &[u8]) -> [u8; N]
 impl Scan {
     ghost use Rattle.pfx_kinds.specs.ScanKind.{text_of, needle_of, scan_coding};
 
-    /// The search for a needle of 1 to 16 bytes in a text of at most 64, at its start.
-    pub fn new(needle: &[u8], text: &[u8]) -> Scan
-        requires needle_length { (0 < length needle.now) × (length needle.now ≤ 16) }
-        requires text_length { (length needle.now ≤ length text.now) × (length text.now ≤ 64) }
+    /// The search for the needle in the text, at its start.
+    fn new(needle: &[u8], text: &[u8]) -> Scan
+        requires { IsTrue (is_search needle.now text.now) }
         ensures { scan_coding.fields result ≡ scan_of needle.now text.now }
     {
         Scan {

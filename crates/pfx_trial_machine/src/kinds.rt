@@ -278,6 +278,10 @@ fn takes_the_greatest_data(rt: HostRuntime) {
     assert!(rt; refuses_17_bytes());
 }
 
+fn is_printable(byte: u8) -> bool {
+    32 <= byte && byte <= 126
+}
+
 /// Whether the format names the bytes an encoding.
 fn is_encoding(bytes: &[u8; 128]) -> bool {
     let left = u32::from_le_bytes([bytes[1], bytes[2], bytes[3], bytes[4]]) as u64;
@@ -308,6 +312,8 @@ fn is_encoding(bytes: &[u8; 128]) -> bool {
             let places = (a - b + 1) as u64;
             left <= places
                 && bytes[7] as u64 <= places - left
+                && bytes[8..8 + a].iter().all(|byte| is_printable(*byte))
+                && bytes[72..72 + b].iter().all(|byte| is_printable(*byte) && *byte != b':')
                 && bytes[8 + a..72].iter().all(|byte| *byte == 0)
                 && bytes[72 + b..].iter().all(|byte| *byte == 0)
         }

@@ -192,6 +192,47 @@ fn faulty_files_are_refused(rt: HostRuntime) {
     check(&rt, holds == Some(true), "a row that falls");
 }
 
+/// The bytes of a new store's file, with the frame that submits the search for `ab` in `abcab` as task 0.
+fn file_of_a_scan(alloc: Global) -> Option<Vec<u8>> {
+    let mut bytes = new_file(alloc)?;
+    if bytes.len() != LEN {
+        return None;
+    }
+    let numbers = [
+        (906, 0xc3),
+        (907, 0x83),
+        (911, 1),
+        (919, 1),
+        (921, 1),
+        (924, 3),
+        (925, 4),
+        (929, 5),
+        (930, 2),
+    ];
+    for (at, byte) in numbers {
+        *bytes.get_mut(at)? = byte;
+    }
+    bytes[932..937].copy_from_slice(b"abcab");
+    bytes[996..998].copy_from_slice(b"ab");
+    Some(bytes)
+}
+
+/// A stored text or needle with a byte that no search has: 0xA0 or 0x1F, or a colon in the needle.
+#[test]
+fn damaged_scans_are_refused(rt: HostRuntime) {
+    let alloc = rt.alloc();
+    let bytes = file_of_a_scan(alloc).unwrap_or(Vec::new(alloc));
+    let whole = opened(alloc, &bytes);
+    check(&rt, whole.is_some(), "opened");
+    let record = damaged(906, Part::Record);
+    for (at, byte) in [(932, 0xa0), (932, 0x1f), (996, 0xa0), (996, b':')] {
+        let holds = is_refused_with(alloc, &bytes, &[(at, byte)], record);
+        check_at(&rt, holds == Some(true), "byte", at);
+    }
+    let colon = is_refused_with(alloc, &bytes, &[(932, b':')], record);
+    check(&rt, colon == Some(false), "a text with a colon");
+}
+
 /// The fault of making a store on a disk in memory that holds so many zeros.
 fn fault_of(alloc: Global, zeros: &[u8], segment: u32) -> Option<InitFault> {
     if zeros.len() > LEN {
