@@ -1,3 +1,4 @@
+pub mod Acceptance
 pub mod AnswerLemmas
 pub mod Appends
 pub mod JobLemmas
@@ -6,5 +7,6 @@ pub mod SlotLemmas
 pub mod RunLemmas
 pub mod LedgerLemmas
 pub mod PlanLemmas
+pub mod PlanRows
 pub mod ServedLemmas
 pub mod Examples

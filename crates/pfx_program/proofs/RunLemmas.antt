@@ -1,15 +1,13 @@
 -- How far a run of a script has come, and what it leaves where it ends.
-use Rattle.std.proofs.Common.{◌≡◌, ◌⊎◌, inl, inr, ℕ, suc, ◌+◌, List, [], ◌∷◌, ◌++◌, length, length-append, Bool, true, false, Option, Some, None, Result, Ok, Err, IfSome, IfErr, OnOk, refl, sym, ap, subst, ◌∙◌, append_assoc, append-nil, add-zero, arith}
-use Rattle.pfx_kinds.specs.declared.any.AnyJob.{AnyJob}
-use Rattle.pfx_machine.specs.Plain.{Plain}
+use Rattle.std.proofs.Common.{◌≡◌, ◌⊎◌, inl, inr, ℕ, ◌+◌, List, [], ◌∷◌, ◌++◌, length, length-append, Bool, true, Option, Some, None, Result, Ok, Err, IfSome, IfErr, OnOk, refl, sym, ap, subst, ◌∙◌, append_assoc, append-nil, arith}
 use Rattle.pfx_script.specs.Verbs.{Said, verb_of}
-use Rattle.pfx_script.specs.Records.{Fields, Records, unread, Takes, Reads, ReadFails}
+use Rattle.pfx_script.specs.Records.{Fields, Records, Takes, ReadFails}
 use Rattle.pfx_fault.specs.declared.refusals.Fault.{Fault}
 use Rattle.pfx_fault.specs.declared.refusals.Fault.TheVariants as fault
 use Rattle.pfx_program.specs.Answers.{closed_line}
 use Rattle.pfx_program.specs.Promises.{Promise, Laws}
 use Rattle.pfx_program.specs.Script.{Run, Step, Course, after, at_start, commands_of, course_by, course_from, moved, shown, verb_steps}
-use Rattle.pfx_program.specs.Running.{run_of, Carried, Halts, Stopped, Ends, Runs}
+use Rattle.pfx_program.specs.Running.{run_of, Carried, Stopped, Ends, Runs}
 use Rattle.pfx_program.proofs.StepLemmas.{carried_none, carried_then, stopped_after, stopped_before, stopped_anyway, stopped_reading, commands_append}
 
 -- ---- courses of records one after the other

@@ -5,7 +5,8 @@ use Rattle.pfx_weights.specs.Sets.{FilledSet, IsFilled, Accepts}
 use Rattle.pfx_weights.specs.declared.faults.SetFault.{SetFault}
 use Rattle.pfx_weights.specs.declared.faults.SetFault.TheVariants as setfault
 use Rattle.pfx_weights.proofs.Fills.{filled_set}
-use Rattle.pfx_columns.specs.Ledgers.{Ledger, after}
+use Rattle.pfx_columns.specs.Ledgers.{Ledger, IsLedger, after}
+use Rattle.pfx_columns.proofs.Shown.{start_ledger}
 use Rattle.pfx_choice.specs.PfRows.{chosen}
 use Rattle.pfx_endless.proofs.Rows.{GoesOn, start_goes_on, row_goes_on, no_row_at_limit}
 use Rattle.pfx_fault.specs.declared.refusals.Fault.{Fault}
@@ -29,6 +30,11 @@ first_served file None g (set, accepted, begins) none = record {
   goes = subst GoesOn (sym begins) (start_goes_on set (accepted_filled file.workers (weights_of file) set accepted));
   at = ap (λ (k : Ledger). k.slot) begins;
 }
+
+-- what a plan begins with is a ledger
+pub begun : (file : SetFile) (at : Option (List ℕ)) (g : Ledger) → IsStart file at g → IsLedger g
+begun file None g (set, accepted, begins) = subst IsLedger (sym begins) (start_ledger set (accepted_filled file.workers (weights_of file) set accepted))
+begun file (Some text) g (set, accepted, begins) = begins.1
 
 pub next_served : (g next : Ledger) (slot : ℕ) (row : List ℕ) → Served g slot → chosen g ≡ Ok row → next ≡ after g (is_in row) → Served next (slot + 1)
 next_served g next slot row h is next_is = record {

@@ -1,7 +1,7 @@
 -- What steps leave that are run one after the other.
-use Rattle.std.proofs.Common.{◌≡◌, ◌≤◌, ◌<◌, ◌⊎◌, inl, inr, ℕ, zero, suc, ◌+◌, Bool, true, false, nat_lt, List, [], ◌∷◌, ◌++◌, length, length-append, Option, Some, None, Result, Ok, Err, refl, sym, ap, subst, ◌∙◌, append_assoc, append-nil, arith}
-use Rattle.std.specs.Prelude.{⊤, OnOk, IfErr}
-use Rattle.std.specs.Io.KnownBytes.{Appends, Keeps}
+use Rattle.std.proofs.Common.{◌≡◌, ◌≤◌, ◌⊎◌, inl, inr, ℕ, ◌+◌, List, [], ◌∷◌, ◌++◌, length, length-append, Option, Some, None, Result, Ok, Err, refl, sym, ap, subst, ◌∙◌, append_assoc, append-nil, arith}
+use Rattle.std.specs.Prelude.{OnOk, IfErr}
+use Rattle.std.specs.Io.KnownBytes.{Appends}
 use Rattle.csv.proofs.WriteFacts.{appends-more}
 use Rattle.pfx_kinds.specs.AnyKind.{any_kind, any_laws}
 use Rattle.pfx_kinds.specs.declared.any.AnyJob.{AnyJob}
@@ -10,16 +10,13 @@ use Rattle.pfx_machine.specs.Outcome.{outcome}
 use Rattle.pfx_machine.specs.Runs.{answer}
 use Rattle.pfx_machine.specs.declared.command.Command.{Command}
 use Rattle.pfx_machine.specs.declared.command.Reply.{Reply}
-use Rattle.pfx_machine.specs.declared.faults.MachineFault.{MachineFault}
 use Rattle.pfx_machine.proofs.Compose.{outcome-none, outcome-outcome}
 use Rattle.pfx_fault.specs.declared.refusals.Fault.{Fault}
 use Rattle.pfx_fault.specs.declared.refusals.Fault.TheVariants as fault
-use Rattle.pfx_program.specs.Answers.{reply_line, refused_line}
-use Rattle.pfx_program.specs.Faults.{fault_of_machine}
-use Rattle.pfx_program.specs.Output.{AppendsFront}
+use Rattle.pfx_program.specs.Answers.{reply_line}
 use Rattle.pfx_program.specs.Promises.{Promise, Laws, IsSame, IsDone, IsInDoubt, IsLeftBy, IsEngineFault}
-use Rattle.pfx_program.specs.Script.{Run, Step, text_of, commands_of, with_command, moved, shown, refused, answered, command_step}
-use Rattle.pfx_program.specs.Running.{run_of, LineFails, Carried, Halts, Stopped}
+use Rattle.pfx_program.specs.Script.{Step, text_of, commands_of, with_command, shown}
+use Rattle.pfx_program.specs.Running.{LineFails, Carried, Halts, Stopped}
 use Rattle.pfx_program.proofs.Appends.{appends-nothing, appends-kept, keeps-same}
 
 pub text_append : (a b : List Step) → text_of (a ++ b) ≡ text_of a ++ text_of b

@@ -6,6 +6,7 @@ pub mod Lines
 pub mod Output
 pub mod Promises
 pub mod Plan
+pub mod PlanLaws
 pub mod Running
 pub mod Script
 pub mod Sets

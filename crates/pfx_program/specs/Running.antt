@@ -1,5 +1,5 @@
 -- What a run of a script leaves, by its answer: of what was printed, of the engine's state, and of what is kept.
-use Rattle.std.specs.Prelude.{◌≡◌, ◌≤◌, ◌⊎◌, ℕ, ◌+◌, ◌++◌, Bool, true, length, List, [], Option, Some, None, Result, Ok, Err, IfSome, ⊤}
+use Rattle.std.specs.Prelude.{◌≡◌, ◌≤◌, ◌⊎◌, ℕ, ◌+◌, ◌++◌, Bool, true, length, List, Option, Some, None, Result, Ok, Err, IfSome}
 use Rattle.std.specs.Io.KnownBytes.{Appends, Keeps}
 use Rattle.pfx_kinds.specs.AnyKind.{any_kind}
 use Rattle.pfx_kinds.specs.declared.any.AnyJob.{AnyJob}
@@ -10,7 +10,7 @@ use Rattle.pfx_fault.specs.declared.refusals.Fault.TheVariants as fault
 use Rattle.pfx_script.specs.Records.{Fields, Records}
 use Rattle.pfx_program.specs.Output.{AppendsFront}
 use Rattle.pfx_program.specs.Promises.{Promise}
-use Rattle.pfx_program.specs.Script.{Run, Step, Course, at_start, commands_of, course_from, moved, text_of}
+use Rattle.pfx_program.specs.Script.{Run, Step, Course, at_start, commands_of, course_from, text_of}
 
 -- how far a run has come over an engine
 abbrev pub run_of : {E : Type 0} → Promise E → E → ℕ → Run

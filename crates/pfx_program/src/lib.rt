@@ -11,12 +11,14 @@
 //! to the first record without form. Where the reader, the writer, the memory or the engine fails, it is a beginning
 //! of that. An engine is anything that carries commands out as the machine does: a `State` in memory is one. `run_status`
 //! writes the board of an engine's state, `created_line` is the line of a new store, and `read_task_set` reads a store's set.
+//! `laws` says of them all that a plan's lines are the rows of a plan, and that a script's commands are acceptable.
 #![tactic(auto)]
 
 mod answers;
 mod created;
 mod engine;
 mod faults;
+pub mod laws;
 mod ledger;
 mod lines;
 mod memory;

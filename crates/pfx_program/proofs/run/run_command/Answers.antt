@@ -1,8 +1,8 @@
-use Rattle.std.proofs.Common.{rules, ◌≡◌, ◌+◌, ◌∷◌, [], Some, Err, ap, sym, subst, refl}
+use Rattle.std.proofs.Common.{rules, ◌≡◌, ◌+◌, ◌∷◌, [], Some, Err, sym, subst, refl}
 use Rattle.pfx_fault.specs.declared.refusals.Fault.TheVariants as fault
 use Rattle.pfx_program.specs.Answers.{reply_line}
 use Rattle.pfx_program.specs.Faults.{fault_of_machine}
-use Rattle.pfx_program.specs.Script.{Step, Run, command_step, refused, answered}
+use Rattle.pfx_program.specs.Script.{Step, command_step, refused}
 use Rattle.pfx_program.specs.Running.{run_of, Carried, Stopped}
 use Rattle.pfx_program.proofs.StepLemmas.{same, shown_carried, shown_stopped, done_stopped, doubt_stopped}
 use Rattle.pfx_program.proofs.run.run_command.Goals as goal

@@ -1,7 +1,7 @@
-use Rattle.std.proofs.Common.{rules, ◌≡◌, Err, true}
+use Rattle.std.proofs.Common.{rules, ◌≡◌, Err}
 use Rattle.csv.specs.Records.{fields_of}
 use Rattle.pfx_script.specs.Verbs.{said_by}
-use Rattle.pfx_script.specs.Records.{Takes, Reads}
+use Rattle.pfx_script.specs.Records.{Takes}
 use Rattle.pfx_program.proofs.RunLemmas.{starts, runs, stops, fails, closes, refuses}
 use Rattle.pfx_program.proofs.run.run_script.Goals as goal
 

@@ -1,4 +1,4 @@
-use Rattle.std.proofs.Common.{◌-◌, ◌^◌, ◌<◌}
+use Rattle.std.proofs.Common.{◌-◌, ◌^◌}
 use Rattle.pfx_program.proofs.RunLemmas.{Progress}
 use Rattle.pfx_program.proofs.run.run_script.Given as goal
 

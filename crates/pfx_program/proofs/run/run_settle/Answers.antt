@@ -1,7 +1,7 @@
 use Rattle.std.proofs.Common.{rules, ◌≡◌, Err, List, ℕ, OnOk, IfErr, subst}
 use Rattle.std.specs.Io.KnownBytes.{Appends}
 use Rattle.pfx_program.specs.Answers.{settled_line}
-use Rattle.pfx_program.specs.Script.{Step, shown}
+use Rattle.pfx_program.specs.Script.{shown}
 use Rattle.pfx_program.specs.Running.{LineFails}
 use Rattle.pfx_program.proofs.StepLemmas.{if_carried, if_stopped, unmade, failed_same}
 use Rattle.pfx_program.proofs.run.run_settle.Goals as goal

@@ -1,4 +1,4 @@
-use Rattle.std.proofs.Common.{rules, ◌≡◌, ◌-◌, ◌+◌, ◌∷◌, [], Err, true, false, arith}
+use Rattle.std.proofs.Common.{rules, ◌≡◌, ◌-◌, ◌+◌, Err, true, false, arith}
 use Rattle.pfx_machine.specs.declared.command.Command.TheVariants.{Slot}
 use Rattle.pfx_program.specs.Script.{slot_steps, command_step, is_carried}
 use Rattle.pfx_program.specs.Running.{run_of}
