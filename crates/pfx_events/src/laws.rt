@@ -1,9 +1,10 @@
 //! What holds of every list of events, each the contract of a function that does nothing.
-ghost use Rattle.std.specs.Prelude.{◌≡◌, ◌+◌, ◌++◌, List, ℕ, take, false, None, Some, Ok};
+ghost use Rattle.std.specs.Prelude.{◌≡◌, ◌+◌, ◌++◌, ◌∷◌, [], List, ℕ, take, false, None, Some, Ok};
 ghost use Rattle.pfx_disk.specs.Disk.{IsHonest};
 ghost use Rattle.pfx_effect.specs.Recording.{records_of};
-ghost use Rattle.pfx_events.specs.Batches.{frames_of, joined, AreSmall, IsSeen};
-ghost use Rattle.pfx_events.specs.Store.{store_of};
+ghost use Rattle.pfx_events.specs.Batches.{frames_of, joined, AreSmall, IsSeen, KeepsBatches};
+ghost use Rattle.pfx_events.specs.Reached.{IsReached, KeepsClaims};
+ghost use Rattle.pfx_events.specs.Store.{store_of, frame_of};
 ghost use Rattle.pfx_format.specs.Format.{format};
 ghost use Rattle.pfx_journal.specs.Files.{FileOf, recovered_file};
 ghost use Rattle.pfx_machine.specs.Outcome.{outcome};
@@ -13,10 +14,12 @@ ghost use Rattle.pfx_machine.specs.Sessions.{IsAcceptable};
 ghost use Rattle.pfx_machine.specs.declared.command.Command.{Command};
 ghost use Rattle.pfx_recovery.specs.Recovery.{recovered};
 ghost use Rattle.pfx_recovery.specs.Store.{Replays};
+ghost use Rattle.pfx_store.specs.Holding.{Survives};
 ghost use Rattle.pfx_world.specs.Claims.{IsNew, IsReceipted, StaysOrderly, ShowsAppended, LosesNothing, RecoversPrefix, NeverGoesBack};
 ghost use Rattle.pfx_world.specs.Events.{Event, CanRun, run};
 ghost use Rattle.pfx_world.specs.Session.{IsQuick};
-ghost use Rattle.pfx_world.specs.World.{new_world};
+ghost use Rattle.pfx_world.specs.Setting.{Settled};
+ghost use Rattle.pfx_world.specs.World.{World, new_world, state_at};
 
 use pfx_disk::Disk;
 use pfx_jobs::job::Job;
@@ -43,6 +46,20 @@ pub fn runs_begin_at_files<J: Job>()
         → recovered (format J.kind) image ≡ Ok s }
 {}
 
+/// The claims of `crash_prefix` hold of each world that a run leads to, also where it began at a store that goes on, of whose
+/// checkpoint pieces were written that no sync has covered: at each world with no call to come, none of which has failed,
+/// another run may begin, at the state of what was taken.
+pub fn runs_go_on<J: Job>()
+    ensures keeps { (B : Plain J) (w : World (store_of J.kind)) → IsReached (store_of J.kind) B w → KeepsClaims (store_of J.kind) B w }
+    ensures found { (B : Plain J) (image : List ℕ) (f : FileOf J) (events : List (Event J)) → IsNew (store_of J.kind) B image f
+        → CanRun (store_of J.kind) B (new_world (store_of J.kind) B image f) events
+        → IsReached (store_of J.kind) B (run (store_of J.kind) B (new_world (store_of J.kind) B image f) events) }
+    ensures further { (B : Plain J) (w : World (store_of J.kind)) (events : List (Event J)) → IsReached (store_of J.kind) B w
+        → CanRun (store_of J.kind) B w events → IsReached (store_of J.kind) B (run (store_of J.kind) B w events) }
+    ensures anew { (B : Plain J) (w : World (store_of J.kind)) → IsReached (store_of J.kind) B w → w.coming ≡ [] → w.broken ≡ false
+        → Settled (store_of J.kind) w.start w.done (state_at (store_of J.kind) B w.book.accepted w.book.taken) w.place }
+{}
+
 /// From every such file, and for each Submit or Withdraw that isn't refused there, there is a run that takes the command,
 /// appends it and gives a receipt for it.
 pub fn commands_can_be_receipted<J: Job>()
@@ -58,7 +75,8 @@ pub fn records_split<J: Job>()
         → records_of J.kind s (H ++ G) ≡ records_of J.kind s H ++ records_of J.kind (outcome J.kind s H) G }
 {}
 
-/// The frames of the first so many batches lead to the outcome of these batches' commands, and nowhere else.
+/// The frames of the first so many batches lead to the outcome of these batches' commands, and nowhere else; what survives of
+/// the frames is the outcome of so many batches, and the other way round; and a batch more is a frame more.
 pub fn frames_are_batches<J: Job>()
     ensures leads { (s : Plain J) (batches : List (List (Command J)))
         → IsState s → IsAcceptable J.kind s (joined batches) → AreSmall batches
@@ -66,6 +84,14 @@ pub fn frames_are_batches<J: Job>()
     ensures only { (s : Plain J) (batches : List (List (Command J))) (k : ℕ) (t : Plain J)
         → IsState s → IsAcceptable J.kind s (joined batches) → AreSmall batches
         → Replays (format J.kind) s (take k (frames_of J.kind s batches)) t → t ≡ outcome J.kind s (joined (take k batches)) }
+    ensures survive { (s : Plain J) (batches : List (List (Command J))) (n : ℕ) (image : List ℕ)
+        → IsState s → IsAcceptable J.kind s (joined batches) → AreSmall batches
+        → Survives (format J.kind) s (frames_of J.kind s batches) n image → KeepsBatches J.kind s batches n image }
+    ensures back { (s : Plain J) (batches : List (List (Command J))) (n : ℕ) (image : List ℕ)
+        → IsState s → IsAcceptable J.kind s (joined batches) → AreSmall batches
+        → KeepsBatches J.kind s batches n image → Survives (format J.kind) s (frames_of J.kind s batches) n image }
+    ensures grow { (s : Plain J) (batches : List (List (Command J))) (batch : List (Command J))
+        → frames_of J.kind s (batches ++ batch ∷ []) ≡ frames_of J.kind s batches ++ frame_of J.kind (outcome J.kind s (joined batches)) batch ∷ [] }
 {}
 
 /// A store that isn't broken, on an honest disk, is a store as the events see it.

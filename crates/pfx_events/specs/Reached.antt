@@ -1,0 +1,55 @@
+-- Worlds that a run leads to, from a store just found or from one that goes on, and what holds of them.
+use Rattle.std.specs.Prelude.{◌≡◌, ℕ, List, [], ◌∷◌}
+use Rattle.pfx_disk.specs.Stop.{Act}
+use Rattle.pfx_machine.specs.Plain.{Plain}
+use Rattle.pfx_world.specs.Calls.{MayLeave}
+use Rattle.pfx_world.specs.Claims.{IsOrderly, IsShown, HasSurvived, IsRecovered, IsLater}
+use Rattle.pfx_world.specs.Events.{Event, Ask, Begin, Step, Give, Seal, Abandon, Take, Tend, Device, Publish, Mark, Fail, Receipt, Look, Stop, MayHappen, CanRun, happens, run}
+use Rattle.pfx_world.specs.Setting.{Setting, Settled}
+use Rattle.pfx_world.specs.World.{World, new_world}
+
+-- an event with which the store has nothing to do: none of its acts, no call of its disk and no stop
+abbrev pub IsAside : {J : Type 0} → Event J → Type 0
+IsAside (Ask c) = Unit {0}
+IsAside Begin = Unit {0}
+IsAside (Step k) = Unit {0}
+IsAside (Give k place) = Unit {0}
+IsAside Seal = Unit {0}
+IsAside Abandon = Unit {0}
+IsAside (Take n) = ⊥
+IsAside Tend = ⊥
+IsAside (Device ok) = ⊥
+IsAside Publish = Unit {0}
+IsAside Mark = Unit {0}
+IsAside Fail = Unit {0}
+IsAside (Receipt n) = Unit {0}
+IsAside (Look reader n) = Unit {0}
+IsAside (Stop image) = ⊥
+
+-- all of them are such
+abbrev pub AreAside : {J : Type 0} → List (Event J) → Type 0
+AreAside [] = Unit {0}
+AreAside (e ∷ events) = IsAside e × AreAside events
+
+module _ {J : Type 0} where
+  -- nothing is accepted yet, and these calls of the disk were made since the image: pieces of a checkpoint may be among them
+  abbrev pub going_world : (S : Setting J) → Plain J → List ℕ → List Act → S.Parts → World S
+  going_world S B image done place = record (new_world S B image place) { done = done }
+
+  -- A run leads to this world, and it began where a read and each image that a stop may leave stood for this start.
+  pub record IsReached (S : Setting J) (B : Plain J) (w : World S) : Type 0 where
+    pub image : List ℕ
+    pub done : List Act
+    pub place : S.Parts
+    pub events : List (Event J)
+    pub settled : Settled S image done B place
+    pub can : CanRun S B (going_world S B image done place) events
+    pub is : run S B (going_world S B image done place) events ≡ w
+
+  -- the claims, of one world, each stop of it and each event that may come next
+  pub record KeepsClaims (S : Setting J) (B : Plain J) (w : World S) : Type 0 where
+    pub orderly : IsOrderly S B w
+    pub shown : IsShown S B w
+    pub survived : HasSurvived S B w
+    pub recovers : (left : List ℕ) → MayLeave w.start w.done w.coming left → IsRecovered S B w (happens S B w (Stop left)) left
+    pub later : (e : Event J) → MayHappen S B w e → IsLater S w (happens S B w e)
