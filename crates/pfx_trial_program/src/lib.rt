@@ -9,11 +9,14 @@
 //! - `program`: plans of whole set files.
 //! - `scripts`: scripts over a state in memory.
 //! - `shown`: what is printed of a new store, and a state's board.
+//! - `long`: long scripts and plans, a slow writer, and the reading of a store's set.
 //! - `torn`: a reader that fails, for the others.
 #![tactic(auto)]
 
 #[cfg(test)]
 mod fault;
+#[cfg(test)]
+mod long;
 #[cfg(test)]
 mod numerals;
 #[cfg(test)]
