@@ -219,6 +219,74 @@ fn takes_given_allocations(rt: HostRuntime) {
     assert!(rt; refuses_a_wrong_sum(rt.alloc()));
 }
 
+/// Whether one task has a class, and all others have another.
+fn has_lone(ledger: &Columns, lone: usize, its: Class, others: Class) -> bool {
+    for x in 0..ledger.total() {
+        let want = if x == lone { its } else { others };
+        if ledger.class(x) != want {
+            return false;
+        }
+    }
+    lone < ledger.total()
+}
+
+/// Whether the ledger takes a row of this one task.
+fn takes_one(ledger: &mut Columns, task: u16) -> bool {
+    match Row::new(&[task]) {
+        Some(row) => takes(ledger, &row).is_ok(),
+        None => false,
+    }
+}
+
+/// Whether of `n` tasks of 1/n on one worker, which run in turn, the first has run ahead behind slot 0, where the others
+/// contend, and the last is urgent before slot n - 1, where the others have run ahead.
+fn takes_turns(alloc: Global, n: u16) -> bool {
+    let mut tasks = Vec::new(alloc);
+    if tasks.resize(n as usize, (1, n as u32)).is_err() {
+        return false;
+    }
+    let Some(mut ledger) = start(alloc, 1, &tasks) else {
+        return false;
+    };
+    let (c, u, t) = (Class::Contending, Class::Urgent, Class::Tnegru);
+    if !takes_one(&mut ledger, 0) || !has_lone(&ledger, 0, t, c) {
+        return false;
+    }
+    for task in 1..n.saturating_sub(1) {
+        if !takes_one(&mut ledger, task) {
+            return false;
+        }
+    }
+    has_lone(&ledger, n.saturating_sub(1) as usize, u, t)
+}
+
+/// Whether of four tasks on three workers two have run ahead and two are urgent.
+fn has_four_on_three(alloc: Global) -> bool {
+    let Ok(set) = TaskSet::new(alloc, 3, &THIRDS) else {
+        return false;
+    };
+    if set.total() != 4 {
+        return false;
+    }
+    let (u, t) = (Class::Urgent, Class::Tnegru);
+    match Columns::from_allocations(alloc, &set, 2, &[2, 2, 1, 1]) {
+        Ok(ledger) => has_classes(&ledger, &[t, t, u, u]),
+        Err(_) => false,
+    }
+}
+
+/// Fifteen, sixteen and seventeen tasks lie on both sides of a full vector of lanes.
+#[test]
+fn classes_of_worked_ledgers(rt: HostRuntime) {
+    for n in [15, 16, 17] {
+        assert!(rt; takes_turns(rt.alloc(), n), "{n} tasks");
+    }
+    assert!(rt;
+        has_four_on_three(rt.alloc()),
+        "four tasks on three workers"
+    );
+}
+
 /// Whether the two bodies say the same of task `x`.
 fn is_as_record(ledger: &Columns, x: usize, record: &Record) -> bool {
     if x >= ledger.total() {

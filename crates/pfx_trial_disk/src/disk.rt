@@ -286,6 +286,54 @@ fn a_file_holds_what_was_written(rt: HostRuntime) {
     check(&rt, holds, "a file in the folder of temporary ones");
 }
 
+/// The device at this path as a disk.
+fn device(rt: &HostRuntime, path: &str) -> Option<FileDisk> {
+    let file = OpenOptions::new()
+        .read(true)
+        .write(true)
+        .open(rt, path)
+        .ok()?;
+    Some(FileDisk::new(file))
+}
+
+/// Whether a device that takes all bytes and keeps none refuses the sync and the reading, and each is counted.
+fn is_null_refused(disk: &mut FileDisk) -> bool {
+    let mut back = [0; 1];
+    disk.write_at(0, &[7]) == Ok(())
+        && disk.sync() == Err(DeviceFailed)
+        && disk.read(0, &mut back) == Err(DeviceFailed)
+        && disk.len() == Ok(0)
+        && disk.clock() == 4
+        && disk.failures() == 2
+}
+
+/// Whether a device that is always full refuses the write and the sync, and gives zeros.
+fn is_full_refused(disk: &mut FileDisk) -> bool {
+    let mut back = [9; 3];
+    disk.write_at(0, &[7]) == Err(DeviceFailed)
+        && disk.failures() == 1
+        && disk.read(1, &mut back) == Ok(())
+        && back == [0; 3]
+        && disk.sync() == Err(DeviceFailed)
+        && disk.clock() == 3
+        && disk.failures() == 2
+}
+
+/// What the system refuses isn't taken for done: a sync that did nothing, or a write that wasn't looked at, would be.
+#[test]
+fn what_the_system_refuses_is_told(rt: HostRuntime) {
+    let null = device(&rt, "/dev/null");
+    check(&rt, null.is_some(), "the null device");
+    if let Some(mut disk) = null {
+        check(&rt, is_null_refused(&mut disk), "what keeps nothing");
+    }
+    let full = device(&rt, "/dev/full");
+    check(&rt, full.is_some(), "the full device");
+    if let Some(mut disk) = full {
+        check(&rt, is_full_refused(&mut disk), "what is always full");
+    }
+}
+
 /// The disk whose k-th call fails, with its work done or not.
 fn faulty(alloc: Global, k: usize, works: bool) -> Option<FaultDisk<MemoryDisk>> {
     let memory = memory(alloc)?;
