@@ -1,8 +1,8 @@
 -- A store's file, after each of its acts.
-use Rattle.std.specs.Prelude.{◌≡◌, ℕ, ◌+◌, ◌-◌, ◌<◌, ◌≤◌, List, [], ◌∷◌, ◌++◌, length, drop, Bool, true, false, if◌then◌else◌, Option, Some, Ok, Vec, refl}
+use Rattle.std.specs.Prelude.{◌≡◌, ℕ, ◌+◌, ◌≤◌, List, [], ◌++◌, length, true, false, if◌then◌else◌, Option, Some, Vec}
 use Rattle.std.specs.declared.alloc.Global.{Global}
-use Rattle.std.proofs.Common.{sym, ◌∙◌, ap, ap₂, subst, arith, inl, inr, length-append, ⊎_elim}
-use Rattle.std.proofs.lemmas.Bool.{cases_lt, true≢false, lt-ltb, le-ltb, ltb-true}
+use Rattle.std.proofs.Common.{sym, ◌∙◌, ap, ap₂, subst, arith, inl, inr, ⊎_elim}
+use Rattle.std.proofs.lemmas.Bool.{cases_lt, true≢false, lt-ltb, le-ltb}
 use Rattle.pfx_checkpoint.specs.Found.{read_state}
 use Rattle.pfx_checkpoint.specs.Spelling.{state_bytes}
 use Rattle.pfx_checkpoint.proofs.Readings.{only_states}
@@ -19,7 +19,7 @@ use Rattle.pfx_recovery.specs.Layout.{segment_end}
 use Rattle.pfx_opening.specs.Finding.{IsOpened}
 use Rattle.pfx_recovery.specs.Store.{Parts, IsStore}
 use Rattle.pfx_store.specs.Acts.{tend_acts, tended_file, end_acts, ended_file, turn_acts, turned_file, gate_of, has_room, framed_file, append_acts, appended_file}
-use Rattle.pfx_store.specs.Files.{File, AreOf, file_in}
+use Rattle.pfx_store.specs.Files.{AreOf, file_in}
 use Rattle.pfx_store.specs.Fitting.{HasRoom}
 use Rattle.pfx_store.specs.declared.places.Places.{Places}
 use Rattle.pfx_store.proofs.Ends.{tended_kept, has_ended}

@@ -7,3 +7,5 @@ pub mod Slots
 mod Standings
 pub mod Filing
 mod Replies
+pub mod Grouping
+mod Heading

@@ -3,3 +3,4 @@ pub mod Stores
 pub mod Making
 pub mod Marks
 pub mod Files
+pub mod Groups

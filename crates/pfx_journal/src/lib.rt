@@ -15,6 +15,9 @@
 #![tactic(auto)]
 
 mod format;
+mod groups;
+pub mod laws;
+mod layout;
 mod making;
 mod opening;
 mod standing;
@@ -22,6 +25,7 @@ mod store;
 mod tending;
 
 pub use format::{FileFormat, FileHeader};
+pub use groups::batch_of;
 pub use making::InitFault;
 pub use standing::Store;
 pub use store::Mark;

@@ -1,11 +1,9 @@
-use Rattle.std.proofs.Common.{◌≡◌, ◌+◌, ◌++◌, ◌∷◌, [], List, ℕ, sym, ap, subst}
+use Rattle.std.proofs.Common.{◌≡◌, ◌+◌, ◌++◌, ◌∷◌, [], sym, ap, subst}
 use Rattle.std.specs.Prelude.{Some, OnOk}
 use Rattle.pfx_disk.specs.Disk.{View}
 use Rattle.pfx_format.specs.Format.{format}
 use Rattle.pfx_format.specs.Frames.{state_after}
-use Rattle.pfx_machine.specs.Plain.{Plain}
 use Rattle.pfx_record.specs.Batches.{PlainBatch, batch_bytes, batch_of}
-use Rattle.pfx_recovery.specs.Store.{Replays}
 use Rattle.pfx_store.specs.Holding.{KeepsAll}
 use Rattle.pfx_journal.specs.Stores.{PlainStore}
 use Rattle.pfx_journal.proofs.Appends.{batch_leads}

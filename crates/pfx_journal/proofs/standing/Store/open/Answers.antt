@@ -1,7 +1,7 @@
 use Rattle.std.proofs.Common.{◌∙◌, ◌∷◌, [], ap, subst, sym}
 use Rattle.pfx_disk.specs.CallsMade.{HasMade, HasBrokenOff, HasKeptTo}
 use Rattle.pfx_disk.specs.Disk.{IsHonest, Only}
-use Rattle.pfx_disk.specs.Stop.{Act, Sync}
+use Rattle.pfx_disk.specs.Stop.{Sync}
 use Rattle.pfx_disk.proofs.CallsMade.{sync_made, sync_broken, sync_within}
 use Rattle.pfx_journal.proofs.Marking.{covers_begun, left_by, recovered_since}
 use Rattle.pfx_journal.proofs.standing.Store.open.Goals as goal
