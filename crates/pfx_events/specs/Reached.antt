@@ -4,7 +4,8 @@ use Rattle.pfx_disk.specs.Stop.{Act}
 use Rattle.pfx_machine.specs.Plain.{Plain}
 use Rattle.pfx_world.specs.Calls.{MayLeave}
 use Rattle.pfx_world.specs.Claims.{IsOrderly, IsShown, HasSurvived, IsRecovered, IsLater}
-use Rattle.pfx_world.specs.Events.{Event, Ask, Begin, Step, Give, Seal, Abandon, Take, Tend, Device, Publish, Mark, Fail, Receipt, Look, Stop, MayHappen, CanRun, happens, run}
+use Rattle.pfx_world.specs.Events.{Event, Ask, Begin, Step, Give, Seal, Abandon, Take, Tend, Device, Publish, Mark, Fail, Receipt, Look, Stop}
+use Rattle.pfx_world.specs.Events.{MayHappen, CanRun, happens, run}
 use Rattle.pfx_world.specs.Setting.{Setting, Settled}
 use Rattle.pfx_world.specs.World.{World, new_world}
 

@@ -14,8 +14,9 @@ ghost use Rattle.pfx_machine.specs.Sessions.{IsAcceptable};
 ghost use Rattle.pfx_machine.specs.declared.command.Command.{Command};
 ghost use Rattle.pfx_recovery.specs.Recovery.{recovered};
 ghost use Rattle.pfx_recovery.specs.Store.{Replays};
-ghost use Rattle.pfx_store.specs.Holding.{Survives};
-ghost use Rattle.pfx_world.specs.Claims.{IsNew, IsReceipted, StaysOrderly, ShowsAppended, LosesNothing, RecoversPrefix, NeverGoesBack};
+ghost use Rattle.pfx_store.specs.Holding.{Survives as FramesSurvive};
+ghost use Rattle.pfx_world.specs.Claims.{IsNew, IsReceipted, StaysOrderly, ShowsAppended, LosesNothing, RecoversPrefix, NeverGoesBack, Survives};
+ghost use Rattle.pfx_world.specs.Calls.{MayLeave};
 ghost use Rattle.pfx_world.specs.Events.{Event, CanRun, run};
 ghost use Rattle.pfx_world.specs.Session.{IsQuick};
 ghost use Rattle.pfx_world.specs.Setting.{Settled};
@@ -45,6 +46,17 @@ pub fn runs_begin_at_files<J: Job>()
     ensures means { (image : List ℕ) (s : Plain J) (f : FileOf J) → recovered_file J.kind image ≡ Some (s, f)
         → recovered (format J.kind) image ≡ Ok s }
 {}
+
+/// A receipt once given holds over all that follows, stops too: each image that a stop may leave at any later moment is
+/// recovered to the outcome of a beginning of the accepted commands that holds the receipt's number.
+pub fn receipts_last<J: Job>()
+    ensures { let S = store_of J.kind in (B : Plain J) (image : List ℕ) (f : FileOf J) (events more : List (Event J)) (n : ℕ)
+        → IsNew S B image f → CanRun S B (new_world S B image f) (events ++ more)
+        → IsReceipted n (run S B (new_world S B image f) events).book.receipts
+        → (let w = run S B (new_world S B image f) (events ++ more) in Survives S B w.book.accepted n (MayLeave w.start w.done w.coming)) }
+{
+    crash_prefix::<J>();
+}
 
 /// The claims of `crash_prefix` hold of each world that a run leads to, also where it began at a store that goes on, of whose
 /// checkpoint pieces were written that no sync has covered: at each world with no call to come, none of which has failed,
@@ -86,10 +98,10 @@ pub fn frames_are_batches<J: Job>()
         → Replays (format J.kind) s (take k (frames_of J.kind s batches)) t → t ≡ outcome J.kind s (joined (take k batches)) }
     ensures survive { (s : Plain J) (batches : List (List (Command J))) (n : ℕ) (image : List ℕ)
         → IsState s → IsAcceptable J.kind s (joined batches) → AreSmall batches
-        → Survives (format J.kind) s (frames_of J.kind s batches) n image → KeepsBatches J.kind s batches n image }
+        → FramesSurvive (format J.kind) s (frames_of J.kind s batches) n image → KeepsBatches J.kind s batches n image }
     ensures back { (s : Plain J) (batches : List (List (Command J))) (n : ℕ) (image : List ℕ)
         → IsState s → IsAcceptable J.kind s (joined batches) → AreSmall batches
-        → KeepsBatches J.kind s batches n image → Survives (format J.kind) s (frames_of J.kind s batches) n image }
+        → KeepsBatches J.kind s batches n image → FramesSurvive (format J.kind) s (frames_of J.kind s batches) n image }
     ensures grow { (s : Plain J) (batches : List (List (Command J))) (batch : List (Command J))
         → frames_of J.kind s (batches ++ batch ∷ []) ≡ frames_of J.kind s batches ++ frame_of J.kind (outcome J.kind s (joined batches)) batch ∷ [] }
 {}
