@@ -18,8 +18,8 @@ use Rattle.pfx_program.specs.declared.engine.CallFault.{CallFault}
 use Rattle.pfx_program.specs.declared.engine.CallFault.TheVariants as callfault
 use Rattle.pfx_engine.specs.Failing.{Fails, NotAccepted, last_kept, stopped_at}
 use Rattle.pfx_engine.specs.Failing as failing
-use Rattle.pfx_engine.specs.Surviving.{Survives, KeepsAll}
-use Rattle.pfx_engine.specs.Keeping.{Anchors, Kept, KeepsFrom, IsAccepted}
+use Rattle.pfx_engine.specs.Surviving.{KeepsAll}
+use Rattle.pfx_engine.specs.Keeping.{Anchors, KeepsFrom, IsAccepted}
 use Rattle.pfx_engine.specs.KeepingLaws.{one_accepted}
 
 -- the command is durable

@@ -1,6 +1,5 @@
 -- What a run's end leaves on the disk.
-use Rattle.std.proofs.Common.{◌≡◌, ◌≤◌, ℕ, ◌+◌, Bool, true, false, List, [], ◌∷◌, ◌++◌, length, length-append, take, Option, Result, Ok, Err, IfSome, refl, sym, ap, subst, ◌∙◌, append_assoc, append-nil, arith}
-use Rattle.std.proofs.lemmas.List.{take-append-le}
+use Rattle.std.proofs.Common.{◌≡◌, ℕ, ◌+◌, Bool, true, false, List, [], ◌++◌, length, Option, Result, Ok, Err, IfSome, sym, ap, subst, ◌∙◌, append_assoc, append-nil}
 use Rattle.std.specs.Io.KnownBytes.{Appends}
 use Rattle.pfx_disk.specs.Disk.{View, IsHonest}
 use Rattle.pfx_fault.specs.declared.refusals.Fault.{Fault}
@@ -11,23 +10,14 @@ use Rattle.pfx_machine.specs.Plain.{Plain}
 use Rattle.pfx_machine.specs.Outcome.{outcome}
 use Rattle.pfx_machine.specs.declared.command.Command.{Command}
 use Rattle.pfx_script.specs.Records.{Fields, Records}
-use Rattle.pfx_program.specs.Promises.{Promise}
-use Rattle.pfx_program.specs.Script.{Step, Course, at_start, commands_of, course_from, text_of}
+use Rattle.pfx_program.specs.Script.{Step, at_start, commands_of, course_from, text_of}
 use Rattle.pfx_program.specs.Running.{Carried, Halts, Stopped, Ends, Runs}
 use Rattle.pfx_program.proofs.StepLemmas.{commands_append}
-use Rattle.pfx_engine.specs.Keeping.{Anchors, Kept, KeepsFrom}
+use Rattle.pfx_engine.specs.Keeping.{Anchors}
 use Rattle.pfx_engine.specs.Running.{IsKeptAsPrinted}
 use Rattle.pfx_engine.specs.Surviving.{Survives}
+use Rattle.pfx_engine.proofs.Keeps.{survives_more}
 use Rattle.pfx_engine.proofs.Promising.{promise}
-
--- commands that come later
-survives_more : (s : Plain AnyJob) (H G : List (Command AnyJob)) (n : ℕ) (image : List ℕ) → Survives s H n image → Survives s (H ++ G) n image
-survives_more s H G n image v = record {
-  count = v.count;
-  at_least = v.at_least;
-  at_most = (let most = v.at_most in omega (arith, most, length-append H G));
-  recovered = v.recovered ∙ ap (λ (l : List (Command AnyJob)). Ok (outcome any_kind s l)) (sym (take-append-le v.count H G v.at_most));
-}
 
 module _ {E : Type 0} (view : E → View) (broken : E → Bool) (kept : E → Plain AnyJob) where
   -- what was printed at a halt

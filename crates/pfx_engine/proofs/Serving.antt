@@ -7,6 +7,7 @@ use Rattle.pfx_endless.proofs.Endless.{start_endless}
 use Rattle.pfx_endless.proofs.Rows.{ledger_goes_on}
 use Rattle.pfx_endless.proofs.Serving.{endless_behind, slot_refusal}
 use Rattle.pfx_format.specs.Format.{format}
+use Rattle.pfx_journal.specs.Groups.{alone, joined}
 use Rattle.pfx_kinds.specs.AnyKind.{any_kind, any_laws}
 use Rattle.pfx_kinds.specs.declared.any.AnyJob.{AnyJob}
 use Rattle.pfx_machine.specs.Outcome.{outcome}
@@ -55,7 +56,7 @@ made_endless set filled s is = subst (λ (t : Plain AnyJob). IsEndless t.ledger)
 pub survived_endless : (set : FilledSet) → IsFilled set → (H : List (Command AnyJob)) → IsAcceptable any_kind (empty set) H → (n : ℕ) (image : List ℕ) → Survives (empty set) H n image →
     (s : Plain AnyJob) → recovered (format any_kind) image ≡ Ok s → IsEndless s.ledger
 survived_endless set filled H all n image v s is =
-    let reached = outcome any_kind (empty set) (take v.count H) in
+    let reached = outcome any_kind (empty set) (joined (take v.count (alone H))) in
     let same : reached ≡ s = ok_same reached s (sym v.recovered ∙ is) in
     subst (λ (t : Plain AnyJob). IsEndless t.ledger) same
-    (endless_behind any_kind any_laws (empty set) (take v.count H) (start_ledger set filled) (start_endless set filled) (take_accepted any_kind any_laws (empty set) H v.count all))
+    (endless_behind any_kind any_laws (empty set) (joined (take v.count (alone H))) (start_ledger set filled) (start_endless set filled) (take_accepted (empty set) H v.count all))

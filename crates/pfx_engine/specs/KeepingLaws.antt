@@ -1,22 +1,22 @@
 -- What is kept of no command, of some commands and then of more: that it is.
-use Rattle.std.proofs.Common.{◌≡◌, ◌≤◌, ℕ, ◌+◌, Bool, true, false, List, [], ◌∷◌, ◌++◌, length, length-append, take, Option, Some, None, Ok, Err, refl, sym, ap, subst, ◌∙◌, arith}
+use Rattle.std.proofs.Common.{◌≡◌, ◌≤◌, ℕ, ◌+◌, Bool, false, List, [], ◌∷◌, ◌++◌, length, length-append, take, Option, Some, None, Ok, refl, sym, ap, subst, ◌∙◌, arith}
 use Rattle.std.proofs.Math.Seq.{take-append-add}
-use Rattle.pfx_disk.specs.Disk.{View, IsHonest}
-use Rattle.pfx_format.specs.Format.{format}
+use Rattle.pfx_disk.specs.Disk.{View}
+use Rattle.pfx_journal.specs.Groups.{alone, joined}
+use Rattle.pfx_journal.proofs.Grouping.{joined_alone, length-alone}
 use Rattle.pfx_kinds.specs.AnyKind.{any_kind, any_laws}
 use Rattle.pfx_kinds.specs.declared.any.AnyJob.{AnyJob}
-use Rattle.pfx_machine.specs.Plain.{Plain, IsState}
+use Rattle.pfx_machine.specs.Plain.{Plain}
 use Rattle.pfx_machine.specs.Outcome.{outcome}
 use Rattle.pfx_machine.specs.Refusals.{refusal, reply}
-use Rattle.pfx_machine.specs.Runs.{answer, answer_by}
+use Rattle.pfx_machine.specs.Runs.{answer_by}
 use Rattle.pfx_machine.specs.Sessions.{IsAcceptable, AllAccepted}
 use Rattle.pfx_machine.specs.declared.command.Command.{Command}
 use Rattle.pfx_machine.specs.declared.command.Reply.{Reply}
 use Rattle.pfx_machine.specs.declared.faults.MachineFault.{MachineFault}
 use Rattle.pfx_machine.proofs.Compose.{outcome-none, outcome-outcome}
-use Rattle.pfx_recovery.specs.Recovery.{recovered}
-use Rattle.pfx_engine.specs.Surviving.{Survives, KeepsAll}
-use Rattle.pfx_engine.specs.Keeping.{Anchors, Kept, KeepsFrom, IsAccepted}
+use Rattle.pfx_engine.specs.Surviving.{Survives}
+use Rattle.pfx_engine.specs.Keeping.{KeepsFrom, IsAccepted}
 
 -- ---- lists of commands
 
@@ -92,21 +92,23 @@ keeps_more a b c was is s t u H G n settled one two =
           record {
             honest = second.honest;
             anchored = λ all. second.anchored (omega (arith, all, long));
-            survive = λ image here. joined at (second.survive image here);
+            survive = λ image here. both at (second.survive image here);
           };
     }
   where
-    joined : {image : List ℕ} → t ≡ outcome any_kind s H → Survives t G n image → Survives s (H ++ G) (length H + n) image
-    joined {image} at v =
+    both : {image : List ℕ} → t ≡ outcome any_kind s H → Survives t G n image → Survives s (H ++ G) (length H + n) image
+    both {image} at v =
         let least = v.at_least in
         let most = v.at_most in
         let long : length (H ++ G) ≡ length H + length G = length-append H G in
+        let split : joined (take (length H + v.count) (alone (H ++ G))) ≡ H ++ joined (take v.count (alone G)) =
+        joined_alone (length H + v.count) (H ++ G) ∙ (take-append-add H G v.count ∙ ap (λ (l : List (Command AnyJob)). H ++ l) (sym (joined_alone v.count G))) in
         record {
           count = length H + v.count;
           at_least = omega (arith, least);
-          at_most = omega (arith, most, long);
-          recovered = v.recovered ∙ ap Ok (ap (λ (p : Plain AnyJob). outcome any_kind p (take v.count G)) at ∙ outcome-outcome any_kind any_laws s H (take v.count G)
-              ∙ ap (outcome any_kind s) (sym (take-append-add H G v.count)));
+          at_most = omega (arith, most, long, length-alone G, length-alone (H ++ G));
+          recovered = v.recovered ∙ ap Ok (ap (λ (p : Plain AnyJob). outcome any_kind p (joined (take v.count (alone G)))) at ∙ outcome-outcome any_kind any_laws s H (joined (take v.count (alone G)))
+              ∙ ap (outcome any_kind s) (sym split));
         }
 
 pub keeps_fewer : (a : View) (was : Bool) (s : Plain AnyJob) (H : List (Command AnyJob)) (n m : ℕ) (b : View) (t : Plain AnyJob) → m ≤ n → KeepsFrom a was s H n b t → KeepsFrom a was s H m b t

@@ -1,5 +1,5 @@
 -- What a run of a script leaves on a disk.
-use Rattle.std.specs.Prelude.{◌≡◌, ℕ, ◌+◌, ◌++◌, List, length, Option, Result, Ok, Err, ⊤}
+use Rattle.std.specs.Prelude.{◌≡◌, ℕ, ◌+◌, ◌++◌, List, length, Option}
 use Rattle.std.specs.Io.KnownBytes.{Appends}
 use Rattle.pfx_disk.specs.Disk.{View}
 use Rattle.pfx_kinds.specs.declared.any.AnyJob.{AnyJob}

@@ -1,8 +1,7 @@
 //! Keeping one command.
 
-ghost use Rattle.std.specs.Prelude.{◌≡◌, ◌+◌, ◌++◌, ◌∷◌, [], List, ℕ, length, map, Some, Ok, IfOk, OnOk, OnErr, IsErrOf};
+ghost use Rattle.std.specs.Prelude.{◌≡◌, ◌+◌, ◌++◌, ◌∷◌, [], List, ℕ, length, map, Ok, IfOk, OnOk, OnErr, IsErrOf};
 ghost use Rattle.pfx_disk.specs.Disk.{IsHonest};
-ghost use Rattle.pfx_effect.specs.Applying.{applied};
 ghost use Rattle.pfx_format.specs.Format.{format};
 ghost use Rattle.pfx_kinds.specs.AnyKind.{any_kind};
 ghost use Rattle.pfx_kinds.specs.declared.any.AnyJob.{AnyJob};
@@ -18,25 +17,10 @@ ghost use Rattle.pfx_engine.specs.Stepping.{command_calls, frame_len};
 ghost use Rattle.pfx_engine.specs.Surviving.{IsRecordOf, KeepsAll};
 
 use pfx_disk::Disk;
-use pfx_journal::{Mark, Store};
+use pfx_journal::{Mark, Store, batch_of};
 use pfx_kinds::any::AnyJob;
-use pfx_machine::State;
-use pfx_record::{Batch, Record};
+use pfx_record::Record;
 use pfx_store::StoreFault;
-
-/// The batch of one that comes next in a state, with the record of a command that the state accepts.
-pub(crate) fn next_batch(state: &State<AnyJob>, records: Vec<Record<AnyJob>>) -> Batch<AnyJob>
-    requires { (c : Command AnyJob) × IsRecordOf state.now c (map plain records.items) }
-    ensures workers { result.workers ≡ state.now.ledger.set.workers }
-    ensures first { result.first ≡ state.now.number + 1 }
-    ensures records { result.records ≡ records }
-    ensures state { IsState state.now }
-    ensures right { (t : Plain AnyJob) × (applied any_kind state.now (map plain result.records.items) ≡ Some t) }
-{
-    let workers = state.columns().workers();
-    let first = state.number() + 1;
-    Batch::new(workers, first, records)
-}
 
 /// Takes a step of the checkpoint in progress, if there is one, and then appends the record of a command that the store's
 /// state accepts, in a batch of its own. The step comes first, so that no reply waits behind it.
@@ -73,6 +57,6 @@ pub(crate) fn keep<D: Disk>(
         → recovered (format any_kind) image ≡ Ok store.new.state) }
 {
     let _tended = store.tend()?;
-    let batch = next_batch(store.state(), records);
+    let batch = batch_of(store.state(), records);
     store.append(&batch)
 }

@@ -18,7 +18,7 @@ ghost use Rattle.pfx_engine.specs.Surviving.{Survives, frames_of};
 /// them to the list's outcome.
 pub fn frames_lead_to_outcomes()
     ensures { (start : Plain AnyJob) → (H : List (Command AnyJob)) → IsState start → IsAcceptable any_kind start H
-        → Replays (format any_kind) start (frames_of any_kind start H) (outcome any_kind start H) }
+        → Replays (format any_kind) start (frames_of start H) (outcome any_kind start H) }
 {}
 
 /// Fair schedules of every length go on from the empty state of each filled set, and from each state that an image is recovered

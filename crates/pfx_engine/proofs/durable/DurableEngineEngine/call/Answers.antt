@@ -1,12 +1,9 @@
-use Rattle.std.proofs.Common.{rules, ◌≡◌, Bool, true, false, Ok, Err, refl, sym, ap, subst, ◌∙◌, [], ◌∷◌, ◌+◌}
-use Rattle.pfx_disk.specs.Disk.{View}
+use Rattle.std.proofs.Common.{◌≡◌, false, Ok, sym, ap, subst, ◌∙◌, [], ◌∷◌, ◌+◌}
 use Rattle.pfx_kinds.specs.AnyKind.{any_kind}
 use Rattle.pfx_kinds.specs.declared.any.AnyJob.{AnyJob}
 use Rattle.pfx_machine.specs.Plain.{Plain, IsState}
 use Rattle.pfx_machine.specs.Outcome.{outcome}
 use Rattle.pfx_machine.specs.Runs.{answer}
-use Rattle.pfx_recovery.specs.Recovery.{recovered}
-use Rattle.pfx_engine.specs.Keeping.{Anchors, KeepsFrom, IsAccepted}
 use Rattle.pfx_engine.specs.KeepingLaws.{keeps_none}
 use Rattle.pfx_engine.proofs.Promising.{keeps_one, keeps_doubt, not_done, not_broken, err_is}
 use Rattle.pfx_engine.proofs.durable.DurableEngineEngine.call.Goals as goal
