@@ -2,7 +2,9 @@
 //!
 //! | Module | Tests |
 //! |---|---|
+//! | `client` | a worked client of `pfx_journal`: each mark is kept through ten calls, proved |
 //! | `journal` | `pfx_journal`: the file of a new store, frames in it, and files and disks that are refused |
+//! | `marks` | `pfx_journal`: stops behind each call of the worked client |
 //! | `scripts` | `pfx_engine`: scripts over stores, on disks in memory, in a file, and on ones that fail |
 //! | `stops` | `pfx_engine`: stops behind each call, and where frames go |
 //! | `turns` | `pfx_engine`: turns and checkpoints, and stops behind each call of sixty slots |
@@ -12,12 +14,15 @@
 
 #[cfg(test)]
 mod check;
+pub mod client;
 #[cfg(test)]
 mod engines;
 #[cfg(test)]
 mod held;
 #[cfg(test)]
 mod journal;
+#[cfg(test)]
+mod marks;
 #[cfg(test)]
 mod scripts;
 #[cfg(test)]
