@@ -21,7 +21,7 @@ use Rattle.pfx_world.proofs.Worked.{can_join}
 use Rattle.pfx_events.specs.Reached.{IsAside, AreAside, going_world, IsReached, KeepsClaims}
 
 module _ {J : Type 0} (S : Setting J) (B : Plain J) where
-  run_join : (w : World S) (one two : List (Event J)) → run S B w (one ++ two) ≡ run S B (run S B w one) two
+  pub run_join : (w : World S) (one two : List (Event J)) → run S B w (one ++ two) ≡ run S B (run S B w one) two
   run_join w [] two = refl
   run_join w (e ∷ one) two = run_join (happens S B w e) one two
 

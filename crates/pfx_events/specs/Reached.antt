@@ -1,9 +1,10 @@
 -- Worlds that a run leads to, from a store just found or from one that goes on, and what holds of them.
-use Rattle.std.specs.Prelude.{◌≡◌, ℕ, List, [], ◌∷◌}
+use Rattle.std.specs.Prelude.{◌≡◌, ◌≢◌, ℕ, ◌+◌, List, [], ◌∷◌, length, true, false, None}
 use Rattle.pfx_disk.specs.Stop.{Act}
 use Rattle.pfx_machine.specs.Plain.{Plain}
+use Rattle.pfx_machine.specs.declared.command.Command.{Command}
 use Rattle.pfx_world.specs.Calls.{MayLeave}
-use Rattle.pfx_world.specs.Claims.{IsOrderly, IsShown, HasSurvived, IsRecovered, IsLater}
+use Rattle.pfx_world.specs.Claims.{IsReceipted, IsOrderly, IsShown, HasSurvived, IsRecovered, IsLater}
 use Rattle.pfx_world.specs.Events.{Event, Ask, Begin, Step, Give, Seal, Abandon, Take, Tend, Device, Publish, Mark, Fail, Receipt, Look, Stop}
 use Rattle.pfx_world.specs.Events.{MayHappen, CanRun, happens, run}
 use Rattle.pfx_world.specs.Setting.{Setting, Settled}
@@ -46,6 +47,31 @@ module _ {J : Type 0} where
     pub settled : Settled S image done B place
     pub can : CanRun S B (going_world S B image done place) events
     pub is : run S B (going_world S B image done place) events ≡ w
+
+  -- nothing is under way, and all that was accepted is marked
+  pub record IsAtRest (S : Setting J) (w : World S) : Type 0 where
+    pub none : w.coming ≡ []
+    pub whole : w.broken ≡ false
+    pub goes_on : w.book.halted ≡ false
+    pub shut : w.book.opened ≡ None
+    pub marked : w.book.marked ≡ w.book.taken
+    pub taken : w.book.taken ≡ length w.book.accepted
+
+  -- these events lead to a world at rest that has accepted these commands; the last has its receipt, and no receipt is lost
+  pub record Reaches (S : Setting J) (B : Plain J) (w : World S) (H : List (Command J)) (events : List (Event J)) : Type 0 where
+    pub can : CanRun S B w events
+    pub rests : IsAtRest S (run S B w events)
+    pub accepted : (run S B w events).book.accepted ≡ H
+    pub receipt : IsReceipted (B.number + length H) (run S B w events).book.receipts
+    pub receipts : (n : ℕ) → IsReceipted n w.book.receipts → IsReceipted n (run S B w events).book.receipts
+
+  -- A command is asked and taken, and a stop comes within its append. The next start's sync goes through, and what is left is
+  -- at rest, with the receipts of before.
+  pub record IsStopped (S : Setting J) (B : Plain J) (w : World S) (c : Command J) (left : List ℕ) : Type 0 where
+    pub can : CanRun S B w (Ask c ∷ Take 1 ∷ Stop left ∷ Device true ∷ [])
+    pub under_way : (run S B w (Ask c ∷ Take 1 ∷ [])).coming ≢ []
+    pub rests : IsAtRest S (run S B w (Ask c ∷ Take 1 ∷ Stop left ∷ Device true ∷ []))
+    pub receipts : (run S B w (Ask c ∷ Take 1 ∷ Stop left ∷ Device true ∷ [])).book.receipts ≡ w.book.receipts
 
   -- the claims, of one world, each stop of it and each event that may come next
   pub record KeepsClaims (S : Setting J) (B : Plain J) (w : World S) : Type 0 where

@@ -1,9 +1,10 @@
 //! What holds of every list of events, each the contract of a function that does nothing.
-ghost use Rattle.std.specs.Prelude.{◌≡◌, ◌+◌, ◌++◌, ◌∷◌, [], List, ℕ, take, false, None, Some, Ok};
+ghost use Rattle.std.specs.Prelude.{◌≡◌, ◌≢◌, ◌+◌, ◌++◌, ◌∷◌, [], List, ℕ, take, false, None, Some, Ok};
 ghost use Rattle.pfx_disk.specs.Disk.{IsHonest};
 ghost use Rattle.pfx_effect.specs.Recording.{records_of};
 ghost use Rattle.pfx_events.specs.Batches.{frames_of, joined, AreSmall, IsSeen, KeepsBatches};
-ghost use Rattle.pfx_events.specs.Reached.{IsReached, KeepsClaims};
+ghost use Rattle.pfx_events.specs.Reached.{IsReached, IsAtRest, IsStopped, KeepsClaims, Reaches};
+ghost use Rattle.pfx_events.specs.Ties.{through};
 ghost use Rattle.pfx_events.specs.Store.{store_of, frame_of};
 ghost use Rattle.pfx_format.specs.Format.{format};
 ghost use Rattle.pfx_journal.specs.Files.{FileOf, recovered_file};
@@ -12,12 +13,13 @@ ghost use Rattle.pfx_machine.specs.Plain.{Plain, IsState};
 ghost use Rattle.pfx_machine.specs.Refusals.{refusal};
 ghost use Rattle.pfx_machine.specs.Sessions.{IsAcceptable};
 ghost use Rattle.pfx_machine.specs.declared.command.Command.{Command};
+ghost use Rattle.pfx_machine.specs.declared.command.Command.TheVariants.{Slot};
 ghost use Rattle.pfx_recovery.specs.Recovery.{recovered};
 ghost use Rattle.pfx_recovery.specs.Store.{Replays};
 ghost use Rattle.pfx_store.specs.Holding.{Survives as FramesSurvive};
 ghost use Rattle.pfx_world.specs.Claims.{IsNew, IsReceipted, StaysOrderly, ShowsAppended, LosesNothing, RecoversPrefix, NeverGoesBack, Survives};
 ghost use Rattle.pfx_world.specs.Calls.{MayLeave};
-ghost use Rattle.pfx_world.specs.Events.{Event, CanRun, run};
+ghost use Rattle.pfx_world.specs.Events.{Event, Tend, CanRun, run};
 ghost use Rattle.pfx_world.specs.Session.{IsQuick};
 ghost use Rattle.pfx_world.specs.Setting.{Settled};
 ghost use Rattle.pfx_world.specs.World.{World, new_world, state_at};
@@ -79,6 +81,22 @@ pub fn commands_can_be_receipted<J: Job>()
         → IsNew (store_of J.kind) B image f → IsQuick c → refusal J.kind B c ≡ None
         → (events : List (Event J)) × CanRun (store_of J.kind) B (new_world (store_of J.kind) B image f) events
         × IsReceipted (B.number + 1) (run (store_of J.kind) B (new_world (store_of J.kind) B image f) events).book.receipts }
+{}
+
+/// What can be done at a world at rest, over and over, for it leads to another one: a command that isn't refused is taken,
+/// appended and receipted; a slot is opened, all its quanta run and given back, and it comes to its receipt; a step of a
+/// checkpoint in progress goes through; a stop comes within the append of a command, and the next start goes on.
+pub fn runs_from_rest<J: Job>()
+    ensures new { (B : Plain J) (image : List ℕ) (f : FileOf J) → IsAtRest (store_of J.kind) (new_world (store_of J.kind) B image f) }
+    ensures commands { let S = store_of J.kind in (B : Plain J) (w : World (store_of J.kind)) (c : Command J) → IsAtRest S w → IsQuick c
+        → refusal J.kind w.book.state c ≡ None → (events : List (Event J)) × Reaches S B w (w.book.accepted ++ c ∷ []) events }
+    ensures slots { let S = store_of J.kind in (B : Plain J) (w : World (store_of J.kind)) → IsAtRest S w
+        → refusal J.kind w.book.state Slot ≡ None → (events : List (Event J)) × Reaches S B w (w.book.accepted ++ Slot ∷ []) events }
+    ensures steps { let S = store_of J.kind in (B : Plain J) (w : World (store_of J.kind)) → IsAtRest S w → S.tends w.place ≢ []
+        → (let events = Tend ∷ through (S.tends w.place) in CanRun S B w events × IsAtRest S (run S B w events)
+        × ((run S B w events).book.accepted ≡ w.book.accepted) × ((run S B w events).book.receipts ≡ w.book.receipts)) }
+    ensures stops { let S = store_of J.kind in (B : Plain J) (w : World (store_of J.kind)) (c : Command J) → IsReached S B w → IsAtRest S w
+        → IsQuick c → refusal J.kind w.book.state c ≡ None → (left : List ℕ) × IsStopped S B w c left }
 {}
 
 /// The records of a list of commands are those of its front, and those of the rest behind the front's outcome.
