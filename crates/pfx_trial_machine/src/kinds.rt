@@ -313,7 +313,9 @@ fn is_encoding(bytes: &[u8; 128]) -> bool {
             left <= places
                 && bytes[7] as u64 <= places - left
                 && bytes[8..8 + a].iter().all(|byte| is_printable(*byte))
-                && bytes[72..72 + b].iter().all(|byte| is_printable(*byte) && *byte != b':')
+                && bytes[72..72 + b]
+                    .iter()
+                    .all(|byte| is_printable(*byte) && *byte != b':')
                 && bytes[8 + a..72].iter().all(|byte| *byte == 0)
                 && bytes[72 + b..].iter().all(|byte| *byte == 0)
         }
