@@ -1,5 +1,5 @@
 //! A worked client: ten calls of a store, through which each mark is kept.
-ghost use Rattle.std.specs.Prelude.{◌≡◌, ◌+◌, ◌++◌, ◌∷◌, [], List, ℕ, map, Some, IfOk, IfSome, OnErr};
+ghost use Rattle.std.specs.Prelude.{◌≡◌, ◌+◌, ◌++◌, ◌∷◌, [], List, ℕ, map, Some, IfOk, OnErr};
 ghost use Rattle.pfx_disk.specs.Disk.{IsHonest};
 ghost use Rattle.pfx_effect.specs.Applying.{applied};
 ghost use Rattle.pfx_journal.specs.Marks.{Covers};
@@ -9,13 +9,10 @@ ghost use Rattle.pfx_record.specs.Batches.{batch_bytes, batch_of};
 ghost use Rattle.pfx_record.specs.Records.{plain};
 
 use pfx_disk::Disk;
-use pfx_effect::apply_all;
 use pfx_jobs::job::Job;
 use pfx_journal::{Mark, Store};
-use pfx_machine::State;
-use pfx_record::{Batch, Record, fits};
+use pfx_record::Batch;
 use pfx_store::StoreFault;
-use std::alloc::Global;
 
 /// Ten calls, two of which append a batch. Whatever they answer, each mark noted before is kept behind them, and
 /// where both batches are appended their marks are too.
@@ -49,43 +46,4 @@ pub fn ten_calls<D: Disk, J: Job>(
     let _other = store.tend();
     let _last = store.tend();
     Ok((one, two))
-}
-
-/// The batch of these records that comes next in a state, where there is one.
-fn batch_at<J: Job>(state: &State<J>, records: Vec<Record<J>>) -> Option<Batch<J>>
-    ensures workers { IfSome result (λ batch. batch.workers ≡ state.now.ledger.set.workers) }
-    ensures first { IfSome result (λ batch. batch.first ≡ state.now.number + 1) }
-{
-    let workers = state.columns().workers();
-    let first = state.number() + 1;
-    if fits(workers, first, &records) {
-        Some(Batch::new(workers, first, records))
-    } else {
-        None
-    }
-}
-
-/// The marks of two batches of these records, where both are right and are appended by the ten calls.
-pub fn append_both<D: Disk, J: Job>(
-    alloc: Global,
-    store: &mut Store<D, J>,
-    first: Vec<Record<J>>,
-    second: Vec<Record<J>>,
-) -> Option<(Mark, Mark)> {
-    let Ok(mut state) = store.state().copy_of(alloc) else {
-        return None;
-    };
-    let Some(one) = batch_at(&state, first) else {
-        return None;
-    };
-    if !apply_all(&mut state, &one.records) {
-        return None;
-    }
-    let Some(two) = batch_at(&state, second) else {
-        return None;
-    };
-    if !apply_all(&mut state, &two.records) {
-        return None;
-    }
-    ten_calls(store, &one, &two).ok()
 }

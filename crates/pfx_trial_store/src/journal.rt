@@ -40,7 +40,7 @@ fn made<D: Disk + Drop>(
 }
 
 /// The bytes of a new store's file.
-fn new_file(alloc: Global) -> Option<Vec<u8>> {
+pub fn new_file(alloc: Global) -> Option<Vec<u8>> {
     let disk = MemoryDisk::new(alloc, &[], LEN, 40, 20_000).ok()?;
     let store = made(alloc, disk, 8192).ok()?;
     held(alloc, &mut store.into_disk())
@@ -209,11 +209,11 @@ fn file_of_a_scan(alloc: Global) -> Option<Vec<u8>> {
         (929, 5),
         (930, 2),
     ];
+    bytes[932..937].copy_from_slice(b"abcab");
+    bytes[996..998].copy_from_slice(b"ab");
     for (at, byte) in numbers {
         *bytes.get_mut(at)? = byte;
     }
-    bytes[932..937].copy_from_slice(b"abcab");
-    bytes[996..998].copy_from_slice(b"ab");
     Some(bytes)
 }
 

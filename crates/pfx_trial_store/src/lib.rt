@@ -2,9 +2,11 @@
 //!
 //! | Module | Tests |
 //! |---|---|
+//! | `batches` | batches of slots, for the tests of stores |
 //! | `client` | a worked client of `pfx_journal`: each mark is kept through ten calls, proved |
 //! | `journal` | `pfx_journal`: the file of a new store, frames in it, and files and disks that are refused |
-//! | `marks` | `pfx_journal`: stops behind each call of the worked client |
+//! | `layouts` | `pfx_journal`: what the header of a file tells, whole or damaged |
+//! | `marks` | `pfx_journal`: batches of 2 and of 16 slots with turns in their midst, stops behind each call, and the worked client |
 //! | `scripts` | `pfx_engine`: scripts over stores, on disks in memory, in a file, and on ones that fail |
 //! | `stops` | `pfx_engine`: stops behind each call, and where frames go |
 //! | `turns` | `pfx_engine`: turns and checkpoints, and stops behind each call of sixty slots |
@@ -12,6 +14,7 @@
 //! A case is a plain `bool`; `check`, `check_at` and `check_pair` name the one that doesn't hold.
 #![tactic(auto)]
 
+pub mod batches;
 #[cfg(test)]
 mod check;
 pub mod client;
@@ -21,6 +24,8 @@ mod engines;
 mod held;
 #[cfg(test)]
 mod journal;
+#[cfg(test)]
+mod layouts;
 #[cfg(test)]
 mod marks;
 #[cfg(test)]

@@ -1,31 +1,15 @@
 //! Stops behind each call of the worked client.
+use crate::batches::{append_both, append_slots};
 use crate::check::{check, check_at};
-use crate::client::append_both;
 use crate::engines::{last_of, new_store};
 use pfx_disk::{Disk, Fate, MemoryDisk};
-use pfx_effect::run_recorded;
 use pfx_journal::{Mark, Store};
 use pfx_kinds::any::AnyJob;
-use pfx_machine::{Command, State};
-use pfx_record::Record;
 use std::alloc::Global;
-
-/// The records of so many slots, behind which the state goes on.
-fn slots(alloc: Global, count: u32, state: &mut State<AnyJob>) -> Option<Vec<Record<AnyJob>>> {
-    let mut records = Vec::new(alloc);
-    for _ in 0..count {
-        let done = run_recorded(alloc, state, Command::Slot).ok()?;
-        records.push(done.entry).ok()?;
-    }
-    Some(records)
-}
 
 /// The marks of batches of 2 and of 16 slots, where both are appended.
 fn run_ten(alloc: Global, store: &mut Store<MemoryDisk, AnyJob>) -> Option<(Mark, Mark)> {
-    let mut ahead = store.state().copy_of(alloc).ok()?;
-    let two = slots(alloc, 2, &mut ahead)?;
-    let sixteen = slots(alloc, 16, &mut ahead)?;
-    append_both(alloc, store, two, sixteen)
+    append_both(alloc, store, 2, 16)
 }
 
 /// The number of the last mark by so many calls.
@@ -65,17 +49,18 @@ fn first_loss(alloc: Global, fate: Fate) -> Option<u64> {
     Some(0)
 }
 
+const FATES: [Fate; 5] = [
+    Fate::Kept,
+    Fate::Dropped,
+    Fate::Filled(0xc3),
+    Fate::Filled(0),
+    Fate::Filled(0x5a),
+];
+
 #[test]
 fn ten_calls_keep_their_marks(rt: HostRuntime) {
     let alloc = rt.alloc();
-    let fates = [
-        Fate::Kept,
-        Fate::Dropped,
-        Fate::Filled(0xc3),
-        Fate::Filled(0),
-        Fate::Filled(0x5a),
-    ];
-    for (number, fate) in fates.iter().enumerate() {
+    for (number, fate) in FATES.iter().enumerate() {
         check_at(&rt, first_loss(alloc, *fate) == Some(0), "fate", number);
     }
 }
@@ -94,4 +79,65 @@ fn stands_at_last(alloc: Global) -> Option<(u64, u64, bool)> {
 fn ten_calls_turn_twice(rt: HostRuntime) {
     let holds = stands_at_last(rt.alloc()) == Some((2, 18, false));
     check(&rt, holds, "marks and places");
+}
+
+/// Appends batches of 2, 16, 16 and 2 slots, with two turns and a whole checkpoint in their midst, and answers the clocks
+/// of their marks.
+fn run_batches(alloc: Global, store: &mut Store<MemoryDisk, AnyJob>) -> Option<[u64; 4]> {
+    let two = append_slots(alloc, 2, store)?;
+    let is_turned = store.turn() == Ok(true) && store.tend().is_ok();
+    let sixteen = append_slots(alloc, 16, store)?;
+    let is_tended = store.tend().is_ok() && store.tend().is_ok();
+    let more = append_slots(alloc, 16, store)?;
+    let is_again = store.turn() == Ok(true);
+    let last = append_slots(alloc, 2, store)?;
+    if is_turned && is_tended && is_again {
+        Some([two.clock, sixteen.clock, more.clock, last.clock])
+    } else {
+        None
+    }
+}
+
+/// How many slots the batches had that were marked by so many calls, and by so many and the next mark.
+fn least_and_most(calls: u64, clocks: [u64; 4]) -> (u64, u64) {
+    if calls < clocks[0] {
+        (0, 2)
+    } else if calls < clocks[1] {
+        (2, 18)
+    } else if calls < clocks[2] {
+        (18, 34)
+    } else if calls < clocks[3] {
+        (34, 36)
+    } else {
+        (36, 36)
+    }
+}
+
+/// The first call behind which a stop leaves another number than that of the last mark or of the next one.
+fn first_part(alloc: Global, fate: Fate) -> Option<u64> {
+    let disk = MemoryDisk::new(alloc, &[], 17_281, 200, 60_000).ok()?;
+    let mut store = new_store(alloc, disk, 8192)?;
+    let made = store.disk().clock();
+    let clocks = run_batches(alloc, &mut store)?;
+    let disk = store.into_disk();
+    for calls in made..=disk.clock() {
+        if calls > disk.clock() {
+            return None;
+        }
+        let left = disk.stopped(alloc, calls as usize, &[fate, fate]).ok()?;
+        let number = last_of(alloc, left)?;
+        let (least, most) = least_and_most(calls, clocks);
+        if number != least && number != most {
+            return Some(calls);
+        }
+    }
+    Some(0)
+}
+
+#[test]
+fn stops_leave_whole_batches(rt: HostRuntime) {
+    let alloc = rt.alloc();
+    for (number, fate) in FATES.iter().enumerate() {
+        check_at(&rt, first_part(alloc, *fate) == Some(0), "fate", number);
+    }
 }
