@@ -1,56 +1,30 @@
 -- The frame of an acceptable batch: it leads from a state to the batch's outcome, and has room in an empty segment.
-use Rattle.std.specs.Prelude.{◌≡◌, ℕ, ◌+◌, ◌*◌, ◌<◌, ◌≤◌, ◌^◌, List, [], ◌∷◌, ◌++◌, ◌&&◌, length, drop, slice_index, Bool, true, false, Some, None, IsTrue, if◌then◌else◌, refl, take, ◌-◌}
-use Rattle.std.proofs.Common.{sym, ◌∙◌, ap, subst, arith, length-append, append-nil}
-use Rattle.std.proofs.lemmas.Bool.{lt-ltb, le-leb}
-use Rattle.std.proofs.lemmas.Option.{none-some}
+use Rattle.std.specs.Prelude.{◌≡◌, ℕ, ◌+◌, ◌*◌, ◌<◌, ◌≤◌, List, [], ◌∷◌, ◌++◌, length, drop, slice_index, Some, IsTrue, refl, take, ◌-◌}
+use Rattle.std.proofs.Common.{sym, ◌∙◌, ap, subst, arith, length-append}
 use Rattle.std.proofs.lemmas.List.{get_or_at}
 use Rattle.byteorder.specs.Endian.{little_number}
 use Rattle.pfx_disk.specs.declared.gates.TheConstants.{GATE_OPEN}
-use Rattle.pfx_effect.specs.Applying.{applied, is_right, is_apt, after_record}
 use Rattle.pfx_effect.specs.Recording.{records_of}
-use Rattle.pfx_effect.proofs.Outcomes.{records_outcome}
-use Rattle.pfx_checkpoint.specs.Fitting.{fits}
-use Rattle.pfx_columns.specs.Ledgers.{total}
 use Rattle.pfx_format.specs.Format.{format}
 use Rattle.pfx_format.specs.Frames.{state_after}
 use Rattle.pfx_format.proofs.Batches.{number_there}
-use Rattle.pfx_format.proofs.Nexts.{frame_leads}
 use Rattle.byteorder.specs.Numbers.{little_from-take}
 use Rattle.pfx_jobs.specs.Kind.{Kind, Laws}
 use Rattle.pfx_machine.specs.Plain.{Plain, IsState}
 use Rattle.pfx_machine.specs.Outcome.{outcome}
 use Rattle.pfx_machine.specs.Sessions.{IsAcceptable}
 use Rattle.pfx_machine.specs.declared.command.Command.{Command}
-use Rattle.pfx_machine.proofs.Keeping.{prefix_is_state}
-use Rattle.pfx_record.specs.Batches.{PlainBatch, all_fit, batch_bytes, batch_fits, counts_fit}
+use Rattle.pfx_record.specs.Batches.{PlainBatch, batch_bytes, batch_fits}
 use Rattle.pfx_record.specs.Numbers.{number_bytes}
-use Rattle.pfx_record.specs.Records.{Plain as Recorded, record_fits}
 use Rattle.pfx_record.proofs.Again.{length-number_bytes}
 use Rattle.pfx_journal.proofs.Behinds.{behind_is}
+use Rattle.pfx_journal.proofs.Grouping as grouping
 use Rattle.pfx_journal.specs.Standing.{IsBehind}
 use Rattle.pfx_record.proofs.Bodies.{Short, short_batch}
-use Rattle.pfx_record.proofs.Rising.{both, of_both}
 use Rattle.pfx_segment.specs.Frames.{IsFrame}
 use Rattle.pfx_store.specs.Holding.{IsStart}
-use Rattle.pfx_world.proofs.Machine.{number_of}
 use Rattle.pfx_journal.specs.Files.{behind_of, start_of}
 use Rattle.pfx_events.specs.Store.{frame_of}
-
--- records that are right have spellings
-fit_by : {J : Type 0} (K : Kind J) (s t : Plain J) (done : Recorded J) (records : List (Recorded J)) (b : Bool) → is_right K s done ≡ b → (if b then applied K (after_record s done) records else None) ≡ Some t →
-    IsTrue (record_fits s.ledger.set.workers done) × (applied K (after_record s done) records ≡ Some t)
-fit_by K s t done records true is h = ((both (record_fits s.ledger.set.workers done) (is_apt K (total s.ledger) s.jobs done && fits (after_record s done)) is).0, h)
-fit_by K s t done records false is h = absurd (none-some t h)
-
-all_fit_of : {J : Type 0} (K : Kind J) (s t : Plain J) (records : List (Recorded J)) → applied K s records ≡ Some t → IsTrue (all_fit s.ledger.set.workers records)
-all_fit_of K s t [] h = refl
-all_fit_of K s t (done ∷ records) h =
-    let first = fit_by K s t done records (is_right K s done) refl h in
-    of_both (record_fits s.ledger.set.workers done) (all_fit s.ledger.set.workers records) first.0 (all_fit_of K (after_record s done) t records first.1)
-
-length-records : {J : Type 0} (K : Kind J) (s : Plain J) (H : List (Command J)) → length (records_of K s H) ≡ length H
-length-records K s [] = refl
-length-records K s (c ∷ H) = omega (arith, length-records K (outcome K s (c ∷ [])) H)
 
 module _ {J : Type 0} (K : Kind J) (L : Laws K) (s : Plain J) (H : List (Command J)) (some : 0 < length H) (few : length H ≤ 16) (state : IsState s) (all : IsAcceptable K s H) where
   abbrev batch : PlainBatch J
@@ -59,27 +33,11 @@ module _ {J : Type 0} (K : Kind J) (L : Laws K) (s : Plain J) (H : List (Command
   abbrev workers : ℕ
   workers = s.ledger.set.workers
 
-  led : applied K s (records_of K s H) ≡ Some (outcome K s H)
-  led = records_outcome K L s H state all
-
-  after_state : IsState (outcome K s H)
-  after_state = prefix_is_state K L s state H [] (subst (λ l. IsAcceptable K s l) (sym (append-nil H)) all)
-
-  below : s.number + length H < 2 ^ 48
-  below = let n = after_state.number in let is = number_of K L s H in omega (arith, n, is)
-
   batch_fits_here : IsTrue (batch_fits s.ledger.set.workers (record { first = s.number + 1; records = records_of K s H }))
-  batch_fits_here =
-      let long = length-records K s H in
-      let m = state.ledger.set.workers in
-      let counts : IsTrue (counts_fit workers (s.number + 1) (length (records_of K s H))) =
-      of_both _ _ (of_both _ _ (lt-ltb 0 workers (omega (arith, m.0))) (le-leb workers 64 m.1))
-      (of_both _ _ (of_both _ _ (lt-ltb 0 (length (records_of K s H)) (omega (arith, long, some))) (le-leb (length (records_of K s H)) 16 (omega (arith, long, few))))
-      (of_both _ _ (lt-ltb 0 (s.number + 1) (omega arith)) (le-leb (s.number + 1 + length (records_of K s H)) (2 ^ 48) (omega (arith, long, below))))) in
-      of_both _ _ counts (all_fit_of K s (outcome K s H) (records_of K s H) led)
+  batch_fits_here = grouping.group_fits K L s H state all some few
 
   pub frame_led : state_after K s (frame_of K s H) ≡ Some (outcome K s H)
-  frame_led = frame_leads K L s (outcome K s H) batch batch_fits_here refl (omega (arith, length-records K s H, below)) led
+  frame_led = grouping.frame_led K L s H state all some few
 
   -- its length, and that it is one frame
   short : Short K L workers batch.first batch.records

@@ -1,19 +1,12 @@
 -- The store of the events is this product's: what its file stands for, and the calls of its acts.
-use Rattle.std.specs.Prelude.{ℕ, ◌+◌, List}
 use Rattle.pfx_acts.specs.Files.{IsFile, IsWhole}
-use Rattle.pfx_effect.specs.Recording.{records_of}
 use Rattle.pfx_format.specs.Format.{format}
 use Rattle.pfx_jobs.specs.Kind.{Kind}
 use Rattle.pfx_journal.specs.Files.{FileOf, spelled, appending, appended, tending, recovered_file}
-use Rattle.pfx_machine.specs.Plain.{Plain}
-use Rattle.pfx_machine.specs.declared.command.Command.{Command}
-use Rattle.pfx_record.specs.Batches.{batch_bytes}
 use Rattle.pfx_store.specs.Acts.{tended_file}
 use Rattle.pfx_world.specs.Setting.{Setting}
-
 -- the frame of a batch behind a state
-abbrev pub frame_of : {J : Type 0} → Kind J → Plain J → List (Command J) → List ℕ
-frame_of K s batch = batch_bytes K (record { first = s.number + 1; records = records_of K s batch })
+pub use Rattle.pfx_journal.specs.Groups.{frame_of}
 
 -- this product's store of a kind of job, as the world of events sees one
 abbrev pub store_of : {J : Type 0} → Kind J → Setting J
