@@ -28,7 +28,8 @@ pub fn ten_calls<D: Disk, J: Job>(
     ensures marked { IsHonest (D.view store.old.file.disk) → (start : Plain J) → (all : List (List ℕ)) → (noted : List Mark)
         → Covers J.kind start all noted store.old.file.broken store.old.state (D.view store.old.file.disk)
         → IfOk result (λ marks. Covers J.kind start
-        ((all ++ batch_bytes J.kind (batch_of first.now.first first.now.records.items) ∷ []) ++ batch_bytes J.kind (batch_of second.now.first second.now.records.items) ∷ [])
+        ((all ++ batch_bytes J.kind (batch_of first.now.first first.now.records.items) ∷ [])
+        ++ batch_bytes J.kind (batch_of second.now.first second.now.records.items) ∷ [])
         (marks.1 ∷ marks.0 ∷ noted) store.new.file.broken store.new.state (D.view store.new.file.disk)) }
     ensures kept { IsHonest (D.view store.old.file.disk) → (start : Plain J) → (all : List (List ℕ)) → (noted : List Mark)
         → Covers J.kind start all noted store.old.file.broken store.old.state (D.view store.old.file.disk)
