@@ -4,6 +4,7 @@ pub mod Keeping
 pub mod Places
 pub mod PlainLemmas
 pub mod Rising
+pub mod RowsLemmas
 pub mod RunLemmas
 pub mod Serving
 pub mod SessionLemmas

@@ -2,7 +2,8 @@
 
 ghost use Rattle.std.specs.Prelude.{◌≡◌, ℕ, List, ◌++◌, map, Option, Ok};
 ghost use Rattle.pfx_machine.specs.Plain.{Plain, IsState};
-ghost use Rattle.pfx_machine.specs.Happenings.{happenings};
+ghost use Rattle.pfx_choice.specs.Plans.{IsPlan};
+ghost use Rattle.pfx_machine.specs.Happenings.{happenings, rows_of};
 ghost use Rattle.pfx_machine.specs.Outcome.{outcome, quanta_of};
 ghost use Rattle.pfx_machine.specs.Rising.{RisesFrom};
 ghost use Rattle.pfx_machine.specs.Sessions.{IsAcceptable, replies};
@@ -32,6 +33,12 @@ pub fn accepted_is_acceptable<J: Job>()
 pub fn acceptable_lists_are_accepted<J: Job>()
     ensures accepted { (B : Plain J) (H : List (Command J)) → IsAcceptable J.kind B H → accepted J.kind B H ≡ H }
     ensures answers { (B : Plain J) (H : List (Command J)) → IsAcceptable J.kind B H → answers J.kind B H ≡ map Ok (replies J.kind B H) }
+{}
+
+/// The rows of an acceptable list are a plan from its start: each is the one that is chosen at the ledger that the rows
+/// before it leave.
+pub fn rows_are_chosen<J: Job>()
+    ensures { (B : Plain J) (H : List (Command J)) → IsAcceptable J.kind B H → IsPlan B.ledger (rows_of (happenings B H)) }
 {}
 
 /// The quanta of a job are different slots, none before the start: no slot steps a job twice.
