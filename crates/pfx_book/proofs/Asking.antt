@@ -7,7 +7,7 @@ use Rattle.pfx_effect.specs.Recording.{record_of, records_of}
 use Rattle.pfx_jobs.specs.Kind.{Kind, Laws}
 use Rattle.pfx_machine.specs.Plain.{Plain}
 use Rattle.pfx_machine.specs.Outcome.{outcome}
-use Rattle.pfx_machine.specs.Refusals.{refusal, reply}
+use Rattle.pfx_machine.specs.Refusals.{reply}
 use Rattle.pfx_machine.specs.Steps.{state_step, happening_in}
 use Rattle.pfx_machine.specs.declared.command.Command.{Command}
 use Rattle.pfx_machine.specs.declared.command.Reply.{Reply}

@@ -1,20 +1,19 @@
 -- What a book keeps, after each of its calls.
-use Rattle.std.specs.Prelude.{slice_get, nat_le}
-use Rattle.std.proofs.Common.{◌≡◌, ℕ, zero, suc, ◌+◌, ◌<◌, ◌≤◌, ◌^◌, List, [], ◌∷◌, ◌++◌, length, set, Option, Some, None, Bool, true, false, refl, sym, ap, ◌∙◌, subst, arith, append_assoc, append-nil, length-append}
+use Rattle.std.specs.Prelude.{slice_get}
+use Rattle.std.proofs.Common.{◌≡◌, ℕ, zero, suc, ◌+◌, ◌<◌, ◌≤◌, List, [], ◌∷◌, ◌++◌, length, set, Option, Some, None, true, refl, sym, ap, ◌∙◌, subst, arith, append_assoc, append-nil, length-append}
 use Rattle.pfx_fault.specs.declared.parts.Cause.{Cause}
-use Rattle.pfx_jobs.specs.Kind.{Kind, Laws}
-use Rattle.pfx_machine.specs.Plain.{Plain, IsState}
+use Rattle.pfx_jobs.specs.Kind.{Kind}
+use Rattle.pfx_machine.specs.Plain.{Plain}
 use Rattle.pfx_machine.specs.Outcome.{outcome}
-use Rattle.pfx_machine.specs.declared.command.Command.{Command}
 use Rattle.pfx_record.specs.Records.{Plain as Recorded}
 use Rattle.pfx_effect.specs.Recording.{records_of}
-use Rattle.pfx_book.specs.Merging.{of, lists_from, Tagged, IsMerge}
+use Rattle.pfx_book.specs.Merging.{of, lists_from}
 use Rattle.pfx_book.specs.declared.note.Note.{Note}
-use Rattle.pfx_book.specs.declared.note.Note.TheVariants.{Accepted, Refused, Receipt, Lost, Took, Marked, Failed}
-use Rattle.pfx_book.specs.Notes.{Noted, added, commands_of, Fits, Legal, greatest, records_in, taken_in, Backed, AllBacked, is_entry, entries_of}
+use Rattle.pfx_book.specs.declared.note.Note.TheVariants.{Lost, Marked, Failed}
+use Rattle.pfx_book.specs.Notes.{Noted, added, commands_of, Fits, Legal, greatest, records_in, taken_in, Backed, AllBacked, is_entry}
 use Rattle.pfx_book.specs.Kept.{IsTold, HasFailed, IsMarked, IsKept}
 use Rattle.pfx_book.proofs.Merges.{lists_get, lists_set, tagged_more, of_beyond, tagged_wider, lists_more, length_lists, some_is}
-use Rattle.pfx_book.proofs.Notes.{noted_more, noted_last, number_is, records_long, commands_more, legal_more, bounded, entries_more, entries_else, commands_entries, legal_entries, records_more, all_backed_more, all_backed_last, backed_entries}
+use Rattle.pfx_book.proofs.Notes.{noted_more, number_is, records_long, commands_more, legal_more, bounded, entries_more, entries_else, commands_entries, legal_entries, records_more, all_backed_more, all_backed_last}
 
 pub failed_more : {J : Type 0} (failure : Option Cause) (xs ys : List (Note J)) → HasFailed failure xs → HasFailed failure (xs ++ ys)
 failed_more None xs ys h = tt

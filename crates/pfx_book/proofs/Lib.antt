@@ -5,4 +5,5 @@ mod Taking
 mod Asking
 mod Showing
 mod Marking
+mod Dealing
 mod Gathering

@@ -41,12 +41,12 @@ module _ {J : Type 0} (K : Kind J) (start : Plain J) (session : List (ℕ × Not
 -- a slot that has room has it with a later mark too
 pub fits_later : {J : Type 0} (K : Kind J) (state : Plain J) (first : ℕ) (o : Option (Dealt J)) (marked later entries places : ℕ) → marked ≤ later → OpenFits K state first o marked entries places → OpenFits K state first o later entries places
 fits_later K state first None marked later entries places le h = tt
-fits_later K state first (Some o) marked later entries places le h = (h.0, h.1, omega (arith, h.2, le))
+fits_later K state first (Some o) marked later entries places le h = (h.0, h.1, omega (arith, h.2, le), h.3, h.4)
 
 -- and with more places
 pub fits_wider : {J : Type 0} (K : Kind J) (state : Plain J) (first : ℕ) (o : Option (Dealt J)) (marked entries places wider : ℕ) → entries < wider → OpenFits K state first o marked entries places → (later : ℕ) → later < wider → OpenFits K state first o marked later wider
 fits_wider K state first None marked entries places wider le h later lt = tt
-fits_wider K state first (Some o) marked entries places wider le h later lt = (h.0, lt, h.2)
+fits_wider K state first (Some o) marked entries places wider le h later lt = (h.0, lt, h.2, h.3, h.4)
 
 pub fits_none : {J : Type 0} (K : Kind J) (state : Plain J) (first : ℕ) (o : Option (Dealt J)) (marked entries places : ℕ) → o ≡ None → OpenFits K state first o marked entries places
 fits_none K state first o marked entries places none = subst (λ p. OpenFits K state first p marked entries places) (sym none) tt

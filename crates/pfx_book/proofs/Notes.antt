@@ -1,6 +1,6 @@
 -- Notes and sessions that are one longer.
-use Rattle.std.specs.Prelude.{if◌then◌else◌, ◌==◌, unwrap_or, option_map, ◌⊎◌, nat_le}
-use Rattle.std.proofs.Common.{◌≡◌, ℕ, zero, suc, ◌+◌, ◌<◌, ◌≤◌, ◌^◌, max, List, [], ◌∷◌, ◌++◌, length, Option, Some, None, Bool, true, false, refl, sym, ap, ◌∙◌, subst, arith, append_assoc, append-nil, length-append, inl, inr}
+use Rattle.std.specs.Prelude.{if◌then◌else◌, ◌==◌, unwrap_or, option_map, nat_le}
+use Rattle.std.proofs.Common.{◌≡◌, ℕ, suc, ◌+◌, ◌≤◌, ◌^◌, max, List, [], ◌∷◌, ◌++◌, length, Option, Some, None, Bool, true, false, refl, sym, ap, ◌∙◌, subst, arith, append_assoc, append-nil, length-append, inl, inr}
 use Rattle.std.proofs.lemmas.Option.{none-some}
 use Rattle.pfx_fault.specs.declared.parts.Cause.{Cause}
 use Rattle.pfx_jobs.specs.Kind.{Kind}
@@ -8,11 +8,10 @@ use Rattle.pfx_machine.specs.Plain.{Plain}
 use Rattle.pfx_machine.specs.Happenings.{happening, happenings_behind, happenings}
 use Rattle.pfx_machine.specs.declared.plain.Happening.{Happening}
 use Rattle.pfx_machine.specs.Outcome.{outcome}
-use Rattle.pfx_machine.specs.Refusals.{refusal, reply}
+use Rattle.pfx_machine.specs.Refusals.{refusal}
 use Rattle.pfx_machine.specs.Sessions.{AllAccepted}
 use Rattle.pfx_machine.specs.declared.command.Command.{Command}
 use Rattle.pfx_machine.specs.declared.faults.MachineFault.{MachineFault}
-use Rattle.pfx_record.specs.Records.{Plain as Recorded}
 use Rattle.pfx_effect.specs.Recording.{records_of}
 use Rattle.pfx_book.specs.Merging.{of}
 use Rattle.pfx_book.specs.declared.faults.BookFault.TheVariants.{SessionFull, Machine}
@@ -20,7 +19,7 @@ use Rattle.pfx_book.specs.declared.note.Note.{Note}
 use Rattle.pfx_book.specs.declared.note.Note.TheVariants.{Accepted, Refused, Receipt, Lost, Took, Marked, Failed}
 use Rattle.pfx_book.specs.declared.line.Line.{Line}
 use Rattle.pfx_book.specs.declared.line.Line.TheVariants as line
-use Rattle.pfx_book.specs.Notes.{Noted, added, commands_of, receipt_in, receipts_of, refused_at, refused_in, Fits, Legal, number_in, greatest, lost_or, lost_in, taken_in, records_in, Backed, AllBacked, is_entry, entries_of}
+use Rattle.pfx_book.specs.Notes.{Noted, added, commands_of, receipt_in, receipts_of, refused_at, Fits, Legal, number_in, greatest, lost_or, lost_in, taken_in, records_in, Backed, AllBacked, is_entry, entries_of}
 use Rattle.pfx_book.specs.Lines.{pass_of, IsOf, said_of, entry_of, told}
 use Rattle.pfx_book.proofs.Merges.{behind}
 

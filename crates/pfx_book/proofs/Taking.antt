@@ -1,8 +1,10 @@
 -- The records that are taken next.
 use Rattle.std.specs.Prelude.{slice_get, if◌then◌else◌, IsTrue, ◌&&◌}
-use Rattle.std.proofs.Common.{◌≡◌, ℕ, zero, suc, ◌+◌, ◌<◌, ◌≤◌, ◌^◌, List, [], ◌∷◌, ◌++◌, length, map, set, Option, Some, None, Bool, true, false, refl, sym, ap, ◌∙◌, subst, arith, append_assoc, append-nil, length-append}
+use Rattle.std.proofs.Common.{◌≡◌, ℕ, suc, ◌+◌, ◌<◌, ◌≤◌, ◌^◌, List, [], ◌∷◌, ◌++◌, length, map, set, take, drop, Option, Some, None, Bool, true, false, refl, sym, ap, ◌∙◌, subst, arith, length-append}
 use Rattle.std.proofs.lemmas.Bool.{lt-ltb, le-leb}
+use Rattle.std.proofs.lemmas.List.{take-append-drop, length-take-le}
 use Rattle.std.proofs.lemmas.Option.{none-some}
+use Rattle.pfx_slot.proofs.Placed.{take_own}
 use Rattle.pfx_fault.specs.declared.parts.Cause.{Cause}
 use Rattle.pfx_jobs.specs.Kind.{Kind, Laws}
 use Rattle.pfx_machine.specs.Plain.{Plain, IsState}
@@ -25,8 +27,15 @@ use Rattle.pfx_book.specs.declared.note.Note.TheVariants.{Took, Marked}
 use Rattle.pfx_book.specs.Notes.{Noted, commands_of, records_in, GoesOn}
 use Rattle.pfx_book.specs.Kept.{HasFailed, IsKept}
 use Rattle.pfx_book.proofs.Merges.{some_is}
-use Rattle.pfx_book.proofs.Notes.{noted_more, all_accepted}
-use Rattle.pfx_book.proofs.Keeping.{flushed_is, kept_note, failed_more}
+use Rattle.pfx_book.proofs.Notes.{noted_more, records_long, all_accepted}
+use Rattle.pfx_book.proofs.Keeping.{flushed_is, commands_are, all_taken, kept_note, failed_more}
+
+drop_own : {A : Type 0} (xs rest : List A) → drop (length xs) (xs ++ rest) ≡ rest
+drop_own [] rest = refl
+drop_own (x ∷ xs) rest = drop_own xs rest
+
+tails : {A : Type 0} (xs us ys vs : List A) → length us ≡ length xs → xs ++ ys ≡ us ++ vs → ys ≡ vs
+tails xs us ys vs long e = sym (drop_own xs ys) ∙ ap (drop (length xs)) e ∙ ap (λ k. drop k (us ++ vs)) (sym long) ∙ drop_own us vs
 
 module _ {J : Type 0} (K : Kind J) where
   records_split : (L : Laws K) (s : Plain J) (H G : List (Command J)) → records_of K s (H ++ G) ≡ records_of K s H ++ records_of K (outcome K s H) G
@@ -113,6 +122,25 @@ module _ {J : Type 0} (K : Kind J) where
         let w : workers ≡ l.t.ledger.set.workers = is ∙ ap (λ v. v.workers) (sym l.set) in
         let f : first ≡ l.t.number + 1 = omega (arith, begins, long) in
         subst (λ (v : Plain J). (workers ≡ v.ledger.set.workers) × (first ≡ v.number + 1) × ((u : Plain J) × (applied K v batch ≡ Some u))) same (w, f, (l.u, l.next))
+
+    -- the batch is of the next commands
+    pub next_is : Now → batch ≡ records_of K (outcome K start (take taken (commands_of session))) (take (length batch) (drop taken (commands_of session)))
+    next_is h =
+        let H = commands_of session in
+        let T = take taken H in
+        let G = drop taken H in
+        let t = outcome K start T in
+        let k = length batch in
+        let all = all_taken K start session lists n state (batch ++ rest) taken marked clock failure h in
+        let few : taken ≤ length H = omega (arith, all) in
+        let two : records_in h.flushed ++ (batch ++ rest) ≡ records_of K start T ++ records_of K t G =
+        sym h.is_told.records ∙ ap (records_of K start) (sym (commands_are K start session lists n state (batch ++ rest) taken marked clock failure h) ∙ sym (take-append-drop taken H)) ∙ records_split L start T G in
+        let long : length (records_of K start T) ≡ length (records_in h.flushed) = records_long K start T ∙ length-take-le taken H few ∙ h.is_marked.taken_is in
+        let next : batch ++ rest ≡ records_of K t G = tails (records_in h.flushed) (records_of K start T) (batch ++ rest) (records_of K t G) long two in
+        let split : batch ++ rest ≡ records_of K t (take k G) ++ records_of K (outcome K t (take k G)) (drop k G) = next ∙ ap (records_of K t) (sym (take-append-drop k G)) ∙ records_split L t (take k G) (drop k G) in
+        let size : k ≤ length G = omega (arith, ap length next, records_long K t G, length-append batch rest) in
+        let same : length (records_of K t (take k G)) ≡ k = records_long K t (take k G) ∙ length-take-le k G size in
+        sym (take_own k batch rest refl) ∙ ap (take k) split ∙ take_own k (records_of K t (take k G)) (records_of K (outcome K t (take k G)) (drop k G)) same
 
     pub kept_take : (mine : List (Note J)) (first : ℕ) (records : Vec (Record J)) → (h : Now) → slice_get lists 0 ≡ Some mine → map plain records.items ≡ batch
         → IsKept K start session (set lists 0 (mine ++ Took first records ∷ [])) n state rest (taken + length batch) marked clock failure

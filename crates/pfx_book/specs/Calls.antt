@@ -1,10 +1,18 @@
 -- What the book's calls do.
-use Rattle.std.specs.Prelude.{◌≡◌, ◌⊎◌, ℕ, ◌^◌, List, [], ◌∷◌, ◌++◌, length, Option, None, Some, nat_le}
+use Rattle.std.specs.Prelude.{◌≡◌, ◌≢◌, ◌⊎◌, ℕ, ◌^◌, ◌<◌, List, [], ◌∷◌, ◌++◌, length, take, drop, slice_get, Option, None, Some, nat_le, ⊤}
+use Rattle.pfx_crew.specs.Gathering.{Refuses as Repels}
+use Rattle.pfx_crew.specs.declared.gathering.GatherFault.{GatherFault}
+use Rattle.pfx_crew.specs.declared.gathering.GatherFault.TheVariants.{Stranger}
 use Rattle.pfx_fault.specs.declared.parts.Cause.{Cause}
 use Rattle.pfx_jobs.specs.Kind.{Kind}
 use Rattle.pfx_machine.specs.declared.command.Command.{Command}
 use Rattle.pfx_machine.specs.declared.faults.MachineFault.TheVariants.{NoMemory}
-use Rattle.pfx_world.specs.Session.{Session}
+use Rattle.pfx_machine.specs.Plain.{Plain}
+use Rattle.pfx_machine.specs.Outcome.{outcome}
+use Rattle.pfx_machine.specs.Slots.{Deal}
+use Rattle.pfx_record.specs.Records.{Plain as Recorded}
+use Rattle.pfx_effect.specs.Recording.{records_of}
+use Rattle.pfx_world.specs.Session.{Session, Opened, AllBack, MayGive, gave}
 use Rattle.pfx_book.specs.declared.faults.BookFault.{BookFault}
 use Rattle.pfx_book.specs.declared.faults.BookFault.TheVariants.{Machine}
 use Rattle.pfx_book.specs.declared.note.Note.{Note}
@@ -37,3 +45,26 @@ module _ {J : Type 0} where
   abbrev pub once_lost : Option Cause → Cause → List (Note J) → List (Note J)
   once_lost None cause notes = notes ++ Lost cause ∷ []
   once_lost (Some before) cause notes = notes
+
+  -- no result of the open slot is missing, if one is open
+  abbrev pub NoneMissing : Option (Opened J) → Type 0
+  NoneMissing None = ⊤
+  NoneMissing (Some o) = AllBack o.back
+
+  -- this is the first quantum of the open slot whose result isn't back
+  abbrev pub IsFirstMissing : Option (Opened J) → Deal J → Type 0
+  IsFirstMissing None d = ⊥
+  IsFirstMissing (Some o) d = (place : ℕ) × (slice_get o.quanta place ≡ Some d) × (slice_get o.back place ≡ Some None) × ((k : ℕ) → k < place → slice_get o.back k ≢ Some None)
+
+  -- this quantum's result comes back: the quantum, stepped
+  abbrev pub ComesBack : Kind J → Deal J → Register J → Register J → Type 0
+  ComesBack K d old new = (place : ℕ) × MayGive old.session place d × (new ≡ record old { session = gave place (K.stepped d.before) old.session })
+
+  -- why a result doesn't come back: it is no quantum's of the open slot, or its place is taken
+  abbrev pub IsRepelled : Option (Opened J) → Deal J → GatherFault → Type 0
+  IsRepelled None d fault = fault ≡ Stranger d.task
+  IsRepelled (Some o) d fault = Repels o.quanta d o.back fault
+
+  -- the records of the next n accepted commands behind those that were taken
+  abbrev pub next_records : Kind J → Plain J → ℕ → Session J → List (Recorded J)
+  next_records K start n b = records_of K (outcome K start (take b.taken b.accepted)) (take n (drop b.taken b.accepted))

@@ -1,12 +1,12 @@
 -- What a book's type keeps.
-use Rattle.std.specs.Prelude.{◌≡◌, ℕ, ◌+◌, ◌<◌, ◌≤◌, List, [], ◌∷◌, ◌++◌, length, Option, None, Some, ⊤, true}
+use Rattle.std.specs.Prelude.{◌≡◌, ℕ, ◌+◌, ◌^◌, ◌<◌, ◌≤◌, List, [], ◌∷◌, ◌++◌, length, Option, None, Some, ⊤, true}
 use Rattle.pfx_fault.specs.declared.parts.Cause.{Cause}
 use Rattle.pfx_jobs.specs.Kind.{Kind}
 use Rattle.pfx_machine.specs.Plain.{Plain, IsState}
 use Rattle.pfx_machine.specs.Outcome.{outcome}
 use Rattle.pfx_record.specs.Records.{Plain as Recorded}
 use Rattle.pfx_effect.specs.Recording.{records_of}
-use Rattle.pfx_slot.specs.Dealt.{Dealt, StandsAt}
+use Rattle.pfx_slot.specs.Dealt.{Dealt, Answers, StandsAt}
 use Rattle.pfx_book.specs.Merging.{lists_from, Tagged}
 use Rattle.pfx_book.specs.declared.note.Note.{Note}
 use Rattle.pfx_book.specs.declared.note.Note.TheVariants.{Marked, Failed}
@@ -47,7 +47,8 @@ module _ {J : Type 0} where
     pub is_told : IsTold K start flushed all lists passes state pending
     pub is_marked : IsMarked start.number flushed all taken marked clock failure
 
-  -- a slot is open: it is the state's, there is a place for its entry, and it has room before the mark is 64 behind
+  -- a slot is open: it is the state's, there is a place for its entry, it has room before the mark is 64 behind and before the
+  -- session is full, and each result that is back is its quantum's
   abbrev pub OpenFits : Kind J → Plain J → ℕ → Option (Dealt J) → ℕ → ℕ → ℕ → Type 0
   OpenFits K state first None marked entries places = ⊤
-  OpenFits K state first (Some o) marked entries places = StandsAt K state o × (entries < places) × (state.number < first + marked + 64)
+  OpenFits K state first (Some o) marked entries places = StandsAt K state o × (entries < places) × (state.number < first + marked + 64) × (state.number < first + 2 ^ 20) × Answers o.quanta o.back

@@ -1,5 +1,5 @@
 -- What a book shows: the book of the world's events, its entries, and who is there.
-use Rattle.std.specs.Prelude.{◌≡◌, ℕ, ◌+◌, ◌<◌, List, [], length, map, Option, None, Some, option_map, is_some, Bool, true, false}
+use Rattle.std.specs.Prelude.{ℕ, ◌+◌, ◌<◌, List, [], length, map, Option, None, option_map, is_some, Bool, false}
 use Rattle.pfx_fault.specs.declared.parts.Cause.{Cause}
 use Rattle.pfx_jobs.specs.Kind.{Kind}
 use Rattle.pfx_machine.specs.Plain.{Plain}

@@ -1,13 +1,18 @@
 -- What comes of a command that is tried.
-use Rattle.std.specs.Prelude.{◌≡◌, Bool, List, [], ◌∷◌, ◌++◌, None, Some}
+use Rattle.std.specs.Prelude.{◌≡◌, ◌⊎◌, Bool, List, [], ◌∷◌, ◌++◌, Option, None, Some}
 use Rattle.pfx_jobs.specs.Kind.{Kind}
 use Rattle.pfx_machine.specs.Plain.{Plain}
 use Rattle.pfx_machine.specs.Outcome.{outcome}
 use Rattle.pfx_machine.specs.Refusals.{reply}
 use Rattle.pfx_machine.specs.declared.command.Command.{Command}
+use Rattle.pfx_machine.specs.declared.command.Command.TheVariants.{Slot}
 use Rattle.pfx_record.specs.Records.{plain}
 use Rattle.pfx_effect.specs.Recording.{record_of}
+use Rattle.pfx_machine.specs.declared.faults.MachineFault.TheVariants as fault
+use Rattle.pfx_slot.specs.Dealt.{Dealt, AllBack}
 use Rattle.pfx_book.specs.Notes.{refused_at}
+use Rattle.pfx_book.specs.declared.faults.BookFault.{BookFault}
+use Rattle.pfx_book.specs.declared.faults.BookFault.TheVariants.{Machine}
 use Rattle.pfx_book.specs.declared.trying.Tried.{Tried}
 use Rattle.pfx_book.specs.declared.trying.Tried.TheVariants.{Done, Refused, NoMemory}
 
@@ -16,3 +21,12 @@ Tries {J = J} K full s c t (Done copy said entry) = (copy ≡ c) × (refused_at 
     × ((B : Plain J) → (H : List (Command J)) → s ≡ outcome K B H → t ≡ outcome K B (H ++ c ∷ []))
 Tries K full s c t (Refused copy fault) = (copy ≡ c) × (refused_at full K s c ≡ Some fault) × (t ≡ s)
 Tries K full s c t NoMemory = t ≡ s
+
+-- why no slot was opened: memory was refused, or the session refuses one
+abbrev pub StaysUnopened : {J : Type 0} → Kind J → Bool → Plain J → BookFault → Type 0
+StaysUnopened K full s why = (why ≡ Machine fault.NoMemory) ⊎ (refused_at full K s Slot ≡ Some why)
+
+-- a slot is open, and all its results are back
+abbrev pub IsReady : {J : Type 0} → Option (Dealt J) → Type 0
+IsReady None = ⊥
+IsReady (Some o) = AllBack o.back

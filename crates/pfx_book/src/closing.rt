@@ -1,12 +1,13 @@
 //! Receipts, failures, and the end of a session.
-ghost use Rattle.std.specs.Prelude.{◌≡◌, ◌≢◌, ◌≤◌, ◌+◌, map, IfOk, OnErr, Some, None, true, IsTrue};
+ghost use Rattle.std.specs.Prelude.{◌≡◌, ◌≢◌, ◌≤◌, ◌+◌, map, length, IfOk, OnErr, Some, None, true, IsTrue};
 ghost use Rattle.pfx_world.specs.Session.{receipted};
 ghost use Rattle.pfx_book.specs.Calls.{entered, noted, once_lost};
 ghost use Rattle.pfx_book.specs.Merging.{of, IsMerge};
-ghost use Rattle.pfx_book.specs.Notes.{lost_in, answers_of};
-ghost use Rattle.pfx_book.specs.declared.note.Note.TheVariants.{Receipt as Receipted};
+ghost use Rattle.pfx_book.specs.Kept.{HasFailed};
+ghost use Rattle.pfx_book.specs.Notes.{lost_in, answers_of, records_in, Noted, AllBacked};
+ghost use Rattle.pfx_book.specs.declared.note.Note.TheVariants.{Marked, Receipt as Receipted};
 
-use crate::book::{Book, Pass};
+use crate::book::{Book, Pass, Share};
 use crate::line::Line;
 use crate::name::Named;
 use crate::note::Note;
@@ -64,6 +65,18 @@ impl<J: Job, B: Named<J>> Book<J, B> {
             self.keeper.note(&mut pass.token, &Note::Lost(cause));
             pass.cause = Some(cause);
         }
+    }
+
+    /// Looks at the flusher's share, which changes nothing: each receipt of the session rests on one of the share's marks, no
+    /// lower and with its clock, and so do the last mark, what was taken, and the failure on its notes.
+    pub fn settled(&mut self, share: &mut Share<J, B>)
+        ensures same { (self.new ≡ self.old) × (share.new ≡ share.old) }
+        ensures backed { AllBacked share.old self.old.history }
+        ensures mark { Noted (Marked (B.start.number + self.old.session.marked) self.old.session.marked_at) share.old }
+        ensures taken { self.old.session.taken ≡ length (records_in share.old) }
+        ensures failed { HasFailed self.old.failure share.old }
+    {
+        self.keeper.look(&mut share.token);
     }
 
     /// From now on nothing is accepted.

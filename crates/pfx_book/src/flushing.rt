@@ -2,6 +2,7 @@
 ghost use Rattle.std.specs.Prelude.{◌≡◌, [], ◌∷◌, ◌++◌, ◌≤◌, ◌+◌, length, map, IfOk, OnErr, Some, vec_capacity};
 ghost use Rattle.pfx_record.specs.Records.{plain};
 ghost use Rattle.pfx_world.specs.Session.{took, marked_now, gave_up};
+ghost use Rattle.pfx_book.specs.Calls.{next_records};
 ghost use Rattle.pfx_book.specs.Notes.{records_in, took_in, GoesOn};
 ghost use Rattle.pfx_book.specs.declared.note.Note.TheVariants.{Took, Marked, Failed};
 
@@ -35,6 +36,7 @@ impl<J: Job, B: Named<J>> Book<J, B> {
         requires room { 16 ≤ vec_capacity room }
         ensures event { IfOk result (λ b. self.new ≡ record self.old { session = took (length b.records.items) self.old.session }) }
         ensures noted { IfOk result (λ b. share.new ≡ share.old ++ Took b.first b.records ∷ []) }
+        ensures commands { IfOk result (λ b. map plain b.records.items ≡ next_records J.kind B.start (length b.records.items) self.old.session) }
         ensures next { IfOk result (λ b. GoesOn J.kind B.start share.old b.workers b.first (map plain b.records.items)) }
         ensures err { OnErr result ((self.old.session.taken ≡ length self.old.session.accepted) × (self.new ≡ self.old) × (share.new ≡ share.old)) }
     {

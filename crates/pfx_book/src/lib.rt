@@ -25,4 +25,5 @@ mod line;
 pub mod name;
 pub mod note;
 mod room;
+mod slots;
 mod trying;

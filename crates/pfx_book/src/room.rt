@@ -9,6 +9,7 @@ pub fn make_room<T: Drop>(list: &mut Vec<T>, more: usize) -> bool
     requires { more < 8 }
     ensures items { list.new.items ≡ list.old.items }
     ensures room { IsTrue result → vec_len list.new + more ≤ vec_capacity list.new }
+    ensures fits { IsTrue result → length list.new.items + more ≤ vec_capacity list.new }
     ensures grows { vec_capacity list.old ≤ vec_capacity list.new }
 {
     list.reserve(more).is_ok()

@@ -1,18 +1,16 @@
-use Rattle.std.specs.Prelude.{Some, None, nat_le, vec_capacity, option_map}
-use Rattle.std.specs.VecDeque.{deque_items, deque_capacity}
-use Rattle.std.proofs.Common.{◌≡◌, ℕ, List, [], ◌∷◌, ◌++◌, ◌<◌, ◌≤◌, ◌+◌, ◌^◌, length, max, map, Bool, true, false, refl, sym, ap, ◌∙◌, subst, arith, rules, append-nil, inl, inr}
+use Rattle.std.specs.Prelude.{Some}
+use Rattle.std.specs.VecDeque.{deque_items}
+use Rattle.std.proofs.Common.{◌≡◌, ℕ, List, [], ◌∷◌, ◌++◌, ◌<◌, ◌+◌, length, map, true, false, refl, sym, ap, ◌∙◌, subst, arith, inr}
 use Rattle.std.proofs.lemmas.List.{map-append}
 use Rattle.pfx_machine.specs.Plain.{Plain}
-use Rattle.pfx_machine.specs.Outcome.{outcome}
 use Rattle.pfx_machine.specs.Steps.{state_step, happening_in}
 use Rattle.pfx_machine.specs.declared.command.Command.{Command}
 use Rattle.pfx_world.specs.Session.{asked}
-use Rattle.pfx_machine.specs.Refusals.{refusal, reply}
+use Rattle.pfx_machine.specs.Refusals.{reply}
 use Rattle.pfx_record.specs.Records.{plain, Plain as Recorded}
-use Rattle.pfx_effect.specs.Recording.{record_of, records_of}
 use Rattle.pfx_book.specs.declared.note.Note.{Note}
 use Rattle.pfx_book.specs.declared.note.Note.TheVariants.{Accepted, Refused}
-use Rattle.pfx_book.specs.Notes.{greatest, lost_in, commands_of, Fits, refused_at}
+use Rattle.pfx_book.specs.Notes.{greatest, lost_in, commands_of, refused_at}
 use Rattle.pfx_book.specs.Lines.{told}
 use Rattle.pfx_book.specs.declared.line.Line.{Line}
 use Rattle.pfx_book.specs.Register.{Register, register, HasRoom}
@@ -20,8 +18,8 @@ use Rattle.pfx_book.specs.Lines.{IsOf}
 use Rattle.pfx_book.proofs.Taking.{length_map}
 use Rattle.pfx_book.specs.Calls.{entered, refused_by}
 use Rattle.pfx_book.specs.Kept.{IsKept}
-use Rattle.pfx_book.proofs.Notes.{greatest_more, greatest_same, lost_more, told_accepted, told_refused, free_of}
-use Rattle.pfx_book.proofs.Keeping.{state_number, outcome_is, all_taken, low}
+use Rattle.pfx_book.proofs.Notes.{greatest_more, greatest_same, lost_more}
+use Rattle.pfx_book.proofs.Keeping.{outcome_is, all_taken, low}
 use Rattle.pfx_book.proofs.Marking.{fits_none}
 use Rattle.pfx_book.proofs.Asking.{full_is, accepts, refuses, one_step}
 use Rattle.pfx_book.proofs.Showing.{none_shown, shows_asked, shows_refused}

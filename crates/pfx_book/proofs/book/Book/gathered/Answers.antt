@@ -1,9 +1,8 @@
-use Rattle.std.proofs.Common.{◌≡◌, ℕ, List, ◌<◌, ◌≤◌, ◌+◌, ◌++◌, ◌∷◌, [], length, map, get_or, true, refl, sym, ap, ◌∙◌, subst, arith, rules}
+use Rattle.std.proofs.Common.{◌≡◌, ℕ, List, ◌<◌, ◌≤◌, ◌+◌, length, map, refl, sym, ap, ◌∙◌, subst, arith, rules}
 use Rattle.pfx_book.specs.declared.note.Note.{Note}
-use Rattle.pfx_book.specs.Merging.{of, lists_from}
+use Rattle.pfx_book.specs.Merging.{lists_from}
 use Rattle.pfx_book.specs.Notes.{answers_of}
 use Rattle.pfx_book.specs.Register.{Register}
-use Rattle.pfx_book.specs.Lines.{told}
 use Rattle.pfx_book.specs.Merging.{IsMerge}
 use Rattle.pfx_book.proofs.Gathering.{gathered_more, gathered_all}
 use Rattle.pfx_book.proofs.book.Book.gathered.Goals as goal

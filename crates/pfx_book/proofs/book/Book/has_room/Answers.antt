@@ -1,8 +1,4 @@
-use Rattle.std.specs.Prelude.{map}
-use Rattle.std.specs.VecDeque.{deque_items}
-use Rattle.std.proofs.Common.{◌≡◌, ◌+◌, ◌-◌, ◌<◌, ◌≤◌, length, ap, sym, arith}
-use Rattle.pfx_book.specs.Lines.{told}
-use Rattle.pfx_book.specs.Notes.{commands_of}
+use Rattle.std.proofs.Common.{length, ap, sym, arith}
 use Rattle.pfx_book.specs.Register.{Register}
 use Rattle.pfx_book.proofs.Keeping.{state_number, all_taken, low}
 use Rattle.pfx_book.proofs.Showing.{room_is}

@@ -1,6 +1,4 @@
-use Rattle.std.specs.Prelude.{map}
-use Rattle.std.specs.VecDeque.{deque_items}
-use Rattle.std.proofs.Common.{◌≡◌, ◌+◌, ◌<◌, length, arith}
+use Rattle.std.proofs.Common.{arith}
 use Rattle.pfx_book.proofs.Keeping.{state_number, all_taken, low}
 use Rattle.pfx_book.proofs.book.Book.marked.Goals as goal
 

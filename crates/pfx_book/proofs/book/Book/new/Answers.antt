@@ -1,6 +1,5 @@
-use Rattle.std.specs.Prelude.{None, Some, slice_get, slice_set, map}
-use Rattle.std.specs.VecDeque.{deque_items}
-use Rattle.std.proofs.Common.{◌≡◌, ◌++◌, ◌∷◌, [], ℕ, List, length, sym, subst, refl, ap, ◌∙◌, arith}
+use Rattle.std.specs.Prelude.{None, slice_set, map}
+use Rattle.std.proofs.Common.{◌≡◌, ◌++◌, ◌∷◌, [], List, length, sym, subst, ap, ◌∙◌}
 use Rattle.pfx_machine.specs.Plain.{Plain}
 use Rattle.pfx_record.specs.Records.{plain, Plain as Recorded}
 use Rattle.pfx_book.specs.declared.note.Note.{Note}

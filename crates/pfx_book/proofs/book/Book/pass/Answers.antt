@@ -1,6 +1,6 @@
 use Rattle.std.specs.Prelude.{map}
 use Rattle.std.specs.VecDeque.{deque_items}
-use Rattle.std.proofs.Common.{◌≡◌, ◌<◌, ◌+◌, ◌++◌, ◌∷◌, [], refl, sym, ap, ◌∙◌, subst, arith, rules}
+use Rattle.std.proofs.Common.{◌+◌, [], sym, ap, ◌∙◌, subst, arith}
 use Rattle.pfx_record.specs.Records.{plain}
 use Rattle.pfx_book.specs.Lines.{told}
 use Rattle.pfx_book.specs.Kept.{IsKept}

@@ -1,6 +1,6 @@
-use Rattle.std.specs.Prelude.{Some, None, map, vec_capacity}
+use Rattle.std.specs.Prelude.{map, vec_capacity}
 use Rattle.std.specs.VecDeque.{deque_items}
-use Rattle.std.proofs.Common.{◌≡◌, ℕ, List, [], ◌∷◌, ◌++◌, ◌<◌, ◌≤◌, ◌+◌, length, refl, sym, ap, ◌∙◌, subst, arith, rules}
+use Rattle.std.proofs.Common.{ℕ, List, [], ◌∷◌, ◌++◌, ◌<◌, ◌≤◌, ◌+◌, length, refl, sym, ap, ◌∙◌, subst, arith, rules}
 use Rattle.pfx_machine.specs.Outcome.{outcome}
 use Rattle.pfx_record.specs.Records.{plain}
 use Rattle.pfx_world.specs.Session.{receipted}

@@ -1,19 +1,19 @@
-use Rattle.std.specs.Prelude.{Some, None, slice_get, slice_set, map, IsTrue}
-use Rattle.std.specs.VecDeque.{deque_items, deque_capacity}
-use Rattle.std.proofs.Common.{◌≡◌, ℕ, List, [], ◌∷◌, ◌++◌, ◌<◌, ◌≤◌, ◌+◌, ◌-◌, length, refl, sym, ap, ◌∙◌, subst, arith, rules, length-append}
+use Rattle.std.specs.Prelude.{Some, slice_get, slice_set, map, IsTrue}
+use Rattle.std.specs.VecDeque.{deque_items}
+use Rattle.std.proofs.Common.{◌≡◌, ℕ, List, [], ◌∷◌, ◌++◌, ◌<◌, ◌+◌, ◌-◌, length, refl, sym, ap, ◌∙◌, subst, arith, rules, length-append}
 use Rattle.std.proofs.lemmas.List.{map-append}
-use Rattle.pfx_machine.specs.Plain.{Plain}
 use Rattle.pfx_record.specs.Batches.{batch_fits}
 use Rattle.pfx_record.specs.Records.{plain, Plain as Recorded}
 use Rattle.pfx_book.specs.declared.note.Note.{Note}
 use Rattle.pfx_book.specs.declared.note.Note.TheVariants.{Took}
 use Rattle.pfx_book.specs.Notes.{GoesOn, commands_of}
+use Rattle.pfx_book.specs.Calls.{next_records}
 use Rattle.pfx_book.specs.Lines.{told}
 use Rattle.pfx_book.specs.Kept.{IsKept}
 use Rattle.pfx_book.specs.Register.{Register}
 use Rattle.pfx_book.proofs.Merges.{some_is}
 use Rattle.pfx_book.proofs.Keeping.{all_taken, state_number}
-use Rattle.pfx_book.proofs.Taking.{enough, fits_next, goes_on, kept_take, length_map, nil_of}
+use Rattle.pfx_book.proofs.Taking.{enough, fits_next, goes_on, next_is, kept_take, length_map, nil_of}
 use Rattle.pfx_book.proofs.book.Book.take_batch.Goals as goal
 
 pub returns-then-is_empty-clause-err : goal.returns-then-is_empty-clause-err
@@ -114,6 +114,23 @@ invariant_of-self-in-Some g c =
       c.self.invariant.2,
       omega (arith, c.self.invariant.3, c.take_front-records.ensures.capacity),
     )
+
+pub returns-in-Some-clause-commands : goal.returns-in-Some-clause-commands
+returns-in-Some-clause-commands g c =
+    let s = c.self.inside in
+    let K = g.J.Job.kind in
+    let L = g.met.J.Job.laws in
+    let B = g.B.Named.start in
+    let xs = told K B [] s.history.items in
+    let batch = map plain c.take_front-records.result.items in
+    let rest = map plain (deque_items c.take_front-records.new.pending) in
+    let split = ap (map plain) c.take_front-records.ensures.split ∙ map-append plain c.take_front-records.result.items (deque_items c.take_front-records.new.pending) in
+    let h = subst (λ l. IsKept K B xs s.keeper s.passes s.state l s.taken s.marked s.clock s.failure) split c.self.invariant.0 in
+    let same = some_is c.take_front-records.result c.in-Some.records (sym c.took_of.ensures ∙ c.in-Some.is) in
+    let records = same ∙ sym c.new.ensures.records in
+    let next = next_is K L B xs s.keeper s.passes s.state batch rest s.taken s.marked s.clock s.failure h in
+    let long = length_map plain c.take_front-records.result.items ∙ (λ i. length (records i).items) in
+    (λ i. map plain (sym records i).items) ∙ next ∙ (λ i. next_records K B (long i) (c.self.view_is i).session)
 
 pub returns-in-Some-clause-next : goal.returns-in-Some-clause-next
 returns-in-Some-clause-next g c =
