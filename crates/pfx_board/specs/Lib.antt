@@ -1,0 +1,4 @@
+pub mod Name
+pub mod Word
+pub mod Shown
+pub mod Publisher

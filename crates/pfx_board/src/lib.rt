@@ -1,0 +1,23 @@
+//! The board: what readers see of the durable commands, without waiting for anybody.
+//!
+//! The flusher appends batches to the store, one after the other. Behind each it publishes the batch, and the board then shows
+//! the state behind it: its number, its slot, and a line for each task. Readers look at the board of the last publication, in
+//! one of two copies of it, while the writer changes the other; so no reader takes a lock.
+//!
+//! - `word`: a `Word` is a beginning of the durable batches. It may be copied and given to any thread.
+//! - `receipt`: a number that is durable since a clock, with a word that reaches it.
+//! - `shown`: what lies in each of the two copies: a board, with the word that it is of.
+//! - `publisher`: where the durable list grows, and is published.
+//! - `reader`: a reader knows a word: all that it saw and was told of. It shows no less.
+//!
+//! What types keep: the batches that a reader knows, and those that are shown, begin the durable ones; what is shown is the
+//! board of the state behind them. That a reader does get to see what was published before it was told, and so isn't answered
+//! `BoardShut`, is shown by tests alone.
+#![tactic(auto)]
+
+pub mod name;
+pub mod publisher;
+pub mod reader;
+pub mod receipt;
+pub mod shown;
+pub mod word;

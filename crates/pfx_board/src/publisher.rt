@@ -1,0 +1,115 @@
+//! Where the durable list grows, and is published.
+ghost use Rattle.std.specs.Prelude.{◌≡◌, ◌≤◌, ◌<◌, ◌^◌, ◌++◌, ◌∷◌, [], replicate, Some, IfOk, OnOk, OnErr};
+ghost use mathlib.Core.List.{IsPrefix};
+ghost use Rattle.left_right.specs.Handles.{published, pending};
+ghost use Rattle.pfx_effect.specs.Applying.{applied};
+ghost use Rattle.pfx_board.specs.Word.{records_of};
+ghost use Rattle.pfx_board.specs.Publisher.{Published};
+
+use crate::name::Begun;
+use crate::reader::Reader;
+use crate::shown::Shown;
+use crate::word::Word;
+use left_right::{Absorb, WriteHandle};
+use pfx_jobs::job::Job;
+use pfx_machine::State;
+use pfx_record::Batch;
+use pfx_token::past::{End, Opened};
+use std::alloc::{AllocError, Global};
+use std::marker::Model;
+use std::sync::Wait;
+
+/// The one place where the durable list grows, and the writer of the board. Contracts see it as the durable batches, and those
+/// whose board is shown, which begin them.
+#[derive(Drop)]
+pub struct Publisher<J: Job, B: Begun<J>, R: Wait + Drop>
+where
+    Shown<J, B>: Absorb<Shown<J, B>, State = [Batch<J>; 0]>,
+{
+    end: End<Batch<J>, B>,
+    word: Word<J, B>,
+    writer: WriteHandle<Shown<J, B>, Shown<J, B>, R>,
+}
+
+impl<J: Job, B: Begun<J>, R: Wait + Drop> Model for Publisher<J, B, R>
+where
+    Shown<J, B>: Absorb<Shown<J, B>, State = [Batch<J>; 0]>,
+{
+    ghost use Rattle.std.specs.Prelude.{◌≡◌, []};
+    ghost use mathlib.Core.List.{IsPrefix};
+    ghost use Rattle.left_right.specs.Handles.{published, pending};
+    ghost use Rattle.pfx_board.specs.Publisher.{Published};
+
+    ghost Value = { Published J };
+
+    ghost view = { λ p. record { batches = p.word; shown = published p.writer } };
+
+    ghost invariant = { λ p. (pending p.writer ≡ []) × IsPrefix (published p.writer) p.word };
+}
+
+impl<J: Job, B: Begun<J>, R: Wait + Drop> Publisher<J, B, R> {
+    /// A board of this state, with no batch behind it, and so many readers. `AllocError` where memory is refused.
+    pub fn new(
+        alloc: Global,
+        rt: R,
+        opened: Opened<Batch<J>>,
+        state: &State<J>,
+        readers: usize,
+    ) -> Result<(Publisher<J, B, R>, Vec<Reader<J, B>>), AllocError>
+        requires book { opened.seen.book ≡ B.book }
+        requires origin { state.now ≡ B.origin }
+        requires readers { (0 < readers) × (readers < 2 ^ 32) }
+        ensures publisher { IfOk result (λ r. r.0 ≡ record { batches = []; shown = [] }) }
+        ensures readers { IfOk result (λ r. r.1.items ≡ replicate readers []) }
+    {
+        let (end, past) = opened.named::<B>();
+        let word = Word::new(state.number(), past);
+        let first = Shown::of(alloc, state, &word)?;
+        let second = Shown::of(alloc, state, &word)?;
+        let writer = WriteHandle::new(alloc, rt, first, second, readers)?;
+        let factory = writer.factory()?;
+        let tasks = state.columns().total();
+        let mut given = Vec::with_capacity(alloc, readers)?;
+        for _reader in 0..readers {
+            let handle = factory.handle()?;
+            given.push(Reader::new(handle, word.again(), tasks))?;
+        }
+        Ok((Publisher { end, word, writer }, given))
+    }
+
+    /// The batch, which is durable now, is the next one of the durable list, and the state that it leads to is shown. It waits
+    /// for readers that still look at the board of the publication before the last. `AllocError` where memory is refused: then
+    /// the list has the batch, and what was shown is shown.
+    pub fn publish<W: Wait>(
+        &mut self,
+        rt: &W,
+        alloc: Global,
+        batch: &Batch<J>,
+        state: &State<J>,
+    ) -> Result<(), AllocError>
+        requires { applied J.kind B.origin (records_of (self.old.batches ++ batch.now ∷ [])) ≡ Some state.now }
+        ensures durable { self.new.batches ≡ self.old.batches ++ batch.now ∷ [] }
+        ensures shown { OnOk result (self.new.shown ≡ self.new.batches) }
+        ensures err { OnErr result (self.new.shown ≡ self.old.shown) }
+    {
+        let _number = state.number();
+        let Publisher { end, word, writer } = self;
+        if !word.extend(end, batch) {
+            for _ in rt.forever() {}
+            unreachable!()
+        }
+        let shown = Shown::of(alloc, state, word)?;
+        if writer.append(shown).is_err() {
+            return Err(AllocError);
+        }
+        writer.publish()
+    }
+
+    /// What was published last: the word of the board that readers see.
+    pub fn published(&self) -> &Word<J, B>
+        ensures shown { result.now ≡ self.now.shown }
+        ensures durable { IsPrefix self.now.shown self.now.batches }
+    {
+        self.writer.published().word()
+    }
+}
