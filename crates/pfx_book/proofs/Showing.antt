@@ -1,7 +1,7 @@
 -- What a book shows, after each of its calls.
-use Rattle.std.specs.Prelude.{option_map, is_some, nat_lt, IsTrue, Result, Ok, Err, OnOk}
-use Rattle.std.proofs.lemmas.Bool.{lt-ltb, ltb-true}
-use Rattle.std.proofs.Common.{◌≡◌, ℕ, ◌+◌, ◌-◌, length, arith, List, [], ◌∷◌, ◌++◌, Option, Some, None, Bool, refl, sym, ap, ◌∙◌, append-nil}
+use Rattle.std.specs.Prelude.{option_map, is_some, nat_lt, nat_eq, not, zero, suc, ◌<◌, IsTrue, Result, Ok, Err, OnOk}
+use Rattle.std.proofs.lemmas.Bool.{lt-ltb, ltb-true, eq-eqb, eqb-true, false≢true, false_from_ne_true}
+use Rattle.std.proofs.Common.{◌≡◌, ℕ, ◌+◌, ◌-◌, length, arith, List, [], ◌∷◌, ◌++◌, Option, Some, None, Bool, false, refl, sym, ap, ◌∙◌, append-nil}
 use Rattle.std.proofs.lemmas.Option.{none-some}
 use Rattle.pfx_fault.specs.declared.parts.Cause.{Cause}
 use Rattle.pfx_jobs.specs.Kind.{Kind}
@@ -107,3 +107,18 @@ pub room_is : {J : Type 0} (b : Session J) (number began marked : ℕ) {accepted
 room_is b number began marked {accepted} long same is =
     let d : number - began ≡ length b.accepted = omega (arith, is, long) in
     (λ t. let l = ltb-true (number - began) (marked + 64) t in omega (arith, l, d, same), λ r. lt-ltb (number - began) (marked + 64) (omega (arith, r, d, same)))
+
+-- the test for what waits
+pub pending_is : {J : Type 0} (b : Session J) (r : Bool) (p : ℕ) {taken accepted : ℕ} → length b.accepted ≡ accepted → b.taken ≡ taken → accepted ≡ taken + p → r ≡ nat_eq p 0
+    → (IsTrue (not r) → b.taken < length b.accepted) × (b.taken < length b.accepted → IsTrue (not r))
+pending_is b r zero long same is e = (λ t. absurd (false≢true (sym (ap not e) ∙ t)), λ l. absurd (omega (arith, l, long, same, is)))
+pending_is b r (suc p) long same is e =
+    let some : nat_eq (suc p) 0 ≡ false = false_from_ne_true (nat_eq (suc p) 0) (λ t. let z = eqb-true (suc p) 0 t in omega (arith, z)) in
+    (λ t. omega (arith, long, same, is), λ l. ap not (e ∙ some))
+
+-- the test for what isn't marked
+pub settled_is : {J : Type 0} (b : Session J) (number began marked : ℕ) {accepted : ℕ} → length b.accepted ≡ accepted → b.marked ≡ marked → number ≡ began + accepted
+    → (IsTrue (nat_eq (number - began) marked) → b.marked ≡ length b.accepted) × (b.marked ≡ length b.accepted → IsTrue (nat_eq (number - began) marked))
+settled_is b number began marked {accepted} long same is =
+    let d : number - began ≡ length b.accepted = omega (arith, is, long) in
+    (λ t. let l = eqb-true (number - began) marked t in omega (arith, l, d, same), λ r. eq-eqb (number - began) marked (omega (arith, r, d, same)))

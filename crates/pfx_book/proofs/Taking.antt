@@ -123,6 +123,28 @@ module _ {J : Type 0} (K : Kind J) where
         let f : first ≡ l.t.number + 1 = omega (arith, begins, long) in
         subst (λ (v : Plain J). (workers ≡ v.ledger.set.workers) × (first ≡ v.number + 1) × ((u : Plain J) × (applied K v batch ≡ Some u))) same (w, f, (l.u, l.next))
 
+    -- what was taken and what waits, by the commands
+    halves : (h : Now) → records_in h.flushed ++ (batch ++ rest)
+        ≡ records_of K start (take taken (commands_of session)) ++ records_of K (outcome K start (take taken (commands_of session))) (drop taken (commands_of session))
+    halves h =
+        let H = commands_of session in
+        sym h.is_told.records ∙ ap (records_of K start) (sym (commands_are K start session lists n state (batch ++ rest) taken marked clock failure h) ∙ sym (take-append-drop taken H))
+        ∙ records_split L start (take taken H) (drop taken H)
+
+    half_long : (h : Now) → length (records_of K start (take taken (commands_of session))) ≡ length (records_in h.flushed)
+    half_long h =
+        let H = commands_of session in
+        let all = all_taken K start session lists n state (batch ++ rest) taken marked clock failure h in
+        records_long K start (take taken H) ∙ length-take-le taken H (omega (arith, all)) ∙ h.is_marked.taken_is
+
+    -- what was taken is of the first commands
+    pub taken_are : (h : Now) → records_in h.flushed ≡ records_of K start (take taken (commands_of session))
+    taken_are h =
+        let H = commands_of session in
+        let k = length (records_in h.flushed) in
+        sym (take_own k (records_in h.flushed) (batch ++ rest) refl) ∙ ap (take k) (halves h)
+        ∙ take_own k (records_of K start (take taken H)) (records_of K (outcome K start (take taken H)) (drop taken H)) (half_long h)
+
     -- the batch is of the next commands
     pub next_is : Now → batch ≡ records_of K (outcome K start (take taken (commands_of session))) (take (length batch) (drop taken (commands_of session)))
     next_is h =
@@ -131,12 +153,7 @@ module _ {J : Type 0} (K : Kind J) where
         let G = drop taken H in
         let t = outcome K start T in
         let k = length batch in
-        let all = all_taken K start session lists n state (batch ++ rest) taken marked clock failure h in
-        let few : taken ≤ length H = omega (arith, all) in
-        let two : records_in h.flushed ++ (batch ++ rest) ≡ records_of K start T ++ records_of K t G =
-        sym h.is_told.records ∙ ap (records_of K start) (sym (commands_are K start session lists n state (batch ++ rest) taken marked clock failure h) ∙ sym (take-append-drop taken H)) ∙ records_split L start T G in
-        let long : length (records_of K start T) ≡ length (records_in h.flushed) = records_long K start T ∙ length-take-le taken H few ∙ h.is_marked.taken_is in
-        let next : batch ++ rest ≡ records_of K t G = tails (records_in h.flushed) (records_of K start T) (batch ++ rest) (records_of K t G) long two in
+        let next : batch ++ rest ≡ records_of K t G = tails (records_in h.flushed) (records_of K start T) (batch ++ rest) (records_of K t G) (half_long h) (halves h) in
         let split : batch ++ rest ≡ records_of K t (take k G) ++ records_of K (outcome K t (take k G)) (drop k G) = next ∙ ap (records_of K t) (sym (take-append-drop k G)) ∙ records_split L t (take k G) (drop k G) in
         let size : k ≤ length G = omega (arith, ap length next, records_long K t G, length-append batch rest) in
         let same : length (records_of K t (take k G)) ≡ k = records_long K t (take k G) ∙ length-take-le k G size in

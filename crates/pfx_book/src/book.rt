@@ -66,6 +66,13 @@ impl<J: Job, B: Named<J>> Model for Pass<J, B> {
 }
 
 impl<J: Job, B: Named<J>> Pass<J, B> {
+    /// Its number, from 1 on, in the order in which a book gives passes out.
+    pub fn number(&self) -> u8
+        ensures { result ≡ self.now.0 }
+    {
+        self.number
+    }
+
     /// The greatest number that an accepted call of it was answered, 0 before.
     pub fn greatest(&self) -> u64
         ensures { result ≡ greatest self.now.1 }
@@ -191,6 +198,20 @@ impl<J: Job, B: Named<J>> Book<J, B> {
     {
         let _number = self.state.number();
         self.began + self.marked
+    }
+
+    /// Whether all that was accepted is marked.
+    pub fn is_settled(&self) -> bool
+        ensures { IsTrue result ↔ (self.now.session.marked ≡ length self.now.session.accepted) }
+    {
+        self.state.number() - self.began == self.marked
+    }
+
+    /// How many passes are out.
+    pub fn passes(&self) -> u8
+        ensures { result ≡ self.now.passes }
+    {
+        self.passes
     }
 
     /// A new pass, with no notes. `None` where 64 are out.

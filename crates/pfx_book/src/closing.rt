@@ -1,10 +1,14 @@
 //! Receipts, failures, and the end of a session.
-ghost use Rattle.std.specs.Prelude.{◌≡◌, ◌≢◌, ◌≤◌, ◌+◌, map, length, IfOk, OnErr, Some, None, true, IsTrue};
+ghost use Rattle.std.specs.Prelude.{◌≡◌, ◌≢◌, ◌≤◌, ◌+◌, [], map, length, take, IfOk, OnErr, Some, None, true, IsTrue};
+ghost use Rattle.pfx_effect.specs.Recording.{records_of};
+ghost use Rattle.pfx_machine.specs.Outcome.{outcome};
+ghost use Rattle.pfx_machine.specs.Plain.{IsState};
+ghost use Rattle.pfx_machine.specs.Sessions.{IsAcceptable};
 ghost use Rattle.pfx_world.specs.Session.{receipted};
 ghost use Rattle.pfx_book.specs.Calls.{entered, noted, once_lost};
 ghost use Rattle.pfx_book.specs.Merging.{of, IsMerge};
 ghost use Rattle.pfx_book.specs.Kept.{HasFailed};
-ghost use Rattle.pfx_book.specs.Notes.{lost_in, answers_of, records_in, Noted, AllBacked};
+ghost use Rattle.pfx_book.specs.Notes.{lost_in, answers_of, records_in, Legal, Noted, AllBacked};
 ghost use Rattle.pfx_book.specs.declared.note.Note.TheVariants.{Marked, Receipt as Receipted};
 
 use crate::book::{Book, Pass, Share};
@@ -67,10 +71,26 @@ impl<J: Job, B: Named<J>> Book<J, B> {
         }
     }
 
-    /// Looks at the flusher's share, which changes nothing: each receipt of the session rests on one of the share's marks, no
-    /// lower and with its clock, and so do the last mark, what was taken, and the failure on its notes.
+    /// What holds of each session, whatever was called: its entries are right at their places, and its accepted commands are
+    /// acceptable and lead from the start to the state; what is marked was taken, and what was taken was accepted. It does
+    /// nothing.
+    pub fn legal(&self)
+        ensures start { IsState B.start }
+        ensures legal { Legal J.kind B.start [] self.now.history }
+        ensures accepted { IsAcceptable J.kind B.start self.now.session.accepted }
+        ensures state { self.now.session.state ≡ outcome J.kind B.start self.now.session.accepted }
+        ensures marked { self.now.session.marked ≤ self.now.session.taken }
+        ensures taken { self.now.session.taken ≤ length self.now.session.accepted }
+    {
+        let _began = self.began;
+    }
+
+    /// Looks at the flusher's share, which changes nothing: its records are those of the taken commands, each receipt of the
+    /// session rests on one of the share's marks, no lower and with its clock, and so do the last mark, what was taken, and
+    /// the failure on its notes.
     pub fn settled(&mut self, share: &mut Share<J, B>)
         ensures same { (self.new ≡ self.old) × (share.new ≡ share.old) }
+        ensures records { records_in share.old ≡ records_of J.kind B.start (take self.old.session.taken self.old.session.accepted) }
         ensures backed { AllBacked share.old self.old.history }
         ensures mark { Noted (Marked (B.start.number + self.old.session.marked) self.old.session.marked_at) share.old }
         ensures taken { self.old.session.taken ≡ length (records_in share.old) }

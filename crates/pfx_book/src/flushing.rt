@@ -1,5 +1,5 @@
 //! What the flusher calls.
-ghost use Rattle.std.specs.Prelude.{◌≡◌, [], ◌∷◌, ◌++◌, ◌≤◌, ◌+◌, length, map, IfOk, OnErr, Some, vec_capacity};
+ghost use Rattle.std.specs.Prelude.{◌≡◌, ◌↔◌, [], ◌∷◌, ◌++◌, ◌<◌, ◌≤◌, ◌+◌, length, map, IfOk, IfErr, OnErr, IsTrue, Some, vec_capacity};
 ghost use Rattle.pfx_record.specs.Records.{plain};
 ghost use Rattle.pfx_world.specs.Session.{took, marked_now, gave_up};
 ghost use Rattle.pfx_book.specs.Calls.{next_records};
@@ -25,6 +25,13 @@ fn took_of<J: Job>(note: Note<J>) -> Option<Vec<Record<J>>>
 }
 
 impl<J: Job, B: Named<J>> Book<J, B> {
+    /// Whether accepted commands wait for the flusher.
+    pub fn has_pending(&self) -> bool
+        ensures { IsTrue result ↔ (self.now.session.taken < length self.now.session.accepted) }
+    {
+        !self.pending.is_empty()
+    }
+
     /// Takes the records of the next commands, 16 at the most, as a batch, which the share notes. Where there are none the
     /// vector comes back, and nothing changes. It takes no memory.
     pub fn take_batch(
@@ -39,6 +46,7 @@ impl<J: Job, B: Named<J>> Book<J, B> {
         ensures commands { IfOk result (λ b. map plain b.records.items ≡ next_records J.kind B.start (length b.records.items) self.old.session) }
         ensures next { IfOk result (λ b. GoesOn J.kind B.start share.old b.workers b.first (map plain b.records.items)) }
         ensures err { OnErr result ((self.old.session.taken ≡ length self.old.session.accepted) × (self.new ≡ self.old) × (share.new ≡ share.old)) }
+        ensures back { IfErr result (λ v. (v.items ≡ []) × (vec_capacity v ≡ vec_capacity room)) }
     {
         let Book {
             alloc,

@@ -23,6 +23,7 @@ pub fn take_front<T>(pending: &mut VecDeque<T>, room: Vec<T>) -> Vec<T>
     ensures few { length result.items ≤ 16 }
     ensures all { result.items ≡ [] → deque_items pending.new ≡ [] }
     ensures capacity { deque_capacity pending.new ≡ deque_capacity pending.old }
+    ensures width { vec_capacity result ≡ vec_capacity room }
 {
     let mut records = room;
     for _i in 0..16usize {

@@ -1,0 +1,12 @@
+use Rattle.std.proofs.Common.{length, ap, sym, arith}
+use Rattle.pfx_book.specs.Register.{Register}
+use Rattle.pfx_book.proofs.Keeping.{state_number}
+use Rattle.pfx_book.proofs.Showing.{settled_is}
+use Rattle.pfx_book.proofs.book.Book.is_settled.Goals as goal
+
+pub returns : goal.returns
+returns g c =
+    let h = c.self.invariant.0 in
+    let a = state_number g.J.Job.kind _ _ _ _ _ _ _ _ _ _ h in
+    settled_is c.args.self.now.session c.number.result c.self.inside.began c.self.inside.marked
+    (ap (λ (v : Register g.row.J.Denot). length v.session.accepted) (sym c.self.view_is)) (ap (λ (v : Register g.row.J.Denot). v.session.marked) (sym c.self.view_is)) (omega (arith, a, c.self.invariant.2, c.number.ensures.number))
