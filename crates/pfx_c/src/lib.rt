@@ -1,0 +1,22 @@
+//! PF's plans for programs in C, Rust and Python: five calls of a static library, from slices to slices.
+//!
+//! There is no handle, no state between calls and no thread. The caller keeps the ledger, a slot and for each task (idle ones
+//! too) how many of the slots before it the task got, and each call is a function of its arguments. No call requires anything
+//! of the numbers that it gets: lengths and ranges are tested inside, and a refusal is answered by its number in the
+//! product's table (`pfx_fault`), with nothing changed but what the call's page names. 0 says that the call did what it is for.
+//!
+//! - `sets`: `pfx_total` and `pfx_set`, what a set is: how many tasks it has, its hyperperiod and its load.
+//! - `checks`: `pfx_check`, whether numbers are a ledger of a set, and which task is out of range where they aren't.
+//! - `nexts`: `pfx_next`, PF's row at a ledger.
+//! - `plans`: `pfx_plan`, PF's rows of many slots, with the ledger taken along.
+//!
+//! Memory is refused by 90 wherever a growth is, also where the call would succeed.
+#![tactic(auto)]
+
+mod checks;
+mod faults;
+mod nexts;
+mod places;
+mod plans;
+mod sets;
+mod weights;
