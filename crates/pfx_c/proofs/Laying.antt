@@ -1,5 +1,5 @@
 -- Rows laid one behind the other.
-use Rattle.std.proofs.Common.{◌≡◌, ◌≢◌, ℕ, ◌+◌, ◌*◌, ◌<◌, ◌≤◌, List, [], ◌∷◌, ◌++◌, length, take, drop, arith, ap, sym, ◌∙◌, refl, subst}
+use Rattle.std.proofs.Common.{◌≡◌, ℕ, ◌+◌, ◌*◌, ◌<◌, ◌≤◌, List, [], ◌∷◌, ◌++◌, length, take, drop, arith, ap, sym, ◌∙◌, refl, subst}
 use Rattle.std.proofs.lemmas.List.{length-append, length_push, append-nil, append_assoc}
 use Rattle.std.proofs.lemmas.Slice.{drop-append-drop}
 use Rattle.std.proofs.Math.Seq.{take-append_seam, drop-append_seam}
@@ -7,7 +7,7 @@ use Rattle.std.proofs.Math.Nat.{mul-le-mul_left}
 use Rattle.pfx_weights.specs.Rows.{is_in, Schedule}
 use Rattle.pfx_columns.specs.Ledgers.{Ledger, after, IsLedger}
 use Rattle.pfx_choice.specs.Choices.{IsChosen, Fails}
-use Rattle.pfx_choice.specs.Plans.{past, IsPlan}
+use Rattle.pfx_choice.specs.Plans.{past}
 use Rattle.pfx_choice.specs.Schedules.{EndsWithin}
 use Rattle.pfx_choice.specs.declared.faults.ChoiceFault.{ChoiceFault}
 use Rattle.pfx_choice.proofs.Planning.{past_none, past_push, plan_push, pf_full}
@@ -26,8 +26,8 @@ written front row old places new at long placed is =
     let before : take at places ≡ front = ap (λ n. take n places) (sym long) ∙ ap (λ l. take (length front) l) placed ∙ take-append_seam front (drop (length front) old) in
     let number : at + length row ≡ length (front ++ row) = omega (arith, long, sum) in
     let behind : drop (at + length row) places ≡ drop (length (front ++ row)) old =
-      ap (λ n. drop n places) number ∙ ap (λ l. drop (length (front ++ row)) l) placed
-      ∙ drop-append-drop (length front) old front (length (front ++ row)) (omega (arith, sum)) refl in
+    ap (λ n. drop n places) number ∙ ap (λ l. drop (length (front ++ row)) l) placed
+    ∙ drop-append-drop (length front) old front (length (front ++ row)) (omega (arith, sum)) refl in
     is ∙ ap (λ l. l ++ row ++ drop (at + length row) places) before ∙ ap (λ l. front ++ row ++ l) behind
 
 -- a plan is laid into the places, and takes so many of them

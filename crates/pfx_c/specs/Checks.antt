@@ -1,5 +1,5 @@
 -- Whether a caller's numbers are a ledger.
-use Rattle.std.specs.Prelude.{◌≡◌, ◌≢◌, ℕ, ◌<◌, ◌≤◌, ◌^◌, ◌⊎◌, List, length}
+use Rattle.std.specs.Prelude.{◌≡◌, ℕ, ◌<◌, ◌^◌, ◌⊎◌, List, length}
 use Rattle.pfx_weights.specs.Sets.{FilledSet, Accepts}
 use Rattle.pfx_columns.specs.Ledgers.{Ledger, IsLedger, ledger_at}
 use Rattle.pfx_columns.specs.Ledgers as ledger

@@ -20,4 +20,4 @@ pub record IsNext (m : ℕ) (weights : List PfxWeight) (slot : ℕ) (allocs old 
 abbrev pub NextFails : ℕ → List PfxWeight → ℕ → List ℕ → List ℕ → Fault → Type 0
 NextFails m weights slot allocs places f = CheckFails m weights slot allocs f
     ⊎ ((g : Ledger) × IsLedgerOf m weights slot allocs g
-        × (((f ≡ fault.NoRoom) × (length places < m)) ⊎ ((c : ChoiceFault) × (f ≡ fault_of_choice c) × Fails g c)))
+    × (((f ≡ fault.NoRoom) × (length places < m)) ⊎ ((c : ChoiceFault) × (f ≡ fault_of_choice c) × Fails g c)))

@@ -1,5 +1,5 @@
 -- Plans laid into a caller's places.
-use Rattle.std.specs.Prelude.{◌≡◌, ◌≢◌, ℕ, ◌*◌, ◌<◌, ◌≤◌, ◌⊎◌, List, [], ◌∷◌, ◌++◌, length, drop}
+use Rattle.std.specs.Prelude.{◌≡◌, ◌≢◌, ℕ, ◌*◌, ◌<◌, ◌⊎◌, List, [], ◌∷◌, ◌++◌, length, drop}
 use Rattle.pfx_weights.specs.Rows.{Schedule}
 use Rattle.pfx_columns.specs.Ledgers.{Ledger, ledger_at}
 use Rattle.pfx_choice.specs.Choices.{Fails}

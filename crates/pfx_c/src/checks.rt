@@ -16,12 +16,7 @@ use std::alloc::Global;
 const SLOTS: u64 = 1 << 40;
 
 /// The ledger of a set at a slot with these allocations.
-pub fn ledger_of(
-    alloc: Global,
-    set: &TaskSet,
-    slot: u64,
-    allocs: &[u64],
-) -> Result<Columns, Fault>
+pub fn ledger_of(alloc: Global, set: &TaskSet, slot: u64, allocs: &[u64]) -> Result<Columns, Fault>
     ensures ok { IfOk result (λ g. (g ≡ ledger_at set.now slot allocs.now) × IsLedger g) }
     ensures why { IfErr result (LedgerFails set.now slot allocs.now) }
 {

@@ -19,4 +19,6 @@ mod nexts;
 mod places;
 mod plans;
 mod sets;
+#[cfg(test)]
+mod tests;
 mod weights;

@@ -99,9 +99,9 @@ pub extern "C" fn pfx_plan(
         (record { slot = slot.new; allocs = allocs.new; places = rows.new }) made.new }
     ensures why { result ≢ 0 →
         IsNothing workers weights.now slots result (record { slot = slot.old; allocs = allocs.old; places = rows.old })
-            (record { slot = slot.new; allocs = allocs.new; places = rows.new }) made.new
+        (record { slot = slot.new; allocs = allocs.new; places = rows.new }) made.new
         ⊎ IsBeginning workers weights.now slots result (record { slot = slot.old; allocs = allocs.old; places = rows.old })
-            (record { slot = slot.new; allocs = allocs.new; places = rows.new }) made.new }
+        (record { slot = slot.new; allocs = allocs.new; places = rows.new }) made.new }
 {
     *made = 0;
     let mut ledger = match ledger_with_room(alloc, workers, weights, slots, *slot, allocs, rows) {

@@ -26,11 +26,18 @@ fn pairs_of(alloc: Global, weights: &[PfxWeight]) -> Result<Vec<(u32, u32)>, All
     weights.iter().map(|w| (w.e, w.p)).collect(alloc)
 }
 
+/// How many weights a set has at the most.
+const MOST: usize = 1024;
+
 /// The set of so many workers and these weights.
 pub fn set_of(alloc: Global, workers: u32, weights: &[PfxWeight]) -> Result<TaskSet, Fault>
     ensures ok { IfOk result (λ s. Accepts workers (pairs_of weights.now) s) }
     ensures why { IfErr result (SetFails workers weights.now) }
 {
+    // So that what is copied is bounded whatever a caller passes.
+    if weights.len() > MOST {
+        return Err(fault_of_set(SetFault::TooManyTasks));
+    }
     let Ok(pairs) = pairs_of(alloc, weights) else {
         return Err(fault_of_set(SetFault::NoMemory));
     };

@@ -1,5 +1,5 @@
-use Rattle.std.proofs.Common.{◌≡◌, ℕ, List, take, length, arith, sym, ap, ◌∙◌, subst}
-use Rattle.pfx_columns.specs.Ledgers.{Ledger, IsLedger}
+use Rattle.std.proofs.Common.{◌≡◌, ℕ, List, length, arith, sym, ap, ◌∙◌, subst}
+use Rattle.pfx_columns.specs.Ledgers.{Ledger}
 use Rattle.pfx_choice.specs.Choices.{IsChosen}
 use Rattle.pfx_c.specs.Checks.{IsLedgerOf}
 use Rattle.pfx_c.specs.declared.weights.PfxWeight.{PfxWeight}

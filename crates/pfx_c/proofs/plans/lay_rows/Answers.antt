@@ -1,4 +1,4 @@
-use Rattle.std.proofs.Common.{rules, ◌≡◌, ◌+◌, ◌*◌, ◌≤◌, ℕ, length, arith, refl, subst, sym, ◌∙◌}
+use Rattle.std.proofs.Common.{rules, ◌≡◌, ◌+◌, ◌*◌, ◌≤◌, ℕ, length, arith, subst, sym, ◌∙◌}
 use Rattle.pfx_columns.specs.Ledgers.{Ledger}
 use Rattle.pfx_c.specs.Plans.{IsPlanned}
 use Rattle.pfx_c.proofs.Laying.{IsLaid, laid_none, laid_more, laid_ends, chosen_long, room}
