@@ -36,17 +36,20 @@ crates_above() {
 # The names of all crates.
 all_crates() { sed -n 's/^\([a-z0-9_]\{1,\}\)[^:]*:.*/\1/p' "$top/crates.txt"; }
 
-# A sum of the program's sources: of the crates that it is built from without out/ and the wrong bodies, of their lines in
-# crates.txt, and of the toolchain's line ($1).
-program_sum() {
+# A sum of the sources of a crate ($2): of it and the crates below without out/ and the wrong bodies, of their lines in crates.txt,
+# and of the toolchain's line ($1).
+sources_sum() {
   local crates
-  crates=$(crates_below pfx)
+  crates=$(crates_below "$2")
   {
     printf '%s\n' "$1"
     grep -E "^($(tr '\n' '|' <<<"$crates")-)[ :]" "$top/crates.txt" | LC_ALL=C sort
     cd "$top/crates" && find $crates \( -name out -o -name 'must-fail*' \) -prune -o -type f -print0 | LC_ALL=C sort -z | xargs -0 sha256sum
   } | sha256sum | cut -d' ' -f1
 }
+
+# A sum of the program's sources.
+program_sum() { sources_sum "$1" pfx; }
 
 # A sum of all that the gate reads, and of the toolchain's line ($1).
 gate_sum() {
@@ -70,6 +73,14 @@ release_fits() {
 
 # Whether the release's program is the one that was released.
 release_is_whole() { [ "$(sum_of_file "$top/release/pfx")" = "$(value_in "$top/release/SUM" program)" ]; }
+
+# Whether the library in the folder $1 is of these sources, and as it was built from them.
+library_fits() {
+  [ -f "$1/LIBRARY" ] || return 1
+  [ "$(sources_sum "$(value_in "$1/LIBRARY" kit)" pfx_c)" = "$(value_in "$1/LIBRARY" sources)" ] &&
+    [ "$(sum_of_file "$1/libpfx.a")" = "$(value_in "$1/LIBRARY" archive)" ] &&
+    [ "$(sum_of_file "$1/libpfx.so")" = "$(value_in "$1/LIBRARY" shared)" ]
+}
 
 # The path of the program that ./pfx starts: the release where it is of these sources, else the one that was built here.
 program_path() { release_fits && release_is_whole && echo "$top/release/pfx" || echo "$top/crates/pfx/out/pfx"; }
