@@ -19,22 +19,25 @@ use std::alloc::{AllocError, Global};
 use std::marker::Model;
 use std::sync::Wait;
 
-/// The one place where the durable list grows, and the writer of the board. Contracts see it as the durable batches, and those
-/// whose board is shown, which begin them.
+/// Where the durable list grows, and the writer of the board. There is one for a list.
+pub type Publisher<J, B, R> = BoardWriter<J, B, Shown<J, B>, R>;
+
+/// A `Publisher`, over what each of the two copies holds: `Shown`. Contracts see it as the durable batches, and those whose
+/// board is shown, which begin them.
 #[derive(Drop)]
-pub struct Publisher<J: Job, B: Begun<J>, R: Wait + Drop>
-where
-    Shown<J, B>: Absorb<Shown<J, B>, State = [Batch<J>; 0]>,
-{
+pub struct BoardWriter<
+    J: Job,
+    B: Begun<J>,
+    T: Absorb<T, State = [Batch<J>; 0]> + Drop,
+    R: Wait + Drop,
+> {
     end: End<Batch<J>, B>,
     word: Word<J, B>,
-    writer: WriteHandle<Shown<J, B>, Shown<J, B>, R>,
+    writer: WriteHandle<T, T, R>,
 }
 
-impl<J: Job, B: Begun<J>, R: Wait + Drop> Model for Publisher<J, B, R>
-where
-    Shown<J, B>: Absorb<Shown<J, B>, State = [Batch<J>; 0]>,
-{
+impl<J: Job, B: Begun<J>, T: Absorb<T, State = [Batch<J>; 0]> + Drop, R: Wait + Drop> Model
+    for BoardWriter<J, B, T, R> {
     ghost use Rattle.std.specs.Prelude.{◌≡◌, []};
     ghost use mathlib.Core.List.{IsPrefix};
     ghost use Rattle.left_right.specs.Handles.{published, pending};
@@ -42,12 +45,12 @@ where
 
     ghost Value = { Published J };
 
-    ghost view = { λ p. record { batches = p.word; shown = published p.writer } };
+    ghost view = { λ p. record { batches = p.word; shown = T.state (published p.writer) } };
 
-    ghost invariant = { λ p. (pending p.writer ≡ []) × IsPrefix (published p.writer) p.word };
+    ghost invariant = { λ p. (pending p.writer ≡ []) × IsPrefix (T.state (published p.writer)) p.word };
 }
 
-impl<J: Job, B: Begun<J>, R: Wait + Drop> Publisher<J, B, R> {
+impl<J: Job, B: Begun<J>, R: Wait + Drop> BoardWriter<J, B, Shown<J, B>, R> {
     /// A board of this state, with no batch behind it, and so many readers. `AllocError` where memory is refused.
     pub fn new(
         alloc: Global,
@@ -74,7 +77,7 @@ impl<J: Job, B: Begun<J>, R: Wait + Drop> Publisher<J, B, R> {
             let handle = factory.handle()?;
             given.push(Reader::new(handle, word.again(), tasks))?;
         }
-        Ok((Publisher { end, word, writer }, given))
+        Ok((BoardWriter { end, word, writer }, given))
     }
 
     /// The batch, which is durable now, is the next one of the durable list, and the state that it leads to is shown. It waits
@@ -93,7 +96,7 @@ impl<J: Job, B: Begun<J>, R: Wait + Drop> Publisher<J, B, R> {
         ensures err { OnErr result (self.new.shown ≡ self.old.shown) }
     {
         let _number = state.number();
-        let Publisher { end, word, writer } = self;
+        let BoardWriter { end, word, writer } = self;
         if !word.extend(end, batch) {
             for _ in rt.forever() {}
             unreachable!()

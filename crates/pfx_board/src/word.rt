@@ -68,12 +68,13 @@ impl<J, B: Begun<J>> Word<J, B> {
         ensures added { IsTrue result → self.new ≡ self.old ++ batch.now ∷ [] }
         ensures kept { IsFalse result → self.new ≡ self.old }
     {
-        let mut past = self.past.again();
-        if !end.extend(&mut past, batch) {
+        let Word { number, past } = self;
+        let mut longer = past.again();
+        if !end.extend(&mut longer, batch) {
             return false;
         }
-        self.past = past;
-        self.number += batch.records.len() as u64;
+        *past = longer;
+        *number += batch.records.len() as u64;
         true
     }
 }

@@ -6,7 +6,7 @@ use Rattle.pfx_effect.specs.Applying.{applied}
 use Rattle.pfx_effect.proofs.States.{applied_behind}
 use Rattle.pfx_board.specs.Publisher.{Published}
 use Rattle.pfx_board.specs.Word.{records_of}
-use Rattle.pfx_board.proofs.publisher.Publisher.publish.Goals as goal
+use Rattle.pfx_board.proofs.publisher.BoardWriter+J+B+Shown+J+B+R.publish.Goals as goal
 
 pub extend-requires : goal.extend-requires
 extend-requires g c =
