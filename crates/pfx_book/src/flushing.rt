@@ -46,6 +46,7 @@ impl<J: Job, B: Named<J>> Book<J, B> {
         ensures commands { IfOk result (λ b. map plain b.records.items ≡ next_records J.kind B.start (length b.records.items) self.old.session) }
         ensures next { IfOk result (λ b. GoesOn J.kind B.start share.old b.workers b.first (map plain b.records.items)) }
         ensures err { OnErr result ((self.old.session.taken ≡ length self.old.session.accepted) × (self.new ≡ self.old) × (share.new ≡ share.old)) }
+        ensures width { IfOk result (λ b. vec_capacity b.records ≡ vec_capacity room) }
         ensures back { IfErr result (λ v. (v.items ≡ []) × (vec_capacity v ≡ vec_capacity room)) }
     {
         let Book {

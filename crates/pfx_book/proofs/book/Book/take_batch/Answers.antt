@@ -1,4 +1,4 @@
-use Rattle.std.specs.Prelude.{Some, slice_get, slice_set, map, IsTrue}
+use Rattle.std.specs.Prelude.{Some, slice_get, slice_set, map, IsTrue, vec_capacity}
 use Rattle.std.specs.VecDeque.{deque_items}
 use Rattle.std.proofs.Common.{◌≡◌, ℕ, List, [], ◌∷◌, ◌++◌, ◌<◌, ◌+◌, ◌-◌, length, refl, sym, ap, ◌∙◌, subst, arith, rules, length-append}
 use Rattle.std.proofs.lemmas.List.{map-append}
@@ -157,3 +157,9 @@ returns-in-Some-clause-next g c =
     let records = same ∙ sym c.new.ensures.records in
     subst (λ (q : List (Note g.row.J.Denot) × ℕ × ℕ × List (Recorded g.row.J.Denot)). GoesOn K B q.0 q.1 q.2 q.3)
     (λ i. (c.share.view_is i, sym c.new.ensures.workers i, sym c.new.ensures.first i, map plain (records i).items)) goes
+
+pub returns-in-Some-clause-width : goal.returns-in-Some-clause-width
+returns-in-Some-clause-width g c =
+    let same = some_is c.take_front-records.result c.in-Some.records (sym c.took_of.ensures ∙ c.in-Some.is) in
+    let records = same ∙ sym c.new.ensures.records in
+    ap (λ v. vec_capacity v) (sym records) ∙ c.take_front-records.ensures.width
