@@ -1,5 +1,6 @@
 //! The proved crates beside plain Rust programs of the same rules, in one run: slots a second of PF's choice, nanoseconds for
-//! a task's class and for its step to the next slot, and steps a second of rule 110. Built and run by `bench/run`, which names the proved program `pfx_bench`. Only std is used.
+//! a task's class and for its step to the next slot, and steps a second of rule 110. Built and run by `bench/run`, which names
+//! the proved program `pfx_bench`, and, where it could be built, `embed`, the C program of `embed.c`. Only std is used.
 
 use std::cmp::Ordering;
 use std::process::Command;
@@ -253,8 +254,33 @@ fn calibrated(plain: impl Fn(u64) -> u64) -> u64 {
     }
 }
 
+/// The least seconds of fifteen runs each of two programs, taken in turn, with the same result.
+fn both_proved(programs: [&str; 2], words: &[String]) -> [f64; 2] {
+    let mut least = [f64::MAX; 2];
+    for _ in 0..15 {
+        let ran = programs.map(|program| proved(program, words));
+        assert_eq!(ran[0].0, ran[1].0, "both programs make the same");
+        least = [least[0].min(ran[0].1), least[1].min(ran[1].1)];
+    }
+    least
+}
+
+/// PF's choice, called from C by blocks of 1,000 slots, beside `pfx_bench`.
+fn from_c(program: &str, embed: &str) {
+    println!();
+    println!("{:<28} {:>14} {:>14} {:>7}", "1,000 slots a call", "pfx slots/s", "C slots/s", "ratio");
+    for (name, m, weights) in sets() {
+        let count = calibrated(|slots| plan(m, &weights, slots)).max(1000);
+        let mut words = vec!["plan".to_string(), count.to_string(), m.to_string()];
+        words.extend(weights.iter().map(|w| format!("{}/{}", w.0, w.1)));
+        let [a, b] = both_proved([program, embed], &words);
+        println!("{name:<28} {:>14.0} {:>14.0} {:>7.2}", count as f64 / a, count as f64 / b, a / b);
+    }
+}
+
 fn main() {
     let program = std::env::args().nth(1).expect("the path of pfx_bench");
+    let embed = std::env::args().nth(2);
     println!("{:<28} {:>14} {:>14} {:>7}", "PF's choice", "Rust slots/s", "pfx slots/s", "ratio");
     for (name, m, weights) in sets() {
         let run = |slots| plan(m, &weights, slots);
@@ -263,6 +289,9 @@ fn main() {
         words.extend(weights.iter().map(|w| format!("{}/{}", w.0, w.1)));
         let (a, b) = both(count, run, &program, &words);
         println!("{name:<28} {:>14.0} {:>14.0} {:>7.2}", count as f64 / a, count as f64 / b, a / b);
+    }
+    if let Some(embed) = embed {
+        from_c(&program, &embed);
     }
     println!();
     println!("{:<28} {:>14} {:>14} {:>7}", "tasks of 1/16", "Rust ns/task", "pfx ns/task", "ratio");

@@ -8,7 +8,7 @@ on from it:
     [[0, 1], [0, 2], [1, 2]]
 
 A number that isn't below the number of weights is an idle task's. The library is libpfx.so, in the folder that the variable
-PFX_LIB names, or in examples/embed/out, where examples/embed/build puts it.
+PFX_LIB names, or else in examples/embed/out, where examples/embed/build puts it, or in release.
 """
 
 import ctypes
@@ -55,9 +55,10 @@ class _Set(ctypes.Structure):
 
 
 def _load():
-    here = os.path.dirname(os.path.abspath(__file__))
-    folder = os.environ.get("PFX_LIB") or os.path.join(here, "..", "examples", "embed", "out")
-    library = ctypes.CDLL(os.path.join(folder, "libpfx.so"))
+    top = os.path.join(os.path.dirname(os.path.abspath(__file__)), "..")
+    folders = [os.environ.get("PFX_LIB"), os.path.join(top, "examples", "embed", "out"), os.path.join(top, "release")]
+    paths = [os.path.join(folder, "libpfx.so") for folder in folders if folder]
+    library = ctypes.CDLL(next((path for path in paths if os.path.exists(path)), paths[0]))
     weights = [c_uint32, POINTER(_Weight), c_size_t]
     ledger = [c_uint64, POINTER(c_uint64), c_size_t]
     row = [POINTER(c_uint16), c_size_t]
@@ -96,6 +97,7 @@ class Planner:
     """A set of weights on so many workers, and a ledger of it: the slot, and what each task got (`allocs`, idle tasks too).
 
     The ledger is that before slot 0, unless a slot and allocations are given. `Refused` tells why the set or the ledger is none.
+    One thread at a time may use a planner.
     """
 
     def __init__(self, workers, weights, slot=0, allocs=None):
