@@ -1,0 +1,7 @@
+use Rattle.pfx_trial_board.proofs.racing.told_reader_sees.Given as goal
+
+abbrev pub ghosts-race-B-Naming : goal.ghosts-race-B-Naming
+ghosts-race-B-Naming g a = record { book = a.opened.seen.book }
+
+abbrev pub ghosts-race-B-Begun : goal.ghosts-race-B-Begun
+ghosts-race-B-Begun g a = record { origin = a.state }
