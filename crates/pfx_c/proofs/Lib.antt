@@ -1,1 +1,3 @@
+pub mod Answering
+mod Examples
 pub mod Laying

@@ -1,5 +1,5 @@
 -- The product's refusal for each one of a set, a ledger and a choice, and how a call answers it.
-use Rattle.std.specs.Prelude.{◌≡◌, ℕ}
+use Rattle.std.specs.Prelude.{◌≡◌, ◌≢◌, ℕ}
 use Rattle.pfx_weights.specs.declared.faults.SetFault.{SetFault}
 use Rattle.pfx_weights.specs.declared.faults.SetFault.TheVariants as setfault
 use Rattle.pfx_columns.specs.declared.faults.LedgerFault.{LedgerFault}
@@ -47,3 +47,11 @@ IsRefused number Fails = (f : Fault) × (number ≡ number_of f) × Fails f
 -- and the task that it names, if it names one, is put in the place of what was there
 abbrev pub IsNamed : ℕ → ℕ → ℕ → (Fault → Type 0) → Type 0
 IsNamed number old new Fails = (f : Fault) × (number ≡ number_of f) × (new ≡ task_named f old) × Fails f
+
+-- no two faults hold together, but for want of memory
+abbrev pub HasOneFault : (Fault → Type 0) → Type 0
+HasOneFault Fails = (f g : Fault) → f ≢ fault.NoMemory → g ≢ fault.NoMemory → Fails f → Fails g → f ≡ g
+
+-- no fault holds, but for want of memory
+abbrev pub HasNoFault : (Fault → Type 0) → Type 0
+HasNoFault Fails = (f : Fault) → Fails f → f ≡ fault.NoMemory

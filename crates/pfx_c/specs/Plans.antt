@@ -1,5 +1,5 @@
 -- Plans laid into a caller's places.
-use Rattle.std.specs.Prelude.{◌≡◌, ◌≢◌, ℕ, ◌*◌, ◌<◌, ◌⊎◌, List, [], ◌∷◌, ◌++◌, length, drop}
+use Rattle.std.specs.Prelude.{◌≡◌, ◌≢◌, ℕ, ◌*◌, ◌<◌, ◌≤◌, ◌⊎◌, List, [], ◌∷◌, ◌++◌, length, drop}
 use Rattle.pfx_weights.specs.Rows.{Schedule}
 use Rattle.pfx_columns.specs.Ledgers.{Ledger, ledger_at}
 use Rattle.pfx_choice.specs.Choices.{Fails}
@@ -41,9 +41,10 @@ pub record Kept : Type 0 where
   pub allocs : List ℕ
   pub places : List ℕ
 
--- the caller's numbers were a ledger, and a plan of so many rows was laid into the places, and the ledger taken along
-pub record IsTaken (m : ℕ) (weights : List PfxWeight) (old new : Kept) (made : ℕ) (g next : Ledger) : Type 0 where
+-- the caller's numbers were a ledger, with places for so many slots, and a plan of these rows was laid there and the ledger taken along
+pub record IsTaken (m : ℕ) (weights : List PfxWeight) (slots : ℕ) (old new : Kept) (made : ℕ) (g next : Ledger) : Type 0 where
   pub given : IsLedgerOf m weights old.slot old.allocs g
+  pub room : slots * m ≤ length old.places
   pub is : next ≡ ledger_at g.set new.slot new.allocs
   pub planned : IsPlanned g next made old.places new.places
 
@@ -54,7 +55,7 @@ PlanFails m weights slots kept f = CheckFails m weights kept.slot kept.allocs f
 
 -- all rows were made
 abbrev pub IsWhole : ℕ → List PfxWeight → ℕ → Kept → Kept → ℕ → Type 0
-IsWhole m weights slots old new made = (made ≡ slots) × ((g next : Ledger) × IsTaken m weights old new made g next)
+IsWhole m weights slots old new made = (made ≡ slots) × ((g next : Ledger) × IsTaken m weights slots old new made g next)
 
 -- nothing was made, for a refusal that holds
 abbrev pub IsNothing : ℕ → List PfxWeight → ℕ → ℕ → Kept → Kept → ℕ → Type 0
@@ -63,4 +64,4 @@ IsNothing m weights slots number old new made = (made ≡ 0) × (new ≡ old) ×
 -- the rows before the slot at which no row is chosen were made
 abbrev pub IsBeginning : ℕ → List PfxWeight → ℕ → ℕ → Kept → Kept → ℕ → Type 0
 IsBeginning m weights slots number old new made =
-    (g next : Ledger) × IsTaken m weights old new made g next × ((c : ChoiceFault) × (number ≡ number_of (fault_of_choice c)) × EndsEarly g next slots made c)
+    (g next : Ledger) × IsTaken m weights slots old new made g next × ((c : ChoiceFault) × (number ≡ number_of (fault_of_choice c)) × EndsEarly g next slots made c)

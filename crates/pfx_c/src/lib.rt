@@ -9,12 +9,14 @@
 //! - `checks`: `pfx_check`, whether numbers are a ledger of a set, and which task is out of range where they aren't.
 //! - `nexts`: `pfx_next`, PF's row at a ledger.
 //! - `plans`: `pfx_plan`, PF's rows of many slots, with the ledger taken along.
+//! - `laws`: what a call answers is determined by its arguments, but for 90.
 //!
 //! Memory is refused by 90 wherever a growth is, also where the call would succeed.
 #![tactic(auto)]
 
 mod checks;
 mod faults;
+pub mod laws;
 mod nexts;
 mod places;
 mod plans;

@@ -23,4 +23,4 @@ returns-in-Ok-clause-ok c =
     let long = row_long c.args.workers c.args.weights.now c.args.slot c.args.allocs.now g row c.in_ok-ledger.ensures.ok c.in-Ok.ensures.row in
     let ends = in_front row c.args.row.now c.put_row.new.places c.args.workers long c.put_row.ensures in
     let P : List ℕ → Type 0 = λ r. IsChosen g r in
-    record { ledger = g; given = c.in_ok-ledger.ensures.ok; chosen = subst P (sym ends.0) c.in-Ok.ensures.row; rest = ends.1 }
+    record { ledger = g; given = c.in_ok-ledger.ensures.ok; room = c.if-row-workers.false; chosen = subst P (sym ends.0) c.in-Ok.ensures.row; rest = ends.1 }
