@@ -42,8 +42,10 @@ one_hyper ts l k h g =
 one_set : (m : ℕ) (ts : List (ℕ × ℕ)) (s r : FilledSet) → Accepts m ts s → Accepts m ts r → s ≡ r
 one_set m ts s r a b = a.is ∙ ap (filled m ts) (one_hyper ts s.hyper r.hyper a.hyper b.hyper) ∙ sym b.is
 
-one_ledger : (m slot : ℕ) (weights : List PfxWeight) (allocs : List ℕ) (g h : Ledger) → IsLedgerOf m weights slot allocs g → IsLedgerOf m weights slot allocs h → g ≡ h
-one_ledger m slot weights allocs g h a b = a.is ∙ ap (λ s. ledger_at s slot allocs) (one_set m (pairs_of weights) g.set h.set a.accepted b.accepted) ∙ sym b.is
+one_ledger : (m slot : ℕ) (weights : List PfxWeight) (allocs : List ℕ) (g h : Ledger)
+    → IsLedgerOf m weights slot allocs g → IsLedgerOf m weights slot allocs h → g ≡ h
+one_ledger m slot weights allocs g h a b =
+    a.is ∙ ap (λ s. ledger_at s slot allocs) (one_set m (pairs_of weights) g.set h.set a.accepted b.accepted) ∙ sym b.is
 
 -- ---- a set's refusals
 
@@ -68,7 +70,8 @@ same_out g x y h k = elim (cases_lt x y) [
   | inr more ↦ (elim (cases_lt y x) [ inl less ↦ absurd (out_before g y x k h less) | inr le ↦ omega (arith, more, le) ])
 ]
 
-one_refusal : (g : Ledger) (f k : LedgerFault) → f ≢ ledgerfault.NoMemory → k ≢ ledgerfault.NoMemory → ledger.Refuses g f → ledger.Refuses g k → f ≡ k
+one_refusal : (g : Ledger) (f k : LedgerFault) → f ≢ ledgerfault.NoMemory → k ≢ ledgerfault.NoMemory
+    → ledger.Refuses g f → ledger.Refuses g k → f ≡ k
 one_refusal g ledgerfault.NoMemory k f_known k_known h j = absurd (f_known refl)
 one_refusal g f ledgerfault.NoMemory f_known k_known h j = absurd (k_known refl)
 one_refusal g (ledgerfault.OutOfRange x) (ledgerfault.OutOfRange y) f_known k_known h j = ap ledgerfault.OutOfRange (same_out g x y h j)
@@ -105,7 +108,8 @@ one_check m slot weights allocs f k f_known k_known (inr (s, a, h)) (inr (r, b, 
     let P : FilledSet → Type 0 = λ q. LedgerFails q slot allocs k in
     one_form s slot allocs f k f_known k_known h (subst P (one_set m (pairs_of weights) r s b a) g)
 
-pub no_check : (m slot : ℕ) (weights : List PfxWeight) (allocs : List ℕ) (g : Ledger) → IsLedgerOf m weights slot allocs g → HasNoFault (CheckFails m weights slot allocs)
+pub no_check : (m slot : ℕ) (weights : List PfxWeight) (allocs : List ℕ) (g : Ledger)
+    → IsLedgerOf m weights slot allocs g → HasNoFault (CheckFails m weights slot allocs)
 no_check m slot weights allocs g h f (inl j) = no_set_fault m weights g.set h.accepted f j
 no_check m slot weights allocs g h f (inr (s, a, j)) =
     let P : FilledSet → Type 0 = λ q. LedgerFails q slot allocs f in
@@ -158,7 +162,8 @@ only_memory g row choicefault.SlotLimit is h = absurd (no_failure g row choicefa
 only_memory g row (choicefault.TooManyUrgent u m) is h = absurd (no_failure g row (choicefault.TooManyUrgent u m) (λ e. cc) is h)
 only_memory g row (choicefault.TooFewEligible c m) is h = absurd (no_failure g row (choicefault.TooFewEligible c m) (λ e. cc) is h)
 
-pub no_next : (m slot : ℕ) (weights : List PfxWeight) (allocs old new : List ℕ) → IsNext m weights slot allocs old new → HasNoFault (NextFails m weights slot allocs old)
+pub no_next : (m slot : ℕ) (weights : List PfxWeight) (allocs old new : List ℕ)
+    → IsNext m weights slot allocs old new → HasNoFault (NextFails m weights slot allocs old)
 no_next m slot weights allocs old new h f (inl j) = no_check m slot weights allocs h.ledger h.given f j
 no_next m slot weights allocs old new h f (inr (g, same, inl (is, few))) = absurd (let room = h.room in omega (arith, few, room))
 no_next m slot weights allocs old new h f (inr (g, same, inr (enough, (c, is, j)))) =
@@ -174,6 +179,7 @@ one_plan m slots weights kept f k f_known k_known (inl h) (inr (g, is, j, few)) 
 one_plan m slots weights kept f k f_known k_known (inr (g, is, h, few)) (inl j) = absurd (k_known (no_check m kept.slot weights kept.allocs g is k j))
 one_plan m slots weights kept f k f_known k_known (inr (g, is, h, few)) (inr (o, also, j, less)) = h ∙ sym j
 
-pub no_plan : (m slots made : ℕ) (weights : List PfxWeight) (old new : Kept) (g next : Ledger) → IsTaken m weights slots old new made g next → HasNoFault (PlanFails m weights slots old)
+pub no_plan : (m slots made : ℕ) (weights : List PfxWeight) (old new : Kept) (g next : Ledger)
+    → IsTaken m weights slots old new made g next → HasNoFault (PlanFails m weights slots old)
 no_plan m slots made weights old new g next h f (inl j) = no_check m old.slot weights old.allocs g h.given f j
 no_plan m slots made weights old new g next h f (inr (o, is, j, few)) = absurd (let room = h.room in omega (arith, few, room))

@@ -19,11 +19,13 @@ laid_push [] row = append-nil row
 laid_push (first ∷ rows) row = ap (λ l. first ++ l) (laid_push rows row) ∙ sym (append_assoc first (laid rows) row)
 
 -- what stands in the front goes on by a row that is written behind it
-written : (front row old places new : List ℕ) (at : ℕ) → length front ≡ at → places ≡ front ++ drop (length front) old → new ≡ take at places ++ row ++ drop (at + length row) places
+written : (front row old places new : List ℕ) (at : ℕ) → length front ≡ at
+    → places ≡ front ++ drop (length front) old → new ≡ take at places ++ row ++ drop (at + length row) places
     → new ≡ front ++ row ++ drop (length (front ++ row)) old
 written front row old places new at long placed is =
     let sum = length-append front row in
-    let before : take at places ≡ front = ap (λ n. take n places) (sym long) ∙ ap (λ l. take (length front) l) placed ∙ take-append_seam front (drop (length front) old) in
+    let before : take at places ≡ front =
+    ap (λ n. take n places) (sym long) ∙ ap (λ l. take (length front) l) placed ∙ take-append_seam front (drop (length front) old) in
     let number : at + length row ≡ length (front ++ row) = omega (arith, long, sum) in
     let behind : drop (at + length row) places ≡ drop (length (front ++ row)) old =
     ap (λ n. drop n places) number ∙ ap (λ l. drop (length (front ++ row)) l) placed
@@ -43,7 +45,8 @@ laid_none g old = record {
 }
 
 -- the row that is chosen gives each of the ledger's workers a task
-pub chosen_long : (g now : Ledger) (made at : ℕ) (old places row : List ℕ) → IsLaid g now made at old places → IsLedger now → IsChosen now row → length row ≡ g.set.workers
+pub chosen_long : (g now : Ledger) (made at : ℕ) (old places row : List ℕ)
+    → IsLaid g now made at old places → IsLedger now → IsChosen now row → length row ≡ g.set.workers
 chosen_long g now made at old places row h ledger chosen = (pf_full now row ledger chosen.pf).full ∙ ap (λ k. k.set.workers) h.planned.leads
 
 -- one row more
@@ -66,7 +69,8 @@ laid_more g now made at m old places new row h chosen long is =
     }
 
 -- a slot without a row ends the plan
-pub laid_ends : (g now : Ledger) (slots made at : ℕ) (old places : List ℕ) (f : ChoiceFault) → IsLedger g → IsLedger now → IsLaid g now made at old places → made < slots → Fails now f
+pub laid_ends : (g now : Ledger) (slots made at : ℕ) (old places : List ℕ) (f : ChoiceFault)
+    → IsLedger g → IsLedger now → IsLaid g now made at old places → made < slots → Fails now f
     → EndsEarly g now slots made f
 laid_ends g now slots made at old places f ledger after h early fails =
     let p = h.planned in
@@ -74,7 +78,9 @@ laid_ends g now slots made at old places f ledger after h early fails =
     record {
       early = early;
       why = fails;
-      only = λ other known. subst P p.number ((doomed_at g now slots f p.rows ledger p.leads after.slot (omega (arith, early, p.number)) p.plan known fails).only other);
+      only = λ other known.
+          subst P p.number
+          ((doomed_at g now slots f p.rows ledger p.leads after.slot (omega (arith, early, p.number)) p.plan known fails).only other);
     }
 
 -- places for all rows are places for one more
@@ -86,10 +92,13 @@ room made slots m long less all =
     omega (arith, more, turned, other, all)
 
 -- a row that is written in front
-pub in_front : (row old new : List ℕ) (m : ℕ) → length row ≡ m → new ≡ take 0 old ++ row ++ drop (0 + length row) old → (take m new ≡ row) × (drop m new ≡ drop m old)
+pub in_front : (row old new : List ℕ) (m : ℕ) → length row ≡ m
+    → new ≡ take 0 old ++ row ++ drop (0 + length row) old → (take m new ≡ row) × (drop m new ≡ drop m old)
 in_front row old new m long is =
     let number : 0 + length row ≡ length row = omega arith in
     let same : new ≡ row ++ drop (length row) old = is ∙ ap (λ n. row ++ drop n old) number in
-    let front : take m new ≡ row = ap (λ n. take n new) (sym long) ∙ ap (λ l. take (length row) l) same ∙ take-append_seam row (drop (length row) old) in
-    let rest : drop m new ≡ drop m old = ap (λ n. drop n new) (sym long) ∙ ap (λ l. drop (length row) l) same ∙ drop-append_seam row (drop (length row) old) ∙ ap (λ n. drop n old) long in
+    let front : take m new ≡ row =
+    ap (λ n. take n new) (sym long) ∙ ap (λ l. take (length row) l) same ∙ take-append_seam row (drop (length row) old) in
+    let rest : drop m new ≡ drop m old =
+    ap (λ n. drop n new) (sym long) ∙ ap (λ l. drop (length row) l) same ∙ drop-append_seam row (drop (length row) old) ∙ ap (λ n. drop n old) long in
     (front, rest)

@@ -41,7 +41,10 @@ pub record Kept : Type 0 where
   pub allocs : List ℕ
   pub places : List ℕ
 
--- the caller's numbers were a ledger, with places for so many slots, and a plan of these rows was laid there and the ledger taken along
+abbrev pub kept : ℕ → List ℕ → List ℕ → Kept
+kept slot allocs places = record { slot = slot; allocs = allocs; places = places }
+
+-- the caller's numbers were a ledger, with places for so many slots; a plan of these rows was laid there, and the ledger taken along
 pub record IsTaken (m : ℕ) (weights : List PfxWeight) (slots : ℕ) (old new : Kept) (made : ℕ) (g next : Ledger) : Type 0 where
   pub given : IsLedgerOf m weights old.slot old.allocs g
   pub room : slots * m ≤ length old.places
@@ -50,8 +53,8 @@ pub record IsTaken (m : ℕ) (weights : List PfxWeight) (slots : ℕ) (old new :
 
 -- the numbers are no ledger, or they are one and the caller has too few places
 abbrev pub PlanFails : ℕ → List PfxWeight → ℕ → Kept → Fault → Type 0
-PlanFails m weights slots kept f = CheckFails m weights kept.slot kept.allocs f
-    ⊎ ((g : Ledger) × IsLedgerOf m weights kept.slot kept.allocs g × (f ≡ fault.NoRoom) × (length kept.places < slots * m))
+PlanFails m weights slots old f = CheckFails m weights old.slot old.allocs f
+    ⊎ ((g : Ledger) × IsLedgerOf m weights old.slot old.allocs g × (f ≡ fault.NoRoom) × (length old.places < slots * m))
 
 -- all rows were made
 abbrev pub IsWhole : ℕ → List PfxWeight → ℕ → Kept → Kept → ℕ → Type 0
@@ -64,4 +67,9 @@ IsNothing m weights slots number old new made = (made ≡ 0) × (new ≡ old) ×
 -- the rows before the slot at which no row is chosen were made
 abbrev pub IsBeginning : ℕ → List PfxWeight → ℕ → ℕ → Kept → Kept → ℕ → Type 0
 IsBeginning m weights slots number old new made =
-    (g next : Ledger) × IsTaken m weights slots old new made g next × ((c : ChoiceFault) × (number ≡ number_of (fault_of_choice c)) × EndsEarly g next slots made c)
+    (g next : Ledger) × IsTaken m weights slots old new made g next
+    × ((c : ChoiceFault) × (number ≡ number_of (fault_of_choice c)) × EndsEarly g next slots made c)
+
+-- not all rows were made
+abbrev pub IsCut : ℕ → List PfxWeight → ℕ → ℕ → Kept → Kept → ℕ → Type 0
+IsCut m weights slots number old new made = IsNothing m weights slots number old new made ⊎ IsBeginning m weights slots number old new made

@@ -22,7 +22,8 @@ pub fn one_refusal()
 /// None holds where a call did what it is for.
 pub fn no_refusal()
     ensures set { (m total : ℕ) (weights : List PfxWeight) → HasTotal m weights total → HasNoFault (SetFails m weights) }
-    ensures check { (m slot : ℕ) (weights : List PfxWeight) (allocs : List ℕ) → IsGiven m weights slot allocs → HasNoFault (CheckFails m weights slot allocs) }
+    ensures check { (m slot : ℕ) (weights : List PfxWeight) (allocs : List ℕ) → IsGiven m weights slot allocs
+        → HasNoFault (CheckFails m weights slot allocs) }
     ensures next { (m slot : ℕ) (weights : List PfxWeight) (allocs old new : List ℕ) → IsNext m weights slot allocs old new
         → HasNoFault (NextFails m weights slot allocs old) }
     ensures plan { (m slots made : ℕ) (weights : List PfxWeight) (old new : Kept) (g next : Ledger) → IsTaken m weights slots old new made g next

@@ -1,8 +1,8 @@
 //! Rows of many slots.
 
-ghost use Rattle.std.specs.Prelude.{◌≡◌, ◌≢◌, ◌*◌, ◌≤◌, ◌⊎◌, length, MatchResult, IfOk, IfErr, OnOk};
+ghost use Rattle.std.specs.Prelude.{◌≡◌, ◌≢◌, ◌*◌, ◌≤◌, length, MatchResult, IfOk, IfErr, OnOk};
 ghost use Rattle.pfx_c.specs.Checks.{IsLedgerOf};
-ghost use Rattle.pfx_c.specs.Plans.{IsPlanned, EndsEarly, Kept, PlanFails, IsWhole, IsNothing, IsBeginning};
+ghost use Rattle.pfx_c.specs.Plans.{IsPlanned, EndsEarly, PlanFails, IsWhole, IsCut, kept};
 
 use crate::checks::given_ledger;
 use crate::faults::{fault_of_choice, number_of};
@@ -55,7 +55,7 @@ fn ledger_with_room(
 ) -> Result<Columns, Fault>
     ensures ok { IfOk result (λ g. IsLedgerOf workers weights.now slot allocs.now g) }
     ensures room { OnOk result (slots * workers ≤ length places.now) }
-    ensures why { IfErr result (PlanFails workers weights.now slots (record { slot = slot; allocs = allocs.now; places = places.now })) }
+    ensures why { IfErr result (PlanFails workers weights.now slots (kept slot allocs.now places.now)) }
 {
     let ledger = given_ledger(alloc, workers, weights, slot, allocs)?;
     match slots.checked_mul(workers as usize) {
@@ -95,13 +95,8 @@ pub extern "C" fn pfx_plan(
     rows: &mut [u16],
     made: &mut usize,
 ) -> u32
-    ensures ok { result ≡ 0 → IsWhole workers weights.now slots (record { slot = slot.old; allocs = allocs.old; places = rows.old })
-        (record { slot = slot.new; allocs = allocs.new; places = rows.new }) made.new }
-    ensures why { result ≢ 0 →
-        IsNothing workers weights.now slots result (record { slot = slot.old; allocs = allocs.old; places = rows.old })
-        (record { slot = slot.new; allocs = allocs.new; places = rows.new }) made.new
-        ⊎ IsBeginning workers weights.now slots result (record { slot = slot.old; allocs = allocs.old; places = rows.old })
-        (record { slot = slot.new; allocs = allocs.new; places = rows.new }) made.new }
+    ensures ok { result ≡ 0 → IsWhole workers weights.now slots (kept slot.old allocs.old rows.old) (kept slot.new allocs.new rows.new) made.new }
+    ensures why { result ≢ 0 → IsCut workers weights.now slots result (kept slot.old allocs.old rows.old) (kept slot.new allocs.new rows.new) made.new }
 {
     *made = 0;
     let mut ledger = match ledger_with_room(alloc, workers, weights, slots, *slot, allocs, rows) {

@@ -13,17 +13,20 @@ returns-in-Err-clause-planned c = c.loop-made.invariant.laid.planned
 pub returns-in-Err-clause-end : goal.returns-in-Err-clause-end
 returns-in-Err-clause-end c =
     let fails = c.in-Err.ensures.row in
-    laid_ends c.args.ledger.now c.loop-made.ledger c.args.slots c.loop-made.made c.loop-made.at c.args.places.now c.loop-made.places c.in-Err.fault c.total-total.ensures.ledger c.total-all.ensures.ledger c.loop-made.invariant.laid c.loop-made-test.true fails
+    laid_ends _ _ c.args.slots _ _ _ _ c.in-Err.fault c.total-total.ensures.ledger c.total-all.ensures.ledger
+    c.loop-made.invariant.laid c.loop-made-test.true fails
 
 pub put_row-requires : goal.put_row-requires
 put_row-requires c =
     let g = c.args.ledger.now in
     let row = c.choose_into.new.row in
-    let long : length row ≡ g.set.workers = chosen_long g c.loop-made.ledger c.loop-made.made c.loop-made.at c.args.places.now c.loop-made.places row c.loop-made.invariant.laid c.total-all.ensures.ledger c.in_default.ensures.row in
+    let long : length row ≡ g.set.workers =
+    chosen_long g _ _ _ _ _ row c.loop-made.invariant.laid c.total-all.ensures.ledger c.in_default.ensures.row in
     let m : c.workers-m.result ≡ g.set.workers = c.workers-m.ensures in
     let all = c.requires in
     let Room : ℕ → Type 0 = λ k. c.args.slots * k ≤ length c.args.places.now in
-    let fits : c.loop-made.made * c.workers-m.result + c.workers-m.result ≤ length c.args.places.now = room c.loop-made.made c.args.slots c.workers-m.result (length c.args.places.now) c.loop-made-test.true (subst Room (sym m) all) in
+    let fits : c.loop-made.made * c.workers-m.result + c.workers-m.result ≤ length c.args.places.now =
+    room c.loop-made.made c.args.slots c.workers-m.result _ c.loop-made-test.true (subst Room (sym m) all) in
     omega (arith, long, m, fits, c.loop-made.invariant.at, c.loop-made.auto.places)
 
 pub overflow_add-at : goal.overflow_add-at
@@ -31,7 +34,8 @@ overflow_add-at c =
     let g = c.args.ledger.now in
     let m : c.workers-m.result ≡ g.set.workers = c.workers-m.ensures in
     let Room : ℕ → Type 0 = λ k. c.args.slots * k ≤ length c.args.places.now in
-    let fits : c.loop-made.made * c.workers-m.result + c.workers-m.result ≤ length c.args.places.now = room c.loop-made.made c.args.slots c.workers-m.result (length c.args.places.now) c.loop-made-test.true (subst Room (sym m) c.requires) in
+    let fits : c.loop-made.made * c.workers-m.result + c.workers-m.result ≤ length c.args.places.now =
+    room c.loop-made.made c.args.slots c.workers-m.result _ c.loop-made-test.true (subst Room (sym m) c.requires) in
     let ends : c.loop-made.at + c.workers-m.result ≤ length c.args.places.now = omega (arith, fits, c.loop-made.invariant.at) in
     search rules
 
@@ -39,10 +43,11 @@ pub loop-made-preserved : goal.loop-made-preserved
 loop-made-preserved c =
     let g = c.args.ledger.now in
     let row = c.choose_into.new.row in
-    let now = c.loop-made.ledger in
     let m : c.workers-m.result ≡ g.set.workers = c.workers-m.ensures in
-    let long : length row ≡ c.workers-m.result = chosen_long g now c.loop-made.made c.loop-made.at c.args.places.now c.loop-made.places row c.loop-made.invariant.laid c.total-all.ensures.ledger c.in_default.ensures.row ∙ sym m in
-    let more = laid_more g now c.loop-made.made c.loop-made.at c.workers-m.result c.args.places.now c.loop-made.places c.put_row.new.places row c.loop-made.invariant.laid c.in_default.ensures.row long c.put_row.ensures in
+    let long : length row ≡ c.workers-m.result =
+    chosen_long g _ _ _ _ _ row c.loop-made.invariant.laid c.total-all.ensures.ledger c.in_default.ensures.row ∙ sym m in
+    let more = laid_more g _ _ _ c.workers-m.result _ _ c.put_row.new.places row c.loop-made.invariant.laid
+    c.in_default.ensures.row long c.put_row.ensures in
     let P : Ledger → Type 0 = λ k. IsLaid g k (c.loop-made.made + 1) (c.loop-made.at + c.workers-m.result) c.args.places.now c.put_row.new.places in
     record { laid = subst P (sym c.give.ensures) more; at = omega (arith, c.loop-made.invariant.at) }
 
