@@ -22,4 +22,5 @@ module _ {J : Type 0} where
   -- it has a line for each task
   pub board_lines : (K : Kind J) (o : Plain J) (xs : List (Batch J)) (board : Board) → IsBoardOf K o xs board → length board.lines.items ≡ total o.ledger
   board_lines K o xs board h =
-      ap length h.lines ∙ (length-lines K h.state (total h.state.ledger) ∙ ap (λ set. length set.weights) (applied_behind K o h.state (records_of xs) h.leads).set)
+      let set = (applied_behind K o h.state (records_of xs) h.leads).set in
+      ap length h.lines ∙ (length-lines K h.state (total h.state.ledger) ∙ ap (λ s. length s.weights) set)

@@ -1,5 +1,6 @@
 -- Batches in a row: how many records they have, and beginnings of them.
-use Rattle.std.proofs.Common.{◌≡◌, ◌+◌, ◌<◌, ◌≤◌, Bool, true, false, ◌&&◌, nat_le, nat_lt, List, [], ◌∷◌, ◌++◌, length, map, refl, ap, sym, ◌∙◌, arith, length-append, ◌^◌}
+use Rattle.std.proofs.Common.{◌≡◌, ◌+◌, ◌<◌, ◌≤◌, Bool, true, false, ◌&&◌, nat_le, nat_lt, List}
+use Rattle.std.proofs.Common.{[], ◌∷◌, ◌++◌, length, map, refl, ap, sym, ◌∙◌, arith, length-append, ◌^◌}
 use Rattle.std.proofs.lemmas.Bool.{ltb-true, false≢true}
 use Rattle.std.proofs.lemmas.List.{append_assoc, append-nil, length-map}
 use Rattle.std.specs.Bool.{IsTrue}
@@ -28,7 +29,9 @@ begins_if xs ys false m h = absurd (false≢true h)
 module _ {J : Type 0} where
   pub records_append : (xs ys : List (Batch J)) → records_of (xs ++ ys) ≡ records_of xs ++ records_of ys
   records_append [] ys = refl
-  records_append (b ∷ xs) ys = ap (λ w. map plain b.records.items ++ w) (records_append xs ys) ∙ sym (append_assoc (map plain b.records.items) (records_of xs) (records_of ys))
+  records_append (b ∷ xs) ys =
+      let first = map plain b.records.items in
+      ap (λ w. first ++ w) (records_append xs ys) ∙ sym (append_assoc first (records_of xs) (records_of ys))
 
   -- a batch more has its records behind those before it
   pub records_more : (xs : List (Batch J)) (b : Batch J) → records_of (xs ++ b ∷ []) ≡ records_of xs ++ map plain b.records.items
@@ -36,9 +39,9 @@ module _ {J : Type 0} where
 
   pub last_more : (o : Plain J) (xs : List (Batch J)) (b : Batch J) → last_of o (xs ++ b ∷ []) ≡ last_of o xs + length b.records.items
   last_more o xs b =
-      let e : length (records_of (xs ++ b ∷ [])) ≡ length (records_of xs) + length b.records.items =
-      ap length (records_more xs b) ∙ (length-append (records_of xs) (map plain b.records.items) ∙ ap (λ n. length (records_of xs) + n) (length-map b.records.items plain)) in
-      omega (arith, e)
+      let all = ap length (records_more xs b) in
+      let sum = length-append (records_of xs) (map plain b.records.items) in
+      omega (arith, all, sum, length-map b.records.items plain)
 
   -- more batches, no lower number
   pub last_begins : (o : Plain J) (xs ys : List (Batch J)) → IsPrefix xs ys → last_of o xs ≤ last_of o ys
@@ -51,8 +54,10 @@ module _ {J : Type 0} where
   has_record b =
       let count = length (map plain b.records.items) in
       let fit = both (counts_fit b.workers b.first count) (all_fit b.workers (map plain b.records.items)) b.fits in
-      let counts = both (nat_lt 0 b.workers && nat_le b.workers 64) ((nat_lt 0 count && nat_le count 16) && (nat_lt 0 b.first && nat_le (b.first + count) (2 ^ 48))) fit.0 in
-      let some = both (nat_lt 0 count && nat_le count 16) (nat_lt 0 b.first && nat_le (b.first + count) (2 ^ 48)) counts.1 in
+      let few = nat_lt 0 count && nat_le count 16 in
+      let numbers = nat_lt 0 b.first && nat_le (b.first + count) (2 ^ 48) in
+      let counts = both (nat_lt 0 b.workers && nat_le b.workers 64) (few && numbers) fit.0 in
+      let some = both few numbers counts.1 in
       let less = ltb-true 0 count (both (nat_lt 0 count) (nat_le count 16) some.0).0 in
       omega (arith, less, length-map b.records.items plain)
 
