@@ -126,6 +126,17 @@ def random_ledger(workers, tasks, slot):
     return allocs
 
 
+def random_rest(workers, weights):
+    """Weights that take what these leave of the workers, so that no idle task gives way."""
+    hyper = lcm(2, *(p for _, p in weights))
+    rest = workers * hyper - sum(e * (hyper // p) for e, p in weights)
+    pieces = []
+    while rest:
+        pieces.append((random.randint(1, min(rest, hyper - 1)) if len(pieces) < 8 else min(rest, hyper - 1), hyper))
+        rest -= pieces[-1][0]
+    return pieces
+
+
 def random_case():
     workers = random.choice([1, 1, 2, 2, 3, 4, 8])
     top = random.choice([24, 24, 60])
@@ -136,6 +147,8 @@ def random_case():
         if load + e / p <= workers and lcm(p, *(q for _, q in weights)) <= 5040:
             weights.append((e, p))
             load += e / p
+    if weights and random.random() < 0.4:
+        weights += random_rest(workers, weights)
     spoilt = random.random()
     if spoilt < 0.03 or not weights:
         weights.insert(random.randint(0, len(weights)), random.choice([(3, 3), (0, 4), (7, 5), (1, 1048576), (1, 1048573)]))
