@@ -72,7 +72,7 @@ fn shares_take_turns(alloc: Global, n: u16) -> Option<bool> {
 
 #[test]
 fn equal_shares_take_turns(rt: HostRuntime) {
-    for n in [15, 16, 17] {
+    for n in [15, 16, 17, 33, 300] {
         assert!(rt; shares_take_turns(rt.alloc(), n) == Some(true), "{n} tasks");
     }
 }
@@ -144,7 +144,12 @@ fn says_why_there_is_no_row(rt: HostRuntime) {
 }
 
 /// Gives the ledger a slot, and says whether the choice and the plain program agree on it.
-fn slot_agrees(alloc: Global, ledger: &mut Columns, chooser: &mut Chooser, kept: &mut Row) -> bool {
+pub fn slot_agrees(
+    alloc: Global,
+    ledger: &mut Columns,
+    chooser: &mut Chooser,
+    kept: &mut Row,
+) -> bool {
     let Ok(expected) = plain::plain_row(alloc, ledger) else {
         return false;
     };

@@ -5,7 +5,8 @@
 //! - `symbols`: worked symbols, classes and ranks, and the comparison by gaps beside the walk.
 //! - `lanes`: sixteen tasks at a time, beside plain loops.
 //! - `columns`: worked ledgers, and the columns beside `records`, a list of one record a task.
-//! - `choice`: worked plans, and the choice beside `plain`, the choice by counting.
+//! - `choice`: worked plans, and the choice beside `plain`, the choice by counting; `many`: the same for sets of more than 16 tasks,
+//!   which are chosen by places.
 #![tactic(auto)]
 
 #[cfg(test)]
@@ -14,6 +15,8 @@ mod choice;
 mod columns;
 #[cfg(test)]
 mod lanes;
+#[cfg(test)]
+mod many;
 #[cfg(test)]
 mod plain;
 #[cfg(test)]

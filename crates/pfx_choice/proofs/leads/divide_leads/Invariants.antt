@@ -1,0 +1,11 @@
+use Rattle.std.proofs.Common.{◌≡◌, ◌≢◌, ℕ, ◌<◌, ◌≤◌, length, slice_index_or}
+use Rattle.pfx_columns.specs.Ledgers.{total}
+use Rattle.pfx_choice.specs.Places.{near}
+use Rattle.pfx_choice.proofs.leads.divide_leads.Given as goal
+
+abbrev pub invariant-loop-x : goal.invariant-loop-x
+invariant-loop-x l = record {
+  long : length l.leads ≡ total l.ledger;
+  done : (y : ℕ) → y < l.x → slice_index_or l.leads y 0 ≡ near l.ledger y;
+  left : (y : ℕ) → l.x ≤ y → y < total l.ledger → slice_index_or l.leads y 0 ≢ 255 → slice_index_or l.leads y 0 ≡ near l.ledger y;
+}

@@ -1,0 +1,130 @@
+//! Each task's lead: the slots before the one at whose end its next subtask ends.
+//!
+//! It is guessed by that of the slot before, which was one more where the task rested, and tested by a product. Only where the
+//! guess is wrong, as for the tasks that ran, a division gives it. So no answer rests on what was kept.
+
+ghost use Rattle.std.specs.Prelude.{◌≡◌, ◌≢◌, ℕ, ◌-◌, ◌/◌, ◌<◌, ◌≤◌, ◌^◌, min, pos, neg_ℤ, ◌≤ℤ◌, ◌-ℤ◌, length, slice_index_or, OnOk};
+ghost use Rattle.pfx_columns.specs.Columns.{lag_in, e_in, p_in};
+ghost use Rattle.pfx_columns.specs.Ledgers.{total};
+ghost use Rattle.pfx_choice.specs.Places.{near, AreLeadsIn, AreNear};
+
+use pfx_columns::Columns;
+use std::alloc::AllocError;
+
+/// What stands for each greater lead too.
+const FAR: u8 = 254;
+
+/// What stands for no lead.
+const UNKNOWN: u8 = 255;
+
+/// Takes the lead of each task, or 254 where it is more, guessed by what stands there.
+pub fn take_leads(leads: &mut Vec<u8>, ledger: &Columns) -> Result<(), AllocError>
+    ensures { OnOk result (AreLeadsIn ledger.now leads.new.items) }
+{
+    let total = ledger.total();
+    if leads.len() != total {
+        leads.resize(total, 0)?;
+    }
+    guess_leads(leads, ledger);
+    divide_leads(leads, ledger);
+    Ok(())
+}
+
+/// Guesses each lead by the last one; 255 stands where the guess is wrong.
+fn guess_leads(leads: &mut [u8], ledger: &Columns)
+    requires { length leads.old ≡ total ledger.now }
+    ensures { AreNear ledger.now leads.new }
+{
+    let _total = ledger.total();
+    let (lags, es, ps) = (ledger.lags(), ledger.es(), ledger.ps());
+    for x in 0..leads.len() {
+        leads[x] = guessed(ledger, x, lags[x], es[x], ps[x], leads[x]);
+    }
+}
+
+/// Divides out the leads that aren't known.
+fn divide_leads(leads: &mut [u8], ledger: &Columns)
+    requires { AreNear ledger.now leads.old }
+    ensures { AreLeadsIn ledger.now leads.new }
+{
+    let _total = ledger.total();
+    for x in 0..leads.len() {
+        if leads[x] == UNKNOWN {
+            leads[x] = divided(ledger, x);
+        }
+    }
+}
+
+/// A task's lead, where it is what the last one leads one to guess, and else 255.
+fn guessed(ledger: &Columns, x: usize, lag: i32, e: i32, p: i32, last: u8) -> u8
+    requires within { x < total ledger.now }
+    requires lag { lag ≡ lag_in ledger.now x }
+    requires e { e ≡ e_in ledger.now x }
+    requires p { p ≡ p_in ledger.now x }
+    ensures { result ≢ 255 → result ≡ near ledger.now x }
+{
+    let _total = ledger.total();
+    tested(guess_by(last), natural(e), left_of(p, lag))
+}
+
+/// The lead to try where the last one was this: that of a task that rested.
+fn guess_by(last: u8) -> u8 {
+    if last == FAR {
+        FAR
+    } else if last == 0 {
+        UNKNOWN
+    } else {
+        last - 1
+    }
+}
+
+/// The guess where it is right, and else 255.
+fn tested(guess: u8, e: u32, left: u32) -> u8
+    requires weight { (1 ≤ e) × (e ≤ 2 ^ 20) }
+    requires left { 1 ≤ left }
+    ensures { result ≢ 255 → result ≡ min ((left - 1) / e) 254 }
+{
+    let start = e * u32::from(guess);
+    if start < left && (guess == FAR || left <= start + e) {
+        guess
+    } else {
+        UNKNOWN
+    }
+}
+
+/// A task's lead, or 254 where it is more.
+fn divided(ledger: &Columns, x: usize) -> u8
+    requires { x < total ledger.now }
+    ensures { result ≡ near ledger.now x }
+{
+    let _total = ledger.total();
+    let (lags, es, ps) = (ledger.lags(), ledger.es(), ledger.ps());
+    quotient(natural(es[x]), left_of(ps[x], lags[x]))
+}
+
+/// The quotient, or 254 where it is more.
+fn quotient(e: u32, left: u32) -> u8
+    requires { (1 ≤ e) × (1 ≤ left) }
+    ensures { result ≡ min ((left - 1) / e) 254 }
+{
+    let lead = (left - 1) / e;
+    if lead < 254 { lead as u8 } else { FAR }
+}
+
+/// A number that isn't below 0.
+fn natural(x: i32) -> u32
+    requires { pos 0 ≤ℤ x }
+    ensures { pos result ≡ x }
+{
+    x as u32
+}
+
+/// What is left to the end of a task's next subtask, in e-ths of a slot: its period less its lag.
+fn left_of(p: i32, lag: i32) -> u32
+    requires limit { p ≤ℤ pos 1048576 }
+    requires low { neg_ℤ p ≤ℤ lag }
+    requires high { lag ≤ℤ p }
+    ensures { pos result ≡ p -ℤ lag }
+{
+    (p - lag) as u32
+}

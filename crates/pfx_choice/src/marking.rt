@@ -1,0 +1,63 @@
+//! The tasks of a row, marked by their places.
+
+ghost use Rattle.std.specs.Prelude.{◌≡◌, ℕ, ◌<◌, ◌==◌, nat_lt, length, slice_index_or, OnOk};
+ghost use Rattle.pfx_weights.specs.Rows.{marked_in};
+ghost use Rattle.pfx_columns.specs.Ledgers.{total};
+ghost use Rattle.pfx_choice.specs.Cuts.{IsCut};
+ghost use Rattle.pfx_choice.specs.Picks.{ranks_if, IsReady};
+ghost use Rattle.pfx_choice.specs.Places.{place, ArePlacesIn};
+
+use crate::cuts::Cut;
+use pfx_columns::Columns;
+use pfx_symbols::Rank;
+use std::alloc::AllocError;
+
+/// Marks the tasks before the cut in place of all places, and gathers those at it, where workers are left for some.
+pub fn mark_before(
+    places: &mut [u8],
+    found: &mut Vec<Rank>,
+    ledger: &Columns,
+    cut: Cut,
+) -> Result<(), AllocError>
+    requires places { ArePlacesIn ledger.now places.old }
+    requires cut { IsCut places.old ledger.now.set.workers cut }
+    ensures { OnOk result (IsReady ledger.now cut.left places.new found.new.items) }
+{
+    let _total = ledger.total();
+    found.clear();
+    if cut.left > 0 {
+        gather_at(found, ledger, places, cut.place)?;
+    }
+    mark_below(places, cut.place);
+    Ok(())
+}
+
+/// Gathers the ranks of the tasks at a place.
+fn gather_at(
+    found: &mut Vec<Rank>,
+    ledger: &Columns,
+    places: &[u8],
+    d: u8,
+) -> Result<(), AllocError>
+    requires { ArePlacesIn ledger.now places.now }
+    ensures { OnOk result (found.new.items ≡ ranks_if (λ x. place ledger.now x == d) (total ledger.now) ledger.now) }
+{
+    let _total = ledger.total();
+    found.clear();
+    for (x, place) in places.iter().enumerate() {
+        if *place != d {
+            continue;
+        }
+        found.push(ledger.rank(x))?;
+    }
+    Ok(())
+}
+
+/// Marks the tasks whose place is below one, in place of the places.
+fn mark_below(places: &mut [u8], d: u8)
+    ensures { (x : ℕ) → x < length places.old → marked_in places.new x ≡ nat_lt (slice_index_or places.old x 0) d }
+{
+    for x in 0..places.len() {
+        places[x] = u8::from(places[x] < d);
+    }
+}

@@ -1,0 +1,187 @@
+//! The choice of more than 16 tasks, by their places, beside the plain program.
+
+use crate::choice::slot_agrees;
+use crate::columns::start;
+use pfx_choice::{ChoiceFault, Chooser, choose};
+use pfx_columns::Columns;
+use pfx_weights::{Row, TaskSet};
+use std::alloc::Global;
+
+/// Tasks of one weight, and how many slots each of them got.
+#[derive(Drop)]
+struct Part {
+    weight: (u32, u32),
+    alloc: u64,
+    times: usize,
+}
+
+fn part_of(weight: (u32, u32), alloc: u64, times: usize) -> Part {
+    Part {
+        weight,
+        alloc,
+        times,
+    }
+}
+
+/// The ledger at a slot of the tasks of these parts, which leave no worker idle.
+fn ledger_of(alloc: Global, m: u32, slot: u64, parts: &[Part]) -> Option<Columns> {
+    let mut tasks = Vec::new(alloc);
+    let mut allocs = Vec::new(alloc);
+    for part in parts {
+        for _task in 0..part.times {
+            tasks.push(part.weight).ok()?;
+            allocs.push(part.alloc).ok()?;
+        }
+    }
+    let set = TaskSet::new(alloc, m, &tasks).ok()?;
+    if set.total() != allocs.len() || slot >= 1 << 40 {
+        return None;
+    }
+    Columns::from_allocations(alloc, &set, slot, &allocs).ok()
+}
+
+/// Whether the choice and the plain program agree on so many slots from a ledger on.
+fn agrees_from(alloc: Global, ledger: Option<Columns>, slots: u32) -> bool {
+    let Some(mut ledger) = ledger else {
+        return false;
+    };
+    let mut chooser = Chooser::new(alloc);
+    let mut kept = Row::empty();
+    for _slot in 0..slots {
+        if ledger.total() <= 16 || !slot_agrees(alloc, &mut ledger, &mut chooser, &mut kept) {
+            return false;
+        }
+    }
+    true
+}
+
+/// Weights from far below to just below 1; the last two have leads of hundreds of slots.
+const SPREAD: [(u32, u32); 21] = [
+    (1, 7),
+    (2, 7),
+    (3, 7),
+    (1, 14),
+    (3, 14),
+    (5, 14),
+    (1, 2),
+    (1, 4),
+    (3, 4),
+    (1, 8),
+    (3, 8),
+    (5, 8),
+    (7, 8),
+    (1, 28),
+    (9, 28),
+    (27, 28),
+    (1, 56),
+    (55, 56),
+    (13, 56),
+    (1, 1008),
+    (3, 1008),
+];
+
+/// Weights near one half, whose ends tie.
+const HALVES: [(u32, u32); 20] = [
+    (359, 720),
+    (358, 720),
+    (357, 720),
+    (356, 720),
+    (355, 720),
+    (354, 720),
+    (353, 720),
+    (352, 720),
+    (351, 720),
+    (350, 720),
+    (349, 720),
+    (348, 720),
+    (347, 720),
+    (346, 720),
+    (345, 720),
+    (344, 720),
+    (343, 720),
+    (342, 720),
+    (341, 720),
+    (340, 720),
+];
+
+#[test]
+fn agrees_on_many_tasks(rt: HostRuntime) {
+    let alloc = rt.alloc();
+    assert!(rt;
+        agrees_from(alloc, start(alloc, 8, &SPREAD), 1100),
+        "spread"
+    );
+    assert!(rt;
+        agrees_from(alloc, start(alloc, 10, &HALVES), 400),
+        "halves"
+    );
+    assert!(rt;
+        agrees_from(alloc, start(alloc, 20, &HALVES), 200),
+        "idle workers"
+    );
+}
+
+#[test]
+fn agrees_on_a_ledger_of_its_own(rt: HostRuntime) {
+    let alloc = rt.alloc();
+    let parts = [part_of((1, 3), 1, 2), part_of((1, 48), 0, 16)];
+    let ledger = ledger_of(alloc, 1, 2, &parts);
+    assert!(rt; agrees_from(alloc, ledger, 48));
+}
+
+/// Whether one chooser agrees with the plain program on two ledgers in turn.
+fn serves_two(alloc: Global) -> bool {
+    let Some(mut one) = start(alloc, 8, &SPREAD) else {
+        return false;
+    };
+    let Some(mut other) = start(alloc, 10, &HALVES) else {
+        return false;
+    };
+    let mut chooser = Chooser::new(alloc);
+    let mut kept = Row::empty();
+    for _slot in 0..200 {
+        if !slot_agrees(alloc, &mut one, &mut chooser, &mut kept)
+            || !slot_agrees(alloc, &mut other, &mut chooser, &mut kept)
+        {
+            return false;
+        }
+    }
+    true
+}
+
+#[test]
+fn one_chooser_serves_two_ledgers(rt: HostRuntime) {
+    assert!(rt; serves_two(rt.alloc()));
+}
+
+/// Whether no row is chosen at the ledger of more than 16 tasks, for this cause.
+fn has_no_row(alloc: Global, ledger: Option<Columns>, fault: ChoiceFault) -> bool {
+    match ledger {
+        Some(ledger) => ledger.total() > 16 && choose(alloc, &ledger).err() == Some(fault),
+        None => false,
+    }
+}
+
+#[test]
+fn says_why_many_have_no_row(rt: HostRuntime) {
+    let alloc = rt.alloc();
+    let parts = [
+        part_of((1, 3), 0, 2),
+        part_of((1, 48), 1, 2),
+        part_of((1, 48), 0, 14),
+    ];
+    let fault = ChoiceFault::TooManyUrgent { urgent: 2, m: 1 };
+    assert!(rt;
+        has_no_row(alloc, ledger_of(alloc, 1, 2, &parts), fault),
+        "too many urgent"
+    );
+    let parts = [part_of((2, 3), 2, 10), part_of((5, 6), 1, 10)];
+    let fault = ChoiceFault::TooFewEligible {
+        eligible: 10,
+        m: 15,
+    };
+    assert!(rt;
+        has_no_row(alloc, ledger_of(alloc, 15, 2, &parts), fault),
+        "too few eligible"
+    );
+}
