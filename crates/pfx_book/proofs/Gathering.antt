@@ -1,8 +1,9 @@
 -- The passes' lists, gathered.
 use Rattle.std.specs.Prelude.{if◌then◌else◌, ◌==◌, ◌&&◌, nat_lt, nat_le}
-use Rattle.std.proofs.Common.{◌≡◌, ℕ, zero, suc, ◌+◌, ◌<◌, ◌≤◌, get_or, take, map, List, [], ◌∷◌, length, set, Bool, true, false, refl, sym, ap, ◌∙◌, arith}
+use Rattle.std.proofs.Common.{◌≡◌, ℕ, zero, suc, ◌+◌, ◌<◌, ◌≤◌, get_or, take, map, List, [], ◌∷◌, length, set, Bool, true, false, refl, sym, ap, ◌∙◌, subst, arith}
+use Rattle.std.proofs.lemmas.Bool.{leb-true, ltb-true}
 use Rattle.std.proofs.lemmas.List.{set-get_or}
-use Rattle.pfx_book.specs.Merging.{of, lists_from, Tagged, IsMerge}
+use Rattle.pfx_book.specs.Merging.{of, lists_from, numbers_from, Tagged, IsMerge}
 use Rattle.pfx_book.specs.declared.note.Note.{Note}
 use Rattle.pfx_book.specs.Notes.{is_entry, entries_of, answers_of}
 use Rattle.pfx_book.proofs.Merges.{looked_more, and_left, and_right, and_both}
@@ -37,6 +38,24 @@ get_or_map : {A B : Type 0} (f : A → B) (xs : List A) (i : ℕ) (d : A) → ge
 get_or_map f [] i d = refl
 get_or_map f (x ∷ xs) zero d = refl
 get_or_map f (x ∷ xs) (suc i) d = get_or_map f xs i d
+
+-- passes that are numbered from 1 on
+numbered : (k n i d : ℕ) → i < n → get_or (numbers_from k n) i d ≡ k + i
+numbered k zero i d below = absurd (omega (arith, below))
+numbered k (suc n) zero d below = omega arith
+numbered k (suc n) (suc i) d below = numbered (suc k) n i d (omega (arith, below)) ∙ omega arith
+
+numbers_long : (k n : ℕ) → length (numbers_from k n) ≡ n
+numbers_long k zero = refl
+numbers_long k (suc n) = ap suc (numbers_long (suc k) n)
+
+pub all_long : {A : Type 0} (passes : List (ℕ × A)) (n : ℕ) → map (λ p. p.0) passes ≡ numbers_from 1 n → length passes ≡ n
+all_long passes n all = let long = length_map (λ (p : ℕ × _). p.0) passes in let same = ap length all in omega (arith, long, same, numbers_long 1 n)
+
+pub pass_here : {A : Type 0} (passes : List (ℕ × A)) (i n : ℕ) (old d : ℕ × A) → map (λ p. p.0) passes ≡ numbers_from 1 n → i < length passes → old ≡ get_or passes i d → old.0 ≡ i + 1
+pass_here passes i n old d all below at =
+    ap (λ (p : ℕ × _). p.0) at ∙ sym (get_or_map (λ (p : ℕ × _). p.0) passes i d) ∙ ap (λ l. get_or l i d.0) all
+    ∙ numbered 1 n i d.0 (let long = all_long passes n all in omega (arith, below, long)) ∙ omega arith
 
 -- one pass more was looked at
 pub gathered_more : {P A : Type 0} (f : P → List A) (passes : List P) (i n : ℕ) (old d new : P) (session : List (ℕ × A))
@@ -74,3 +93,19 @@ module _ {J : Type 0} where
         tagged = (λ j. Tagged (sym k j) (same j)) ∙ tagged_entries n all tagged;
         lists_are = sym (take_whole i (map f passes) (omega (arith, high, long))) ∙ lists ∙ ap (λ (j : ℕ). lists_from 1 j session) m;
       }
+
+  both_one : (e : Note J) (k : ℕ) (xs : List (ℕ × Note J)) → nat_lt 0 k ≡ true → nat_le k 1 ≡ true → xs ≡ map (λ v. (1, v)) (of 1 xs) → (k, e) ∷ xs ≡ map (λ v. (1, v)) (of 1 ((k, e) ∷ xs))
+  both_one e zero xs low high rest = let h = ltb-true 0 0 low in absurd (omega (arith, h))
+  both_one e (suc zero) xs low high rest = ap (λ l. (1, e) ∷ l) rest
+  both_one e (suc (suc k)) xs low high rest = let h = leb-true (suc (suc k)) 1 high in absurd (omega (arith, h))
+
+  -- a session whose entries are all of the first pass
+  first_alone : (xs : List (ℕ × Note J)) → Tagged 1 xs ≡ true → xs ≡ map (λ v. (1, v)) (of 1 xs)
+  first_alone [] t = refl
+  first_alone ((k, e) ∷ xs) t =
+      let r = and_right (nat_lt 0 k) (nat_le k 1 && Tagged 1 xs) t in
+      both_one e k xs (and_left (nat_lt 0 k) (nat_le k 1 && Tagged 1 xs) t) (and_left (nat_le k 1) (Tagged 1 xs) r) (first_alone xs (and_right (nat_le k 1) (Tagged 1 xs) r))
+
+  pub sole_session : (notes : List (Note J)) (n : ℕ) (session all : List (ℕ × Note J)) → n ≡ 1 → session ≡ entries_of all → Tagged n all ≡ true → answers_of notes ≡ of 1 session → session ≡ map (λ v. (1, v)) (answers_of notes)
+  sole_session notes n session all one same tagged its =
+      first_alone session ((λ j. Tagged 1 (same j)) ∙ tagged_entries 1 all (subst (λ (k : ℕ). Tagged k all ≡ true) one tagged)) ∙ ap (map (λ v. (1, v))) (sym its)

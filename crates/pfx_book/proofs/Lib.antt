@@ -1,5 +1,5 @@
 mod Merges
-mod Notes
+pub mod Notes
 mod Keeping
 mod Taking
 mod Asking

@@ -126,3 +126,7 @@ module _ {J : Type 0} where
   abbrev pub answers_of : List (Note J) → List (Note J)
   answers_of [] = []
   answers_of (x ∷ xs) = if is_entry x then x ∷ answers_of xs else answers_of xs
+
+  -- the session of a single pass, by its notes: their entries, each with the number of the first pass
+  abbrev pub alone : List (Note J) → List (ℕ × Note J)
+  alone notes = map (λ e. (1, e)) (answers_of notes)

@@ -1,5 +1,6 @@
 //! The locked value, and the tokens that it gives out.
 ghost use Rattle.std.specs.Prelude.{◌≡◌, ◌≢◌, ◌↔◌, ℕ, List, [], ◌∷◌, ◌++◌, ◌<◌, ◌≤◌, ◌+◌, length, map, IfOk, IfErr, OnErr, IfSome, IfNone, Some, None, true, false, IsTrue, vec_capacity};
+ghost use Rattle.pfx_machine.specs.Board.{all_lines};
 ghost use Rattle.pfx_machine.specs.Refusals.{reply};
 ghost use Rattle.pfx_world.specs.Session.{IsQuick, MayAsk, asked};
 ghost use Rattle.pfx_book.specs.Calls.{entered, noted, Refuses};
@@ -16,7 +17,7 @@ use crate::room::make_room;
 use crate::trying::{Tried, try_command};
 use pfx_fault::Cause;
 use pfx_jobs::job::Job;
-use pfx_machine::{Command, MachineFault, Reply, State};
+use pfx_machine::{Board, Command, MachineFault, Reply, State};
 use pfx_record::Record;
 use pfx_slot::slot::OpenSlot;
 use pfx_token::tokens::{Keeper, Opened, Token};
@@ -205,6 +206,15 @@ impl<J: Job, B: Named<J>> Book<J, B> {
         ensures { IsTrue result ↔ (self.now.session.marked ≡ length self.now.session.accepted) }
     {
         self.state.number() - self.began == self.marked
+    }
+
+    /// The board of the state behind all that was accepted. `AllocError` where memory is refused.
+    pub fn board(&self) -> Result<Board, AllocError>
+        ensures number { IfOk result (λ b. b.number ≡ self.now.session.state.number) }
+        ensures slot { IfOk result (λ b. b.slot ≡ self.now.session.state.ledger.slot) }
+        ensures lines { IfOk result (λ b. b.lines.items ≡ all_lines J.kind self.now.session.state) }
+    {
+        self.state.board(self.alloc)
     }
 
     /// How many passes are out.

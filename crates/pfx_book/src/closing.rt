@@ -1,14 +1,14 @@
 //! Receipts, failures, and the end of a session.
-ghost use Rattle.std.specs.Prelude.{◌≡◌, ◌≢◌, ◌≤◌, ◌+◌, [], map, length, take, IfOk, OnErr, Some, None, true, IsTrue};
+ghost use Rattle.std.specs.Prelude.{◌≡◌, ◌≢◌, ◌≤◌, ◌+◌, [], map, length, take, IfOk, OnErr, Some, None, true, false, IsTrue};
 ghost use Rattle.pfx_effect.specs.Recording.{records_of};
 ghost use Rattle.pfx_machine.specs.Outcome.{outcome};
 ghost use Rattle.pfx_machine.specs.Plain.{IsState};
 ghost use Rattle.pfx_machine.specs.Sessions.{IsAcceptable};
 ghost use Rattle.pfx_world.specs.Session.{receipted};
 ghost use Rattle.pfx_book.specs.Calls.{entered, noted, once_lost};
-ghost use Rattle.pfx_book.specs.Merging.{of, IsMerge};
+ghost use Rattle.pfx_book.specs.Merging.{of, numbers_from, IsMerge};
 ghost use Rattle.pfx_book.specs.Kept.{HasFailed};
-ghost use Rattle.pfx_book.specs.Notes.{lost_in, answers_of, records_in, Legal, Noted, AllBacked};
+ghost use Rattle.pfx_book.specs.Notes.{alone, lost_in, answers_of, commands_of, records_in, Legal, Noted, AllBacked};
 ghost use Rattle.pfx_book.specs.declared.note.Note.TheVariants.{Marked, Receipt as Receipted};
 
 use crate::book::{Book, Pass, Share};
@@ -77,6 +77,7 @@ impl<J: Job, B: Named<J>> Book<J, B> {
     pub fn legal(&self)
         ensures start { IsState B.start }
         ensures legal { Legal J.kind B.start [] self.now.history }
+        ensures commands { self.now.session.accepted ≡ commands_of self.now.history }
         ensures accepted { IsAcceptable J.kind B.start self.now.session.accepted }
         ensures state { self.now.session.state ≡ outcome J.kind B.start self.now.session.accepted }
         ensures marked { self.now.session.marked ≤ self.now.session.taken }
@@ -110,6 +111,7 @@ impl<J: Job, B: Named<J>> Book<J, B> {
     fn look(&mut self, pass: &mut Pass<J, B>, number: u64) -> bool
         ensures same { (self.new ≡ self.old) × (pass.new ≡ pass.old) }
         ensures its { IsTrue result → answers_of pass.old.1 ≡ of number self.old.history }
+        ensures other { result ≡ false → pass.old.0 ≢ number }
     {
         if u64::from(pass.number) != number {
             return false;
@@ -118,10 +120,23 @@ impl<J: Job, B: Named<J>> Book<J, B> {
         true
     }
 
+    /// Whether this is the only pass that is out. Then the session is its own notes.
+    pub fn is_sole(&mut self, pass: &mut Pass<J, B>) -> bool
+        ensures same { (self.new ≡ self.old) × (pass.new ≡ pass.old) }
+        ensures sole { IsTrue result → self.old.history ≡ alone pass.old.1 }
+        ensures found { self.old.passes ≡ 1 → pass.old.0 ≡ 1 → result ≡ true }
+    {
+        if self.passes != 1 {
+            return false;
+        }
+        self.look(pass, 1)
+    }
+
     /// Whether these are all passes, in the order in which they were given out. Then the session is the merge of their entries.
     pub fn gathered(&mut self, passes: &mut Vec<Pass<J, B>>) -> bool
         ensures same { (self.new ≡ self.old) × (passes.new.items ≡ passes.old.items) }
         ensures merge { IsTrue result → IsMerge (map (λ p. answers_of p.1) passes.old.items) self.old.history }
+        ensures all { map (λ p. p.0) passes.old.items ≡ numbers_from 1 self.old.passes → result ≡ true }
     {
         let mut i = 0;
         while i < passes.len() {

@@ -43,6 +43,9 @@ a_store_ends_with_4 = refl
 pub a_full_session_ends_with_4 : status_of fault.SessionFull ≡ 4
 a_full_session_ends_with_4 = refl
 
+pub a_missing_thread_ends_with_4 : status_of fault.NoThread ≡ 4
+a_missing_thread_ends_with_4 = refl
+
 pub a_script_ends_with_7 : status_of (fault.BadScript 1) ≡ 7
 a_script_ends_with_7 = refl
 

@@ -61,6 +61,7 @@ refusal fault.NoRoom = plain 57 (codes "NoRoom")
 refusal fault.Busy = plain 58 (codes "Busy")
 refusal (fault.StoreFailed marked cause) = with_word (with (plain 61 (codes "StoreFailed")) (codes "marked") marked) (codes "cause") (cause_name cause)
 refusal fault.SessionFull = plain 64 (codes "SessionFull")
+refusal fault.NoThread = plain 68 (codes "NoThread")
 refusal (fault.BadScript at) = with (plain 71 (codes "BadScript")) (codes "at") at
 refusal fault.InputFailed = plain 72 (codes "InputFailed")
 refusal fault.OutputFailed = plain 73 (codes "OutputFailed")

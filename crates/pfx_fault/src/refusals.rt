@@ -79,6 +79,8 @@ pub enum Fault {
     StoreFailed { marked: u64, cause: Cause },
     /// 1,048,576 commands were accepted in this run.
     SessionFull,
+    /// A thread can't be started.
+    NoThread,
     /// The script's record at this place, counted from 1, has no form of a record.
     BadScript { at: u64 },
     /// A file can't be opened or read.
@@ -127,6 +129,7 @@ impl Fault {
             Fault::Busy => 58,
             Fault::StoreFailed { .. } => 61,
             Fault::SessionFull => 64,
+            Fault::NoThread => 68,
             Fault::BadScript { .. } => 71,
             Fault::InputFailed => 72,
             Fault::OutputFailed => 73,
@@ -171,6 +174,7 @@ impl Fault {
             Fault::Busy => "Busy",
             Fault::StoreFailed { .. } => "StoreFailed",
             Fault::SessionFull => "SessionFull",
+            Fault::NoThread => "NoThread",
             Fault::BadScript { .. } => "BadScript",
             Fault::InputFailed => "InputFailed",
             Fault::OutputFailed => "OutputFailed",

@@ -1,4 +1,4 @@
-use Rattle.std.specs.Prelude.{map, nat_eq}
+use Rattle.std.specs.Prelude.{nat_eq}
 use Rattle.std.specs.VecDeque.{deque_items}
 use Rattle.std.proofs.Common.{◌≡◌, ◌+◌, [], length, ap, sym, ◌∙◌, arith, rules, deque_len}
 use Rattle.pfx_record.specs.Records.{plain}

@@ -1,11 +1,8 @@
-use Rattle.std.specs.Prelude.{map, take}
-use Rattle.std.specs.VecDeque.{deque_items}
-use Rattle.std.proofs.Common.{◌≡◌, ◌+◌, ◌≤◌, List, [], length, ap, subst, arith}
+use Rattle.std.proofs.Common.{◌≡◌, ◌≤◌, [], length, refl, subst, arith}
 use Rattle.pfx_machine.specs.Outcome.{outcome}
 use Rattle.pfx_machine.specs.Sessions.{IsAcceptable}
-use Rattle.pfx_record.specs.Records.{plain}
 use Rattle.pfx_book.specs.Lines.{told}
-use Rattle.pfx_book.specs.Notes.{Legal}
+use Rattle.pfx_book.specs.Notes.{commands_of, Legal}
 use Rattle.pfx_book.specs.Register.{Register}
 use Rattle.pfx_book.proofs.Notes.{all_accepted}
 use Rattle.pfx_book.proofs.Keeping.{all_taken, is_legal, low, outcome_is}
@@ -19,6 +16,9 @@ returns-clause-legal g c =
     let K = g.J.Job.kind in
     let B = g.B.Named.start in
     subst (λ (v : Register g.row.J.Denot). Legal K B [] v.history) c.self.view_is (is_legal K B _ _ _ _ _ _ _ _ _ c.self.invariant.0)
+
+pub returns-clause-commands : goal.returns-clause-commands
+returns-clause-commands g c = subst (λ (v : Register g.row.J.Denot). v.session.accepted ≡ commands_of v.history) c.self.view_is refl
 
 pub returns-clause-accepted : goal.returns-clause-accepted
 returns-clause-accepted g c =

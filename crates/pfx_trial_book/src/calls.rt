@@ -1,0 +1,110 @@
+//! Each call once, through the life of a book that begins behind one command.
+ghost use Rattle.std.specs.Prelude.{◌≡◌};
+
+use crate::asking::{
+    is_first_slot, is_submitted, is_withdrawn, open, receipt, submit, tell, withdraw,
+};
+use crate::flusher::{Flusher, begin};
+use crate::states::later;
+use pfx_book::book::{Book, Pass};
+use pfx_book::name::Named;
+use pfx_book::note::Note;
+use pfx_fault::Cause;
+use pfx_kinds::any::AnyJob;
+use pfx_machine::State;
+use pfx_token::tokens::Opened;
+use std::alloc::Global;
+use std::marker::Brand;
+
+/// Whether a new book is as it should be.
+fn is_new<B: Named<AnyJob>>(book: &Book<AnyJob, B>) -> bool {
+    let is_idle = !book.is_open() && !book.has_pending() && book.is_settled();
+    let goes_on = book.has_room() && !book.is_closed() && book.failure().is_none();
+    is_idle && goes_on && book.marked() == 1 && book.passes() == 0
+}
+
+/// Whether the first pass of a book is as it should be.
+fn is_first<B: Named<AnyJob>>(book: &Book<AnyJob, B>, pass: &Pass<AnyJob, B>) -> bool {
+    pass.number() == 1 && pass.greatest() == 0 && pass.cause().is_none() && book.passes() == 1
+}
+
+/// Whether a Submit and a Withdraw are taken.
+fn asks<B: Named<AnyJob>>(book: &mut Book<AnyJob, B>, pass: &mut Pass<AnyJob, B>) -> bool {
+    let submitted = is_submitted(&submit(book, pass, 0), 2, 0);
+    let withdrawn = is_withdrawn(&withdraw(book, pass, 2), 3, 2);
+    submitted && withdrawn && pass.greatest() == 3 && book.has_pending() && !book.is_settled()
+}
+
+/// Whether a slot of one quantum is opened, run and sealed.
+fn runs<B: Named<AnyJob>>(book: &mut Book<AnyJob, B>, pass: &mut Pass<AnyJob, B>) -> Option<bool> {
+    let mut quanta = open(book, pass)?.ok()?;
+    let quantum = quanta.pop()?;
+    let missing = book.missing()?;
+    let is_dealt = quantum.number == 4 && quantum.task == 0 && missing.task == 0;
+    let opened = book.is_open() && quanta.is_empty() && is_dealt;
+    let given = book.give(quantum.run()).is_ok() && book.missing().is_none();
+    let sealed = is_first_slot(&book.seal(pass), 4);
+    Some(opened && given && sealed && !book.is_open() && pass.greatest() == 4)
+}
+
+/// Whether all is taken and marked, and a receipt given.
+fn marks<B: Named<AnyJob>>(
+    alloc: Global,
+    book: &mut Book<AnyJob, B>,
+    flusher: &mut Flusher<B>,
+    pass: &mut Pass<AnyJob, B>,
+) -> Option<bool> {
+    let taken = flusher.takes(alloc, book, 2, 3) && !book.has_pending() && !book.is_settled();
+    flusher.mark(book, 9);
+    let marked = book.marked() == 4 && book.is_settled();
+    let given = receipt(book, pass, 4)?.ok()?;
+    Some(taken && marked && given.number == 4 && given.clock == 9)
+}
+
+/// Whether the book is closed, and the client told why.
+fn ends<B: Named<AnyJob>>(
+    book: &mut Book<AnyJob, B>,
+    flusher: &mut Flusher<B>,
+    pass: &mut Pass<AnyJob, B>,
+) -> bool {
+    book.legal();
+    book.shut();
+    flusher.fail(book, Cause::Device);
+    let told = tell(book, pass) && pass.cause() == Some(Cause::Device);
+    book.is_closed() && book.failure() == Some(Cause::Device) && told
+}
+
+/// Whether each part of a book's life is as it should be.
+fn live<B: Named<AnyJob>>(
+    alloc: Global,
+    tokens: Opened<Note<AnyJob>>,
+    state: &State<AnyJob>,
+) -> Option<[bool; 7]>
+    requires table { tokens.table.shared.table_id ≡ B.table }
+    requires start { state.now ≡ B.start }
+{
+    let (mut book, mut flusher) = begin::<B>(alloc, tokens, state)?;
+    let new = is_new(&book);
+    let mut pass = book.pass()?;
+    let first = is_first(&book, &pass);
+    let asked = asks(&mut book, &mut pass);
+    let ran = runs(&mut book, &mut pass) == Some(true);
+    let marked = marks(alloc, &mut book, &mut flusher, &mut pass) == Some(true);
+    let ended = ends(&mut book, &mut flusher, &mut pass);
+    let mut passes = Vec::new(alloc);
+    passes.push(pass).ok()?;
+    let gathered = book.gathered(&mut passes);
+    Some([new, first, asked, ran, marked, ended, gathered])
+}
+
+/// Whether each part of a book's life is as it should be.
+fn book_lives(alloc: Global) -> Option<[bool; 7]> {
+    let state = later(alloc)?;
+    let tokens = Opened::new(alloc).ok()?;
+    live::<Brand>(alloc, tokens, &state)
+}
+
+#[test]
+fn a_book_lives(rt: HostRuntime) {
+    assert!(rt; book_lives(rt.alloc()) == Some([true; 7]));
+}

@@ -1,0 +1,97 @@
+//! A share with the number of the last command that it took.
+ghost use Rattle.std.specs.Prelude.{◌≡◌, ◌+◌, ◌≤◌, [], length, vec_capacity, IfSome};
+ghost use Rattle.pfx_book.specs.Notes.{records_in};
+
+use pfx_book::book::{Book, Share};
+use pfx_book::name::Named;
+use pfx_book::note::Note;
+use pfx_fault::Cause;
+use pfx_kinds::any::AnyJob;
+use pfx_machine::State;
+use pfx_record::{Batch, Record};
+use pfx_token::tokens::Opened;
+use std::alloc::Global;
+
+/// A flusher.
+#[derive(Drop)]
+pub struct Flusher<B: Named<AnyJob>> {
+    share: Share<AnyJob, B>,
+    last: u64,
+    ghost last_is: { last ≡ B.start.number + length (records_in share) },
+}
+
+/// A book that begins at this state, marked at clock 7, and its flusher.
+pub fn begin<B: Named<AnyJob>>(
+    alloc: Global,
+    tokens: Opened<Note<AnyJob>>,
+    state: &State<AnyJob>,
+) -> Option<(Book<AnyJob, B>, Flusher<B>)>
+    requires table { tokens.table.shared.table_id ≡ B.table }
+    requires start { state.now ≡ B.start }
+{
+    let (book, share) = Book::<AnyJob, B>::new(alloc, tokens, state, 7).ok()?;
+    let last = book.marked();
+    Some((book, Flusher { share, last }))
+}
+
+/// A vector with room for a batch.
+pub fn batch_room(alloc: Global) -> Option<Vec<Record<AnyJob>>>
+    ensures { IfSome result (λ room. (room.items ≡ []) × (16 ≤ vec_capacity room)) }
+{
+    Vec::with_capacity(alloc, 16).ok()
+}
+
+impl<B: Named<AnyJob>> Flusher<B> {
+    /// The next batch. The vector comes back where nothing waits.
+    pub fn take(
+        &mut self,
+        book: &mut Book<AnyJob, B>,
+        room: Vec<Record<AnyJob>>,
+    ) -> Result<Batch<AnyJob>, Vec<Record<AnyJob>>>
+        requires empty { room.items ≡ [] }
+        requires room { 16 ≤ vec_capacity room }
+    {
+        let Flusher { share, last } = self;
+        if *last >= 1 << 62 {
+            return Err(room);
+        }
+        book.settled(share);
+        let batch = book.take_batch(share, room)?;
+        book.settled(share);
+        *last += batch.records.len() as u64;
+        Ok(batch)
+    }
+
+    /// Takes a batch, and answers whether it begins with this number and has so many records.
+    pub fn takes(
+        &mut self,
+        alloc: Global,
+        book: &mut Book<AnyJob, B>,
+        first: u64,
+        count: usize,
+    ) -> bool {
+        let Some(room) = batch_room(alloc) else {
+            return false;
+        };
+        match self.take(book, room) {
+            Ok(batch) => batch.workers == 2 && batch.first == first && batch.records.len() == count,
+            Err(_) => false,
+        }
+    }
+
+    /// Marks what it took, at this clock.
+    pub fn mark(&mut self, book: &mut Book<AnyJob, B>, clock: u64) {
+        let Flusher { share, last } = self;
+        book.settled(share);
+        book.mark(share, *last, clock);
+        book.settled(share);
+    }
+
+    /// Gives up.
+    pub fn fail(&mut self, book: &mut Book<AnyJob, B>, cause: Cause) {
+        let Flusher { share, .. } = self;
+        book.settled(share);
+        book.fail(share, cause);
+        book.settled(share);
+    }
+}

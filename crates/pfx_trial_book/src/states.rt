@@ -1,0 +1,84 @@
+//! States that books begin with.
+
+use pfx_columns::Columns;
+use pfx_kinds::any::AnyJob;
+use pfx_machine::{Command, State};
+use pfx_weights::TaskSet;
+use std::alloc::Global;
+
+/// A count of five steps.
+pub fn count() -> Option<AnyJob> {
+    AnyJob::start("count", 5, b"").ok()
+}
+
+/// Three tasks of 2/3 on two workers, before the first command.
+pub fn thirds(alloc: Global) -> Option<State<AnyJob>> {
+    let set = TaskSet::new(alloc, 2, &[(2, 3), (2, 3), (2, 3)]).ok()?;
+    State::new(alloc, &set).ok()
+}
+
+/// The same behind the first command, which gave task 2 a count.
+pub fn later(alloc: Global) -> Option<State<AnyJob>> {
+    let mut state = thirds(alloc)?;
+    state
+        .apply(Command::Submit {
+            task: 2,
+            job: count()?,
+        })
+        .ok()?;
+    Some(state)
+}
+
+/// The state of a ledger, where only task 0 may have a job.
+fn state_at(
+    alloc: Global,
+    number: u64,
+    ledger: Columns,
+    first: Option<AnyJob>,
+) -> Option<State<AnyJob>> {
+    let mut jobs = Vec::new(alloc);
+    jobs.push(first).ok()?;
+    for _task in 1..ledger.real() {
+        jobs.push(None).ok()?;
+    }
+    if number >= 1 << 48 || jobs.len() != ledger.real() {
+        return None;
+    }
+    Some(State::from_parts(alloc, number, ledger, jobs))
+}
+
+/// The ledger of a set with these allocations.
+fn ledger_at(
+    alloc: Global,
+    m: u32,
+    tasks: &[(u32, u32)],
+    slot: u64,
+    allocs: &[u64],
+) -> Option<Columns> {
+    let set = TaskSet::new(alloc, m, tasks).ok()?;
+    if allocs.len() != set.total() || slot >= 1 << 40 {
+        return None;
+    }
+    Columns::from_allocations(alloc, &set, slot, allocs).ok()
+}
+
+/// One task of 1/2 with a job, at the last slot and before the last number.
+pub fn at_the_limits(alloc: Global) -> Option<State<AnyJob>> {
+    let allocs = [1 << 39, (1 << 39) - 1];
+    let ledger = ledger_at(alloc, 1, &[(1, 2)], (1 << 40) - 1, &allocs)?;
+    state_at(alloc, (1 << 48) - 2, ledger, Some(count()?))
+}
+
+/// Four tasks in slot 2, of which two are urgent for one worker.
+pub fn urgent(alloc: Global) -> Option<State<AnyJob>> {
+    let tasks = [(1, 3), (1, 3), (1, 6), (1, 6)];
+    let ledger = ledger_at(alloc, 1, &tasks, 2, &[0, 0, 1, 1])?;
+    state_at(alloc, 7, ledger, None)
+}
+
+/// Four tasks in slot 2, of which two are eligible for three workers.
+pub fn idle(alloc: Global) -> Option<State<AnyJob>> {
+    let tasks = [(2, 3), (2, 3), (5, 6), (5, 6)];
+    let ledger = ledger_at(alloc, 3, &tasks, 2, &[2, 2, 1, 1])?;
+    state_at(alloc, 0, ledger, None)
+}
