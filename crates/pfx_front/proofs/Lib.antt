@@ -1,0 +1,5 @@
+mod Steps
+mod Groups
+mod Ends
+mod Looking
+mod Losses

@@ -1,0 +1,27 @@
+-- What a client knows whose call was refused.
+use Rattle.std.specs.Prelude.{◌≡◌, ◌⊎◌, ◌<◌, ℕ, List, Some}
+use Rattle.pfx_machine.specs.declared.command.Command.{Command}
+use Rattle.pfx_machine.specs.declared.faults.MachineFault.TheVariants.{NoMemory}
+use Rattle.pfx_book.specs.declared.faults.BookFault.TheVariants.{Machine}
+use Rattle.pfx_book.specs.declared.note.Note.{Note}
+use Rattle.pfx_book.specs.declared.note.Note.TheVariants as note
+use Rattle.pfx_book.specs.Notes.{answers_of, lost_in}
+use Rattle.pfx_book.specs.Calls.{noted}
+use Rattle.pfx_front.specs.declared.faults.CallFault.{CallFault}
+use Rattle.pfx_front.specs.declared.faults.CallFault.TheVariants.{Refused, StoreFailed}
+
+module _ {J : Type 0} where
+  -- the client was told that the flusher gave up, and why, now or before; it has no answer more
+  abbrev pub IsLost : ℕ × List (Note J) → ℕ × List (Note J) → CallFault → Type 0
+  IsLost old new (Refused fault) = ⊥
+  IsLost old new (StoreFailed marked cause) = (new.0 ≡ old.0) × (answers_of new.1 ≡ answers_of old.1) × (lost_in new.1 ≡ Some cause)
+
+  -- a command has no reply: for want of memory, with nothing noted; as the book refuses it, which is noted; or for good
+  abbrev pub HasNoReply : Command J → ℕ × List (Note J) → ℕ × List (Note J) → CallFault → Type 0
+  HasNoReply c old new (Refused fault) = ((fault ≡ Machine NoMemory) × (new ≡ old)) ⊎ ((n : ℕ) × (new ≡ noted (note.Refused n c fault) old))
+  HasNoReply c old new (StoreFailed marked cause) = IsLost old new (StoreFailed marked cause)
+
+  -- a number has no receipt: for want of memory, with nothing noted; or for good, where it is beyond the last mark
+  abbrev pub HasNoReceipt : ℕ → ℕ × List (Note J) → ℕ × List (Note J) → CallFault → Type 0
+  HasNoReceipt number old new (Refused fault) = (fault ≡ Machine NoMemory) × (new ≡ old)
+  HasNoReceipt number old new (StoreFailed marked cause) = (marked < number) × IsLost old new (StoreFailed marked cause)

@@ -1,0 +1,398 @@
+//! What clients call.
+ghost use Rattle.std.specs.Prelude.{◌≡◌, ◌<◌, ◌≤◌, ◌+◌, ℕ, [], IfOk, IfErr, IfSome, IfNone, OnOk, Some, None, false};
+ghost use Rattle.pfx_fault.specs.declared.parts.Cause.{Cause};
+ghost use Rattle.pfx_machine.specs.declared.command.Command.TheVariants.{Slot};
+ghost use Rattle.pfx_world.specs.Session.{IsQuick};
+ghost use Rattle.pfx_book.specs.Calls.{noted};
+ghost use Rattle.pfx_book.specs.Notes.{greatest};
+ghost use Rattle.pfx_book.specs.Register.{HasRoom};
+ghost use Rattle.pfx_book.specs.declared.note.Note.TheVariants.{Accepted, Receipt as Receipted};
+ghost use Rattle.pfx_front.specs.Calling.{IsLost, HasNoReply, HasNoReceipt};
+ghost use Rattle.pfx_front.specs.declared.faults.CallFault.TheVariants.{StoreFailed};
+
+use crate::faults::CallFault;
+use crate::monitor::{Monitor, is_busy, is_ready};
+use crate::name::Since;
+use crate::start::make_room;
+use pfx_board::receipt::Receipt;
+use pfx_book::book::{Book, Pass};
+use pfx_book::closing;
+use pfx_book::faults::BookFault;
+use pfx_crew::desk::Desk;
+use pfx_jobs::job::Job;
+use pfx_jobs::quantum::{Done, Quantum};
+use pfx_machine::{Command, MachineFault, Reply};
+use std::alloc::Global;
+use std::sync::{Arc, Mutex, Wait};
+
+/// What the threads of a front share.
+#[derive(Drop)]
+pub(crate) struct Shared<J: Job, B: Since<J>, K: Desk<Quantum<J>, Done<J>>> {
+    pub(crate) monitor: Monitor<J, B>,
+    pub(crate) desk: K,
+    pub(crate) seat: Mutex<Option<K::Seat>>,
+    pub(crate) workers: u32,
+    pub(crate) alloc: Global,
+}
+
+/// A store that many threads call. Each client has a `Pass`, which knows what happened to it: what its calls were answered, in
+/// order, and nothing else.
+#[derive(Drop)]
+pub struct Front<J: Job, B: Since<J>, K: Desk<Quantum<J>, Done<J>>> {
+    pub(crate) shared: Arc<Shared<J, B, K>, Global>,
+}
+
+/// Why no more is accepted, if the flusher has given up. The client is told, which its pass notes the first time.
+fn loss<J: Job, B: Since<J>>(book: &mut Book<J, B>, pass: &mut Pass<J, B>) -> Option<CallFault>
+    ensures some { IfSome result (IsLost pass.old pass.new) }
+    ensures mark { (marked : ℕ) → (cause : Cause) → result ≡ Some (StoreFailed marked cause) → marked ≡ B.start.number + book.old.session.marked }
+    ensures none { IfNone result ((book.old.failure ≡ None) × (book.new ≡ book.old) × (pass.new ≡ pass.old)) }
+{
+    if book.failure().is_none() {
+        return None;
+    }
+    book.note_failure(pass);
+    match pass.cause() {
+        Some(cause) => Some(CallFault::StoreFailed {
+            marked: book.marked(),
+            cause,
+        }),
+        None => unreachable!(),
+    }
+}
+
+/// A receipt, as the book gives it.
+fn receipt_of<J: Job, B: Since<J>>(
+    book: &mut Book<J, B>,
+    pass: &mut Pass<J, B>,
+    number: u64,
+) -> Result<closing::Receipt, CallFault>
+    requires { number ≤ B.start.number + book.old.session.marked }
+    ensures ok { IfOk result (λ r. (r.number ≡ number) × (pass.new ≡ noted (Receipted number r.clock) pass.old)) }
+    ensures err { IfErr result (HasNoReceipt number pass.old pass.new) }
+{
+    match book.receipt(pass, number) {
+        Ok(receipt) => Ok(receipt),
+        Err(_) => Err(CallFault::Refused(BookFault::Machine(MachineFault::NoMemory))),
+    }
+}
+
+/// Gives the book a result. One that it refuses is dropped: it is a double, or of a slot that isn't open.
+fn give_in<J: Job, B: Since<J>, R: Wait>(rt: &R, monitor: &Monitor<J, B>, done: Done<J>) {
+    let mut guard = monitor.book.lock(rt);
+    if let Some(book) = &mut *guard {
+        let _refused = book.give(done);
+    }
+}
+
+/// Gives the book these results, each as `give_in` does.
+fn give_all<J: Job, B: Since<J>>(book: &mut Book<J, B>, back: Vec<Done<J>>) {
+    for done in back {
+        let _refused = book.give(done);
+    }
+}
+
+/// Gives the book these results and ends the open slot of this pass, if none is missing then. The flusher is woken, and a client
+/// that waits for the slot's end.
+fn seal_in<J: Job, B: Since<J>, R: Wait>(
+    rt: &R,
+    monitor: &Monitor<J, B>,
+    pass: &mut Pass<J, B>,
+    back: Vec<Done<J>>,
+) -> Option<(u64, Reply)>
+    ensures some { IfSome result (λ r. (pass.new ≡ noted (Accepted r.0 Slot r.1) pass.old) × (greatest pass.old.1 < r.0)) }
+    ensures none { IfNone result (pass.new ≡ pass.old) }
+{
+    let mut guard = monitor.book.lock(rt);
+    let Some(book) = &mut *guard else {
+        return None;
+    };
+    give_all(book, back);
+    let sealed = book.seal(pass)?;
+    drop(guard);
+    monitor.work.notify_one();
+    monitor.free.notify_one();
+    Some(sealed)
+}
+
+/// The first quantum of the open slot whose result isn't back.
+fn missing_in<J: Job, B: Since<J>, R: Wait>(rt: &R, monitor: &Monitor<J, B>) -> Option<Quantum<J>> {
+    match &*monitor.book.lock(rt) {
+        Some(book) => book.missing(),
+        None => None,
+    }
+}
+
+/// Ends the open slot of this pass with these results. A result that no worker brought is made here.
+fn end_slot<J: Job, B: Since<J>, R: Wait>(
+    rt: &R,
+    alloc: Global,
+    monitor: &Monitor<J, B>,
+    pass: &mut Pass<J, B>,
+    back: Vec<Done<J>>,
+) -> (u64, Reply)
+    ensures noted { pass.new ≡ noted (Accepted result.0 Slot result.1) pass.old }
+    ensures rises { greatest pass.old.1 < result.0 }
+{
+    if let Some(sealed) = seal_in(rt, monitor, pass, back) {
+        return sealed;
+    }
+    for _ in rt.forever() {
+        if let Some(quantum) = missing_in(rt, monitor) {
+            give_in(rt, monitor, quantum.run());
+        }
+        if let Some(sealed) = seal_in(rt, monitor, pass, Vec::new(alloc)) {
+            return sealed;
+        }
+    }
+    unreachable!()
+}
+
+/// Waits until a command may be asked, and opens a slot.
+fn open_in<J: Job, B: Since<J>, R: Wait>(
+    rt: &R,
+    monitor: &Monitor<J, B>,
+    pass: &mut Pass<J, B>,
+) -> Result<Vec<Quantum<J>>, CallFault>
+    ensures ok { OnOk result (pass.new ≡ pass.old) }
+    ensures err { IfErr result (HasNoReply Slot pass.old pass.new) }
+{
+    for _ in rt.forever() {
+        let mut guard = monitor
+            .free
+            .wait_while(rt, monitor.book.lock(rt), |b| is_busy(b));
+        let Some(book) = &mut *guard else {
+            continue;
+        };
+        if let Some(fault) = loss(book, pass) {
+            return Err(fault);
+        }
+        if is_ready(book) {
+            let opened = book.open(pass);
+            drop(guard);
+            return match opened {
+                Ok(quanta) => Ok(quanta),
+                Err(fault) => {
+                    monitor.free.notify_one();
+                    Err(CallFault::Refused(fault))
+                }
+            };
+        }
+    }
+    unreachable!()
+}
+
+/// The book's answer to a command.
+fn ask_of<J: Job, B: Since<J>>(
+    book: &mut Book<J, B>,
+    pass: &mut Pass<J, B>,
+    command: Command<J>,
+) -> Result<(u64, Reply), CallFault>
+    requires quick { IsQuick command }
+    requires none_open { book.old.session.opened ≡ None }
+    requires room { HasRoom book.old.session }
+    requires goes_on { book.old.failure ≡ None }
+    requires not_shut { book.old.shut ≡ false }
+    ensures ok { IfOk result (λ r. (pass.new ≡ noted (Accepted r.0 command r.1) pass.old) × (greatest pass.old.1 < r.0)) }
+    ensures err { IfErr result (HasNoReply command pass.old pass.new) }
+{
+    match book.ask(pass, command) {
+        Ok(reply) => Ok(reply),
+        Err(fault) => Err(CallFault::Refused(fault)),
+    }
+}
+
+/// Waits until a command may be asked, and asks it.
+fn ask_in<J: Job, B: Since<J>, R: Wait>(
+    rt: &R,
+    monitor: &Monitor<J, B>,
+    pass: &mut Pass<J, B>,
+    command: Command<J>,
+) -> Result<(u64, Reply), CallFault>
+    requires { IsQuick command }
+    ensures ok { IfOk result (λ r. (pass.new ≡ noted (Accepted r.0 command r.1) pass.old) × (greatest pass.old.1 < r.0)) }
+    ensures err { IfErr result (HasNoReply command pass.old pass.new) }
+{
+    for _ in rt.forever() {
+        let mut guard = monitor
+            .free
+            .wait_while(rt, monitor.book.lock(rt), |b| is_busy(b));
+        let Some(book) = &mut *guard else {
+            continue;
+        };
+        if let Some(fault) = loss(book, pass) {
+            return Err(fault);
+        }
+        if is_ready(book) {
+            let answer = ask_of(book, pass, command);
+            drop(guard);
+            monitor.work.notify_one();
+            monitor.free.notify_one();
+            return answer;
+        }
+    }
+    unreachable!()
+}
+
+/// Waits until the number is marked, or the flusher has given up.
+fn settle_in<J: Job, B: Since<J>, R: Wait>(
+    rt: &R,
+    monitor: &Monitor<J, B>,
+    pass: &mut Pass<J, B>,
+    number: u64,
+) -> Result<closing::Receipt, CallFault>
+    requires some { 0 < number }
+    requires known { number ≤ greatest pass.old.1 }
+    ensures ok { IfOk result (λ r. (r.number ≡ number) × (pass.new ≡ noted (Receipted number r.clock) pass.old)) }
+    ensures err { IfErr result (HasNoReceipt number pass.old pass.new) }
+{
+    for _ in rt.forever() {
+        let mut guard = monitor
+            .marked
+            .wait_while(rt, monitor.book.lock(rt), |b| match b {
+                Some(book) => book.marked() < number && book.failure().is_none(),
+                None => true,
+            });
+        let Some(book) = &mut *guard else {
+            continue;
+        };
+        if number <= book.marked() {
+            return receipt_of(book, pass, number);
+        }
+        if let Some(fault) = loss(book, pass) {
+            return Err(fault);
+        }
+    }
+    unreachable!()
+}
+
+/// The receipt with the word of the last publication, which reaches its number: it was left before the number was marked.
+fn worded<J: Job, B: Since<J>, R: Wait>(
+    rt: &R,
+    monitor: &Monitor<J, B>,
+    receipt: closing::Receipt,
+) -> Receipt<J, B>
+    ensures { (result.number ≡ receipt.number) × (result.clock ≡ receipt.clock) }
+{
+    let word = monitor.word.lock(rt).again();
+    if receipt.number <= word.number() {
+        return Receipt::new(receipt.number, receipt.clock, word);
+    }
+    for _ in rt.forever() {}
+    unreachable!()
+}
+
+impl<J: Job, B: Since<J>, K: Desk<Quantum<J>, Done<J>> + Drop> Shared<J, B, K>
+where
+    K::Seat: Drop,
+{
+    /// Keeps a result for the slot's end. Where memory is refused for it, the book is given it at once.
+    fn hold<R: Wait>(&self, rt: &R, back: &mut Vec<Done<J>>, done: Done<J>) {
+        if make_room(back) {
+            back.push_reserved(done);
+        } else {
+            give_in(rt, &self.monitor, done);
+        }
+    }
+
+    /// Has the workers run these quanta. What the desk doesn't take is run here; what it doesn't bring back stays missing.
+    fn deal<R: Wait>(&self, rt: &R, quanta: Vec<Quantum<J>>, back: &mut Vec<Done<J>>) {
+        let Some(mut seat) = self.seat.lock(rt).take() else {
+            return;
+        };
+        let mut dealt = 0u32;
+        for quantum in quanta {
+            match self.desk.deal(rt, &mut seat, quantum) {
+                Ok(()) => dealt = dealt.saturating_add(1),
+                Err(quantum) => self.hold(rt, back, quantum.run()),
+            }
+        }
+        for _ in 0..dealt {
+            match self.desk.collect(rt, &mut seat) {
+                Some(done) => self.hold(rt, back, done),
+                None => break,
+            }
+        }
+        *self.seat.lock(rt) = Some(seat);
+    }
+
+    /// Runs these quanta, by the workers if there are any, and gathers their results, so that one locking takes them in.
+    fn run<R: Wait>(&self, rt: &R, quanta: Vec<Quantum<J>>) -> Vec<Done<J>> {
+        let mut back = Vec::new(self.alloc);
+        if self.workers > 0 {
+            self.deal(rt, quanta, &mut back);
+        } else {
+            for quantum in quanta {
+                self.hold(rt, &mut back, quantum.run());
+            }
+        }
+        back
+    }
+}
+
+impl<J: Job, B: Since<J>, K: Desk<Quantum<J>, Done<J>> + Drop> Front<J, B, K>
+where
+    K::Seat: Drop,
+{
+    /// A pass for one more client, with no notes. `None` where 64 are out.
+    pub fn pass<R: Wait>(&self, rt: &R) -> Option<Pass<J, B>>
+        ensures { IfSome result (λ p. p.1 ≡ []) }
+    {
+        match &mut *self.shared.monitor.book.lock(rt) {
+            Some(book) => book.pass(),
+            None => None,
+        }
+    }
+
+    /// Accepts a command, carries it out, and answers its number and its reply, which the pass notes. That isn't an
+    /// acknowledgement: `settled` is.
+    ///
+    /// It waits for the lock, while a slot is open, and while 64 accepted commands aren't durable. A Slot's quanta are run
+    /// meanwhile, by the workers or, where there are none or their desk is closed, by this thread. `Refused` says why there is no
+    /// such command now, and is noted, but for `Machine(NoMemory)`: then nothing has changed. `StoreFailed` says that nothing is
+    /// accepted any more; the first time, the pass notes why.
+    pub fn call<R: Wait>(
+        &self,
+        rt: &R,
+        pass: &mut Pass<J, B>,
+        command: Command<J>,
+    ) -> Result<(u64, Reply), CallFault>
+        ensures ok { IfOk result (λ r. (pass.new ≡ noted (Accepted r.0 command r.1) pass.old) × (greatest pass.old.1 < r.0)) }
+        ensures err { IfErr result (HasNoReply command pass.old pass.new) }
+    {
+        let shared = &*self.shared;
+        if !matches!(&command, Command::Slot) {
+            return ask_in(rt, &shared.monitor, pass, command);
+        }
+        match open_in(rt, &shared.monitor, pass) {
+            Err(fault) => Err(fault),
+            Ok(quanta) => {
+                let back = shared.run(rt, quanta);
+                Ok(end_slot(rt, shared.alloc, &shared.monitor, pass, back))
+            }
+        }
+    }
+
+    /// Waits until the command of this number is durable, and gives its receipt, which the pass notes. A reader that is told of
+    /// the receipt shows that command's state, or a later one.
+    ///
+    /// `StoreFailed` says that it isn't known to be durable, and won't become so; a number up to the last mark has its receipt
+    /// also then. `Refused(Machine(NoMemory))` changes nothing, and the call may be made again.
+    pub fn settled<R: Wait>(
+        &self,
+        rt: &R,
+        pass: &mut Pass<J, B>,
+        number: u64,
+    ) -> Result<Receipt<J, B>, CallFault>
+        requires some { 0 < number }
+        requires known { number ≤ greatest pass.old.1 }
+        ensures ok { IfOk result (λ r. (r.number ≡ number) × (pass.new ≡ noted (Receipted number r.clock) pass.old)) }
+        ensures err { IfErr result (HasNoReceipt number pass.old pass.new) }
+    {
+        let monitor = &self.shared.monitor;
+        match settle_in(rt, monitor, pass, number) {
+            Ok(receipt) => Ok(worded(rt, monitor, receipt)),
+            Err(fault) => Err(fault),
+        }
+    }
+}

@@ -1,0 +1,217 @@
+//! The end of a front.
+ghost use Rattle.std.specs.Prelude.{◌≡◌, [], IfOk, IfErr, IfSome, IfNone, IsTrue, IsPermutation};
+ghost use Rattle.pfx_disk.specs.Disk.{IsHonest};
+ghost use Rattle.pfx_board.specs.Word.{records_of};
+ghost use Rattle.pfx_front.specs.Closing.{IsTold, AreTold, AreLooked, AreSeen, IsSession, IsStored, IsHeld};
+ghost use Rattle.pfx_front.specs.Keeping.{Behind};
+ghost use Rattle.pfx_front.specs.Showing.{IsShown};
+
+use crate::calls::Front;
+use crate::faults::CloseFault;
+use crate::flusher::Flushed;
+use crate::monitor::Monitor;
+use crate::name::Since;
+use crate::start::{Crew, Hands, dismiss};
+use pfx_board::publisher::Publisher;
+use pfx_board::reader::Reader;
+use pfx_board::shown::Shown;
+use pfx_board::word::Word;
+use pfx_book::book::{Book, Pass, Share};
+use pfx_crew::desk::Desk;
+use pfx_disk::Disk;
+use pfx_fault::Cause;
+use pfx_jobs::job::Job;
+use pfx_jobs::quantum::{Done, Quantum};
+use pfx_journal::Store;
+use std::sync::Wait;
+use std::thread::Threads;
+
+/// What `close` is given: all that `start` and `pass` gave out.
+#[derive(Drop)]
+pub struct Given<J: Job, B: Since<J>> {
+    /// The passes.
+    pub passes: Vec<Pass<J, B>>,
+    /// The readers of the board.
+    pub readers: Vec<Reader<J, B>>,
+}
+
+/// What a front leaves.
+#[derive(Drop)]
+pub struct Closed<J: Job, B: Since<J>, D: Disk> {
+    /// The store, with what became durable.
+    pub store: Store<D, J>,
+    /// The session.
+    pub book: Book<J, B>,
+    /// The passes in the order in which they were given out, and the readers.
+    pub given: Given<J, B>,
+    /// Of each reader, whether it was told of the last publication and then saw just that.
+    pub looked: Vec<bool>,
+}
+
+/// Shuts the book, if these are all passes; else says how many are missing, and changes nothing.
+fn shut_in<J: Job, B: Since<J>, R: Wait>(
+    rt: &R,
+    monitor: &Monitor<J, B>,
+    passes: &mut Vec<Pass<J, B>>,
+) -> Option<u8>
+    ensures { passes.new.items ≡ passes.old.items }
+{
+    let mut guard = monitor.book.lock(rt);
+    let Some(book) = &mut *guard else {
+        return None;
+    };
+    if book.gathered(passes) {
+        book.shut();
+        return None;
+    }
+    let out = u64::from(book.passes()).saturating_sub(passes.len() as u64);
+    Some(u8::try_from(out).unwrap_or(u8::MAX))
+}
+
+/// Whether the client of this pass wasn't told of another failure than this one.
+fn is_told<J: Job, B: Since<J>>(failure: Option<Cause>, pass: &Pass<J, B>) -> bool
+    ensures { IsTrue result → IsTold failure pass.now }
+{
+    match pass.cause() {
+        None => true,
+        Some(cause) => failure == Some(cause),
+    }
+}
+
+/// Whether no client was told of another failure than this one.
+fn are_told<J: Job, B: Since<J>>(failure: Option<Cause>, passes: &[Pass<J, B>]) -> bool
+    ensures { IsTrue result → AreTold failure passes.now }
+{
+    let mut i = 0;
+    while i < passes.len() {
+        if !is_told(failure, &passes[i]) {
+            return false;
+        }
+        i += 1;
+    }
+    true
+}
+
+/// Tells each reader of the last publication, and has it look.
+fn look_all<J: Job, B: Since<J>>(
+    last: &Word<J, B>,
+    readers: &mut Vec<Reader<J, B>>,
+    looked: &mut Vec<bool>,
+)
+    requires { looked.old.items ≡ [] }
+    ensures { AreLooked last.now readers.old.items readers.new.items looked.new.items }
+{
+    let mut i = 0;
+    while i < readers.len() {
+        let saw = readers[i].looks(last);
+        if looked.push(saw).is_err() {
+            return;
+        }
+        i += 1;
+    }
+}
+
+/// Looks at the book, all passes and the share together: what session, store and board have come to.
+fn ended<J: Job, B: Since<J>, D: Disk + Drop, R: Wait + Drop>(
+    book: Book<J, B>,
+    flushed: Flushed<J, B, D, Shown<J, B>, R>,
+    given: Given<J, B>,
+    looked: Vec<bool>,
+) -> Option<Closed<J, B, D>>
+    ensures passes { IfSome result (λ c. c.given.passes.items ≡ given.passes.items) }
+    ensures session { IfSome result (λ c. IsSession J.kind B.start c.book c.given.passes.items) }
+    ensures told { IfSome result (λ c. AreTold c.book.failure c.given.passes.items) }
+    ensures store { IfSome result (λ c. IsStored J.kind B.start B.failures c.book c.store.state (D.view c.store.file.disk)) }
+    ensures images { IfSome result (λ c. IsHonest (D.view c.store.file.disk) → IsHeld J.kind B.start B.clock c.book (D.view c.store.file.disk)) }
+    ensures readers { IfSome result (λ c. AreSeen J.kind B.start c.book c.store.state given.readers.items c.given.readers.items c.looked.items) }
+{
+    let mut book = book;
+    let Flushed {
+        mut share,
+        store,
+        publisher,
+    } = flushed;
+    let Given {
+        mut passes,
+        mut readers,
+    } = given;
+    let mut looked = looked;
+    looked.clear();
+    if !book.gathered(&mut passes) {
+        return None;
+    }
+    if book.failure().is_none() && !book.is_settled() {
+        return None;
+    }
+    if !are_told(book.failure(), &passes) {
+        return None;
+    }
+    book.settled(&mut share);
+    book.legal();
+    look_all(publisher.published(), &mut readers, &mut looked);
+    Some(Closed {
+        store,
+        book,
+        given: Given { passes, readers },
+        looked,
+    })
+}
+
+impl<J: Job, B: Since<J>, K: Desk<Quantum<J>, Done<J>> + Drop> Front<J, B, K>
+where
+    K::Seat: Drop,
+{
+    /// Ends the front: nothing more is accepted, what was accepted becomes durable unless the store has failed, and all threads
+    /// are joined. It takes the passes in any order. Each reader is then told of the board's last publication, and looks.
+    ///
+    /// Of what comes back it says: the session is the merge of the passes' notes, and legal, so each answer is the machine's; a
+    /// client that was told of a failure was told of the session's; the store is the outcome of its first commands, of all up to
+    /// the last mark, and of all of them unless the store has failed, which it is said to have by `Device` only if the disk has;
+    /// each image that a stop may leave since a receipt's moment is recovered to the outcome of first commands, the receipt's
+    /// among them; and what a reader that looked has seen are first commands that the store has.
+    ///
+    /// `PassOut` says that a pass is missing, or is another front's; then nothing has changed.
+    pub fn close<D: Disk + Drop, R: Threads + Wait + Drop>(
+        self,
+        rt: &R,
+        crew: Crew<J, B, D, K, R>,
+        given: Given<J, B>,
+    ) -> Result<Closed<J, B, D>, (CloseFault, Front<J, B, K>, Crew<J, B, D, K, R>, Given<J, B>)>
+        ensures passes { IfOk result (λ c. IsPermutation given.passes.items c.given.passes.items) }
+        ensures back { IfErr result (λ e. IsPermutation given.passes.items e.3.passes.items × (e.3.readers.items ≡ given.readers.items)) }
+        ensures session { IfOk result (λ c. IsSession J.kind B.start c.book c.given.passes.items) }
+        ensures told { IfOk result (λ c. AreTold c.book.failure c.given.passes.items) }
+        ensures store { IfOk result (λ c. IsStored J.kind B.start B.failures c.book c.store.state (D.view c.store.file.disk)) }
+        ensures images { IfOk result (λ c. IsHonest (D.view c.store.file.disk) → IsHeld J.kind B.start B.clock c.book (D.view c.store.file.disk)) }
+        ensures readers { IfOk result (λ c. AreSeen J.kind B.start c.book c.store.state given.readers.items c.given.readers.items c.looked.items) }
+    {
+        let Given {
+            mut passes,
+            readers,
+        } = given;
+        passes.sort_unstable_by_key(|pass| pass.number());
+        let shared = &*self.shared;
+        if let Some(count) = shut_in(rt, &shared.monitor, &mut passes) {
+            let given = Given { passes, readers };
+            return Err((CloseFault::PassOut { count }, self, crew, given));
+        }
+        shared.monitor.work.notify_all();
+        let Hands {
+            flusher,
+            workers,
+            looked,
+        } = crew;
+        let flushed = flusher.join(rt);
+        dismiss(rt, shared, workers);
+        if let Some(book) = shared.monitor.book.lock(rt).take() {
+            let given = Given { passes, readers };
+            if let Some(closed) = ended(book, flushed, given, looked) {
+                return Ok(closed);
+            }
+        }
+
+        // The flusher's thread has ended, so all is marked or the store has failed; and only this call takes the book out.
+        for _ in rt.forever() {}
+        unreachable!()
+    }
+}

@@ -1,0 +1,333 @@
+//! The flusher: it alone owns the store.
+ghost use Rattle.std.specs.Prelude.{◌≡◌, ◌≤◌, ◌+◌, [], ◌∷◌, ◌++◌, length, IsTrue, IfSome, IfNone, Some, false, vec_capacity};
+ghost use Rattle.pfx_board.specs.Word.{records_of};
+ghost use Rattle.pfx_effect.specs.Applying.{applied};
+ghost use Rattle.pfx_fault.specs.declared.parts.Cause.TheVariants.{Memory};
+ghost use Rattle.pfx_book.specs.Notes.{records_in};
+ghost use Rattle.pfx_book.specs.declared.note.Note.TheVariants.{Marked, Failed};
+ghost use Rattle.pfx_front.specs.Keeping.{InStep, Behind};
+ghost use Rattle.pfx_front.specs.Showing.{AreShown, IsShown, IsShownBefore};
+ghost use Rattle.pfx_front.specs.Working.{Gives, IsTaken};
+
+use crate::monitor::Monitor;
+use crate::name::Since;
+use left_right::Absorb;
+use pfx_board::publisher::BoardWriter;
+use pfx_board::shown::Shown;
+use pfx_book::book::Share;
+use pfx_disk::Disk;
+use pfx_fault::Cause;
+use pfx_jobs::job::Job;
+use pfx_journal::{Mark, Store};
+use pfx_record::{Batch, Record};
+use std::alloc::Global;
+use std::marker::Model;
+use std::sync::Wait;
+
+/// What the flusher's thread owns: its share of the book, the store, the board's writer, and room for the records of a batch.
+/// Contracts see it as the share's notes, the store and what is published, which are in step.
+#[derive(Drop)]
+pub struct Flusher<
+    J: Job,
+    B: Since<J>,
+    D: Disk,
+    T: Absorb<T, State = [Batch<J>; 0]> + Drop,
+    R: Wait + Drop,
+> {
+    pub(crate) share: Share<J, B>,
+    pub(crate) store: Store<D, J>,
+    pub(crate) publisher: BoardWriter<J, B, T, R>,
+    pub(crate) room: Vec<Record<J>>,
+}
+
+impl<J: Job, B: Since<J>, D: Disk, T: Absorb<T, State = [Batch<J>; 0]> + Drop, R: Wait + Drop> Model
+    for Flusher<J, B, D, T, R> {
+    ghost use Rattle.std.specs.Prelude.{◌≡◌, ◌≤◌, List, [], vec_capacity};
+    ghost use Rattle.pfx_journal.specs.Stores.{PlainStore};
+    ghost use Rattle.pfx_board.specs.Publisher.{Published};
+    ghost use Rattle.pfx_book.specs.declared.note.Note.{Note};
+    ghost use Rattle.pfx_front.specs.Keeping.{InStep};
+    ghost use Rattle.pfx_front.specs.Showing.{AreShown};
+
+    ghost Value = { List (Note J) × PlainStore D J × Published J };
+
+    ghost view = { λ f. (f.share, f.store, f.publisher) };
+
+    ghost invariant = { λ f. InStep J.kind B.start B.failures B.clock f.share f.store.file.broken f.store.state (D.view f.store.file.disk)
+        × AreShown f.share f.publisher.batches × (B.origin ≡ B.start)
+        × (f.room.items ≡ []) × (16 ≤ vec_capacity f.room) };
+}
+
+/// What comes home when the flusher's thread ends. Contracts see it as the share's notes, the store, which has what its marks
+/// promise, and what is published, which is what the store has.
+#[derive(Drop)]
+pub struct Flushed<
+    J: Job,
+    B: Since<J>,
+    D: Disk,
+    T: Absorb<T, State = [Batch<J>; 0]> + Drop,
+    R: Wait + Drop,
+> {
+    pub(crate) share: Share<J, B>,
+    pub(crate) store: Store<D, J>,
+    pub(crate) publisher: BoardWriter<J, B, T, R>,
+}
+
+impl<J: Job, B: Since<J>, D: Disk, T: Absorb<T, State = [Batch<J>; 0]> + Drop, R: Wait + Drop> Model
+    for Flushed<J, B, D, T, R> {
+    ghost use Rattle.std.specs.Prelude.{List};
+    ghost use Rattle.pfx_journal.specs.Stores.{PlainStore};
+    ghost use Rattle.pfx_board.specs.Publisher.{Published};
+    ghost use Rattle.pfx_book.specs.declared.note.Note.{Note};
+    ghost use Rattle.pfx_front.specs.Keeping.{Behind};
+    ghost use Rattle.pfx_front.specs.Showing.{IsShown};
+
+    ghost Value = { List (Note J) × PlainStore D J × Published J };
+
+    ghost view = { λ f. (f.share, f.store, f.publisher) };
+
+    ghost invariant = { λ f. Behind J.kind B.start B.failures B.clock f.share f.store.state (D.view f.store.file.disk)
+        × IsShown J.kind B.start f.share f.publisher.batches f.store.state };
+}
+
+/// What the flusher is to do next.
+#[derive(Drop)]
+pub enum Work<J> {
+    /// This batch was taken: it is to be appended.
+    Append(Batch<J>),
+    /// Nothing waits, but a checkpoint is in progress. The room for a batch comes back.
+    Tend(Vec<Record<J>>),
+    /// Nothing waits, and nothing more is accepted.
+    End,
+}
+
+/// Waits until there is something to do, and takes a batch if there is one. `busy` says that a checkpoint is in progress.
+fn next_work<J: Job, B: Since<J>, R: Wait>(
+    rt: &R,
+    monitor: &Monitor<J, B>,
+    share: &mut Share<J, B>,
+    room: Vec<Record<J>>,
+    busy: bool,
+) -> Work<J>
+    requires empty { room.items ≡ [] }
+    requires room { 16 ≤ vec_capacity room }
+    ensures { Gives J.kind B.start share.old share.new result }
+{
+    let mut guard = monitor
+        .work
+        .wait_while(rt, monitor.book.lock(rt), |b| match b {
+            Some(book) => !busy && !book.has_pending() && !book.is_closed(),
+            None => false,
+        });
+    let Some(book) = &mut *guard else {
+        return Work::End;
+    };
+    match book.take_batch(share, room) {
+        Ok(batch) => Work::Append(batch),
+        Err(room) => {
+            if book.is_closed() {
+                return Work::End;
+            }
+            Work::Tend(room)
+        }
+    }
+}
+
+/// Marks what was taken, and wakes those who wait for it. Room for a command more may have come.
+fn mark_in<J: Job, B: Since<J>, R: Wait>(
+    rt: &R,
+    monitor: &Monitor<J, B>,
+    share: &mut Share<J, B>,
+    mark: Mark,
+)
+    requires { mark.number ≡ B.start.number + length (records_in share.old) }
+    ensures { share.new ≡ share.old ++ Marked mark.number mark.clock ∷ [] }
+{
+    let mut guard = monitor.book.lock(rt);
+    if let Some(book) = &mut *guard {
+        book.mark(share, mark.number, mark.clock);
+        drop(guard);
+        monitor.marked.notify_all();
+        monitor.free.notify_one();
+        return;
+    }
+
+    // The book is taken out only once this thread has ended.
+    for _ in rt.forever() {}
+    unreachable!()
+}
+
+/// Gives up, and wakes all who wait.
+fn fail_in<J: Job, B: Since<J>, R: Wait>(
+    rt: &R,
+    monitor: &Monitor<J, B>,
+    share: &mut Share<J, B>,
+    cause: Cause,
+)
+    ensures { share.new ≡ share.old ++ Failed cause ∷ [] }
+{
+    let mut guard = monitor.book.lock(rt);
+    if let Some(book) = &mut *guard {
+        book.fail(share, cause);
+        drop(guard);
+        monitor.marked.notify_all();
+        monitor.free.notify_all();
+        return;
+    }
+
+    // The book is taken out only once this thread has ended.
+    for _ in rt.forever() {}
+    unreachable!()
+}
+
+/// A batch's vector, empty again.
+fn room_of<J: Job>(batch: Batch<J>) -> Vec<Record<J>>
+    ensures empty { result.items ≡ [] }
+    ensures room { vec_capacity result ≡ vec_capacity batch.records }
+{
+    let mut room = batch.records;
+    room.clear();
+    room
+}
+
+/// Publishes a batch that is durable, and leaves its word to those who will be told of it. `false` where memory is refused; then
+/// the book knows.
+fn show<J: Job, B: Since<J>, D: Disk, R: Wait + Drop, W: Wait>(
+    rt: &W,
+    alloc: Global,
+    monitor: &Monitor<J, B>,
+    share: &mut Share<J, B>,
+    store: &Store<D, J>,
+    publisher: &mut BoardWriter<J, B, Shown<J, B>, R>,
+    batch: &Batch<J>,
+) -> bool
+    requires { applied J.kind B.origin (records_of (publisher.old.batches ++ batch.now ∷ [])) ≡ Some store.now.state }
+    ensures batches { publisher.new.batches ≡ publisher.old.batches ++ batch.now ∷ [] }
+    ensures shown { IsTrue result → share.new ≡ share.old }
+    ensures lost { result ≡ false → share.new ≡ share.old ++ Failed Memory ∷ [] }
+{
+    match publisher.publish(rt, alloc, batch, store.state()) {
+        Ok(()) => {
+            *monitor.word.lock(rt) = publisher.published().again();
+            true
+        }
+        Err(_) => {
+            fail_in(rt, monitor, share, Cause::Memory);
+            false
+        }
+    }
+}
+
+/// Appends a batch, publishes and marks it: the room for the next one. `None` where the store has failed, or memory is refused
+/// for the board; then the book knows.
+fn keep<J: Job, B: Since<J>, D: Disk, R: Wait + Drop, W: Wait>(
+    rt: &W,
+    alloc: Global,
+    monitor: &Monitor<J, B>,
+    share: &mut Share<J, B>,
+    store: &mut Store<D, J>,
+    publisher: &mut BoardWriter<J, B, Shown<J, B>, R>,
+    batch: Batch<J>,
+) -> Option<Vec<Record<J>>>
+    requires taken { IsTaken J.kind B.start B.failures B.clock share.old batch store.old.file.broken store.old.state (D.view store.old.file.disk) }
+    requires shown { IsShownBefore share.old publisher.old.batches batch }
+    requires origin { B.origin ≡ B.start }
+    requires room { 16 ≤ vec_capacity batch.records }
+    ensures step { IfSome result (λ _. InStep J.kind B.start B.failures B.clock share.new store.new.file.broken store.new.state (D.view store.new.file.disk)) }
+    ensures shown { IfSome result (λ _. AreShown share.new publisher.new.batches) }
+    ensures room { IfSome result (λ room. (room.items ≡ []) × (16 ≤ vec_capacity room)) }
+    ensures behind { IfNone result (Behind J.kind B.start B.failures B.clock share.new store.new.state (D.view store.new.file.disk)) }
+    ensures left { IfNone result (IsShown J.kind B.start share.new publisher.new.batches store.new.state) }
+{
+    match store.append(&batch) {
+        Ok(mark) => {
+            if !show(rt, alloc, monitor, share, store, publisher, &batch) {
+                return None;
+            }
+            mark_in(rt, monitor, share, mark);
+            Some(room_of(batch))
+        }
+        Err(_fault) => {
+            fail_in(rt, monitor, share, Cause::Device);
+            None
+        }
+    }
+}
+
+/// Takes a step of the checkpoint in progress, if there is one. `false` where the store has failed; then the book knows.
+fn tend<J: Job, B: Since<J>, D: Disk, R: Wait>(
+    rt: &R,
+    monitor: &Monitor<J, B>,
+    share: &mut Share<J, B>,
+    store: &mut Store<D, J>,
+) -> bool
+    requires { InStep J.kind B.start B.failures B.clock share.old store.old.file.broken store.old.state (D.view store.old.file.disk) }
+    ensures step { IsTrue result → InStep J.kind B.start B.failures B.clock share.new store.new.file.broken store.new.state (D.view store.new.file.disk) }
+    ensures notes { records_in share.new ≡ records_in share.old }
+    ensures leads { applied J.kind B.start (records_in share.new) ≡ Some store.new.state }
+    ensures behind { result ≡ false → Behind J.kind B.start B.failures B.clock share.new store.new.state (D.view store.new.file.disk) }
+{
+    match store.tend() {
+        Ok(_tended) => true,
+        Err(_fault) => {
+            fail_in(rt, monitor, share, Cause::Device);
+            false
+        }
+    }
+}
+
+/// What the thread gives back.
+fn home<J: Job, B: Since<J>, D: Disk, R: Wait + Drop>(
+    share: Share<J, B>,
+    store: Store<D, J>,
+    publisher: BoardWriter<J, B, Shown<J, B>, R>,
+) -> Flushed<J, B, D, Shown<J, B>, R>
+    requires behind { Behind J.kind B.start B.failures B.clock share store.state (D.view store.file.disk) }
+    requires shown { IsShown J.kind B.start share publisher.batches store.state }
+{
+    Flushed {
+        share,
+        store,
+        publisher,
+    }
+}
+
+/// Keeps the book's commands in the store, batch by batch, until no more is accepted or the store has failed. Behind each batch
+/// it takes one step of the checkpoint in progress.
+pub(crate) fn flush<J: Job, B: Since<J>, D: Disk, R: Wait + Drop, W: Wait>(
+    rt: &W,
+    alloc: Global,
+    monitor: &Monitor<J, B>,
+    flusher: Flusher<J, B, D, Shown<J, B>, R>,
+) -> Flushed<J, B, D, Shown<J, B>, R> {
+    let Flusher {
+        mut share,
+        mut store,
+        mut publisher,
+        mut room,
+    } = flusher;
+    for _ in rt.forever() {
+        match next_work(rt, monitor, &mut share, room, store.places().turned) {
+            Work::End => return home(share, store, publisher),
+            Work::Tend(back) => room = back,
+            Work::Append(batch) => {
+                match keep(
+                    rt,
+                    alloc,
+                    monitor,
+                    &mut share,
+                    &mut store,
+                    &mut publisher,
+                    batch,
+                ) {
+                    Some(back) => room = back,
+                    None => return home(share, store, publisher),
+                }
+            }
+        }
+        if !tend(rt, monitor, &mut share, &mut store) {
+            return home(share, store, publisher);
+        }
+    }
+    unreachable!()
+}

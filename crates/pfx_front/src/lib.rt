@@ -1,0 +1,30 @@
+//! The front: many callers at one store, a flusher that alone owns it, and workers that run quanta.
+//!
+//! Under one lock lies a book: the session of the store's clients. A call takes the lock, asks the book, and is answered before
+//! anything is durable; the reply isn't an acknowledgement. The flusher takes the next commands as a batch, appends it to the
+//! store with no lock held, publishes the board behind it, and marks it; `settled` waits for the mark, and its receipt is the
+//! acknowledgement: a reader of the board that is told of it shows that command at least. A Slot's quanta
+//! are run between two lockings, by the workers or by the thread that called.
+//!
+//! - `name`: whose front it is, its lists, and what it began with.
+//! - `faults`: why calls fail.
+//! - `monitor`: the book's lock, and what threads wait for.
+//! - `flusher`: takes batches, appends, publishes and marks them; between batches, and while nothing waits, it works on the checkpoint.
+//! - `calls`: `Front` with `pass`, `call` and `settled`.
+//! - `start`: a front with its threads.
+//! - `sole`: what a client knows that is the only one: its answers are the machine's, and the board of their state.
+//! - `closing`: the end: all threads joined, and what session and store have come to.
+//!
+//! What tokens carry: clients know what happened to their pass, and the flusher what happened to its share. The lists that they
+//! prove against are the book's, so `close` can say of the whole session what its calls had answered, and of the store what its
+//! receipts had promised. No thread spins or polls, and no lock is held during a call of the disk or a step of a job.
+#![tactic(auto)]
+
+pub mod calls;
+pub mod closing;
+pub mod faults;
+pub mod flusher;
+pub mod monitor;
+pub mod name;
+pub mod sole;
+pub mod start;

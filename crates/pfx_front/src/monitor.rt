@@ -1,0 +1,53 @@
+//! The book's lock, and what threads wait for.
+ghost use Rattle.std.specs.Prelude.{◌≡◌, None, false, IsTrue};
+ghost use Rattle.pfx_book.specs.Register.{HasRoom};
+
+use crate::name::Since;
+use pfx_board::word::Word;
+use pfx_book::book::Book;
+use pfx_jobs::job::Job;
+use std::sync::{Condvar, Mutex};
+
+/// A book under a lock, with what threads wait for: the flusher for work, clients for marks, and clients for a book that may be
+/// asked. `close` takes the book out. Under a lock of its own lies the word of the last publication, which is put there before
+/// its commands are marked.
+#[derive(Drop)]
+pub struct Monitor<J: Job, B: Since<J>> {
+    pub(crate) book: Mutex<Option<Book<J, B>>>,
+    pub(crate) word: Mutex<Word<J, B>>,
+    pub(crate) work: Condvar,
+    pub(crate) marked: Condvar,
+    pub(crate) free: Condvar,
+}
+
+impl<J: Job, B: Since<J>> Monitor<J, B> {
+    /// With this book, this word, and nobody waiting.
+    pub(crate) fn new(book: Book<J, B>, word: Word<J, B>) -> Monitor<J, B> {
+        Monitor {
+            book: Mutex::new(Some(book)),
+            word: Mutex::new(word),
+            work: Condvar::new(),
+            marked: Condvar::new(),
+            free: Condvar::new(),
+        }
+    }
+}
+
+/// Whether a command may be asked of the book: the flusher goes on, the session isn't closed, no slot is open, and fewer than
+/// 64 commands wait for their mark.
+pub(crate) fn is_ready<J: Job, B: Since<J>>(book: &Book<J, B>) -> bool
+    ensures none_open { IsTrue result → book.now.session.opened ≡ None }
+    ensures room { IsTrue result → HasRoom book.now.session }
+    ensures goes_on { IsTrue result → book.now.failure ≡ None }
+    ensures not_shut { IsTrue result → book.now.shut ≡ false }
+{
+    book.failure().is_none() && !book.is_closed() && !book.is_open() && book.has_room()
+}
+
+/// Whether a client has to wait: the flusher goes on, but no command may be asked.
+pub(crate) fn is_busy<J: Job, B: Since<J>>(book: &Option<Book<J, B>>) -> bool {
+    match book {
+        Some(book) => book.failure().is_none() && !is_ready(book),
+        None => true,
+    }
+}

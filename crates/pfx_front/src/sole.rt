@@ -1,0 +1,69 @@
+//! A client that is the only one.
+ghost use Rattle.std.specs.Prelude.{◌≡◌, IfOk, IfSome, IsTrue};
+ghost use Rattle.pfx_front.specs.Sole.{IsAlone, IsShownBy, state_of};
+
+use crate::calls::Front;
+use crate::name::Since;
+use pfx_book::book::{Book, Pass};
+use pfx_crew::desk::Desk;
+use pfx_jobs::job::Job;
+use pfx_jobs::quantum::{Done, Quantum};
+use pfx_machine::Board;
+use std::alloc::AllocError;
+use std::sync::Wait;
+
+/// Whether this is the only pass that is out; then its notes are the session.
+fn is_sole_in<J: Job, B: Since<J>>(book: &mut Book<J, B>, pass: &mut Pass<J, B>) -> bool
+    ensures same { (book.new ≡ book.old) × (pass.new ≡ pass.old) }
+    ensures alone { IsTrue result → IsAlone J.kind B.start pass.old.1 }
+    ensures state { IsTrue result → book.old.session.state ≡ state_of J.kind B.start pass.old.1 }
+{
+    book.legal();
+    book.is_sole(pass)
+}
+
+/// The board of the book's state, if this is the only pass that is out.
+fn board_in<J: Job, B: Since<J>>(
+    book: &mut Book<J, B>,
+    pass: &mut Pass<J, B>,
+) -> Result<Option<Board>, AllocError>
+    ensures same { pass.new ≡ pass.old }
+    ensures shows { IfOk result (λ o. IfSome o (IsShownBy J.kind (state_of J.kind B.start pass.old.1))) }
+{
+    if !is_sole_in(book, pass) {
+        return Ok(None);
+    }
+    match book.board() {
+        Ok(board) => Ok(Some(board)),
+        Err(fault) => Err(fault),
+    }
+}
+
+impl<J: Job, B: Since<J>, K: Desk<Quantum<J>, Done<J>> + Drop> Front<J, B, K>
+where
+    K::Seat: Drop,
+{
+    /// Whether no other pass is out. Then what this pass notes is all that has happened: each of its answers is the machine's
+    /// behind the commands that it had accepted before.
+    pub fn is_sole<R: Wait>(&self, rt: &R, pass: &mut Pass<J, B>) -> bool
+        ensures same { pass.new ≡ pass.old }
+        ensures alone { IsTrue result → IsAlone J.kind B.start pass.old.1 }
+    {
+        match &mut *self.shared.monitor.book.lock(rt) {
+            Some(book) => is_sole_in(book, pass),
+            None => false,
+        }
+    }
+
+    /// The board of the state behind this pass's commands, durable or not; `None` where other passes are out. While it is made the
+    /// lock is held, for nobody else can wait for it but the flusher. `AllocError` where memory is refused.
+    pub fn board<R: Wait>(&self, rt: &R, pass: &mut Pass<J, B>) -> Result<Option<Board>, AllocError>
+        ensures same { pass.new ≡ pass.old }
+        ensures shows { IfOk result (λ o. IfSome o (IsShownBy J.kind (state_of J.kind B.start pass.old.1))) }
+    {
+        match &mut *self.shared.monitor.book.lock(rt) {
+            Some(book) => board_in(book, pass),
+            None => Ok(None),
+        }
+    }
+}

@@ -1,0 +1,307 @@
+//! A front with its threads.
+ghost use Rattle.std.specs.Prelude.{◌≡◌, ◌<◌, ◌≤◌, ◌∷◌, [], replicate, IfOk, IfErr, IsTrue, vec_len, vec_capacity};
+ghost use Rattle.pfx_book.specs.declared.note.Note.TheVariants.{Marked};
+ghost use Rattle.pfx_front.specs.Starting.{Begins};
+
+use crate::calls::{Front, Shared};
+use crate::faults::StartFault;
+use crate::flusher::{Flushed, Flusher, flush};
+use crate::monitor::Monitor;
+use crate::name::{Names, Since};
+use left_right::Absorb;
+use pfx_board::publisher::{BoardWriter, Publisher};
+use pfx_board::reader::Reader;
+use pfx_board::shown::Shown;
+use pfx_board::word::Word;
+use pfx_book::book::{Book, Share};
+use pfx_book::note::Note;
+use pfx_crew::desk::Desk;
+use pfx_crew::work::worker;
+use pfx_disk::Disk;
+use pfx_jobs::job::Job;
+use pfx_jobs::quantum::{Done, Quantum};
+use pfx_journal::Store;
+use pfx_record::{Batch, Record};
+use pfx_token::past;
+use pfx_token::tokens::Opened;
+use std::alloc::{AllocError, Global};
+use std::sync::{Arc, Condvar, Mutex, Wait};
+use std::thread::{self, JoinHandle, Threads};
+
+/// The threads of a front. `Front::close` joins them.
+pub type Crew<J, B, D, K, R> = Hands<J, B, D, K, Shown<J, B>, R>;
+
+/// A `Crew`, over what each copy of the board holds: `Shown`.
+#[derive(Drop)]
+pub struct Hands<
+    J: Job,
+    B: Since<J>,
+    D: Disk,
+    K: Desk<Quantum<J>, Done<J>>,
+    T: Absorb<T, State = [Batch<J>; 0]> + Drop,
+    R: Wait + Drop,
+> {
+    pub(crate) flusher: JoinHandle<Flushed<J, B, D, T, R>>,
+    pub(crate) workers: Vec<JoinHandle<K::Seat>>,
+    // Room for one answer a reader, empty.
+    pub(crate) looked: Vec<bool>,
+}
+
+/// Where the flusher's thread finds what it owns. It is put in once all threads have started: until then the store can be given
+/// back.
+#[derive(Drop)]
+struct Mailbox<
+    J: Job,
+    B: Since<J>,
+    D: Disk,
+    T: Absorb<T, State = [Batch<J>; 0]> + Drop,
+    R: Wait + Drop,
+> {
+    flusher: Mutex<Option<Flusher<J, B, D, T, R>>>,
+    here: Condvar,
+}
+
+/// Waits for what is put into the mailbox.
+fn fetch<J: Job, B: Since<J>, D: Disk + Drop, R: Wait + Drop, W: Wait>(
+    rt: &W,
+    mailbox: &Mailbox<J, B, D, Shown<J, B>, R>,
+) -> Flusher<J, B, D, Shown<J, B>, R> {
+    for _ in rt.forever() {
+        let mut guard = mailbox
+            .here
+            .wait_while(rt, mailbox.flusher.lock(rt), |f| f.is_none());
+        if let Some(flusher) = guard.take() {
+            return flusher;
+        }
+    }
+    unreachable!()
+}
+
+/// The flusher's thread.
+fn flush_there<
+    J: Job,
+    B: Since<J>,
+    D: Disk + Drop,
+    K: Desk<Quantum<J>, Done<J>> + Drop,
+    R: Wait + Drop,
+>(
+    rt: R,
+    alloc: Global,
+    shared: Arc<Shared<J, B, K>, Global>,
+    mailbox: Arc<Mailbox<J, B, D, Shown<J, B>, R>, Global>,
+) -> Flushed<J, B, D, Shown<J, B>, R>
+where
+    K::Seat: Drop,
+{
+    flush(&rt, alloc, &shared.monitor, fetch(&rt, &*mailbox))
+}
+
+/// A worker's thread.
+fn work_there<J: Job, B: Since<J>, K: Desk<Quantum<J>, Done<J>> + Drop, R: Wait + Drop>(
+    rt: R,
+    shared: Arc<Shared<J, B, K>, Global>,
+    seat: K::Seat,
+) -> K::Seat
+where
+    K::Seat: Drop,
+{
+    worker::<J, R, K>(&rt, &shared.desk, seat)
+}
+
+/// Closes the desk and joins the workers.
+pub(crate) fn dismiss<J: Job, B: Since<J>, K: Desk<Quantum<J>, Done<J>> + Drop, R: Threads + Wait>(
+    rt: &R,
+    shared: &Shared<J, B, K>,
+    workers: Vec<JoinHandle<K::Seat>>,
+)
+where
+    K::Seat: Drop,
+{
+    let seat = shared.seat.lock(rt).take();
+    if let Some(mut seat) = seat {
+        shared.desk.close(rt, &mut seat);
+    }
+    for worker in workers {
+        let _seat = worker.join(rt);
+    }
+}
+
+/// What the threads of a front share, the flusher's share of a new book, and room for a batch.
+fn furnish<J: Job, B: Since<J>, D: Disk, K: Desk<Quantum<J>, Done<J>> + Drop, R: Wait>(
+    rt: &R,
+    alloc: Global,
+    tokens: Opened<Note<J>>,
+    store: &Store<D, J>,
+    word: Word<J, B>,
+    desk: K,
+    workers: u32,
+) -> Result<(Arc<Shared<J, B, K>, Global>, Share<J, B>, Vec<Record<J>>), AllocError>
+where
+    K::Seat: Drop,
+    requires table { tokens.table.shared.table_id ≡ B.table }
+    requires start { store.now.state ≡ B.start }
+    ensures share { IfOk result (λ r. r.1 ≡ Marked B.start.number (D.view store.now.file.disk).clock ∷ []) }
+    ensures room { IfOk result (λ r. (r.2.items ≡ []) × (16 ≤ vec_capacity r.2)) }
+{
+    let (book, share) = Book::new(alloc, tokens, store.state(), store.disk().clock())?;
+    let room = Vec::with_capacity(alloc, 16)?;
+    let seat = desk.seat(rt)?;
+    let shared = Arc::new(
+        alloc,
+        Shared {
+            monitor: Monitor::new(book, word),
+            desk,
+            seat: Mutex::new(Some(seat)),
+            workers,
+            alloc,
+        },
+    )?;
+    Ok((shared, share, room))
+}
+
+/// A board at the store's state, with so many readers, and room for an answer of each at the end.
+fn show_first<J: Job, B: Since<J>, D: Disk, R: Wait + Drop>(
+    rt: R,
+    alloc: Global,
+    list: past::Opened<Batch<J>>,
+    store: &Store<D, J>,
+    readers: u8,
+) -> Result<(Publisher<J, B, R>, Vec<Reader<J, B>>, Vec<bool>), AllocError>
+    requires book { list.seen.book ≡ B.book }
+    requires origin { store.now.state ≡ B.origin }
+    requires readers { 0 < readers }
+    ensures publisher { IfOk result (λ r. r.0 ≡ record { batches = []; shown = [] }) }
+    ensures readers { IfOk result (λ r. r.1.items ≡ replicate readers []) }
+    ensures looked { IfOk result (λ r. r.2.items ≡ []) }
+{
+    let count = readers as usize;
+    let looked = Vec::with_capacity(alloc, count)?;
+    let (publisher, given) = BoardWriter::new(alloc, rt, list, store.state(), count)?;
+    Ok((publisher, given, looked))
+}
+
+/// Makes room for one thing more.
+pub(crate) fn make_room<T: Drop>(list: &mut Vec<T>) -> bool
+    ensures { IsTrue result → vec_len list.new < vec_capacity list.new }
+{
+    list.reserve(1).is_ok()
+}
+
+/// Starts so many workers.
+fn hire<
+    J: Job + Drop + Send + Sync + 'static,
+    B: Since<J> + Send + Sync + 'static,
+    K: Desk<Quantum<J>, Done<J>> + Drop + Send + Sync + 'static,
+    R: Threads + Wait + Copy + Drop + Send + Sync + 'static,
+>(
+    rt: R,
+    shared: &Arc<Shared<J, B, K>, Global>,
+    hired: &mut Vec<JoinHandle<K::Seat>>,
+    workers: u32,
+) -> Result<(), StartFault>
+where
+    K::Seat: Drop + Send + 'static,
+{
+    for _worker in 0..workers {
+        if !make_room(hired) {
+            return Err(StartFault::NoMemory);
+        }
+        let Ok(theirs) = Arc::try_clone(shared) else {
+            return Err(StartFault::NoMemory);
+        };
+        let Ok(seat) = theirs.desk.seat(&rt) else {
+            return Err(StartFault::NoMemory);
+        };
+        match thread::spawn(&rt, move || work_there(rt, theirs, seat)) {
+            Ok(handle) => hired.push_reserved(handle),
+            Err(_) => return Err(StartFault::NoThread),
+        }
+    }
+    Ok(())
+}
+
+impl<
+    J: Job + Drop + Send + Sync + 'static,
+    B: Since<J> + Send + Sync + 'static,
+    K: Desk<Quantum<J>, Done<J>> + Drop + Send + Sync + 'static,
+> Front<J, B, K>
+where
+    K::Seat: Drop + Send + 'static,
+{
+    /// A front at this store: one thread for the flusher, so many workers at the desk, and so many readers of the board, who
+    /// know nothing yet. With no workers each client's thread runs the quanta of its Slots.
+    ///
+    /// `NoThread` and `NoMemory` give the store back as it was, with all threads joined that had been started.
+    pub fn start<
+        D: Disk + Drop + Send + 'static,
+        R: Threads + Wait + Copy + Drop + Send + Sync + 'static,
+    >(
+        rt: R,
+        alloc: Global,
+        names: Names<J>,
+        store: Store<D, J>,
+        desk: K,
+        workers: u32,
+        readers: u8,
+    ) -> Result<(Front<J, B, K>, Crew<J, B, D, K, R>, Vec<Reader<J, B>>), (StartFault, Store<D, J>)>
+        requires named { (names.tokens.table.shared.table_id ≡ B.table) × (names.list.seen.book ≡ B.book) × (B.origin ≡ B.start) }
+        requires readers { 0 < readers }
+        requires begins { Begins J.kind B.start B.failures B.clock store.file.broken store.state (D.view store.file.disk) }
+        ensures readers { IfOk result (λ r. r.2.items ≡ replicate readers []) }
+        ensures err { IfErr result (λ e. e.1 ≡ store) }
+    {
+        let Names { tokens, list } = names;
+        let Ok((publisher, given, looked)) = show_first::<J, B, D, R>(
+            rt, alloc, list, &store, readers,
+        ) else {
+            return Err((StartFault::NoMemory, store));
+        };
+        let word = publisher.published().again();
+        let Ok((shared, share, room)) = furnish::<J, B, D, K, R>(
+            &rt, alloc, tokens, &store, word, desk, workers,
+        ) else {
+            return Err((StartFault::NoMemory, store));
+        };
+        let Ok(mailbox) = Arc::new(
+            alloc,
+            Mailbox {
+                flusher: Mutex::new(None),
+                here: Condvar::new(),
+            },
+        ) else {
+            return Err((StartFault::NoMemory, store));
+        };
+        let Ok(theirs) = Arc::try_clone(&shared) else {
+            return Err((StartFault::NoMemory, store));
+        };
+        let Ok(letters) = Arc::try_clone(&mailbox) else {
+            return Err((StartFault::NoMemory, store));
+        };
+        let mut hired = Vec::new(alloc);
+        if let Err(fault) = hire::<J, B, K, R>(rt, &shared, &mut hired, workers) {
+            dismiss(&rt, &*shared, hired);
+            return Err((fault, store));
+        }
+        match thread::spawn(&rt, move || flush_there(rt, alloc, theirs, letters)) {
+            Err(_) => {
+                dismiss(&rt, &*shared, hired);
+                Err((StartFault::NoThread, store))
+            }
+            Ok(flusher) => {
+                *mailbox.flusher.lock(&rt) = Some(Flusher {
+                    share,
+                    store,
+                    publisher,
+                    room,
+                });
+                mailbox.here.notify_one();
+                let crew = Hands {
+                    flusher,
+                    workers: hired,
+                    looked,
+                };
+                Ok((Front { shared }, crew, given))
+            }
+        }
+    }
+}

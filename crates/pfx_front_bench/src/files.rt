@@ -1,0 +1,17 @@
+//! The file of the store.
+use crate::failures::Failure;
+use pfx_disk::FileDisk;
+use std::fs::OpenOptions;
+
+/// A file as a disk, made where it is missing, and locked as long as it is open.
+pub fn locked(rt: &HostRuntime, path: &str) -> Result<FileDisk, Failure> {
+    let mut options = OpenOptions::new();
+    options.read(true).write(true).create(true);
+    let Ok(file) = options.open(rt, path) else {
+        return Err(Failure::File);
+    };
+    match file.try_lock() {
+        Ok(()) => Ok(FileDisk::new(file)),
+        Err(_) => Err(Failure::File),
+    }
+}

@@ -1,0 +1,57 @@
+//! The store, its desk, and the jobs of its tasks.
+ghost use Rattle.std.specs.Prelude.{IfOk};
+ghost use Rattle.pfx_kinds.specs.AnyKind.{any_kind};
+ghost use Rattle.pfx_front.specs.Starting.{Begins};
+
+use crate::failures::Failure;
+use pfx_crew::channel::ChannelDesk;
+use pfx_disk::Disk;
+use pfx_jobs::quantum::{Done, Quantum};
+use pfx_journal::Store;
+use pfx_kinds::any::AnyJob;
+use pfx_machine::Command;
+use pfx_weights::TaskSet;
+use std::alloc::Global;
+
+/// How many tasks a store has.
+pub const TASKS: u16 = 3;
+
+/// How long a segment is, in bytes, as it is where a set file doesn't say.
+const SEGMENT: u32 = 1_048_576;
+
+/// The desk of the front.
+pub type JobDesk = ChannelDesk<Quantum<AnyJob>, Done<AnyJob>>;
+
+/// A new store of three tasks of 2/3 on two workers.
+pub fn made<D: Disk + Drop>(alloc: Global, disk: D) -> Result<Store<D, AnyJob>, Failure>
+    ensures { IfOk result (λ s. Begins any_kind s.state (D.view s.file.disk).failures (D.view s.file.disk).clock s.file.broken s.state (D.view s.file.disk)) }
+{
+    let Ok(set) = TaskSet::new(alloc, 2, &[(2, 3), (2, 3), (2, 3)]) else {
+        return Err(Failure::NoStore);
+    };
+    match Store::init(alloc, disk, &set, SEGMENT) {
+        Ok(store) => Ok(store),
+        Err(_) => Err(Failure::NoStore),
+    }
+}
+
+/// The store that is on a disk.
+pub fn opened<D: Disk + Drop>(alloc: Global, disk: D) -> Result<Store<D, AnyJob>, Failure>
+    ensures { IfOk result (λ s. Begins any_kind s.state (D.view s.file.disk).failures (D.view s.file.disk).clock s.file.broken s.state (D.view s.file.disk)) }
+{
+    match Store::open(alloc, disk) {
+        Ok(store) => Ok(store),
+        Err(_) => Err(Failure::NoStore),
+    }
+}
+
+/// Gives a task the rule 110 over 512 cells, with more steps than will be taken.
+pub fn submit(task: u16) -> Option<Command<AnyJob>> {
+    let mut text = [b'0'; 516];
+    text[0] = b'1';
+    text[1] = b'1';
+    text[3] = b':';
+    text[515] = b'1';
+    let job = AnyJob::start("rule", u64::from(u32::MAX), &text).ok()?;
+    Some(Command::Submit { task, job })
+}

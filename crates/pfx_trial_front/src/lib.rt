@@ -1,0 +1,38 @@
+//! Tests of the front, in a crate of their own so that it is proved once, without them.
+//!
+//! | Module | Tests |
+//! |---|---|
+//! | `stores` | the stores that the modules below begin with, and what clients ask |
+//! | `served` | a client's calls by no worker, one and two, a receipt, a pass that is out, and the store opened again |
+//! | `fronts` | how the modules below start a front and end it |
+//! | `passes` | all passes that there are |
+//! | `many` | sixteen clients and two workers: all is settled, and in the store |
+//! | `late`, `missed` | a desk at which a result is late: the front makes it again |
+//! | `pieces` | a checkpoint's piece that is held, and one that fails |
+//! | `clients` | clients in threads of their own: what was answered is in the store |
+//! | `held` | a flusher that is held in its first sync: calls are answered meanwhile |
+//! | `lost` | a device that fails: who is told, and what is left |
+#![tactic(auto)]
+
+#[cfg(test)]
+mod clients;
+#[cfg(test)]
+mod fronts;
+#[cfg(test)]
+mod held;
+#[cfg(test)]
+mod late;
+#[cfg(test)]
+mod lost;
+#[cfg(test)]
+mod many;
+#[cfg(test)]
+mod missed;
+#[cfg(test)]
+mod passes;
+#[cfg(test)]
+mod pieces;
+#[cfg(test)]
+mod served;
+#[cfg(test)]
+mod stores;
