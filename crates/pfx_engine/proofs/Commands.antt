@@ -1,10 +1,13 @@
--- Commands in groups of one.
-use Rattle.std.specs.Prelude.{◌≡◌, ℕ, List, [], ◌∷◌, ◌++◌, take, None}
-use Rattle.std.proofs.Common.{sym, ◌∙◌, ap, subst}
+-- Commands in groups of one, and a group of more behind them.
+use Rattle.std.specs.Prelude.{◌≡◌, ◌<◌, ◌≤◌, ◌⊎◌, ℕ, ◌+◌, List, [], ◌∷◌, ◌++◌, length, take, None, Ok}
+use Rattle.std.proofs.Common.{inl, inr, sym, ◌∙◌, ap, subst, arith, append_assoc, append-nil, length-append}
+use Rattle.std.proofs.lemmas.Bool.{cases_lt}
+use Rattle.std.proofs.lemmas.List.{take-append-le, take_all}
+use Rattle.pfx_effect.specs.Recording.{record_of}
 use Rattle.pfx_format.specs.Format.{format}
-use Rattle.pfx_journal.specs.Groups.{AreRecordsOf, alone, frame_of, joined}
+use Rattle.pfx_journal.specs.Groups.{AreRecordsOf, AreSmall, alone, frame_of, joined}
 use Rattle.pfx_journal.specs.Groups as groups
-use Rattle.pfx_journal.proofs.Grouping.{all_alone, alone_small, alone_snoc, frames_there}
+use Rattle.pfx_journal.proofs.Grouping.{all_alone, alone_small, frames_there, joined_alone, length-alone}
 use Rattle.pfx_journal.proofs.Grouping as grouping
 use Rattle.pfx_kinds.specs.AnyKind.{any_kind, any_laws}
 use Rattle.pfx_kinds.specs.declared.any.AnyJob.{AnyJob}
@@ -16,22 +19,83 @@ use Rattle.pfx_machine.specs.declared.command.Command.{Command}
 use Rattle.pfx_machine.proofs.Compose.{outcome-none}
 use Rattle.pfx_record.specs.Records as recorded
 use Rattle.pfx_recovery.specs.Store.{Replays}
-use Rattle.pfx_engine.specs.Surviving.{IsRecordOf, frames_of}
+use Rattle.pfx_engine.specs.Surviving.{Survives, frames_of}
 
--- a command's frame
-abbrev pub frame_with : Plain AnyJob → Command AnyJob → List ℕ
-frame_with s c = frame_of any_kind s (c ∷ [])
-
-pub are_of : (s : Plain AnyJob) (c : Command AnyJob) (records : List (recorded.Plain AnyJob)) → IsRecordOf s c records → AreRecordsOf any_kind s (c ∷ []) records
-are_of s c records is = record { accepted = (subst (λ (t : Plain AnyJob). refusal any_kind t c ≡ None) (sym (outcome-none any_kind s)) is.0, tt); of = is.1 }
+-- one command
+pub one_record : (s : Plain AnyJob) (c : Command AnyJob) (records : List (recorded.Plain AnyJob)) → refusal any_kind s c ≡ None → records ≡ record_of any_kind s c ∷ [] → AreRecordsOf any_kind s (c ∷ []) records
+one_record s c records accepted is = record { accepted = (subst (λ (t : Plain AnyJob). refusal any_kind t c ≡ None) (sym (outcome-none any_kind s)) accepted, tt); of = is }
 
 pub all_in : (s : Plain AnyJob) (H : List (Command AnyJob)) → IsAcceptable any_kind s H → IsAcceptable any_kind s (joined (alone H))
 all_in s H all = subst (λ (l : List (Command AnyJob)). IsAcceptable any_kind s l) (sym (all_alone H)) all
 
-pub frames_snoc : (s : Plain AnyJob) (H : List (Command AnyJob)) (c : Command AnyJob) → frames_of s (H ++ c ∷ []) ≡ frames_of s H ++ frame_with (outcome any_kind s H) c ∷ []
-frames_snoc s H c =
-    ap (groups.frames_of any_kind s) (alone_snoc H c)
-    ∙ (grouping.frames_snoc any_kind any_laws s (alone H) (c ∷ []) ∙ ap (λ (l : List (Command AnyJob)). frames_of s H ++ frame_with (outcome any_kind s l) c ∷ []) (all_alone H))
+-- the commands of groups with one behind them
+joined_snoc : (all : List (List (Command AnyJob))) (group : List (Command AnyJob)) → joined (all ++ group ∷ []) ≡ joined all ++ group
+joined_snoc [] group = append-nil group
+joined_snoc (one ∷ all) group = ap (λ (l : List (Command AnyJob)). one ++ l) (joined_snoc all group) ∙ sym (append_assoc one (joined all) group)
+
+small_snoc : (all : List (List (Command AnyJob))) (group : List (Command AnyJob)) → AreSmall all → 0 < length group → length group ≤ 16 → AreSmall (all ++ group ∷ [])
+small_snoc [] group small some few = (some, few, tt)
+small_snoc (one ∷ all) group small some few = (small.0, small.1, small_snoc all group small.2 some few)
+
+-- Commands that were kept alone, and a group behind them.
+module _ (start : Plain AnyJob) (H G : List (Command AnyJob)) where
+  abbrev pub with_group : List (List (Command AnyJob))
+  with_group = alone H ++ G ∷ []
+
+  with_commands : joined with_group ≡ H ++ G
+  with_commands = joined_snoc (alone H) G ∙ ap (λ (l : List (Command AnyJob)). l ++ G) (all_alone H)
+
+  pub with_accepted : IsAcceptable any_kind start (H ++ G) → IsAcceptable any_kind start (joined with_group)
+  with_accepted all = subst (λ (l : List (Command AnyJob)). IsAcceptable any_kind start l) (sym with_commands) all
+
+  pub with_small : 0 < length G → length G ≤ 16 → AreSmall with_group
+  with_small some few = small_snoc (alone H) G (alone_small H) some few
+
+  pub with_frames : groups.frames_of any_kind start with_group ≡ frames_of start H ++ frame_of any_kind (outcome any_kind start H) G ∷ []
+  with_frames =
+      grouping.frames_snoc any_kind any_laws start (alone H) G ∙ ap (λ (l : List (Command AnyJob)). frames_of start H ++ frame_of any_kind (outcome any_kind start l) G ∷ []) (all_alone H)
+
+  -- what survives of them, as commands
+  pub with_survives : (n : ℕ) (image : List ℕ) → 0 < length G → groups.Survives any_kind start with_group n image → Survives start (H ++ G) n image
+  with_survives n image some v = by (cases_lt (length H) v.count)
+    where
+      long : length with_group ≡ length H + 1
+      long = length-append (alone H) (G ∷ []) ∙ ap (λ (k : ℕ). k + 1) (length-alone H)
+
+      both : length (alone (H ++ G)) ≡ length H + length G
+      both = length-alone (H ++ G) ∙ length-append H G
+
+      -- all of them
+      whole : length H < v.count → joined (take v.count with_group) ≡ joined (take (length H + length G) (alone (H ++ G)))
+      whole later =
+          let most = v.at_most in
+          ap joined (take_all v.count with_group (omega (arith, long, later))) ∙ with_commands
+          ∙ sym (ap joined (take_all (length H + length G) (alone (H ++ G)) (omega (arith, both))) ∙ all_alone (H ++ G))
+
+      -- some of the first
+      front : v.count ≤ length H → joined (take v.count with_group) ≡ joined (take v.count (alone (H ++ G)))
+      front few =
+          ap joined (take-append-le v.count (alone H) (G ∷ []) (omega (arith, few, length-alone H))) ∙ joined_alone v.count H
+          ∙ sym (joined_alone v.count (H ++ G) ∙ take-append-le v.count H G few)
+
+      by : (length H < v.count) ⊎ (v.count ≤ length H) → Survives start (H ++ G) n image
+      by (inl later) =
+          let least = v.at_least in
+          let most = v.at_most in
+          record {
+            count = length H + length G;
+            at_least = omega (arith, least, most, long, some);
+            at_most = omega (arith, both);
+            recovered = v.recovered ∙ ap (λ (l : List (Command AnyJob)). Ok (outcome any_kind start l)) (whole later);
+          }
+      by (inr few) =
+          let least = v.at_least in
+          record {
+            count = v.count;
+            at_least = least;
+            at_most = omega (arith, few, both);
+            recovered = v.recovered ∙ ap (λ (l : List (Command AnyJob)). Ok (outcome any_kind start l)) (front few);
+          }
 
 pub replays_commands : (s : Plain AnyJob) (H : List (Command AnyJob)) → IsState s → IsAcceptable any_kind s H → Replays (format any_kind) s (frames_of s H) (outcome any_kind s H)
 replays_commands s H h all =

@@ -1,5 +1,5 @@
 -- What survives of frames, as commands.
-use Rattle.std.specs.Prelude.{◌≡◌, ◌≤◌, ℕ, ◌+◌, List, [], ◌∷◌, ◌++◌, length, take, Some, Ok, Err, Result, OnOk, IsErrOf, Bool, false, None, refl}
+use Rattle.std.specs.Prelude.{◌≡◌, ◌<◌, ◌≤◌, ℕ, ◌+◌, List, [], ◌∷◌, ◌++◌, length, take, Some, Ok, Err, Result, OnOk, IsErrOf, Bool, false, refl}
 use Rattle.std.proofs.Common.{sym, ◌∙◌, ap, arith, length-append, subst}
 use Rattle.std.proofs.lemmas.Bool.{true≢false}
 use Rattle.std.proofs.lemmas.List.{take-append-le}
@@ -8,17 +8,16 @@ use Rattle.pfx_effect.specs.Applying.{applied}
 use Rattle.pfx_format.specs.Format.{format}
 use Rattle.pfx_format.specs.Frames.{state_after}
 use Rattle.pfx_format.proofs.Batches.{some_same}
-use Rattle.pfx_journal.specs.Groups.{alone}
-use Rattle.pfx_journal.proofs.Grouping.{alone_small, frame_led, joined_alone, keeps_groups, length-alone, records_lead, replays_same, to_frames, to_groups}
+use Rattle.pfx_journal.specs.Groups.{AreRecordsOf, alone, frame_of}
+use Rattle.pfx_journal.specs.Groups as groups
+use Rattle.pfx_journal.proofs.Grouping.{alone_small, frame_led, joined_alone, keeps_groups, length-alone, length-records, records_lead, replays_same, to_frames, to_groups}
 use Rattle.pfx_journal.proofs.Grouping as grouping
 use Rattle.pfx_kinds.specs.AnyKind.{any_kind, any_laws}
 use Rattle.pfx_kinds.specs.declared.any.AnyJob.{AnyJob}
 use Rattle.pfx_machine.specs.Plain.{Plain, IsState}
 use Rattle.pfx_machine.specs.Outcome.{outcome}
-use Rattle.pfx_machine.specs.Refusals.{refusal}
 use Rattle.pfx_machine.specs.Sessions.{IsAcceptable}
 use Rattle.pfx_machine.specs.declared.command.Command.{Command}
-use Rattle.pfx_machine.proofs.SessionLemmas.{acceptable-snoc}
 use Rattle.pfx_record.specs.Batches.{batch_bytes}
 use Rattle.pfx_record.specs.Records as recorded
 use Rattle.pfx_recovery.specs.Recovery.{recovered}
@@ -27,18 +26,20 @@ use Rattle.pfx_store.specs.Calls.{Works}
 use Rattle.pfx_store.specs.Holding as frames
 use Rattle.pfx_store.specs.declared.faults.StoreFault.{StoreFault}
 use Rattle.pfx_store.specs.declared.faults.StoreFault.TheVariants.{Device, Broken, NoRoom}
-use Rattle.pfx_engine.specs.Surviving.{IsRecordOf, Survives, KeepsAll, frames_of}
-use Rattle.pfx_engine.proofs.Commands.{all_in, are_of, frame_with, frames_snoc, replays_commands}
+use Rattle.pfx_engine.specs.Surviving.{Survives, KeepsAll, frames_of}
+use Rattle.pfx_engine.specs.KeepingLaws.{acceptable_both}
+use Rattle.pfx_engine.proofs.Commands.{all_in, replays_commands, with_accepted, with_frames, with_group, with_small, with_survives}
 
--- a command more, whose frame this is
-pub keeps_command : (start s : Plain AnyJob) (H : List (Command AnyJob)) (c : Command AnyJob) (frame : List ℕ) (old new : View) → IsState start → IsAcceptable any_kind start H → s ≡ outcome any_kind start H → refusal any_kind s c ≡ None →
-    frame ≡ frame_with s c → frames.KeepsAll (format any_kind) start (frames_of start H) (frames_of start H ++ frame ∷ []) old new → KeepsAll start H (H ++ c ∷ []) old new
-keeps_command start s H c frame old new h all at accepted is keeps =
-    let more : IsAcceptable any_kind start (H ++ c ∷ []) = acceptable-snoc any_kind start H c all (subst (λ (t : Plain AnyJob). refusal any_kind t c ≡ None) at accepted) in
-    let there : frames_of start H ++ frame ∷ [] ≡ frames_of start (H ++ c ∷ []) =
-    ap (λ (f : List ℕ). frames_of start H ++ f ∷ []) (is ∙ ap (λ (t : Plain AnyJob). frame_with t c) at) ∙ sym (frames_snoc start H c) in
-    keeps_groups any_kind any_laws start (alone H) (alone (H ++ c ∷ [])) old new h (all_in start H all) (alone_small H) (all_in start (H ++ c ∷ []) more) (alone_small (H ++ c ∷ []))
-    (subst (λ (l : List (List ℕ)). frames.KeepsAll (format any_kind) start (frames_of start H) l old new) there keeps)
+-- commands more, whose frame this is
+pub keeps_commands : (start s : Plain AnyJob) (H G : List (Command AnyJob)) (frame : List ℕ) (old new : View) → IsState start → IsAcceptable any_kind start H → s ≡ outcome any_kind start H → IsAcceptable any_kind s G →
+    0 < length G → length G ≤ 16 → frame ≡ frame_of any_kind s G → frames.KeepsAll (format any_kind) start (frames_of start H) (frames_of start H ++ frame ∷ []) old new → KeepsAll start H (H ++ G) old new
+keeps_commands start s H G frame old new h all at accepted some few is keeps c n le before image here =
+    let more : IsAcceptable any_kind start (H ++ G) = acceptable_both start H G all (subst (λ (t : Plain AnyJob). IsAcceptable any_kind t G) at accepted) in
+    let there : frames_of start H ++ frame ∷ [] ≡ groups.frames_of any_kind start (with_group start H G) =
+    ap (λ (f : List ℕ). frames_of start H ++ f ∷ []) (is ∙ ap (λ (t : Plain AnyJob). frame_of any_kind t G) at) ∙ sym (with_frames start H G) in
+    with_survives start H G n image some
+    (keeps_groups any_kind any_laws start (alone H) (with_group start H G) old new h (all_in start H all) (alone_small H) (with_accepted start H G more) (with_small start H G some few)
+    (subst (λ (l : List (List ℕ)). frames.KeepsAll (format any_kind) start (frames_of start H) l old new) there keeps) c n le before image here)
 
 -- commands that come later
 pub survives_more : (s : Plain AnyJob) (H G : List (Command AnyJob)) (n : ℕ) (image : List ℕ) → Survives s H n image → Survives s (H ++ G) n image
@@ -53,8 +54,8 @@ survives_more s H G n image v =
     }
 
 -- nothing is done
-pub keeps_more : (start : Plain AnyJob) (H : List (Command AnyJob)) (c : Command AnyJob) (disk : View) → KeepsAll start H (H ++ c ∷ []) disk disk
-keeps_more start H c disk from n le before image here = survives_more start H (c ∷ []) n image (before image here)
+pub keeps_more : (start : Plain AnyJob) (H G : List (Command AnyJob)) (disk : View) → KeepsAll start H (H ++ G) disk disk
+keeps_more start H G disk from n le before image here = survives_more start H G n image (before image here)
 
 -- a call that writes no frame, and then one behind which a command more survives
 pub keeps_behind : (start : Plain AnyJob) (H more : List (Command AnyJob)) (a b c : View) → IsState start → IsAcceptable any_kind start H → a.clock ≤ b.clock →
@@ -73,24 +74,29 @@ one_recovered s t frame image leads v =
     let one : v.count ≡ 1 = omega (arith, least, most) in
     v.recovered ∙ ap Ok (replays_same (format any_kind) (frame ∷ []) s v.state t (subst (λ (n : ℕ). Replays (format any_kind) s (take n (frame ∷ [])) v.state) one v.replays) (t, leads, refl))
 
--- A batch with the record of an accepted command.
-module _ (s : Plain AnyJob) (c : Command AnyJob) (records : List (recorded.Plain AnyJob)) where
-  pub state_with : (t : Plain AnyJob) → IsState s → IsRecordOf s c records → applied any_kind s records ≡ Some t → t ≡ outcome any_kind s (c ∷ [])
-  state_with t h is taken = some_same t (outcome any_kind s (c ∷ [])) (sym taken ∙ records_lead any_kind any_laws s (c ∷ []) records h (are_of s c records is))
+-- A batch with the records of accepted commands.
+module _ (s : Plain AnyJob) (G : List (Command AnyJob)) (records : List (recorded.Plain AnyJob)) where
+  pub state_with : (t : Plain AnyJob) → IsState s → AreRecordsOf any_kind s G records → applied any_kind s records ≡ Some t → t ≡ outcome any_kind s G
+  state_with t h is taken = some_same t (outcome any_kind s G) (sym taken ∙ records_lead any_kind any_laws s G records h is)
 
-  pub frame_is : (first : ℕ) → IsState s → IsRecordOf s c records → first ≡ s.number + 1 → batch_bytes any_kind (record { first = first; records = records }) ≡ frame_with s c
-  frame_is first h is next = grouping.frame_is any_kind any_laws s (c ∷ []) records h (are_of s c records is) first next
+  pub frame_is : (first : ℕ) → IsState s → AreRecordsOf any_kind s G records → first ≡ s.number + 1 → batch_bytes any_kind (record { first = first; records = records }) ≡ frame_of any_kind s G
+  frame_is first h is next = grouping.frame_is any_kind any_laws s G records h is first next
 
-  pub acknowledged_with : (t : Plain AnyJob) (first : ℕ) → IsState s → IsRecordOf s c records → first ≡ s.number + 1 → applied any_kind s records ≡ Some t → (image : List ℕ) →
+  pub acknowledged_with : (t : Plain AnyJob) (first : ℕ) → IsState s → AreRecordsOf any_kind s G records → 0 < length G → length G ≤ 16 → first ≡ s.number + 1 → applied any_kind s records ≡ Some t → (image : List ℕ) →
       frames.Survives (format any_kind) s (batch_bytes any_kind (record { first = first; records = records }) ∷ []) 1 image → recovered (format any_kind) image ≡ Ok t
-  acknowledged_with t first h is next taken image survives =
-      let one = (are_of s c records is).accepted in
+  acknowledged_with t first h is some few next taken image survives =
       one_recovered s t (batch_bytes any_kind (record { first = first; records = records })) image
-      (ap (state_after any_kind s) (frame_is first h is next) ∙ (frame_led any_kind any_laws s (c ∷ []) h one (omega arith) (omega arith) ∙ ap Some (sym (state_with t h is taken)))) survives
+      (ap (state_after any_kind s) (frame_is first h is next) ∙ (frame_led any_kind any_laws s G h is.accepted some few ∙ ap Some (sym (state_with t h is taken)))) survives
 
-  pub keeps_with : (start : Plain AnyJob) (H : List (Command AnyJob)) (first : ℕ) (old new : View) → IsState s → IsState start → IsAcceptable any_kind start H → s ≡ outcome any_kind start H → IsRecordOf s c records → first ≡ s.number + 1 →
-      frames.KeepsAll (format any_kind) start (frames_of start H) (frames_of start H ++ batch_bytes any_kind (record { first = first; records = records }) ∷ []) old new → KeepsAll start H (H ++ c ∷ []) old new
-  keeps_with start H first old new h_s h all at is next keeps = keeps_command start s H c (batch_bytes any_kind (record { first = first; records = records })) old new h all at is.0 (frame_is first h_s is next) keeps
+  pub keeps_with : (start : Plain AnyJob) (H : List (Command AnyJob)) (first : ℕ) (old new : View) → IsState s → IsState start → IsAcceptable any_kind start H → s ≡ outcome any_kind start H → AreRecordsOf any_kind s G records →
+      0 < length G → length G ≤ 16 → first ≡ s.number + 1 → frames.KeepsAll (format any_kind) start (frames_of start H) (frames_of start H ++ batch_bytes any_kind (record { first = first; records = records }) ∷ []) old new
+      → KeepsAll start H (H ++ G) old new
+  keeps_with start H first old new h_s h all at is some few next keeps =
+      keeps_commands start s H G (batch_bytes any_kind (record { first = first; records = records })) old new h all at is.accepted some few (frame_is first h_s is next) keeps
+
+-- how many commands the records are of
+pub length_of : (s : Plain AnyJob) (G : List (Command AnyJob)) (records : List (recorded.Plain AnyJob)) → AreRecordsOf any_kind s G records → length G ≡ length records
+length_of s G records is = sym (length-records any_kind s G) ∙ ap length (sym is.of)
 
 -- the frames of commands lead to their outcome
 pub replays_to : (start s : Plain AnyJob) (H : List (Command AnyJob)) → IsState start → IsAcceptable any_kind start H → s ≡ outcome any_kind start H → Replays (format any_kind) start (frames_of start H) s

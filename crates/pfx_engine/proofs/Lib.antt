@@ -4,3 +4,4 @@ mod Commands
 mod Keeps
 mod Serving
 mod Stepping
+mod WindowLemmas

@@ -1,19 +1,24 @@
 -- What is kept by one call.
-use Rattle.std.proofs.Common.{◌≡◌, ◌≤◌, ◌⊎◌, inl, inr, ℕ, Bool, true, false, List, [], ◌∷◌, ◌++◌, Result, Ok, Err, refl, sym, ap, subst, ◌∙◌, arith}
+use Rattle.std.proofs.Common.{◌≡◌, ◌<◌, ◌≤◌, ◌⊎◌, inl, inr, ℕ, length, Bool, true, false, List, [], ◌∷◌, ◌++◌, Result, Ok, Err, refl, sym, ap, subst, ◌∙◌, arith}
+use Rattle.std.proofs.lemmas.List.{take_all}
 use Rattle.pfx_disk.specs.Disk.{View, IsHonest}
+use Rattle.pfx_format.specs.Format.{format}
+use Rattle.pfx_journal.proofs.Grouping.{joined_alone, length-alone}
+use Rattle.pfx_recovery.specs.Recovery.{recovered}
 use Rattle.pfx_kinds.specs.AnyKind.{any_kind}
 use Rattle.pfx_kinds.specs.declared.any.AnyJob.{AnyJob}
 use Rattle.pfx_machine.specs.Plain.{Plain, IsState}
 use Rattle.pfx_machine.specs.Outcome.{outcome}
 use Rattle.pfx_machine.specs.Sessions.{IsAcceptable}
 use Rattle.pfx_machine.specs.declared.command.Command.{Command}
+use Rattle.pfx_machine.specs.declared.command.Command.TheVariants.{Slot}
 use Rattle.pfx_machine.specs.declared.faults.MachineFault.{MachineFault}
 use Rattle.pfx_recovery.proofs.Answers.{err_same}
 use Rattle.pfx_machine.proofs.Compose.{outcome-none}
 use Rattle.pfx_fault.specs.declared.refusals.Fault.{Fault}
 use Rattle.pfx_fault.specs.declared.refusals.Fault.TheVariants as fault
 use Rattle.pfx_machine.specs.Runs.{answer}
-use Rattle.pfx_program.specs.Promises.{Promise, IsSame, IsInDoubt, IsLeftBy, IsEngineFault, IsNotDone}
+use Rattle.pfx_program.specs.Promises.{Promise, AreNotDone, IsSame, IsInDoubt, IsLeftBy, IsEngineFault, IsNotDone}
 use Rattle.pfx_program.specs.declared.engine.CallFault.{CallFault}
 use Rattle.pfx_program.specs.declared.engine.CallFault.TheVariants as callfault
 use Rattle.pfx_engine.specs.Failing.{Fails, NotAccepted, last_kept, stopped_at}
@@ -22,34 +27,41 @@ use Rattle.pfx_engine.specs.Surviving.{KeepsAll}
 use Rattle.pfx_engine.specs.Keeping.{Anchors, KeepsFrom, IsAccepted}
 use Rattle.pfx_engine.specs.KeepingLaws.{one_accepted}
 
--- the command is durable
-pub keeps_one : (old new : View) (broken : Bool) (s t : Plain AnyJob) (c : Command AnyJob) → IsAccepted s c → t ≡ outcome any_kind s (c ∷ []) → (IsHonest old → IsHonest new) → (IsHonest old → Anchors new t)
-    → KeepsFrom old broken s (c ∷ []) 1 new t
-keeps_one old new broken s t c accepted at honest anchored = record {
-  accepted = one_accepted s c accepted;
+-- the commands are durable
+pub keeps_all : (old new : View) (broken : Bool) (s t : Plain AnyJob) (G : List (Command AnyJob)) → IsAcceptable any_kind s G → t ≡ outcome any_kind s G → (IsHonest old → IsHonest new) → (IsHonest old → Anchors new t)
+    → KeepsFrom old broken s G (length G) new t
+keeps_all old new broken s t G accepted at honest anchored = record {
+  accepted = accepted;
   state = λ all. at;
   kept = λ whole was anchors. record {
     honest = honest was;
     anchored = λ all. anchored was;
     survive = λ image here. record {
-      count = 1;
+      count = length G;
       at_least = omega arith;
-      at_most = omega arith;
-      recovered = anchored was image ((honest was).counted new.clock image (omega arith) here) ∙ ap Ok at;
+      at_most = omega (arith, length-alone G);
+      recovered = recovers was image here ∙ ap (λ (l : List (Command AnyJob)). Ok (outcome any_kind s l)) (sym (joined_alone (length G) G ∙ take_all (length G) G (omega arith)));
     };
   };
 }
+  where
+    recovers : IsHonest old → (image : List ℕ) → new.now image → recovered (format any_kind) image ≡ Ok (outcome any_kind s G)
+    recovers was image here = anchored was image ((honest was).counted new.clock image (omega arith) here) ∙ ap Ok at
 
--- it isn't known whether it is
-pub keeps_doubt : (old new : View) (broken : Bool) (s t : Plain AnyJob) (c : Command AnyJob) → IsState s → IsAccepted s c → old.clock ≤ new.clock → (IsHonest old → IsHonest new)
-    → (IsHonest old → (start : Plain AnyJob) → (H : List (Command AnyJob)) → IsState start → IsAcceptable any_kind start H → s ≡ outcome any_kind start H → KeepsAll start H (H ++ c ∷ []) old new)
-    → KeepsFrom old broken s (c ∷ []) 0 new t
-keeps_doubt old new broken s t c valid accepted later honest keeps = record {
-  accepted = one_accepted s c accepted;
-  state = λ all. absurd (let no : 1 ≤ 0 = all in omega (arith, no));
+pub keeps_one : (old new : View) (broken : Bool) (s t : Plain AnyJob) (c : Command AnyJob) → IsAccepted s c → t ≡ outcome any_kind s (c ∷ []) → (IsHonest old → IsHonest new) → (IsHonest old → Anchors new t)
+    → KeepsFrom old broken s (c ∷ []) 1 new t
+keeps_one old new broken s t c accepted at honest anchored = keeps_all old new broken s t (c ∷ []) (one_accepted s c accepted) at honest anchored
+
+-- it isn't known how many of them are
+pub keeps_some : (old new : View) (broken : Bool) (s t : Plain AnyJob) (G : List (Command AnyJob)) → IsState s → IsAcceptable any_kind s G → 0 < length G → old.clock ≤ new.clock → (IsHonest old → IsHonest new)
+    → (IsHonest old → (start : Plain AnyJob) → (H : List (Command AnyJob)) → IsState start → IsAcceptable any_kind start H → s ≡ outcome any_kind start H → KeepsAll start H (H ++ G) old new)
+    → KeepsFrom old broken s G 0 new t
+keeps_some old new broken s t G valid accepted some later honest keeps = record {
+  accepted = accepted;
+  state = λ all. absurd (omega (arith, some, all));
   kept = λ whole was anchors. record {
     honest = honest was;
-    anchored = λ all. absurd (let no : 1 ≤ 0 = all in omega (arith, no));
+    anchored = λ all. absurd (omega (arith, some, all));
     survive = λ image here. keeps was s [] valid tt (sym (outcome-none any_kind s)) old.clock 0 (omega arith)
         (λ other there. record {
           count = 0;
@@ -59,6 +71,11 @@ keeps_doubt old new broken s t c valid accepted later honest keeps = record {
         }) image ((honest was).counted old.clock image later here);
   };
 }
+
+pub keeps_doubt : (old new : View) (broken : Bool) (s t : Plain AnyJob) (c : Command AnyJob) → IsState s → IsAccepted s c → old.clock ≤ new.clock → (IsHonest old → IsHonest new)
+    → (IsHonest old → (start : Plain AnyJob) → (H : List (Command AnyJob)) → IsState start → IsAcceptable any_kind start H → s ≡ outcome any_kind start H → KeepsAll start H (H ++ c ∷ []) old new)
+    → KeepsFrom old broken s (c ∷ []) 0 new t
+keeps_doubt old new broken s t c valid accepted later honest keeps = keeps_some old new broken s t (c ∷ []) valid (one_accepted s c accepted) (omega arith) later honest keeps
 
 -- what answers was whole
 pub not_broken : {T F : Type 0} (was : Bool) (r : Result T F) (x : T) → r ≡ Ok x → {f : F} → (was ≡ true → r ≡ Err f) → was ≡ false
@@ -116,3 +133,13 @@ module _ {E : Type 0} (view : E → View) (broken : E → Bool) (kept : E → Pl
           let no : (answer any_kind run c ≡ Err f) × (next ≡ run) = subst (NotAccepted run c next) is refused in
           (subst (λ (s : Plain AnyJob). answer any_kind s c ≡ Err f) (at (whole_by (broken a) refl f is)) no.0, is_same y, (unchanged y).1)
       by (callfault.Failed f) is = failed_by f is (subst (λ (w : CallFault). Fails (kept a).number failed same w) is fails)
+
+  -- Slots of which none was run
+  pub slots_not_run : (count : ℕ) (a b : E) (run next : Plain AnyJob) (unchanged : Type 0) (why : CallFault) → run ≡ kept a → NotAccepted run Slot next why → Fails 0 ⊥ unchanged why → IsSame promise a b
+      → (broken a ≡ false → broken b ≡ false) → AreNotDone promise count a b why
+  slots_not_run count a b run next unchanged (callfault.Refused f) at refused fails same whole = (subst (λ (s : Plain AnyJob). answer any_kind s Slot ≡ Err f) at refused.0, same, whole)
+  slots_not_run count a b run next unchanged (callfault.Failed f) at refused fails same whole = by f fails
+    where
+      by : (f : Fault) → Fails 0 ⊥ unchanged (callfault.Failed f) → AreNotDone promise count a b (callfault.Failed f)
+      by fault.NoMemory fails = (tt, same)
+      by other fails = absurd fails.1

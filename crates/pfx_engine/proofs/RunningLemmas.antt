@@ -43,9 +43,9 @@ module _ {E : Type 0} (view : E → View) (broken : E → Bool) (kept : E → Pl
         survive = λ image here. subst (λ (l : List Step). Survives (kept a) (commands_of l) (length (commands_of steps)) image) all ((h.keeps.kept whole honest anchors).survive image here);
       }
 
-  stopped_kept : (reading : Type 0) (script : Records) (records : List Fields) (a b : E) (was is : Option (List ℕ)) (f : Fault) → broken a ≡ false → IsHonest (view a) → Anchors (view a) (kept a)
-      → Stopped (promise view broken kept) reading (course_from (script.place + 1) (at_start (kept a)) records).steps a b was is f → IsKeptAsPrinted (kept a) script records was is (view b)
-  stopped_kept reading script records a b was is f whole honest anchors h =
+  stopped_kept : (most : ℕ) (reading : Type 0) (script : Records) (records : List Fields) (a b : E) (was is : Option (List ℕ)) (f : Fault) → broken a ≡ false → IsHonest (view a) → Anchors (view a) (kept a)
+      → Stopped (promise view broken kept) most reading (course_from (script.place + 1) (at_start (kept a)) records).steps a b was is f → IsKeptAsPrinted (kept a) script records was is (view b)
+  stopped_kept most reading script records a b was is f whole honest anchors h =
       let part = part_of reading (λ s g. (promise view broken kept).faults s g) (outcome any_kind (kept a) (commands_of h.printed)) (text_of h.printed) h.tried (kept b) was is f h.why in
       let split : (commands_of h.printed ++ commands_of h.tried) ++ commands_of h.rest ≡ commands_of (h.printed ++ (h.tried ++ h.rest)) =
       append_assoc (commands_of h.printed) (commands_of h.tried) (commands_of h.rest)
@@ -60,12 +60,12 @@ module _ {E : Type 0} (view : E → View) (broken : E → Bool) (kept : E → Pl
             (survives_more (kept a) (commands_of h.printed ++ commands_of h.tried) (commands_of h.rest) (length (commands_of h.printed)) image ((h.keeps.kept whole honest anchors).survive image here));
       }
 
-  ended : (reading : Type 0) (script : Records) (records : List Fields) (a b : E) (was is : Option (List ℕ)) (result : Result (Unit {0}) Fault) → broken a ≡ false → IsHonest (view a) → Anchors (view a) (kept a)
-      → Ends (promise view broken kept) reading (course_from (script.place + 1) (at_start (kept a)) records) a b was is result → IsKeptAsPrinted (kept a) script records was is (view b)
-  ended reading script records a b was is (Ok x) whole honest anchors h = carried_kept script records a b was is whole honest anchors h.1
-  ended reading script records a b was is (Err (fault.BadScript at)) whole honest anchors h = carried_kept script records a b was is whole honest anchors h.1
-  ended reading script records a b was is (Err other) whole honest anchors h = stopped_kept reading script records a b was is other whole honest anchors h
+  ended : (most : ℕ) (reading : Type 0) (script : Records) (records : List Fields) (a b : E) (was is : Option (List ℕ)) (result : Result (Unit {0}) Fault) → broken a ≡ false → IsHonest (view a) → Anchors (view a) (kept a)
+      → Ends (promise view broken kept) most reading (course_from (script.place + 1) (at_start (kept a)) records) a b was is result → IsKeptAsPrinted (kept a) script records was is (view b)
+  ended most reading script records a b was is (Ok x) whole honest anchors h = carried_kept script records a b was is whole honest anchors h.1
+  ended most reading script records a b was is (Err (fault.BadScript at)) whole honest anchors h = carried_kept script records a b was is whole honest anchors h.1
+  ended most reading script records a b was is (Err other) whole honest anchors h = stopped_kept most reading script records a b was is other whole honest anchors h
 
-  pub kept_as_printed : (script : Records) (failed : Bool) (a b : E) (was is : Option (List ℕ)) (result : Result (Unit {0}) Fault) → Runs (promise view broken kept) script failed a b was is result
+  pub kept_as_printed : (most : ℕ) (script : Records) (failed : Bool) (a b : E) (was is : Option (List ℕ)) (result : Result (Unit {0}) Fault) → Runs (promise view broken kept) most script failed a b was is result
       → broken a ≡ false → IsHonest (view a) → Anchors (view a) (kept a) → (records : List Fields) × IfSome script.left (λ all. all ≡ records) × IsKeptAsPrinted (kept a) script records was is (view b)
-  kept_as_printed script failed a b was is result h whole honest anchors = (h.records, h.known, ended (failed ≡ true) script h.records a b was is result whole honest anchors h.ends)
+  kept_as_printed most script failed a b was is result h whole honest anchors = (h.records, h.known, ended most (failed ≡ true) script h.records a b was is result whole honest anchors h.ends)

@@ -1,6 +1,6 @@
 //! The engine that keeps each command in a store before it answers it.
 
-ghost use Rattle.std.specs.Prelude.{◌≡◌, ◌↔◌, IsTrue, ◌+◌, ◌++◌, ◌∷◌, [], List, ℕ, true, false, Ok, Err, IfOk, IfErr, OnOk, OnErr};
+ghost use Rattle.std.specs.Prelude.{◌≡◌, ◌<◌, ◌≤◌, ◌+◌, ◌++◌, ◌∷◌, [], List, ℕ, length, true, false, Ok, Err, IfOk, IfErr, OnOk, OnErr};
 ghost use Rattle.pfx_disk.specs.Disk.{IsHonest, HasFailed};
 ghost use Rattle.pfx_endless.specs.Endless.{IsEndless};
 ghost use Rattle.pfx_format.specs.Format.{format};
@@ -11,7 +11,7 @@ ghost use Rattle.pfx_machine.specs.Plain.{Plain, IsState};
 ghost use Rattle.pfx_machine.specs.Runs.{answer};
 ghost use Rattle.pfx_machine.specs.Sessions.{IsAcceptable};
 ghost use Rattle.pfx_machine.specs.declared.command.Command.{Command};
-ghost use Rattle.pfx_program.specs.Promises.{Promise, Laws, IsDone, IsNotDone, IsSame, IsEngineFault, Shows};
+ghost use Rattle.pfx_program.specs.Promises.{Promise, Laws, AreAnswered, AreDone, AreNotDone, IsDone, IsNotDone, IsSame, IsEngineFault, Shows, slots_for};
 ghost use Rattle.pfx_recovery.specs.Recovery.{recovered};
 ghost use Rattle.pfx_segment.specs.Segment.{Takes};
 ghost use Rattle.pfx_store.specs.Calls.{GoesOn};
@@ -22,12 +22,13 @@ ghost use Rattle.pfx_engine.specs.Stepping.{command_calls, frame_len};
 ghost use Rattle.pfx_engine.specs.Surviving.{KeepsAll};
 
 use crate::keeping::keep;
+use crate::windows::{Window, is_memory, run_slots};
 use pfx_disk::Disk;
 use pfx_effect::{Recorded, run_recorded};
 use pfx_fault::{Cause, Fault};
 use pfx_journal::{Mark, Store};
 use pfx_kinds::any::AnyJob;
-use pfx_machine::{Board, Command, MachineFault, Reply, State};
+use pfx_machine::{Board, Command, Reply, State};
 use pfx_program::{CallFault, Engine};
 use std::alloc::{AllocError, Global};
 
@@ -49,13 +50,6 @@ fn stopped<D: Disk>(store: &Store<D, AnyJob>) -> Fault
         marked: store.state().number(),
         cause: Cause::Device,
     }
-}
-
-// Whether a growth of memory was refused.
-fn is_memory(fault: MachineFault) -> bool
-    ensures { IsTrue result ↔ (fault ≡ MachineFault.NoMemory) }
-{
-    matches!(fault, MachineFault::NoMemory)
 }
 
 impl<D: Disk> DurableEngine<D> {
@@ -130,7 +124,7 @@ impl<D: Disk> DurableEngine<D> {
             → (result ≡ Err (CallFault.Failed (stopped_at self.old.store.state.number))) × (self.new.state ≡ self.old.state) × (self.new.store ≡ self.old.store) }
 
         // A step of the checkpoint in progress, if there is one, and the command: so many calls of the disk.
-        ensures calls { Takes (command_calls (frame_len self.old.state command) self.old.store.file.places)
+        ensures calls { Takes (command_calls (frame_len self.old.state (command ∷ [])) self.old.store.file.places)
             (D.view self.old.store.file.disk) (D.view self.new.store.file.disk) result }
         ensures goes { GoesOn (D.view self.old.store.file.disk) (D.view self.new.store.file.disk) }
         ensures honest { IsHonest (D.view self.new.store.file.disk) → IsHonest (D.view self.old.store.file.disk) }
@@ -215,6 +209,43 @@ impl<D: Disk> Engine for DurableEngine<D> {
         match self.carry_out(alloc, command) {
             Ok((mark, reply)) => Ok((mark.number, reply)),
             Err(fault) => Err(fault),
+        }
+    }
+
+    fn slots(&mut self, alloc: Global, count: u32) -> Result<Vec<(u64, Reply)>, CallFault>
+        requires some { 0 < count }
+        ensures done { IfOk result (λ said. AreDone ⟦<DurableEngine<D> as Engine>⟧.promise count said.items self.old self.new) }
+        ensures not_done { IfErr result (AreNotDone ⟦<DurableEngine<D> as Engine>⟧.promise count self.old self.new) }
+
+        // They share a frame, which has 16 at the most.
+        ensures few { IfOk result (λ said. length said.items ≤ 16) }
+        ensures answered { IfOk result (λ said. AreAnswered self.old.state said.items) }
+        ensures moves { IfOk result (λ said. self.new.state ≡ outcome any_kind self.old.state (slots_for said.items)) }
+        ensures whole { OnOk result (self.new.store.file.broken ≡ false) }
+        ensures refused { IfErr result (NotAccepted self.old.state Command.Slot self.new.state) }
+        ensures fails { IfErr result (Fails self.old.store.state.number (self.new.store.file.broken ≡ true)
+            ((self.new.state ≡ self.old.state) × (self.new.store ≡ self.old.store))) }
+        ensures broken { self.old.store.file.broken ≡ true
+            → (result ≡ Err (CallFault.Failed (stopped_at self.old.store.state.number))) × (self.new.state ≡ self.old.state) × (self.new.store ≡ self.old.store) }
+        ensures goes { GoesOn (D.view self.old.store.file.disk) (D.view self.new.store.file.disk) }
+        ensures honest { IsHonest (D.view self.new.store.file.disk) → IsHonest (D.view self.old.store.file.disk) }
+        ensures kept { IsHonest (D.view self.old.store.file.disk) → IsHonest (D.view self.new.store.file.disk) }
+
+        // From the return on, each image is recovered to the state behind the Slots.
+        ensures acknowledged { IsHonest (D.view self.old.store.file.disk)
+            → OnOk result ((image : List ℕ) → (D.view self.new.store.file.disk).since (D.view self.new.store.file.disk).clock image
+            → recovered (format any_kind) image ≡ Ok self.new.state) }
+    {
+        if self.store.is_broken() {
+            return Err(CallFault::Failed(stopped(&self.store)));
+        }
+        let _number = self.state.number();
+        match run_slots(alloc, &mut self.state, count.min(16)) {
+            Err(why) => Err(why),
+            Ok(Window { said, records }) => match keep(&mut self.store, records) {
+                Ok(_) => Ok(said),
+                Err(_) => Err(CallFault::Failed(stopped(&self.store))),
+            },
         }
     }
 

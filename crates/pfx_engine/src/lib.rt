@@ -4,13 +4,15 @@
 //! behaves as its model says, at every moment and through repeated stops:
 //! 1. a command that is answered is durable: from its mark on, each image that a stop may leave is recovered to the state
 //!    behind it;
-//! 2. whatever a call answers, the commands that survived before it survive, with the call's command or without it: what
+//! 2. whatever a call answers, the commands that survived before it survive, with the call's commands or without them: what
 //!    is recovered is the outcome of a beginning of the accepted commands, with every answered one;
 //! 3. a refused command changes neither the state nor the store; nor does a command for which there is no memory;
 //! 4. once the disk has failed, nothing is done and every answer is `StoreFailed`, with the number of the last command
 //!    that is known to be durable.
 //!
-//! A step of the checkpoint in progress, if there is one, is taken before each command that is kept, so that an append which
+//! A command has a frame of its own; Slots of one call share one, 16 at the most, and none is answered before it is kept.
+//!
+//! A step of the checkpoint in progress, if there is one, is taken before each frame that is kept, so that an append which
 //! turns seldom has a checkpoint to end.
 //!
 //! It is an `Engine`, so what a script's run prints over it is what `pfx_program` says, and `settled` waits for nothing.
@@ -20,6 +22,7 @@ mod durable;
 mod keeping;
 pub mod laws;
 mod scripts;
+mod windows;
 
 pub use durable::DurableEngine;
 pub use scripts::run_durable;

@@ -1,6 +1,6 @@
 //! Running a script on a store.
 
-ghost use Rattle.std.specs.Prelude.{◌≡◌, List, false, IfSome};
+ghost use Rattle.std.specs.Prelude.{◌≡◌, ◌<◌, List, false, IfSome};
 ghost use Rattle.pfx_disk.specs.Disk.{IsHonest};
 ghost use Rattle.pfx_engine.specs.Keeping.{Anchors};
 ghost use Rattle.pfx_engine.specs.Running.{IsKeptAsPrinted};
@@ -17,19 +17,23 @@ use std::io::{Read, Write};
 
 /// Runs the records of a script that are left on an engine's store, as `run_script` does over any engine.
 ///
+/// Of the slots of a record up to `window` share a frame, 1 or more, and 16 at the most.
+///
 /// A printed line is a receipt: whatever the run answers, each image that a stop may leave behind it is recovered to the
 /// outcome of a beginning of the script's accepted commands which holds every command whose line was printed. It takes an
 /// honest disk, and a store that was whole and all of whose images were those of its state, as `init` and `open` leave it.
 pub fn run_durable<R: Read + Drop, W: Write, D: Disk>(
     alloc: Global,
     script: &mut Script<R>,
+    window: u32,
     output: &mut W,
     engine: &mut DurableEngine<D>,
 ) -> Result<(), Fault>
-    ensures runs { Runs ⟦<DurableEngine<D> as Engine>⟧.promise script.old script.new.failed engine.old engine.new (W.contents output.old) (W.contents output.new) result }
+    requires some { 0 < window }
+    ensures runs { Runs ⟦<DurableEngine<D> as Engine>⟧.promise window script.old script.new.failed engine.old engine.new (W.contents output.old) (W.contents output.new) result }
     ensures kept { engine.old.store.file.broken ≡ false → IsHonest (D.view engine.old.store.file.disk) → Anchors (D.view engine.old.store.file.disk) engine.old.store.state
         → (records : List Fields) × IfSome script.old.left (λ all. all ≡ records)
         × IsKeptAsPrinted engine.old.store.state script.old records (W.contents output.old) (W.contents output.new) (D.view engine.new.store.file.disk) }
 {
-    run_script(alloc, script, output, engine)
+    run_script(alloc, script, window, output, engine)
 }

@@ -2,6 +2,7 @@ pub mod Acceptance
 pub mod AnswerLemmas
 pub mod Appends
 pub mod JobLemmas
+pub mod JobLines
 pub mod StepLemmas
 pub mod SlotLemmas
 pub mod RunLemmas

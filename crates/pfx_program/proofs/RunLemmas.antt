@@ -1,5 +1,5 @@
 -- How far a run of a script has come, and what it leaves where it ends.
-use Rattle.std.proofs.Common.{◌≡◌, ◌⊎◌, inl, inr, ℕ, ◌+◌, List, [], ◌∷◌, ◌++◌, length, length-append, Bool, true, Option, Some, None, Result, Ok, Err, IfSome, IfErr, OnOk, refl, sym, ap, subst, ◌∙◌, append_assoc, append-nil, arith}
+use Rattle.std.proofs.Common.{◌≡◌, ◌≤◌, ◌⊎◌, inl, inr, ℕ, ◌+◌, List, [], ◌∷◌, ◌++◌, length, length-append, Bool, true, false, Option, Some, None, Result, Ok, Err, IfSome, IfErr, OnOk, refl, sym, ap, subst, ◌∙◌, append_assoc, append-nil, arith}
 use Rattle.pfx_script.specs.Verbs.{Said, verb_of}
 use Rattle.pfx_script.specs.Records.{Fields, Records, Takes, ReadFails}
 use Rattle.pfx_fault.specs.declared.refusals.Fault.{Fault}
@@ -8,7 +8,8 @@ use Rattle.pfx_program.specs.Answers.{closed_line}
 use Rattle.pfx_program.specs.Promises.{Promise, Laws}
 use Rattle.pfx_program.specs.Script.{Run, Step, Course, after, at_start, commands_of, course_by, course_from, moved, shown, verb_steps}
 use Rattle.pfx_program.specs.Running.{run_of, Carried, Stopped, Ends, Runs}
-use Rattle.pfx_program.proofs.StepLemmas.{carried_none, carried_then, stopped_after, stopped_before, stopped_anyway, stopped_reading, commands_append}
+use Rattle.pfx_program.specs.OneRecord.{Answered, Answers, IsUnanswered, IsUntouched}
+use Rattle.pfx_program.proofs.StepLemmas.{carried_none, carried_then, stopped_after, stopped_before, stopped_anyway, stopped_reading, stopped_wider, commands_append}
 
 -- ---- courses of records one after the other
 
@@ -40,7 +41,7 @@ no_fields = refl
 -- ---- how far a run has come
 
 -- a run that stopped ended so
-stops_by : {E : Type 0} (P : Promise E) (f : Fault) (reading : Type 0) (course : Course) (a b : E) (u v : Option (List ℕ)) → Stopped P reading course.steps a b u v f → Ends P reading course a b u v (Err f)
+stops_by : {E : Type 0} {most : ℕ} (P : Promise E) (f : Fault) (reading : Type 0) (course : Course) (a b : E) (u v : Option (List ℕ)) → Stopped P most reading course.steps a b u v f → Ends P most reading course a b u v (Err f)
 stops_by P (fault.BadScript at) reading course a b u v h = absurd h.why
 stops_by P other reading course a b u v h = h
 
@@ -74,7 +75,7 @@ module _ {E : Type 0} (P : Promise E) (L : Laws P) where
   left_then (Some all) f h = f all h
 
   -- the next record is run
-  pub runs : (first script next : Records) (a b c : E) (before later : ℕ) (row : Fields) (verb : Said) (u v w : Option (List ℕ)) → Progress P first script a b before u v → Takes script row next → Some verb ≡ verb_of row
+  runs : (first script next : Records) (a b c : E) (before later : ℕ) (row : Fields) (verb : Said) (u v w : Option (List ℕ)) → Progress P first script a b before u v → Takes script row next → Some verb ≡ verb_of row
       → Carried P (verb_steps (run_of P b before) verb) b c v w → later ≡ before + length (commands_of (verb_steps (run_of P b before) verb)) → Progress P first next a c later u w
   runs first script next a b c before later row verb u v w h (place, whole, took) is done counts =
       let x : List Step = verb_steps (run_of P b before) verb in
@@ -98,9 +99,9 @@ module _ {E : Type 0} (P : Promise E) (L : Laws P) where
   -- ---- ends
 
   -- the records that the run's end is told by: those that were run and some more, and all of them where they are known
-  pub ends_with : (first script : Records) (a b c : E) (accepted : ℕ) (u v w : Option (List ℕ)) (failed : Bool) (result : Result (Unit {0}) Fault) (h : Progress P first script a b accepted u v) (rest : List Fields)
-      → IfSome first.left (λ all. all ≡ h.rows ++ rest) → Ends P (failed ≡ true) (after h.steps (course_from (script.place + 1) (run_of P b accepted) rest)) a c u w result → Runs P first failed a c u w result
-  ends_with first script a b c accepted u v w failed result h rest known ends = record {
+  pub ends_with : {most : ℕ} (first script : Records) (a b c : E) (accepted : ℕ) (u v w : Option (List ℕ)) (failed : Bool) (result : Result (Unit {0}) Fault) (h : Progress P first script a b accepted u v) (rest : List Fields)
+      → IfSome first.left (λ all. all ≡ h.rows ++ rest) → Ends P most (failed ≡ true) (after h.steps (course_from (script.place + 1) (run_of P b accepted) rest)) a c u w result → Runs P most first failed a c u w result
+  ends_with {most} first script a b c accepted u v w failed result h rest known ends = record {
     records = h.rows ++ rest;
     known = known;
     ends = rw (h.same rest) ends;
@@ -124,63 +125,63 @@ module _ {E : Type 0} (P : Promise E) (L : Laws P) where
       by (Some all) (rest, split, left) = let (more, rows, ended) = rw left at took in (more, split ∙ ap (λ (l : List Fields). h.rows ++ l) rows)
 
   -- the next record has no form
-  pub stops : (first script next : Records) (a b : E) (accepted : ℕ) (row : Fields) (u v : Option (List ℕ)) (failed : Bool) → Progress P first script a b accepted u v → Takes script row next → None ≡ verb_of row
-      → Runs P first failed a b u v (Err (fault.BadScript next.place))
-  stops first script next a b accepted row u v failed h (place, whole, took) is =
+  stops : {most : ℕ} (first script next : Records) (a b : E) (accepted : ℕ) (row : Fields) (u v : Option (List ℕ)) (failed : Bool) → Progress P first script a b accepted u v → Takes script row next → None ≡ verb_of row
+      → Runs P most first failed a b u v (Err (fault.BadScript next.place))
+  stops {most} first script next a b accepted row u v failed h (place, whole, took) is =
       let found = one_more first script next a b accepted row u v h took in
       with_more found.0 found.1
     where
-      with_more : (more : List Fields) → IfSome first.left (λ all. all ≡ h.rows ++ row ∷ more) → Runs P first failed a b u v (Err (fault.BadScript next.place))
+      with_more : (more : List Fields) → IfSome first.left (λ all. all ≡ h.rows ++ row ∷ more) → Runs P most first failed a b u v (Err (fault.BadScript next.place))
       with_more more all =
           let none : after h.steps (course_from (script.place + 1) (run_of P b accepted) (row ∷ more)) ≡ record { steps = h.steps; ends_at = Some next.place } =
           ap (after h.steps) (from_nothing (script.place + 1) (run_of P b accepted) row more (sym is)) ∙ (λ i. record { steps = append-nil h.steps i; ends_at = Some (sym place i) }) in
           ends_with first script a b b accepted u v v failed (Err (fault.BadScript next.place)) h (row ∷ more) all
-          (subst (λ (o : Course). Ends P (failed ≡ true) o a b u v (Err (fault.BadScript next.place))) (sym none) (refl, h.carried))
+          (subst (λ (o : Course). Ends P most (failed ≡ true) o a b u v (Err (fault.BadScript next.place))) (sym none) (refl, h.carried))
 
   -- a record's run stopped
-  pub fails : (first script next : Records) (a b c : E) (accepted : ℕ) (row : Fields) (verb : Said) (f : Fault) (u v w : Option (List ℕ)) (failed : Bool) → Progress P first script a b accepted u v → Takes script row next
-      → Some verb ≡ verb_of row → Stopped P ⊥ (verb_steps (run_of P b accepted) verb) b c v w f → Runs P first failed a c u w (Err f)
-  fails first script next a b c accepted row verb f u v w failed h (place, whole, took) is stopped =
+  fails : {most : ℕ} (first script next : Records) (a b c : E) (accepted : ℕ) (row : Fields) (verb : Said) (f : Fault) (u v w : Option (List ℕ)) (failed : Bool) → Progress P first script a b accepted u v → Takes script row next
+      → Some verb ≡ verb_of row → Stopped P most ⊥ (verb_steps (run_of P b accepted) verb) b c v w f → Runs P most first failed a c u w (Err f)
+  fails {most} first script next a b c accepted row verb f u v w failed h (place, whole, took) is stopped =
       let found = one_more first script next a b accepted row u v h took in
       with_more found.0 found.1
     where
-      with_more : (more : List Fields) → IfSome first.left (λ all. all ≡ h.rows ++ row ∷ more) → Runs P first failed a c u w (Err f)
+      with_more : (more : List Fields) → IfSome first.left (λ all. all ≡ h.rows ++ row ∷ more) → Runs P most first failed a c u w (Err f)
       with_more more all =
           let x : List Step = verb_steps (run_of P b accepted) verb in
           let later : Course = course_from (script.place + 1 + 1) (moved (run_of P b accepted) (commands_of x)) more in
           let course : course_from (script.place + 1) (run_of P b accepted) (row ∷ more) ≡ after x later = from_verb (script.place + 1) (run_of P b accepted) row more verb is in
           ends_with first script a b c accepted u v w failed (Err f) h (row ∷ more) all
-          (subst (λ (o : Course). Ends P (failed ≡ true) (after h.steps o) a c u w (Err f)) (sym course) (stops_by P f (failed ≡ true) (after h.steps (after x later)) a c u w
+          (subst (λ (o : Course). Ends P most (failed ≡ true) (after h.steps o) a c u w (Err f)) (sym course) (stops_by P f (failed ≡ true) (after h.steps (after x later)) a c u w
           (stopped_after P L (failed ≡ true) h.steps (x ++ later.steps) a b c u v w f h.carried (stopped_before P L (failed ≡ true) x later.steps b c v w f (stopped_anyway P L (failed ≡ true) x b c v w f stopped)))))
 
   -- there are no more records
-  pub closes : (first script : Records) (a b c : E) (accepted : ℕ) (u v w : Option (List ℕ)) (failed : Bool) (result : Result (Unit {0}) Fault) → Progress P first script a b accepted u v → IfSome script.left (λ rows. rows ≡ [])
-      → OnOk result (Carried P (shown (closed_line (P.state b).number) ∷ []) b c v w) → OnOk result (P.settled c) → IfErr result (Stopped P ⊥ (shown (closed_line (P.state b).number) ∷ []) b c v w) → Runs P first failed a c u w result
-  closes first script a b c accepted u v w failed result h over ok settled err =
+  closes : {most : ℕ} → 1 ≤ most → (first script : Records) (a b c : E) (accepted : ℕ) (u v w : Option (List ℕ)) (failed : Bool) (result : Result (Unit {0}) Fault) → Progress P first script a b accepted u v → IfSome script.left (λ rows. rows ≡ [])
+      → OnOk result (Carried P (shown (closed_line (P.state b).number) ∷ []) b c v w) → OnOk result (P.settled c) → IfErr result (Stopped P 1 ⊥ (shown (closed_line (P.state b).number) ∷ []) b c v w) → Runs P most first failed a c u w result
+  closes {most} some first script a b c accepted u v w failed result h over ok settled err =
       ends_with first script a b c accepted u v w failed result h [] (none_left first.left h.known) (rw (from_none (script.place + 1) (run_of P b accepted)) (by result ok settled err))
     where
       none_left : (left : Option (List Fields)) → IfSome left (λ all. (rest : List Fields) × (all ≡ h.rows ++ rest) × (script.left ≡ Some rest)) → IfSome left (λ all. all ≡ h.rows ++ [])
       none_left None k = tt
       none_left (Some all) (rest, split, left) = let none : rest ≡ [] = rw left at over in split ∙ ap (λ (l : List Fields). h.rows ++ l) none
 
-      by : (result : Result (Unit {0}) Fault) → OnOk result (Carried P (shown (closed_line (P.state b).number) ∷ []) b c v w) → OnOk result (P.settled c) → IfErr result (Stopped P ⊥ (shown (closed_line (P.state b).number) ∷ []) b c v w)
-          → Ends P (failed ≡ true) (after h.steps (record { steps = shown (closed_line (P.state b).number) ∷ []; ends_at = None })) a c u w result
+      by : (result : Result (Unit {0}) Fault) → OnOk result (Carried P (shown (closed_line (P.state b).number) ∷ []) b c v w) → OnOk result (P.settled c) → IfErr result (Stopped P 1 ⊥ (shown (closed_line (P.state b).number) ∷ []) b c v w)
+          → Ends P most (failed ≡ true) (after h.steps (record { steps = shown (closed_line (P.state b).number) ∷ []; ends_at = None })) a c u w result
       by (Ok x) ok settled err = (refl, carried_then P L h.steps (shown (closed_line (P.state b).number) ∷ []) a b c u v w h.carried ok, settled)
       by (Err f) ok settled err = stops_by P f (failed ≡ true) (after h.steps (record { steps = shown (closed_line (P.state b).number) ∷ []; ends_at = None })) a c u w
-          (stopped_after P L (failed ≡ true) h.steps (shown (closed_line (P.state b).number) ∷ []) a b c u v w f h.carried (stopped_anyway P L (failed ≡ true) (shown (closed_line (P.state b).number) ∷ []) b c v w f err))
+          (stopped_after P L (failed ≡ true) h.steps (shown (closed_line (P.state b).number) ∷ []) a b c u v w f h.carried (stopped_anyway P L (failed ≡ true) (shown (closed_line (P.state b).number) ∷ []) b c v w f (stopped_wider P L ⊥ (shown (closed_line (P.state b).number) ∷ []) b c v w f some err)))
 
   -- the reading failed
-  halted : (first script : Records) (a b : E) (accepted : ℕ) (u v : Option (List ℕ)) (failed : Bool) (f : Fault) → Progress P first script a b accepted u v → (f ≡ fault.InputFailed) × (failed ≡ true) ⊎ (f ≡ fault.NoMemory)
-      → Runs P first failed a b u v (Err f)
-  halted first script a b accepted u v failed f h why =
+  halted : {most : ℕ} (first script : Records) (a b : E) (accepted : ℕ) (u v : Option (List ℕ)) (failed : Bool) (f : Fault) → Progress P first script a b accepted u v → (f ≡ fault.InputFailed) × (failed ≡ true) ⊎ (f ≡ fault.NoMemory)
+      → Runs P most first failed a b u v (Err f)
+  halted {most} first script a b accepted u v failed f h why =
       let (rest, known) = rest_of first script a b accepted u v h in
       let later : Course = course_from (script.place + 1) (run_of P b accepted) rest in
       ends_with first script a b b accepted u v v failed (Err f) h rest (left_then first.left (λ all k. k.0) known)
       (stops_by P f (failed ≡ true) (after h.steps later) a b u v (stopped_reading P L (failed ≡ true) h.steps later.steps a b u v f h.carried why))
 
   -- the next record is no text
-  unread_record : (first script : Records) (a b : E) (accepted at : ℕ) (u v : Option (List ℕ)) (failed : Bool) → Progress P first script a b accepted u v → ReadFails script (fault.BadScript at) → Runs P first failed a b u v (Err (fault.BadScript at))
-  unread_record first script a b accepted at u v failed h (place, bad) =
+  unread_record : {most : ℕ} (first script : Records) (a b : E) (accepted at : ℕ) (u v : Option (List ℕ)) (failed : Bool) → Progress P first script a b accepted u v → ReadFails script (fault.BadScript at) → Runs P most first failed a b u v (Err (fault.BadScript at))
+  unread_record {most} first script a b accepted at u v failed h (place, bad) =
       let found = by first.left h.known in
       with_row found.0 found.1 found.2 found.3
     where
@@ -188,15 +189,42 @@ module _ {E : Type 0} (P : Promise E) (L : Laws P) where
       by None k = ([], [], no_fields, tt)
       by (Some all) (rest, split, left) = let (row, more, rows, none) = rw left at bad in (row, more, none, split ∙ ap (λ (l : List Fields). h.rows ++ l) rows)
 
-      with_row : (row : Fields) (more : List Fields) → verb_of row ≡ None → IfSome first.left (λ all. all ≡ h.rows ++ row ∷ more) → Runs P first failed a b u v (Err (fault.BadScript at))
+      with_row : (row : Fields) (more : List Fields) → verb_of row ≡ None → IfSome first.left (λ all. all ≡ h.rows ++ row ∷ more) → Runs P most first failed a b u v (Err (fault.BadScript at))
       with_row row more none all =
           let over : after h.steps (course_from (script.place + 1) (run_of P b accepted) (row ∷ more)) ≡ record { steps = h.steps; ends_at = Some at } =
           ap (after h.steps) (from_nothing (script.place + 1) (run_of P b accepted) row more none) ∙ (λ i. record { steps = append-nil h.steps i; ends_at = Some (sym place i) }) in
           ends_with first script a b b accepted u v v failed (Err (fault.BadScript at)) h (row ∷ more) all
-          (subst (λ (o : Course). Ends P (failed ≡ true) o a b u v (Err (fault.BadScript at))) (sym over) (refl, h.carried))
+          (subst (λ (o : Course). Ends P most (failed ≡ true) o a b u v (Err (fault.BadScript at))) (sym over) (refl, h.carried))
 
-  pub refuses : (first script : Records) (a b : E) (accepted : ℕ) (f : Fault) (u v : Option (List ℕ)) (failed : Bool) → Progress P first script a b accepted u v → ReadFails script f → failed ≡ true → Runs P first failed a b u v (Err f)
-  refuses first script a b accepted (fault.BadScript at) u v failed h read is = unread_record first script a b accepted at u v failed h read
-  refuses first script a b accepted fault.InputFailed u v failed h read is = halted first script a b accepted u v failed fault.InputFailed h (inl (refl, is))
-  refuses first script a b accepted fault.NoMemory u v failed h read is = halted first script a b accepted u v failed fault.NoMemory h (inr refl)
-  refuses first script a b accepted other u v failed h read is = absurd read
+  refuses : {most : ℕ} (first script : Records) (a b : E) (accepted : ℕ) (f : Fault) (u v : Option (List ℕ)) (failed : Bool) → Progress P first script a b accepted u v → ReadFails script f → failed ≡ true → Runs P most first failed a b u v (Err f)
+  refuses {most} first script a b accepted (fault.BadScript at) u v failed h read is = unread_record first script a b accepted at u v failed h read
+  refuses {most} first script a b accepted fault.InputFailed u v failed h read is = halted first script a b accepted u v failed fault.InputFailed h (inl (refl, is))
+  refuses {most} first script a b accepted fault.NoMemory u v failed h read is = halted first script a b accepted u v failed fault.NoMemory h (inr refl)
+  refuses {most} first script a b accepted other u v failed h read is = absurd read
+
+  -- ---- record by record
+
+  untouched : (Q : E → Option (List ℕ) → Type 0) (a b : E) (u v : Option (List ℕ)) → IsUntouched a b u v → Q a u → Q b v
+  untouched Q a b u v (same, kept) q = subst (λ (e : E). Q e v) (sym same) (subst (λ (w : Option (List ℕ)). Q a w) (sym kept) q)
+
+  -- the next record was answered
+  pub answered : (first script next : Records) (a b c : E) (before later : ℕ) (u v w : Option (List ℕ)) → Progress P first script a b before u v → Answered P script next before later b c v w → Progress P first next a c later u w
+  answered first script next a b c before later u v w h x = runs first script next a b c before later x.fields x.verb u v w h x.read (sym x.form) x.carried x.counts
+
+  -- there were no more
+  pub nothing_left : {most : ℕ} → 1 ≤ most → (first script next : Records) (a b d c : E) (accepted later : ℕ) (u v x w : Option (List ℕ)) (failed : Bool) (result : Result (Unit {0}) Fault) → Progress P first script a b accepted u v
+      → Answers P script false next accepted later b d v x → OnOk result (Carried P (shown (closed_line (P.state d).number) ∷ []) d c x w) → OnOk result (P.settled c)
+      → IfErr result (Stopped P 1 ⊥ (shown (closed_line (P.state d).number) ∷ []) d c x w) → Runs P most first failed a c u w result
+  nothing_left some first script next a b d c accepted later u v x w failed result h (left, counts, same) ok settled err =
+      closes some first script a d c accepted u x w failed result (untouched (λ e y. Progress P first script a e accepted u y) b d v x same h) left.2 ok settled err
+
+  -- the next one wasn't answered
+  pub unanswered : {most : ℕ} (first script next : Records) (a b c : E) (accepted : ℕ) (f : Fault) (u v w : Option (List ℕ)) → Progress P first script a b accepted u v → IsUnanswered P most script next accepted b c v w f
+      → Runs P most first next.failed a c u w (Err f)
+  unanswered {most} first script next a b c accepted f u v w h (inl (why, failed, same)) =
+      untouched (λ e y. Runs P most first next.failed a e u y (Err f)) b c v w same (refuses first script a b accepted f u v next.failed h why failed)
+  unanswered {most} first script next a b c accepted f u v w h (inr (inl x)) =
+      untouched (λ e y. Runs P most first next.failed a e u y (Err f)) b c v w x.untouched
+      (subst (λ (g : Fault). Runs P most first next.failed a b u v (Err g)) (sym x.place) (stops first script next a b accepted x.fields u v next.failed h x.read (sym x.form)))
+  unanswered {most} first script next a b c accepted f u v w h (inr (inr x)) =
+      fails first script next a b c accepted x.fields x.verb f u v w next.failed h x.read (sym x.form) x.stopped

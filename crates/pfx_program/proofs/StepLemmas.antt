@@ -89,7 +89,7 @@ module _ {E : Type 0} (P : Promise E) (L : Laws P) where
       more_text reading s r x text tried u v w (fault.BadScript at) written h = absurd h
       more_text reading s r x text tried u v w other written h = (h.0, h.1, joined u v w x text written h.2)
 
-  pub stopped_after : (reading : Type 0) (x y : List Step) (a b c : E) (u v w : Option (List ℕ)) (f : Fault) → Carried P x a b u v → Stopped P reading y b c v w f → Stopped P reading (x ++ y) a c u w f
+  pub stopped_after : {most : ℕ} (reading : Type 0) (x y : List Step) (a b c : E) (u v w : Option (List ℕ)) (f : Fault) → Carried P x a b u v → Stopped P most reading y b c v w f → Stopped P most reading (x ++ y) a c u w f
   stopped_after reading x y a b c u v w f first second =
       let H : List (Command AnyJob) = commands_of x in
       let G : List (Command AnyJob) = commands_of second.printed in
@@ -101,20 +101,20 @@ module _ {E : Type 0} (P : Promise E) (L : Laws P) where
         tried = second.tried;
         rest = second.rest;
         split = ap (λ (l : List Step). x ++ l) second.split ∙ sym (append_assoc x second.printed (second.tried ++ second.rest));
-        one = second.one;
+        few = second.few;
         why = halts_after reading (P.state a) (P.state b) (P.state c) x second.printed second.tried u v w f first.state first.text second.why;
         keeps = subst (λ (n : ℕ). P.keeps a (commands_of (x ++ second.printed) ++ T) n c) long (subst (λ (l : List (Command AnyJob)). P.keeps a l (length H + length G) c) all
             (L.more a b c H (G ++ T) (length G) first.settled first.keeps second.keeps));
       }
 
   -- the steps that would have followed
-  pub stopped_before : (reading : Type 0) (x more : List Step) (a b : E) (u v : Option (List ℕ)) (f : Fault) → Stopped P reading x a b u v f → Stopped P reading (x ++ more) a b u v f
+  pub stopped_before : {most : ℕ} (reading : Type 0) (x more : List Step) (a b : E) (u v : Option (List ℕ)) (f : Fault) → Stopped P most reading x a b u v f → Stopped P most reading (x ++ more) a b u v f
   stopped_before reading x more a b u v f h = record {
     printed = h.printed;
     tried = h.tried;
     rest = h.rest ++ more;
     split = ap (λ (l : List Step). l ++ more) h.split ∙ append_assoc h.printed (h.tried ++ h.rest) more ∙ ap (λ (l : List Step). h.printed ++ l) (append_assoc h.tried h.rest more);
-    one = h.one;
+    few = h.few;
     why = h.why;
     keeps = h.keeps;
   }
@@ -126,25 +126,25 @@ module _ {E : Type 0} (P : Promise E) (L : Laws P) where
   halts_anyway reading s r text tried u w (fault.BadScript at) h = absurd h
   halts_anyway reading s r text tried u w other h = h
 
-  pub stopped_anyway : (reading : Type 0) (x : List Step) (a b : E) (u v : Option (List ℕ)) (f : Fault) → Stopped P ⊥ x a b u v f → Stopped P reading x a b u v f
+  pub stopped_anyway : {most : ℕ} (reading : Type 0) (x : List Step) (a b : E) (u v : Option (List ℕ)) (f : Fault) → Stopped P most ⊥ x a b u v f → Stopped P most reading x a b u v f
   stopped_anyway reading x a b u v f h = record {
     printed = h.printed;
     tried = h.tried;
     rest = h.rest;
     split = h.split;
-    one = h.one;
+    few = h.few;
     why = halts_anyway reading (outcome any_kind (P.state a) (commands_of h.printed)) (P.state b) (text_of h.printed) h.tried u v f h.why;
     keeps = h.keeps;
   }
 
   -- the reading has failed behind steps that were run
-  pub stopped_reading : (reading : Type 0) (x rest : List Step) (a b : E) (u v : Option (List ℕ)) (f : Fault) → Carried P x a b u v → (f ≡ fault.InputFailed) × reading ⊎ (f ≡ fault.NoMemory) → Stopped P reading (x ++ rest) a b u v f
+  pub stopped_reading : {most : ℕ} (reading : Type 0) (x rest : List Step) (a b : E) (u v : Option (List ℕ)) (f : Fault) → Carried P x a b u v → (f ≡ fault.InputFailed) × reading ⊎ (f ≡ fault.NoMemory) → Stopped P most reading (x ++ rest) a b u v f
   stopped_reading reading x rest a b u v f h why = record {
     printed = x;
     tried = [];
     rest = rest;
     split = refl;
-    one = omega arith;
+    few = omega arith;
     why = because why;
     keeps = subst (λ (l : List (Command AnyJob)). P.keeps a l (length (commands_of x)) b) (sym (append-nil (commands_of x))) h.keeps;
   }
@@ -153,17 +153,33 @@ module _ {E : Type 0} (P : Promise E) (L : Laws P) where
       because (inl (is, failed)) = rw is (failed, h.state, h.text)
       because (inr is) = rw is (inl h.state, h.text)
 
+  -- where more steps may be tried
+  pub stopped_wider : {most more : ℕ} (reading : Type 0) (x : List Step) (a b : E) (u v : Option (List ℕ)) (f : Fault) → most ≤ more → Stopped P most reading x a b u v f → Stopped P more reading x a b u v f
+  stopped_wider reading x a b u v f le h = record {
+    printed = h.printed;
+    tried = h.tried;
+    rest = h.rest;
+    split = h.split;
+    few = (let few = h.few in omega (arith, few, le));
+    why = h.why;
+    keeps = h.keeps;
+  }
+
+  pub if_wider : {T : Type 0} {most more : ℕ} (x : List Step) (a b : E) (u v : Option (List ℕ)) (r : Result T Fault) → most ≤ more → IfErr r (Stopped P most ⊥ x a b u v) → IfErr r (Stopped P more ⊥ x a b u v)
+  if_wider x a b u v (Ok y) le h = tt
+  if_wider x a b u v (Err f) le h = stopped_wider ⊥ x a b u v f le h
+
   -- ---- one step
 
   -- the step was carried out, and its line wasn't written
   one_stopped : (x : Step) (a b : E) (u v : Option (List ℕ)) (f : Fault) → P.keeps a (commands_of (x ∷ [])) 0 b → LineFails x.text u v f → P.state b ≡ outcome any_kind (P.state a) (commands_of (x ∷ []))
-      → Stopped P ⊥ (x ∷ []) a b u v f
+      → Stopped P 1 ⊥ (x ∷ []) a b u v f
   one_stopped x a b u v f keeps fails is = record {
     printed = [];
     tried = x ∷ [];
     rest = [];
     split = refl;
-    one = omega arith;
+    few = omega arith;
     why = because f fails;
     keeps = keeps;
   }
@@ -172,7 +188,7 @@ module _ {E : Type 0} (P : Promise E) (L : Laws P) where
       moved_on = is ∙ ap (λ (s : Plain AnyJob). outcome any_kind s (commands_of (x ∷ []))) (sym (outcome-none any_kind (P.state a)))
 
       because : (f : Fault) → LineFails x.text u v f → Halts ⊥ P.faults (outcome any_kind (P.state a) []) [] (x ∷ []) (P.state b) u v f
-      because fault.OutputFailed (front, rest, split, written) = (moved_on, front, rest, append-nil x.text ∙ split, written)
+      because fault.OutputFailed (front, rest, split, written) = (moved_on, front, rest, split, written)
       because fault.NoMemory kept = (inr moved_on, appends-kept u u v [] (appends-nothing u) kept)
       because other h = absurd h
 
@@ -184,30 +200,30 @@ module _ {E : Type 0} (P : Promise E) (L : Laws P) where
     keeps = same.keeps;
   }
 
-  pub shown_stopped : (text : List ℕ) (a b : E) (u v : Option (List ℕ)) (f : Fault) → IsSame P a b → LineFails text u v f → Stopped P ⊥ (shown text ∷ []) a b u v f
+  pub shown_stopped : (text : List ℕ) (a b : E) (u v : Option (List ℕ)) (f : Fault) → IsSame P a b → LineFails text u v f → Stopped P 1 ⊥ (shown text ∷ []) a b u v f
   shown_stopped text a b u v f same fails = one_stopped (shown text) a b u v f same.keeps fails (same_state (P.state a) (P.state b) same.state)
 
   pub if_carried : (text : List ℕ) (a b : E) (u v : Option (List ℕ)) (r : Result (Unit {0}) Fault) → IsSame P a b → (P.settled a → P.settled b) → OnOk r (Appends u v text) → OnOk r (Carried P (shown text ∷ []) a b u v)
   if_carried text a b u v (Ok x) same settled written = shown_carried text a b u v same settled written
   if_carried text a b u v (Err f) same settled written = tt
 
-  pub if_stopped : (text : List ℕ) (a b : E) (u v : Option (List ℕ)) (r : Result (Unit {0}) Fault) → IsSame P a b → IfErr r (LineFails text u v) → IfErr r (Stopped P ⊥ (shown text ∷ []) a b u v)
+  pub if_stopped : (text : List ℕ) (a b : E) (u v : Option (List ℕ)) (r : Result (Unit {0}) Fault) → IsSame P a b → IfErr r (LineFails text u v) → IfErr r (Stopped P 1 ⊥ (shown text ∷ []) a b u v)
   if_stopped text a b u v (Ok x) same fails = tt
   if_stopped text a b u v (Err f) same fails = shown_stopped text a b u v f same fails
 
   -- the line wasn't made for want of memory
-  pub unmade : (text : List ℕ) (a b : E) (u : Option (List ℕ)) → IsSame P a b → Stopped P ⊥ (shown text ∷ []) a b u u fault.NoMemory
+  pub unmade : (text : List ℕ) (a b : E) (u : Option (List ℕ)) → IsSame P a b → Stopped P 1 ⊥ (shown text ∷ []) a b u u fault.NoMemory
   unmade text a b u same = shown_stopped text a b u u fault.NoMemory same (keeps-same u)
 
   -- the engine failed before anything was written
   failed : (x : Step) (a b : E) (u : Option (List ℕ)) (f : Fault) (tried : List Step) (rest : List Step) → x ∷ [] ≡ tried ++ rest → length tried ≤ 1 → IsEngineFault P.faults (P.state a) f
-      → (P.state b ≡ P.state a) ⊎ (P.state b ≡ outcome any_kind (P.state a) (commands_of tried)) → P.keeps a (commands_of tried) 0 b → Stopped P ⊥ (x ∷ []) a b u u f
+      → (P.state b ≡ P.state a) ⊎ (P.state b ≡ outcome any_kind (P.state a) (commands_of tried)) → P.keeps a (commands_of tried) 0 b → Stopped P 1 ⊥ (x ∷ []) a b u u f
   failed x a b u f tried rest split one why state keeps = record {
     printed = [];
     tried = tried;
     rest = rest;
     split = split;
-    one = one;
+    few = one;
     why = subst (λ (s : Plain AnyJob). Halts ⊥ P.faults s [] tried (P.state b) u u f) (sym (outcome-none any_kind (P.state a))) (because f why);
     keeps = keeps;
   }
@@ -219,7 +235,7 @@ module _ {E : Type 0} (P : Promise E) (L : Laws P) where
       because (fault.BadScript at) h = absurd h
       because other h = (h, state, appends-nothing u)
 
-  pub failed_same : (x : Step) (a b : E) (u : Option (List ℕ)) (f : Fault) → IsEngineFault P.faults (P.state a) f → IsSame P a b → Stopped P ⊥ (x ∷ []) a b u u f
+  pub failed_same : (x : Step) (a b : E) (u : Option (List ℕ)) (f : Fault) → IsEngineFault P.faults (P.state a) f → IsSame P a b → Stopped P 1 ⊥ (x ∷ []) a b u u f
   failed_same x a b u f why same = failed x a b u f [] (x ∷ []) refl (omega arith) why (inl same.state) same.keeps
 
   -- ---- one command
@@ -228,17 +244,17 @@ module _ {E : Type 0} (P : Promise E) (L : Laws P) where
   same e = record { state = refl; keeps = L.none e }
 
   pub done_stopped : (c : Command AnyJob) (number : ℕ) (reply : Reply) (a b : E) (u v : Option (List ℕ)) (f : Fault) → IsDone P c number reply a b → LineFails (reply_line number reply) u v f
-      → Stopped P ⊥ (record { text = reply_line ((P.state a).number + 1) reply; command = Some c } ∷ []) a b u v f
+      → Stopped P 1 ⊥ (record { text = reply_line ((P.state a).number + 1) reply; command = Some c } ∷ []) a b u v f
   done_stopped c number reply a b u v f h fails =
       one_stopped (record { text = reply_line ((P.state a).number + 1) reply; command = Some c }) a b u v f (L.fewer a b (c ∷ []) 1 0 (omega arith) h.keeps)
       (subst (λ (n : ℕ). LineFails (reply_line n reply) u v f) h.next fails) h.state
 
   -- the engine failed
   pub doubt_stopped : (x : Reply → Step) (s : Step) (c : Command AnyJob) (a b : E) (u : Option (List ℕ)) (f : Fault) → ((reply : Reply) → answer any_kind (P.state a) c ≡ Ok reply → (s ≡ x reply) × ((x reply).command ≡ Some c))
-      → IsEngineFault P.faults (P.state a) f → IsLeftBy P c a b f → Stopped P ⊥ (s ∷ []) a b u u f
+      → IsEngineFault P.faults (P.state a) f → IsLeftBy P c a b f → Stopped P 1 ⊥ (s ∷ []) a b u u f
   doubt_stopped x s c a b u f is why left = by f why left
     where
-      in_doubt : (f : Fault) → IsEngineFault P.faults (P.state a) f → IsInDoubt P c a b → Stopped P ⊥ (s ∷ []) a b u u f
+      in_doubt : (f : Fault) → IsEngineFault P.faults (P.state a) f → IsInDoubt P c a b → Stopped P 1 ⊥ (s ∷ []) a b u u f
       in_doubt f why h =
           let (step, command) = is h.reply h.accepted in
           let commands : commands_of (s ∷ []) ≡ c ∷ [] = ap (λ (y : Step). with_command y.command []) step ∙ ap (λ (o : Option (Command AnyJob)). with_command o []) command in
@@ -246,10 +262,10 @@ module _ {E : Type 0} (P : Promise E) (L : Laws P) where
           (subst (λ (l : List (Command AnyJob)). (P.state b ≡ P.state a) ⊎ (P.state b ≡ outcome any_kind (P.state a) l)) (sym commands) h.state)
           (subst (λ (l : List (Command AnyJob)). P.keeps a l 0 b) (sym commands) h.keeps)
 
-      either : (f : Fault) → IsEngineFault P.faults (P.state a) f → IsSame P a b ⊎ IsInDoubt P c a b → Stopped P ⊥ (s ∷ []) a b u u f
+      either : (f : Fault) → IsEngineFault P.faults (P.state a) f → IsSame P a b ⊎ IsInDoubt P c a b → Stopped P 1 ⊥ (s ∷ []) a b u u f
       either f why (inl same) = failed_same s a b u f why same
       either f why (inr doubt) = in_doubt f why doubt
 
-      by : (f : Fault) → IsEngineFault P.faults (P.state a) f → IsLeftBy P c a b f → Stopped P ⊥ (s ∷ []) a b u u f
+      by : (f : Fault) → IsEngineFault P.faults (P.state a) f → IsLeftBy P c a b f → Stopped P 1 ⊥ (s ∷ []) a b u u f
       by fault.NoMemory why left = failed_same s a b u fault.NoMemory why left
       by other why left = either other why left

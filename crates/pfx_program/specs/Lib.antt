@@ -1,8 +1,10 @@
 pub mod Answers
 pub mod Created
 pub mod Faults
+pub mod Jobs
 pub mod Ledger
 pub mod Lines
+pub mod OneRecord
 pub mod Output
 pub mod Promises
 pub mod Plan

@@ -1,5 +1,5 @@
 -- What an engine is to the callers of its calls.
-use Rattle.std.specs.Prelude.{◌≡◌, ℕ, ◌+◌, ◌≤◌, ◌++◌, ◌⊎◌, length, List, [], ◌∷◌, Ok, Err, ⊤}
+use Rattle.std.specs.Prelude.{◌≡◌, ℕ, ◌+◌, ◌<◌, ◌≤◌, ◌++◌, ◌⊎◌, length, List, [], ◌∷◌, map, Ok, Err, ⊤}
 use Rattle.pfx_kinds.specs.AnyKind.{any_kind}
 use Rattle.pfx_kinds.specs.declared.any.AnyJob.{AnyJob}
 use Rattle.pfx_machine.specs.Plain.{Plain}
@@ -8,6 +8,7 @@ use Rattle.pfx_machine.specs.Runs.{answer}
 use Rattle.pfx_machine.specs.Board.{all_lines}
 use Rattle.pfx_machine.specs.declared.board.Board.{Board}
 use Rattle.pfx_machine.specs.declared.command.Command.{Command}
+use Rattle.pfx_machine.specs.declared.command.Command.TheVariants.{Slot}
 use Rattle.pfx_machine.specs.declared.command.Reply.{Reply}
 use Rattle.pfx_fault.specs.declared.refusals.Fault.{Fault}
 use Rattle.pfx_fault.specs.declared.refusals.Fault.TheVariants as fault
@@ -66,6 +67,44 @@ IsLeftBy P c old new other = IsSame P old new ⊎ IsInDoubt P c old new
 abbrev pub IsNotDone : {E : Type 0} → Promise E → Command AnyJob → E → E → CallFault → Type 0
 IsNotDone P c old new (callfault.Refused f) = (answer any_kind (P.state old) c ≡ Err f) × IsSame P old new × (P.settled old → P.settled new)
 IsNotDone P c old new (callfault.Failed f) = IsEngineFault P.faults (P.state old) f × IsLeftBy P c old new f
+
+-- ---- several Slots in one call
+
+-- so many Slots
+abbrev pub slots_for : {A : Type 0} → List A → List (Command AnyJob)
+slots_for said = map (λ x. Slot) said
+
+-- each of these Slots is accepted behind those before it, from the state on, with its number and its reply
+abbrev pub AreAnswered : Plain AnyJob → List (ℕ × Reply) → Type 0
+AreAnswered s [] = ⊤
+AreAnswered s (x ∷ said) = (answer any_kind s Slot ≡ Ok x.1) × (x.0 ≡ s.number + 1) × AreAnswered (outcome any_kind s (Slot ∷ [])) said
+
+-- some Slots were carried out, the number at the most, and all of them are kept
+pub record AreDone {E : Type 0} (P : Promise E) (count : ℕ) (said : List (ℕ × Reply)) (old new : E) : Type 0 where
+  pub some : 0 < length said
+  pub few : length said ≤ count
+  pub answered : AreAnswered (P.state old) said
+  pub state : P.state new ≡ outcome any_kind (P.state old) (slots_for said)
+  pub keeps : P.keeps old (slots_for said) (length said) new
+  pub settled : P.settled new
+
+-- some Slots were accepted, the number at the most, and it isn't known how many of them are kept
+pub record AreInDoubt {E : Type 0} (P : Promise E) (count : ℕ) (old new : E) : Type 0 where
+  pub said : List (ℕ × Reply)
+  pub few : length said ≤ count
+  pub answered : AreAnswered (P.state old) said
+  pub state : (P.state new ≡ P.state old) ⊎ (P.state new ≡ outcome any_kind (P.state old) (slots_for said))
+  pub keeps : P.keeps old (slots_for said) 0 new
+
+-- a failed call leaves the state for want of memory, and else has done nothing or leaves its Slots in doubt
+abbrev pub AreLeftBy : {E : Type 0} → Promise E → ℕ → E → E → Fault → Type 0
+AreLeftBy P count old new fault.NoMemory = IsSame P old new
+AreLeftBy P count old new other = IsSame P old new ⊎ AreInDoubt P count old new
+
+-- why no Slot has an answer: the machine refuses the first, which changes nothing, or the engine failed
+abbrev pub AreNotDone : {E : Type 0} → Promise E → ℕ → E → E → CallFault → Type 0
+AreNotDone P count old new (callfault.Refused f) = (answer any_kind (P.state old) Slot ≡ Err f) × IsSame P old new × (P.settled old → P.settled new)
+AreNotDone P count old new (callfault.Failed f) = IsEngineFault P.faults (P.state old) f × AreLeftBy P count old new f
 
 -- the board is that of the state
 pub record Shows (s : Plain AnyJob) (board : Board) : Type 0 where

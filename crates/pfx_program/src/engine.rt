@@ -1,7 +1,7 @@
 //! What carries the commands of a script out.
 
-ghost use Rattle.std.specs.Prelude.{◌≡◌, IfOk, IfErr, OnOk};
-ghost use Rattle.pfx_program.specs.Promises.{Promise, Laws, IsDone, IsNotDone, IsSame, IsEngineFault, Shows};
+ghost use Rattle.std.specs.Prelude.{◌≡◌, ◌<◌, IfOk, IfErr, OnOk};
+ghost use Rattle.pfx_program.specs.Promises.{Promise, Laws, AreDone, AreNotDone, IsDone, IsNotDone, IsSame, IsEngineFault, Shows};
 
 use pfx_fault::Fault;
 use pfx_kinds::any::AnyJob;
@@ -29,6 +29,17 @@ pub trait Engine {
     fn call(&mut self, alloc: Global, command: Command<AnyJob>) -> Result<(u64, Reply), CallFault>
         ensures done { IfOk result (λ r. IsDone promise command r.0 r.1 self.old self.new) }
         ensures not_done { IfErr result (IsNotDone promise command self.old self.new) };
+
+    /// Carries Slots out one after the other, at least one and at most `count`: their numbers and their replies, in order. All
+    /// of them are kept then.
+    ///
+    /// Where the machine refuses the first, nothing changes; a Slot behind those that are answered is asked for by the next
+    /// call. `NoMemory` leaves the state. After another fault it isn't known how many Slots are kept, of those that the
+    /// machine accepts one after the other, `count` at the most.
+    fn slots(&mut self, alloc: Global, count: u32) -> Result<Vec<(u64, Reply)>, CallFault>
+        requires some { 0 < count }
+        ensures done { IfOk result (λ said. AreDone promise count said.items self.old self.new) }
+        ensures not_done { IfErr result (AreNotDone promise count self.old self.new) };
 
     /// Waits until every accepted command is kept: the last one's number. The state stays.
     fn settled(&mut self, alloc: Global) -> Result<u64, Fault>

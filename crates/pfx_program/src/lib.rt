@@ -9,7 +9,8 @@
 //! What `run_script` writes is a function of its script's bytes and of the state that its engine begins with,
 //! `script_output` of `specs/Script.antt`: a line for each command and each refusal, boards, and the last number, up
 //! to the first record without form. Where the reader, the writer, the memory or the engine fails, it is a beginning
-//! of that. An engine is anything that carries commands out as the machine does: a `State` in memory is one. `run_status`
+//! of that. An engine is anything that carries commands out as the machine does: a `State` in memory is one. Slots of one record are
+//! asked for several at once, as many as the caller's window has; what is printed doesn't depend on it. `run_status`
 //! writes the board of an engine's state, `created_line` is the line of a new store, and `read_task_set` reads a store's set.
 //! `laws` says of them all that a plan's lines are the rows of a plan, and that a script's commands are acceptable.
 #![tactic(auto)]
@@ -26,9 +27,11 @@ mod output;
 mod plan;
 mod run;
 mod set;
+mod show;
 
 pub use created::created_line;
 pub use engine::{CallFault, Engine};
 pub use plan::run_plan;
-pub use run::{run_script, run_status};
+pub use run::{run_record, run_script, run_status};
 pub use set::read_task_set;
+pub use show::run_show;

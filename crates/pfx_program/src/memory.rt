@@ -1,7 +1,7 @@
 //! The engine that keeps nothing: a state in memory, where every accepted command counts as kept.
 
 ghost use Rattle.std.specs.Prelude.{◌≡◌, IfOk, IfErr, OnOk, ⊤};
-ghost use Rattle.pfx_program.specs.Promises.{Promise, Laws, IsDone, IsNotDone, IsSame, IsEngineFault, Shows};
+ghost use Rattle.pfx_program.specs.Promises.{Promise, Laws, AreDone, AreNotDone, IsDone, IsNotDone, IsSame, IsEngineFault, Shows};
 
 use crate::engine::{CallFault, Engine};
 use pfx_fault::Fault;
@@ -25,6 +25,22 @@ impl Engine for State<AnyJob> {
             Err(MachineFault::NoMemory) => Err(CallFault::Failed(Fault::NoMemory)),
             Err(fault) => Err(CallFault::Refused(fault)),
         }
+    }
+
+    fn slots(&mut self, alloc: Global, count: u32) -> Result<Vec<(u64, Reply)>, CallFault> {
+        let Ok(mut said) = Vec::with_capacity(alloc, count as usize) else {
+            return Err(CallFault::Failed(Fault::NoMemory));
+        };
+        for _ in 0..count {
+            let before = self.number();
+            match self.apply(Command::Slot) {
+                Ok(reply) => said.push_reserved((before + 1, reply)),
+                Err(_) if !said.is_empty() => return Ok(said),
+                Err(MachineFault::NoMemory) => return Err(CallFault::Failed(Fault::NoMemory)),
+                Err(fault) => return Err(CallFault::Refused(fault)),
+            }
+        }
+        Ok(said)
     }
 
     fn settled(&mut self, _alloc: Global) -> Result<u64, Fault> {

@@ -1,13 +1,14 @@
 //! `pfx run`, over any engine.
 
-ghost use Rattle.std.specs.Prelude.{◌≡◌, ◌+◌, ◌∷◌, [], length, IfOk, IfErr, OnOk};
+ghost use Rattle.std.specs.Prelude.{◌≡◌, ◌+◌, ◌<◌, ◌^◌, ◌∷◌, [], length, IfOk, IfErr, OnOk};
 ghost use Rattle.std.specs.Io.KnownBytes.{Appends};
 ghost use Rattle.pfx_kinds.specs.Starts.{any_start};
 ghost use Rattle.pfx_script.specs.Verbs.{said_by};
 ghost use Rattle.pfx_fault.specs.declared.refusals.Fault.TheVariants as fault;
 ghost use Rattle.pfx_program.specs.Answers.{reply_line, refused_line, settled_line, closed_line};
-ghost use Rattle.pfx_program.specs.Script.{Step, at_start, command_step, slot_steps, job_by, submitted, verb_steps, shown, board_of, is_carried, commands_of};
-ghost use Rattle.pfx_program.specs.Running.{run_of, LineFails, Carried, Stopped, Runs};
+ghost use Rattle.pfx_program.specs.Script.{Step, at_start, command_step, slot_steps, text_of, job_by, submitted, verb_steps, shown, board_of, is_carried, commands_of};
+ghost use Rattle.pfx_program.specs.OneRecord.{Answers, IsUnanswered};
+ghost use Rattle.pfx_program.specs.Running.{run_of, ran_steps, LineFails, LinesFail, Carried, Slotted, Stopped, Runs};
 
 use crate::answers::{board_text, closed_line, refused_line, reply_line, settled_line};
 use crate::engine::{CallFault, Engine};
@@ -71,7 +72,7 @@ fn run_command<W: Write, E: Engine>(
     ensures ok { OnOk result (Carried E.promise (command_step (run_of E.promise engine.old accepted.old) command ∷ []) engine.old engine.new (W.contents output.old) (W.contents output.new)) }
     ensures told { IfOk result (λ went. went ≡ is_carried (command_step (run_of E.promise engine.old accepted.old) command)) }
     ensures counts { OnOk result (accepted.new ≡ accepted.old + length (commands_of (command_step (run_of E.promise engine.old accepted.old) command ∷ []))) }
-    ensures err { IfErr result (Stopped E.promise ⊥ (command_step (run_of E.promise engine.old accepted.old) command ∷ []) engine.old engine.new (W.contents output.old) (W.contents output.new)) }
+    ensures err { IfErr result (Stopped E.promise 1 ⊥ (command_step (run_of E.promise engine.old accepted.old) command ∷ []) engine.old engine.new (W.contents output.old) (W.contents output.new)) }
 {
     if *accepted >= MOST {
         put_refused(alloc, output, Fault::SessionFull)?;
@@ -98,22 +99,73 @@ fn started(kind: &str, goal: u64, text: &str) -> Result<AnyJob, StartFault>
     AnyJob::start(kind, goal, text.as_bytes())
 }
 
-// Runs so many slots, up to the first one that is refused.
+// Prints the lines of Slots.
+fn put_replies<W: Write>(alloc: Global, output: &mut W, said: &[(u64, Reply)]) -> Result<(), Fault>
+    ensures ok { OnOk result (Appends (W.contents output.old) (W.contents output.new) (text_of (ran_steps said.now))) }
+    ensures err { IfErr result (LinesFail said.now (W.contents output.old) (W.contents output.new)) }
+{
+    for entry in said {
+        put_reply(alloc, output, entry.0, &entry.1)?;
+    }
+    Ok(())
+}
+
+// Carries out some of the slots that are left, as many as the window has at the most, and prints their lines: how many. Where
+// there are none, the first one is refused.
+fn run_window<W: Write, E: Engine>(
+    alloc: Global,
+    left: u32,
+    window: u32,
+    accepted: &mut u32,
+    output: &mut W,
+    engine: &mut E,
+) -> Result<u32, Fault>
+    requires left { 0 < left }
+    requires some { 0 < window }
+    ensures ok { IfOk result (λ ran. Slotted E.promise left ran accepted.old engine.old engine.new (W.contents output.old) (W.contents output.new)) }
+    ensures counts { IfOk result (λ ran. accepted.new ≡ accepted.old + ran) }
+    ensures err { IfErr result (Stopped E.promise window ⊥ (slot_steps (run_of E.promise engine.old accepted.old) left) engine.old engine.new (W.contents output.old) (W.contents output.new)) }
+{
+    if *accepted >= MOST {
+        put_refused(alloc, output, Fault::SessionFull)?;
+        return Ok(0);
+    }
+    match engine.slots(alloc, left.min(window).min(MOST - *accepted)) {
+        Ok(said) => {
+            let ran = said.len() as u32;
+            *accepted += ran;
+            put_replies(alloc, output, &said)?;
+            Ok(ran)
+        }
+        Err(CallFault::Refused(fault)) => {
+            put_refused(alloc, output, machine_fault(fault))?;
+            Ok(0)
+        }
+        Err(CallFault::Failed(fault)) => Err(fault),
+    }
+}
+
+// Runs so many slots, some in each call of the engine, up to the first one that is refused.
 fn run_slots<W: Write, E: Engine>(
     alloc: Global,
     count: u32,
+    window: u32,
     accepted: &mut u32,
     output: &mut W,
     engine: &mut E,
 ) -> Result<(), Fault>
+    requires some { 0 < window }
     ensures ok { OnOk result (Carried E.promise (slot_steps (run_of E.promise engine.old accepted.old) count) engine.old engine.new (W.contents output.old) (W.contents output.new)) }
     ensures counts { OnOk result (accepted.new ≡ accepted.old + length (commands_of (slot_steps (run_of E.promise engine.old accepted.old) count))) }
-    ensures err { IfErr result (Stopped E.promise ⊥ (slot_steps (run_of E.promise engine.old accepted.old) count) engine.old engine.new (W.contents output.old) (W.contents output.new)) }
+    ensures err { IfErr result (Stopped E.promise window ⊥ (slot_steps (run_of E.promise engine.old accepted.old) count) engine.old engine.new (W.contents output.old) (W.contents output.new)) }
 {
-    for _ in 0..count {
-        if !run_command(alloc, Command::Slot, accepted, output, engine)? {
+    let mut left = count;
+    while left > 0 {
+        let ran = run_window(alloc, left, window, accepted, output, engine)?;
+        if ran == 0 {
             return Ok(());
         }
+        left -= ran;
     }
     Ok(())
 }
@@ -129,7 +181,7 @@ fn run_submit<W: Write, E: Engine>(
 ) -> Result<(), Fault>
     ensures ok { OnOk result (Carried E.promise (submitted (run_of E.promise engine.old accepted.old) task job ∷ []) engine.old engine.new (W.contents output.old) (W.contents output.new)) }
     ensures counts { OnOk result (accepted.new ≡ accepted.old + length (commands_of (submitted (run_of E.promise engine.old accepted.old) task job ∷ []))) }
-    ensures err { IfErr result (Stopped E.promise ⊥ (submitted (run_of E.promise engine.old accepted.old) task job ∷ []) engine.old engine.new (W.contents output.old) (W.contents output.new)) }
+    ensures err { IfErr result (Stopped E.promise 1 ⊥ (submitted (run_of E.promise engine.old accepted.old) task job ∷ []) engine.old engine.new (W.contents output.old) (W.contents output.new)) }
 {
     match job {
         Ok(job) => {
@@ -152,7 +204,7 @@ fn run_settle<W: Write, E: Engine>(
     engine: &mut E,
 ) -> Result<(), Fault>
     ensures ok { OnOk result (Carried E.promise (shown (settled_line (E.promise.state engine.old).number) ∷ []) engine.old engine.new (W.contents output.old) (W.contents output.new)) }
-    ensures err { IfErr result (Stopped E.promise ⊥ (shown (settled_line (E.promise.state engine.old).number) ∷ []) engine.old engine.new (W.contents output.old) (W.contents output.new)) }
+    ensures err { IfErr result (Stopped E.promise 1 ⊥ (shown (settled_line (E.promise.state engine.old).number) ∷ []) engine.old engine.new (W.contents output.old) (W.contents output.new)) }
 {
     let number = engine.settled(alloc)?;
     match settled_line(alloc, number) {
@@ -170,7 +222,7 @@ pub fn run_status<W: Write, E: Engine>(
 ) -> Result<(), Fault>
     ensures ok { OnOk result (Carried E.promise (shown (board_of (E.promise.state engine.old)) ∷ []) engine.old engine.new (W.contents output.old) (W.contents output.new)) }
     ensures settled { OnOk result (E.promise.settled engine.new) }
-    ensures err { IfErr result (Stopped E.promise ⊥ (shown (board_of (E.promise.state engine.old)) ∷ []) engine.old engine.new (W.contents output.old) (W.contents output.new)) }
+    ensures err { IfErr result (Stopped E.promise 1 ⊥ (shown (board_of (E.promise.state engine.old)) ∷ []) engine.old engine.new (W.contents output.old) (W.contents output.new)) }
 {
     let board = engine.status(alloc)?;
     match board_text(alloc, &board) {
@@ -182,7 +234,7 @@ pub fn run_status<W: Write, E: Engine>(
 fn close<W: Write, E: Engine>(alloc: Global, output: &mut W, engine: &mut E) -> Result<(), Fault>
     ensures ok { OnOk result (Carried E.promise (shown (closed_line (E.promise.state engine.old).number) ∷ []) engine.old engine.new (W.contents output.old) (W.contents output.new)) }
     ensures settled { OnOk result (E.promise.settled engine.new) }
-    ensures err { IfErr result (Stopped E.promise ⊥ (shown (closed_line (E.promise.state engine.old).number) ∷ []) engine.old engine.new (W.contents output.old) (W.contents output.new)) }
+    ensures err { IfErr result (Stopped E.promise 1 ⊥ (shown (closed_line (E.promise.state engine.old).number) ∷ []) engine.old engine.new (W.contents output.old) (W.contents output.new)) }
 {
     let last = engine.settled(alloc)?;
     match closed_line(alloc, last) {
@@ -194,13 +246,15 @@ fn close<W: Write, E: Engine>(alloc: Global, output: &mut W, engine: &mut E) -> 
 fn run_verb<W: Write, E: Engine>(
     alloc: Global,
     verb: Verb<'_>,
+    window: u32,
     accepted: &mut u32,
     output: &mut W,
     engine: &mut E,
 ) -> Result<(), Fault>
+    requires some { 0 < window }
     ensures ok { OnOk result (Carried E.promise (verb_steps (run_of E.promise engine.old accepted.old) (said_by verb.entry)) engine.old engine.new (W.contents output.old) (W.contents output.new)) }
     ensures counts { OnOk result (accepted.new ≡ accepted.old + length (commands_of (verb_steps (run_of E.promise engine.old accepted.old) (said_by verb.entry)))) }
-    ensures err { IfErr result (Stopped E.promise ⊥ (verb_steps (run_of E.promise engine.old accepted.old) (said_by verb.entry)) engine.old engine.new (W.contents output.old) (W.contents output.new)) }
+    ensures err { IfErr result (Stopped E.promise window ⊥ (verb_steps (run_of E.promise engine.old accepted.old) (said_by verb.entry)) engine.old engine.new (W.contents output.old) (W.contents output.new)) }
 {
     match verb {
         Verb::Submit {
@@ -212,7 +266,7 @@ fn run_verb<W: Write, E: Engine>(
             let job = started(kind, goal, text);
             run_submit(alloc, task, job, accepted, output, engine)
         }
-        Verb::Slot { count } => run_slots(alloc, count, accepted, output, engine),
+        Verb::Slot { count } => run_slots(alloc, count, window, accepted, output, engine),
         Verb::Withdraw { task } => {
             run_command(alloc, Command::Withdraw { task }, accepted, output, engine)?;
             Ok(())
@@ -222,34 +276,76 @@ fn run_verb<W: Write, E: Engine>(
     }
 }
 
+/// Reads the next record of a script, carries out what it asks for and prints its lines: `true` where there is a record,
+/// `false` where none is left, and then nothing is done. `row` is the memory of a record, `accepted` counts the commands of a
+/// run: after 1,048,576 of them each further one is refused as SessionFull. `window` is as `run_script` has it.
+///
+/// With `true` exactly the record's text was written, each line once its command was kept, and of the records none
+/// behind it was read: the script has them left. So a record is answered before the next one is waited for.
+///
+/// `BadScript` has the place of a record without form, for which nothing is done; other faults come as from `run_script`.
+pub fn run_record<R: Read + Drop, W: Write, E: Engine>(
+    alloc: Global,
+    script: &mut Script<R>,
+    row: &mut StringRecord,
+    window: u32,
+    accepted: &mut u32,
+    output: &mut W,
+    engine: &mut E,
+) -> Result<bool, Fault>
+    requires some { 0 < window }
+    ensures answers { IfOk result (λ more. Answers E.promise script.old more script.new accepted.old accepted.new engine.old engine.new (W.contents output.old) (W.contents output.new)) }
+    ensures fails { IfErr result (IsUnanswered E.promise window script.old script.new accepted.old engine.old engine.new (W.contents output.old) (W.contents output.new)) }
+    ensures counts { script.new.place < 2 ^ 64 }
+{
+    if !script.next(row)? {
+        return Ok(false);
+    }
+    let Some(verb) = read_verb(row) else {
+        return Err(Fault::BadScript { at: script.place() });
+    };
+    run_verb(alloc, verb, window, accepted, output, engine)?;
+    Ok(true)
+}
+
 /// Runs the records of a script that are left over an engine: prints a line for each command, in the script's order, and
 /// `closed` with the last number at the end, once every accepted command is kept.
+///
+/// The engine is asked for up to `window` slots of a record in one call, 1 or more. What is printed is the same for each
+/// window: a line is printed once its command is kept, and the commands of a call are all kept before the first of their lines.
 ///
 /// A command that is refused has a line `refused`, takes no number and changes nothing, and the script goes on; a
 /// record of slots ends with its first refusal. After 1,048,576 accepted commands each further one is refused as
 /// SessionFull. `BadScript` tells the place, counted from 1, of the first record that has no form; the lines before it
 /// are printed, and its commands stand. After any other fault whole lines are printed, but for the writer's own, and the
-/// command of each of them is carried out and kept; of one command more it isn't known: `InputFailed` says that the
-/// script's reading failed, `OutputFailed` that the writer did, and all others come from the memory or the engine.
+/// command of each of them is carried out and kept; of as many commands more as the window has it isn't known:
+/// `InputFailed` says that the script's reading failed, `OutputFailed` that the writer did, and all others come from the
+/// memory or the engine.
 pub fn run_script<R: Read + Drop, W: Write, E: Engine>(
     alloc: Global,
     script: &mut Script<R>,
+    window: u32,
     output: &mut W,
     engine: &mut E,
 ) -> Result<(), Fault>
-    ensures { Runs E.promise script.old script.new.failed engine.old engine.new (W.contents output.old) (W.contents output.new) result }
+    requires some { 0 < window }
+    ensures { Runs E.promise window script.old script.new.failed engine.old engine.new (W.contents output.old) (W.contents output.new) result }
 {
     let mut row = StringRecord::new(alloc);
     let mut accepted = 0;
     loop {
-        match script.next(&mut row) {
+        match run_record(
+            alloc,
+            script,
+            &mut row,
+            window,
+            &mut accepted,
+            output,
+            engine,
+        ) {
             Ok(true) => {}
             Ok(false) => return close(alloc, output, engine),
             Err(fault) => return Err(fault),
         }
-        let Some(verb) = read_verb(&row) else {
-            return Err(Fault::BadScript { at: script.place() });
-        };
-        run_verb(alloc, verb, &mut accepted, output, engine)?;
     }
 }

@@ -4,7 +4,7 @@ use pfx_fault::{Cause, Fault, Part, Refused, put_fault};
 use std::alloc::Global;
 
 /// A refusal, the exit status and the text, as the table of refusals has them.
-const ROWS: [(Fault, u8, &str); 39] = [
+const ROWS: [(Fault, u8, &str); 40] = [
     (Fault::BadSet, 3, "10 BadSet"),
     (Fault::NoTasks, 3, "11 NoTasks"),
     (Fault::TooManyTasks, 3, "12 TooManyTasks"),
@@ -102,6 +102,7 @@ const ROWS: [(Fault, u8, &str); 39] = [
         "61 StoreFailed marked=0 cause=Memory",
     ),
     (Fault::SessionFull, 4, "64 SessionFull"),
+    (Fault::NoThread, 4, "68 NoThread"),
     (
         Fault::BadScript {
             at: 18446744073709551615,

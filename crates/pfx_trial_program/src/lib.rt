@@ -8,8 +8,9 @@
 //! - `words`: words as a shell passes them, and the texts that answer them.
 //! - `program`: plans of whole set files.
 //! - `scripts`: scripts over a state in memory.
-//! - `shown`: what is printed of a new store, and a state's board.
+//! - `shown`: what is printed of a new store, of a state as its board, and of its jobs.
 //! - `long`: long scripts and plans, a slow writer, and the reading of a store's set.
+//! - `windows`: scripts whose slots are run several at once, up to a refusal or a writer that fails.
 //! - `torn`: a reader that fails, for the others.
 #![tactic(auto)]
 
@@ -31,5 +32,7 @@ mod set_text;
 mod shown;
 #[cfg(test)]
 mod torn;
+#[cfg(test)]
+mod windows;
 #[cfg(test)]
 mod words;

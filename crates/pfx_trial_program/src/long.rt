@@ -32,6 +32,7 @@ fn runs_slots(alloc: Global, script: &[u8], slots: u32) -> bool {
     let end = run_script(
         alloc,
         &mut Script::new(alloc, script),
+        1,
         &mut written,
         &mut state,
     );
@@ -93,6 +94,7 @@ fn is_written_slowly(alloc: Global) -> bool {
     let end = run_script(
         alloc,
         &mut Script::new(alloc, script),
+        1,
         &mut output,
         &mut state,
     );
@@ -150,7 +152,7 @@ fn answers_worked(alloc: Global) -> bool {
     };
     let mut written = Vec::new(alloc);
     let mut script = Script::new(alloc, WORKED.as_bytes());
-    let end = run_script(alloc, &mut script, &mut written, &mut state);
+    let end = run_script(alloc, &mut script, 1, &mut written, &mut state);
     end.is_ok() && written.as_slice() == ANSWERS.as_bytes()
 }
 

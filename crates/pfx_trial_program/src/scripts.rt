@@ -1,10 +1,11 @@
 //! Scripts over a state in memory, and what a failing reader or writer leaves.
 
 use crate::torn::Torn;
+use csv::StringRecord;
 use pfx_fault::Fault;
 use pfx_kinds::any::AnyJob;
 use pfx_machine::State;
-use pfx_program::run_script;
+use pfx_program::{run_record, run_script};
 use pfx_script::Script;
 use pfx_weights::TaskSet;
 use std::alloc::Global;
@@ -34,6 +35,7 @@ fn prints(
     let got = run_script(
         alloc,
         &mut Script::new(alloc, script.as_bytes()),
+        1,
         &mut written,
         state,
     );
@@ -203,8 +205,85 @@ fn runs_up_to_the_tear(alloc: Global, state: &mut State<AnyJob>) -> bool {
         left: b"slot,,,,\nslot,",
     };
     let mut written = Vec::new(alloc);
-    let end = run_script(alloc, &mut Script::new(alloc, input), &mut written, state);
+    let end = run_script(
+        alloc,
+        &mut Script::new(alloc, input),
+        1,
+        &mut written,
+        state,
+    );
     end == Err(Fault::InputFailed) && written.as_slice() == b"1 ran 0: 0 1\n".as_slice()
+}
+
+/// Whether a record is answered by a reader that fails if it is asked for anything behind it, and the next one isn't.
+fn answers_before_it_asks(alloc: Global, state: &mut State<AnyJob>) -> bool {
+    let input = Torn {
+        left: b"slot,,,2,\n",
+    };
+    let mut script = Script::new(alloc, input);
+    let mut row = StringRecord::new(alloc);
+    let mut accepted = 0;
+    let mut written = Vec::new(alloc);
+    let first = run_record(
+        alloc,
+        &mut script,
+        &mut row,
+        1,
+        &mut accepted,
+        &mut written,
+        state,
+    );
+    let answered = written.as_slice() == b"1 ran 0: 0 1\n2 ran 1: 0 2\n".as_slice();
+    let second = run_record(
+        alloc,
+        &mut script,
+        &mut row,
+        1,
+        &mut accepted,
+        &mut written,
+        state,
+    );
+    first == Ok(true) && answered && accepted == 2 && second == Err(Fault::InputFailed)
+}
+
+/// Whether a record at a time is answered, up to the end of the script, which prints nothing.
+fn answers_one_by_one(alloc: Global, state: &mut State<AnyJob>) -> bool {
+    let mut script = Script::new(alloc, b"settle,,,,\nleap,,,,\n".as_slice());
+    let mut row = StringRecord::new(alloc);
+    let mut accepted = 0;
+    let mut written = Vec::new(alloc);
+    let mut ended = Vec::new(alloc);
+    for _ in 0..3 {
+        let end = run_record(
+            alloc,
+            &mut script,
+            &mut row,
+            16,
+            &mut accepted,
+            &mut written,
+            state,
+        );
+        if ended.push(end).is_err() {
+            return false;
+        }
+    }
+    let want = [Ok(true), Err(Fault::BadScript { at: 2 }), Ok(false)];
+    ended.as_slice() == want.as_slice() && written.as_slice() == b"settled 0\n".as_slice()
+}
+
+/// Whether both are so.
+fn answers_records(alloc: Global) -> bool {
+    match (thirds(alloc), thirds(alloc)) {
+        (Some(mut first), Some(mut second)) => {
+            answers_before_it_asks(alloc, &mut first) && answers_one_by_one(alloc, &mut second)
+        }
+        _ => false,
+    }
+}
+
+#[test]
+fn records_are_answered_one_by_one(rt: HostRuntime) {
+    assert!(rt; answers_records(rt.alloc()));
 }
 
 /// Whether a script whose lines are no longer taken has written their beginning.
@@ -216,6 +295,7 @@ fn writes_the_beginning(alloc: Global, state: &mut State<AnyJob>) -> bool {
     let end = run_script(
         alloc,
         &mut Script::new(alloc, WEEK.as_bytes()),
+        1,
         &mut output,
         state,
     );

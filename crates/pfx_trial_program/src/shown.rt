@@ -1,8 +1,11 @@
-//! What is printed of a new store, and a state's board.
+//! What is printed of a new store, a state's board, and what its jobs have computed.
 
 use crate::scripts::thirds;
-use pfx_machine::Command;
-use pfx_program::{created_line, run_status};
+use pfx_fault::Fault;
+use pfx_kinds::any::AnyJob;
+use pfx_machine::{Command, State};
+use pfx_program::{created_line, run_script, run_show, run_status};
+use pfx_script::Script;
 use pfx_weights::TaskSet;
 use std::alloc::Global;
 
@@ -49,4 +52,48 @@ fn shows_first_slot(alloc: Global) -> bool {
 #[test]
 fn shows_the_board(rt: HostRuntime) {
     assert!(rt; shows_first_slot(rt.alloc()));
+}
+
+/// Two jobs and three slots.
+const WEEK: &str = "submit,0,count,100,10
+submit,1,rule,3,110:00000001
+slot,,,3,
+";
+
+const JOBS: &str = "0 count left=98 value=12
+1 rule left=1 rule=110 cells=00000111
+";
+
+/// Whether this is shown of all jobs of a state, or of one.
+fn has_jobs(alloc: Global, state: &State<AnyJob>, task: Option<u16>, text: &str) -> bool {
+    let mut written = Vec::new(alloc);
+    run_show(alloc, &mut written, state, task).is_ok() && written.as_slice() == text.as_bytes()
+}
+
+/// Whether nothing is shown of a task, for this reason.
+fn has_none(alloc: Global, state: &State<AnyJob>, task: u16, fault: Fault) -> bool {
+    let mut written = Vec::new(alloc);
+    let end = run_show(alloc, &mut written, state, Some(task));
+    end == Err(fault) && written.is_empty()
+}
+
+/// Whether what two jobs have computed is shown, and what a task without a job has isn't.
+fn shows_two_jobs(alloc: Global) -> bool {
+    let Some(mut state) = thirds(alloc) else {
+        return false;
+    };
+    let mut script = Script::new(alloc, WEEK.as_bytes());
+    let mut lines = Vec::new(alloc);
+    if run_script(alloc, &mut script, 1, &mut lines, &mut state).is_err() {
+        return false;
+    }
+    has_jobs(alloc, &state, None, JOBS)
+        && has_jobs(alloc, &state, Some(0), "0 count left=98 value=12\n")
+        && has_none(alloc, &state, 2, Fault::NoJob { task: 2 })
+        && has_none(alloc, &state, 3, Fault::NoSuchTask { task: 3 })
+}
+
+#[test]
+fn shows_what_jobs_have_computed(rt: HostRuntime) {
+    assert!(rt; shows_two_jobs(rt.alloc()));
 }

@@ -92,32 +92,67 @@ fn reads_a_new_store(rt: HostRuntime) {
 
 #[test]
 fn reads_a_run(rt: HostRuntime) {
+    // The words, the number of workers, and how many slots are kept at once.
     let rows = [
-        (["pfx", "run", "a.pfx", "a.csv"].as_slice(), None),
+        (["pfx", "run", "a.pfx", "a.csv"].as_slice(), None, None),
         (
             ["pfx", "run", "a.pfx", "a.csv", "--workers", "0"].as_slice(),
             Some(0),
+            None,
         ),
         (
             ["pfx", "run", "a.pfx", "--workers=64", "a.csv"].as_slice(),
             Some(64),
+            None,
         ),
         (
             ["pfx", "run", "--workers", "007", "--", "a.pfx", "a.csv"].as_slice(),
             Some(7),
+            None,
         ),
         (
             ["pfx", "run", "--workers=+2", "a.pfx", "a.csv"].as_slice(),
             Some(2),
+            None,
+        ),
+        (
+            ["pfx", "run", "a.pfx", "a.csv", "--batch", "16"].as_slice(),
+            None,
+            Some(16),
+        ),
+        (
+            ["pfx", "run", "--batch=1", "a.pfx", "--workers=0", "a.csv"].as_slice(),
+            Some(0),
+            Some(1),
         ),
     ];
-    for (words, workers) in rows {
+    for (words, workers, batch) in rows {
         let want = Request::Run {
             file: "a.pfx",
             script: "a.csv",
             workers,
+            batch,
         };
-        assert!(rt; asks(rt.alloc(), words, want), "{workers:?} workers");
+        assert!(rt;
+            asks(rt.alloc(), words, want),
+            "{workers:?} workers, {batch:?} at once"
+        );
+    }
+}
+
+#[test]
+fn reads_a_show(rt: HostRuntime) {
+    let rows = [
+        (["pfx", "show", "a.pfx"].as_slice(), None),
+        (["pfx", "show", "a.pfx", "0"].as_slice(), Some(0)),
+        (["pfx", "show", "a.pfx", "65535"].as_slice(), Some(65_535)),
+    ];
+    for (words, task) in rows {
+        let want = Request::Show {
+            file: "a.pfx",
+            task,
+        };
+        assert!(rt; asks(rt.alloc(), words, want), "{task:?}");
     }
 }
 
@@ -130,6 +165,18 @@ fn reads_a_status(rt: HostRuntime) {
     ];
     for (words, file) in rows {
         assert!(rt; asks(rt.alloc(), words, Request::Status { file }), "{file}");
+    }
+}
+
+#[test]
+fn reads_a_replay(rt: HostRuntime) {
+    let rows = [
+        (["pfx", "replay", "a.pfx"].as_slice(), "a.pfx"),
+        (["pfx", "replay", "replay"].as_slice(), "replay"),
+        (["pfx", "replay", "--", "--help"].as_slice(), "--help"),
+    ];
+    for (words, file) in rows {
+        assert!(rt; asks(rt.alloc(), words, Request::Replay { file }), "{file}");
     }
 }
 
@@ -149,11 +196,11 @@ fn says_which_subcommands_there_are(rt: HostRuntime) {
     let rows = [
         (
             ["pfx"].as_slice(),
-            "[subcommands: plan, init, run, status, help]",
+            "[subcommands: plan, init, run, status, replay, show, help]",
         ),
         (
             [].as_slice(),
-            "[subcommands: plan, init, run, status, help]",
+            "[subcommands: plan, init, run, status, replay, show, help]",
         ),
         (
             ["pfx", "paln", "a.toml", "4"].as_slice(),
@@ -246,6 +293,14 @@ fn wants_the_words_of_a_store(rt: HostRuntime) {
             "unexpected argument '--workers' found",
         ),
         (
+            ["pfx", "replay"].as_slice(),
+            "<FILE>\n\nUsage: pfx replay <FILE>",
+        ),
+        (
+            ["pfx", "replay", "a.pfx", "b.pfx"].as_slice(),
+            "unexpected argument 'b.pfx' found",
+        ),
+        (
             ["pfx", "statsu", "a.pfx"].as_slice(),
             "a similar subcommand exists: 'status'",
         ),
@@ -318,6 +373,7 @@ fn answers_with_help_and_version(rt: HostRuntime) {
             "How many slots to print, 0 to 1048576",
         ),
         (["pfx", "--help"].as_slice(), "  pfx status thirds.pfx "),
+        (["pfx", "--help"].as_slice(), "  pfx replay thirds.pfx "),
         (
             ["pfx", "run", "-h"].as_slice(),
             "      --workers <N>  How many",
@@ -345,6 +401,9 @@ fn has_a_help_page_for_each(rt: HostRuntime) {
         ("status", "Usage: pfx status <FILE>\n"),
         ("status", "  0 alloc=1 lag=-1/3 job=none\n"),
         ("status", "  pfx status thirds.pfx "),
+        ("replay", "Usage: pfx replay <FILE>\n"),
+        ("replay", "  differs 10 Checkpoint "),
+        ("replay", "  pfx replay thirds.pfx "),
     ];
     for (name, part) in rows {
         let words = ["pfx", name, "--help"];
@@ -352,5 +411,30 @@ fn has_a_help_page_for_each(rt: HostRuntime) {
             is_answered(rt.alloc(), words.as_slice(), 0, part),
             "{part}"
         );
+    }
+}
+
+#[test]
+fn takes_batches_of_1_to_16(rt: HostRuntime) {
+    // The words behind the two paths, and the answer.
+    let rows = [
+        (["--batch", "0"].as_slice(), "0 is not in 1..=16"),
+        (["--batch=17"].as_slice(), "17 is not in 1..=16"),
+        (["--batch=-1"].as_slice(), "-1 is not in 1..=16"),
+        (
+            ["--batch", "two"].as_slice(),
+            "invalid value 'two' for '--batch <N>'",
+        ),
+        (
+            ["--batch"].as_slice(),
+            "a value is required for '--batch <N>' but none was supplied",
+        ),
+        (
+            ["--batch=2", "--workers=0", "--batch=2"].as_slice(),
+            "the argument '--batch <N>' cannot be used multiple times",
+        ),
+    ];
+    for (behind, part) in rows {
+        assert!(rt; is_run_answered(rt.alloc(), behind, part), "{part}");
     }
 }

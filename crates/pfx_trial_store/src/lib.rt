@@ -10,6 +10,7 @@
 //! | `scripts` | `pfx_engine`: scripts over stores, on disks in memory, in a file, and on ones that fail |
 //! | `stops` | `pfx_engine`: stops behind each call, and where frames go |
 //! | `turns` | `pfx_engine`: turns and checkpoints, and stops behind each call of sixty slots |
+//! | `windows` | `pfx_engine`: scripts whose slots share frames, on disks in memory, on ones that fail, and stopped behind each call |
 //!
 //! A case is a plain `bool`; `check`, `check_at` and `check_pair` name the one that doesn't hold.
 #![tactic(auto)]
@@ -34,3 +35,5 @@ mod scripts;
 mod stops;
 #[cfg(test)]
 mod turns;
+#[cfg(test)]
+mod windows;

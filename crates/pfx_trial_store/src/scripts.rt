@@ -25,6 +25,7 @@ fn prints<D: Disk>(
     let answer = run_script(
         alloc,
         &mut Script::new(alloc, script.as_bytes()),
+        1,
         &mut written,
         engine,
     );
@@ -151,6 +152,7 @@ fn segments_are_turned(rt: HostRuntime) {
     let end = run_script(
         alloc,
         &mut Script::new(alloc, b"slot,,,800,\n".as_slice()),
+        1,
         &mut written,
         &mut engine,
     );

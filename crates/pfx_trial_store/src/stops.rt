@@ -49,7 +49,13 @@ fn has_first_job(engine: &DurableEngine<MemoryDisk>, cells: u8, left: u32) -> bo
 }
 
 /// How many commands survive a stop so many calls behind the making.
-fn survivors(alloc: Global, disk: &MemoryDisk, made: u64, calls: u64, fate: Fate) -> Option<u64> {
+pub fn survivors(
+    alloc: Global,
+    disk: &MemoryDisk,
+    made: u64,
+    calls: u64,
+    fate: Fate,
+) -> Option<u64> {
     let after = made.saturating_add(calls);
     if after > disk.clock() {
         return None;
@@ -60,7 +66,7 @@ fn survivors(alloc: Global, disk: &MemoryDisk, made: u64, calls: u64, fate: Fate
 
 /// How many commands of four calls each are kept by so many. The gate is the fourth call but one: until its sync it may
 /// stand open or closed.
-fn kept_by(calls: u64, fate: Fate) -> u64 {
+pub fn kept_by(calls: u64, fate: Fate) -> u64 {
     let is_open = matches!(fate, Fate::Kept | Fate::Filled(0xc3));
     calls / 4 + u64::from(calls % 4 == 3 && is_open)
 }

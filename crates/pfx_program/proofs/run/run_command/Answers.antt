@@ -12,7 +12,7 @@ returns-in_err-put_refused-clause-err g c =
     let P = g.E.Engine.promise in
     let is : c.from_residual.result ≡ Err c.in_err-put_refused.field-0.0 = search rules in
     let step : command_step (run_of P c.args.engine.now c.args.accepted.now) c.args.command ≡ refused fault.SessionFull = search rules in
-    rw is (subst (λ (x : Step). Stopped P ⊥ (x ∷ []) c.args.engine.now c.args.engine.now (g.W.Write.contents c.args.output.now) (g.W.Write.contents c.put_refused.new.output) c.in_err-put_refused.field-0.0) (sym step)
+    rw is (subst (λ (x : Step). Stopped P 1 ⊥ (x ∷ []) c.args.engine.now c.args.engine.now (g.W.Write.contents c.args.output.now) (g.W.Write.contents c.put_refused.new.output) c.in_err-put_refused.field-0.0) (sym step)
     (shown_stopped P g.met.E.Engine.laws (refused fault.SessionFull).text c.args.engine.now c.args.engine.now (g.W.Write.contents c.args.output.now) (g.W.Write.contents c.put_refused.new.output) c.in_err-put_refused.field-0.0
     (same P g.met.E.Engine.laws c.args.engine.now) c.in_err-put_refused.ensures.err))
 
@@ -31,7 +31,7 @@ returns-in_err-put_reply-in-Ok-clause-err g c =
     let done = c.in-Ok.ensures.done in
     let accepted = done.accepted in
     let step : command_step (run_of P c.args.engine.now c.args.accepted.now) c.args.command ≡ record { text = reply_line ((P.state c.args.engine.now).number + 1) c.in-Ok.said; command = Some c.args.command } = search rules in
-    rw is (subst (λ (x : Step). Stopped P ⊥ (x ∷ []) c.args.engine.now c.call.new.self (g.W.Write.contents c.args.output.now) (g.W.Write.contents c.put_reply.new.output) c.in_err-put_reply-in-Ok.field-0.0) (sym step)
+    rw is (subst (λ (x : Step). Stopped P 1 ⊥ (x ∷ []) c.args.engine.now c.call.new.self (g.W.Write.contents c.args.output.now) (g.W.Write.contents c.put_reply.new.output) c.in_err-put_reply-in-Ok.field-0.0) (sym step)
     (done_stopped P g.met.E.Engine.laws c.args.command c.in-Ok.number c.in-Ok.said c.args.engine.now c.call.new.self (g.W.Write.contents c.args.output.now) (g.W.Write.contents c.put_reply.new.output)
     c.in_err-put_reply-in-Ok.field-0.0 done c.in_err-put_reply-in-Ok.ensures.err))
 
@@ -41,7 +41,7 @@ returns-in_err-put_refused-in-Err-Refused-clause-err g c =
     let is : c.from_residual-in_err-put_refused-in-Err-Refused.result ≡ Err c.in_err-put_refused-in-Err-Refused.field-0.0 = search rules in
     let (why, kept, settled) = rw c.in-Err-Refused.field-0-is at c.in-Err-Refused.ensures.not_done in
     let step : command_step (run_of P c.args.engine.now c.args.accepted.now) c.args.command ≡ refused (fault_of_machine c.in-Err-Refused.fault) = search rules in
-    rw is (subst (λ (x : Step). Stopped P ⊥ (x ∷ []) c.args.engine.now c.call.new.self (g.W.Write.contents c.args.output.now) (g.W.Write.contents c.put_refused-in-Err-Refused.new.output) c.in_err-put_refused-in-Err-Refused.field-0.0)
+    rw is (subst (λ (x : Step). Stopped P 1 ⊥ (x ∷ []) c.args.engine.now c.call.new.self (g.W.Write.contents c.args.output.now) (g.W.Write.contents c.put_refused-in-Err-Refused.new.output) c.in_err-put_refused-in-Err-Refused.field-0.0)
     (sym step) (shown_stopped P g.met.E.Engine.laws (refused (fault_of_machine c.in-Err-Refused.fault)).text c.args.engine.now c.call.new.self (g.W.Write.contents c.args.output.now)
     (g.W.Write.contents c.put_refused-in-Err-Refused.new.output) c.in_err-put_refused-in-Err-Refused.field-0.0 kept (rw c.machine_fault.ensures at c.in_err-put_refused-in-Err-Refused.ensures.err)))
 

@@ -1,53 +1,51 @@
-use Rattle.std.proofs.Common.{rules, ◌≡◌, ◌-◌, ◌+◌, Err, true, false, arith}
-use Rattle.pfx_machine.specs.declared.command.Command.TheVariants.{Slot}
-use Rattle.pfx_program.specs.Script.{slot_steps, command_step, is_carried}
+use Rattle.std.proofs.Common.{rules, ◌≡◌, ◌<◌, Err, arith}
+use Rattle.pfx_program.specs.Script.{slot_steps}
 use Rattle.pfx_program.specs.Running.{run_of}
-use Rattle.pfx_program.proofs.SlotLemmas.{slots_start, slot_goes, slot_stops, slot_fails, slots_over}
+use Rattle.pfx_program.proofs.SlotLemmas.{slots_start, window_goes, window_ends, window_fails, slots_over}
 use Rattle.pfx_program.proofs.run.run_slots.Goals as goal
 
-pub loop-init : goal.loop-init
-loop-init g c = slots_start g.E.Engine.promise g.met.E.Engine.laws c.args.engine.now c.args.accepted.now c.args.count (c.args.count - 0) (g.W.Write.contents c.args.output.now) (omega arith)
+pub loop-left-init : goal.loop-left-init
+loop-left-init g c = slots_start g.E.Engine.promise g.met.E.Engine.laws c.args.engine.now c.args.accepted.now c.args.count (g.W.Write.contents c.args.output.now)
 
-pub returns-in_err-run_command-clause-err : goal.returns-in_err-run_command-clause-err
-returns-in_err-run_command-clause-err g c =
+pub returns-in_err-ran-clause-err : goal.returns-in_err-ran-clause-err
+returns-in_err-ran-clause-err g c =
     let P = g.E.Engine.promise in
-    let is : c.from_residual.result ≡ Err c.in_err-run_command.field-0.0 = search rules in
-    rw is (slot_fails P g.met.E.Engine.laws (slot_steps (run_of P c.args.engine.now c.args.accepted.now) c.args.count) c.args.engine.now c.loop.engine c.run_command.new.engine c.args.accepted.now c.loop.accepted
-    (c.args.count - c.loop.counter) (c.args.count - (c.loop.counter + 1)) (g.W.Write.contents c.args.output.now) (g.W.Write.contents c.loop.output) (g.W.Write.contents c.run_command.new.output)
-    c.in_err-run_command.field-0.0 (omega arith) c.loop.invariant c.in_err-run_command.ensures.err)
+    let is : c.from_residual.result ≡ Err c.in_err-ran.field-0.0 = search rules in
+    rw is (window_fails P g.met.E.Engine.laws (slot_steps (run_of P c.args.engine.now c.args.accepted.now) c.args.count) c.args.engine.now c.loop-left.engine c.run_window.new.engine c.args.accepted.now c.loop-left.accepted
+    c.loop-left.left (g.W.Write.contents c.args.output.now) (g.W.Write.contents c.loop-left.output) (g.W.Write.contents c.run_window.new.output) c.in_err-ran.field-0.0 c.loop-left.invariant c.in_err-ran.ensures.err)
 
-pub returns-then-not-branch-clause-ok : goal.returns-then-not-branch-clause-ok
-returns-then-not-branch-clause-ok g c =
+pub returns-then-ran-eq0-clause-ok : goal.returns-then-ran-eq0-clause-ok
+returns-then-ran-eq0-clause-ok g c =
     let P = g.E.Engine.promise in
-    let told : false ≡ is_carried (command_step (run_of P c.loop.engine c.loop.accepted) Slot) = rw c.if-not-branch.true at c.in_ok-run_command.ensures.told in
-    (slot_stops P g.met.E.Engine.laws (slot_steps (run_of P c.args.engine.now c.args.accepted.now) c.args.count) c.args.engine.now c.loop.engine c.run_command.new.engine c.args.accepted.now c.loop.accepted
-    c.run_command.new.accepted (c.args.count - c.loop.counter) (c.args.count - (c.loop.counter + 1)) (g.W.Write.contents c.args.output.now) (g.W.Write.contents c.loop.output)
-    (g.W.Write.contents c.run_command.new.output) (omega arith) c.loop.invariant c.in_ok-run_command.ensures.ok told c.in_ok-run_command.ensures.counts).0
+    let none : c.in_ok-ran.ran ≡ 0 = search rules in
+    (window_ends P g.met.E.Engine.laws (slot_steps (run_of P c.args.engine.now c.args.accepted.now) c.args.count) c.args.engine.now c.loop-left.engine c.run_window.new.engine c.args.accepted.now c.loop-left.accepted
+    c.run_window.new.accepted c.loop-left.left c.in_ok-ran.ran (g.W.Write.contents c.args.output.now) (g.W.Write.contents c.loop-left.output) (g.W.Write.contents c.run_window.new.output) c.loop-left.invariant
+    c.in_ok-ran.ensures.ok none c.in_ok-ran.ensures.counts).0
 
-pub returns-then-not-branch-clause-counts : goal.returns-then-not-branch-clause-counts
-returns-then-not-branch-clause-counts g c =
+pub returns-then-ran-eq0-clause-counts : goal.returns-then-ran-eq0-clause-counts
+returns-then-ran-eq0-clause-counts g c =
     let P = g.E.Engine.promise in
-    let told : false ≡ is_carried (command_step (run_of P c.loop.engine c.loop.accepted) Slot) = rw c.if-not-branch.true at c.in_ok-run_command.ensures.told in
-    (slot_stops P g.met.E.Engine.laws (slot_steps (run_of P c.args.engine.now c.args.accepted.now) c.args.count) c.args.engine.now c.loop.engine c.run_command.new.engine c.args.accepted.now c.loop.accepted
-    c.run_command.new.accepted (c.args.count - c.loop.counter) (c.args.count - (c.loop.counter + 1)) (g.W.Write.contents c.args.output.now) (g.W.Write.contents c.loop.output)
-    (g.W.Write.contents c.run_command.new.output) (omega arith) c.loop.invariant c.in_ok-run_command.ensures.ok told c.in_ok-run_command.ensures.counts).1
+    let none : c.in_ok-ran.ran ≡ 0 = search rules in
+    (window_ends P g.met.E.Engine.laws (slot_steps (run_of P c.args.engine.now c.args.accepted.now) c.args.count) c.args.engine.now c.loop-left.engine c.run_window.new.engine c.args.accepted.now c.loop-left.accepted
+    c.run_window.new.accepted c.loop-left.left c.in_ok-ran.ran (g.W.Write.contents c.args.output.now) (g.W.Write.contents c.loop-left.output) (g.W.Write.contents c.run_window.new.output) c.loop-left.invariant
+    c.in_ok-ran.ensures.ok none c.in_ok-ran.ensures.counts).1
 
-pub loop-preserved : goal.loop-preserved
-loop-preserved g c =
+pub loop-left-preserved : goal.loop-left-preserved
+loop-left-preserved g c =
     let P = g.E.Engine.promise in
-    let told : true ≡ is_carried (command_step (run_of P c.loop.engine c.loop.accepted) Slot) = rw c.if-not-branch.false at c.in_ok-run_command.ensures.told in
-    slot_goes P g.met.E.Engine.laws (slot_steps (run_of P c.args.engine.now c.args.accepted.now) c.args.count) c.args.engine.now c.loop.engine c.run_command.new.engine c.args.accepted.now c.loop.accepted
-    c.run_command.new.accepted (c.args.count - c.loop.counter) (c.args.count - (c.loop.counter + 1)) (g.W.Write.contents c.args.output.now) (g.W.Write.contents c.loop.output)
-    (g.W.Write.contents c.run_command.new.output) (omega arith) c.loop.invariant c.in_ok-run_command.ensures.ok told c.in_ok-run_command.ensures.counts
+    let some : 0 < c.in_ok-ran.ran = search rules in
+    window_goes P g.met.E.Engine.laws (slot_steps (run_of P c.args.engine.now c.args.accepted.now) c.args.count) c.args.engine.now c.loop-left.engine c.run_window.new.engine c.args.accepted.now c.loop-left.accepted
+    c.run_window.new.accepted c.loop-left.left c.in_ok-ran.ran (g.W.Write.contents c.args.output.now) (g.W.Write.contents c.loop-left.output) (g.W.Write.contents c.run_window.new.output) c.loop-left.invariant
+    c.in_ok-ran.ensures.ok some c.in_ok-ran.ensures.counts
 
 pub returns-clause-ok : goal.returns-clause-ok
 returns-clause-ok g c =
     let P = g.E.Engine.promise in
-    (slots_over P g.met.E.Engine.laws (slot_steps (run_of P c.args.engine.now c.args.accepted.now) c.args.count) c.args.engine.now c.loop.engine c.args.accepted.now c.loop.accepted (c.args.count - c.loop.counter)
-    (g.W.Write.contents c.args.output.now) (g.W.Write.contents c.loop.output) (omega arith) c.loop.invariant).0
+    (slots_over P g.met.E.Engine.laws (slot_steps (run_of P c.args.engine.now c.args.accepted.now) c.args.count) c.args.engine.now c.loop-left.engine c.args.accepted.now c.loop-left.accepted c.loop-left.left
+    (g.W.Write.contents c.args.output.now) (g.W.Write.contents c.loop-left.output) (omega (arith, c.loop-left-test.false)) c.loop-left.invariant).0
 
 pub returns-clause-counts : goal.returns-clause-counts
 returns-clause-counts g c =
     let P = g.E.Engine.promise in
-    (slots_over P g.met.E.Engine.laws (slot_steps (run_of P c.args.engine.now c.args.accepted.now) c.args.count) c.args.engine.now c.loop.engine c.args.accepted.now c.loop.accepted (c.args.count - c.loop.counter)
-    (g.W.Write.contents c.args.output.now) (g.W.Write.contents c.loop.output) (omega arith) c.loop.invariant).1
+    (slots_over P g.met.E.Engine.laws (slot_steps (run_of P c.args.engine.now c.args.accepted.now) c.args.count) c.args.engine.now c.loop-left.engine c.args.accepted.now c.loop-left.accepted c.loop-left.left
+    (g.W.Write.contents c.args.output.now) (g.W.Write.contents c.loop-left.output) (omega (arith, c.loop-left-test.false)) c.loop-left.invariant).1

@@ -18,6 +18,6 @@ pub returns-in-Err-clause-err : goal.returns-in-Err-clause-err
 returns-in-Err-clause-err g c =
     let P = g.E.Engine.promise in
     let step : submitted (run_of P c.args.engine.now c.args.accepted.now) c.args.task c.args.job ≡ refused (fault_of_start c.in-Err.fault) = search rules in
-    subst (λ (x : Step). IfErr c.put_refused.result (Stopped P ⊥ (x ∷ []) c.args.engine.now c.args.engine.now (g.W.Write.contents c.args.output.now) (g.W.Write.contents c.put_refused.new.output))) (sym step)
+    subst (λ (x : Step). IfErr c.put_refused.result (Stopped P 1 ⊥ (x ∷ []) c.args.engine.now c.args.engine.now (g.W.Write.contents c.args.output.now) (g.W.Write.contents c.put_refused.new.output))) (sym step)
     (if_stopped P g.met.E.Engine.laws (refused_line (fault_of_start c.in-Err.fault)) c.args.engine.now c.args.engine.now (g.W.Write.contents c.args.output.now) (g.W.Write.contents c.put_refused.new.output)
     c.put_refused.result (same P g.met.E.Engine.laws c.args.engine.now) (rw c.start_fault.ensures at c.put_refused.ensures.err))

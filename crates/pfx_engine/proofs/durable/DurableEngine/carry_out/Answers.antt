@@ -1,4 +1,4 @@
-use Rattle.std.proofs.Common.{◌≡◌, refl, [], ◌∷◌, map, None, Some, sym, ◌∙◌, ap, subst}
+use Rattle.std.proofs.Common.{◌≡◌, ◌+◌, refl, [], ◌∷◌, map, None, Some, sym, ◌∙◌, ap, subst}
 use Rattle.std.proofs.lemmas.Bool.{true≢false}
 use Rattle.pfx_effect.specs.Recording.{record_of}
 use Rattle.pfx_kinds.specs.AnyKind.{any_kind}
@@ -9,7 +9,8 @@ use Rattle.pfx_machine.specs.declared.command.Command.{Command}
 use Rattle.pfx_machine.specs.Refusals.{refusal}
 use Rattle.pfx_machine.proofs.Compose.{outcome-none}
 use Rattle.pfx_record.specs.Records.{plain}
-use Rattle.pfx_engine.specs.Surviving.{IsRecordOf}
+use Rattle.pfx_journal.specs.Groups.{AreRecordsOf}
+use Rattle.pfx_engine.proofs.Commands.{one_record}
 use Rattle.pfx_engine.proofs.Keeps.{keeps_more, worked}
 use Rattle.pfx_engine.specs.Stepping.{command_calls, frame_len}
 use Rattle.pfx_engine.proofs.Serving.{endless_after, limits_refuse}
@@ -19,16 +20,16 @@ use Rattle.std.specs.Prelude.{IsOk}
 use Rattle.pfx_engine.proofs.durable.DurableEngine.carry_out.Goals as goal
 
 pub returns-then-is_broken-clause-keeps : goal.returns-then-is_broken-clause-keeps
-returns-then-is_broken-clause-keeps g c honest start H h all at = keeps_more start H c.args.command (g.D.Disk.view c.args.self.now.store.file.disk)
+returns-then-is_broken-clause-keeps g c honest start H h all at = keeps_more start H (c.args.command ∷ []) (g.D.Disk.view c.args.self.now.store.file.disk)
 
 pub returns-in_default-clause-keeps : goal.returns-in_default-clause-keeps
-returns-in_default-clause-keeps g c honest start H h all at = keeps_more start H c.args.command (g.D.Disk.view c.args.self.now.store.file.disk)
+returns-in_default-clause-keeps g c honest start H h all at = keeps_more start H (c.args.command ∷ []) (g.D.Disk.view c.args.self.now.store.file.disk)
 
 pub returns-in-Err-clause-keeps : goal.returns-in-Err-clause-keeps
-returns-in-Err-clause-keeps g c honest start H h all at = keeps_more start H c.args.command (g.D.Disk.view c.args.self.now.store.file.disk)
+returns-in-Err-clause-keeps g c honest start H h all at = keeps_more start H (c.args.command ∷ []) (g.D.Disk.view c.args.self.now.store.file.disk)
 
 pub returns-in-Err-2-clause-keeps : goal.returns-in-Err-2-clause-keeps
-returns-in-Err-2-clause-keeps g c honest start H h all at = keeps_more start H c.args.command (g.D.Disk.view c.args.self.now.store.file.disk)
+returns-in-Err-2-clause-keeps g c honest start H h all at = keeps_more start H (c.args.command ∷ []) (g.D.Disk.view c.args.self.now.store.file.disk)
 
 pub invariant_of-self-in-Ok-run_recorded : goal.invariant_of-self-in-Ok-run_recorded
 invariant_of-self-in-Ok-run_recorded g c = record {
@@ -36,28 +37,31 @@ invariant_of-self-in-Ok-run_recorded g c = record {
       let before = sym c.is_broken.ensures.broken ∙ c.if-is_broken.false in
       let at = c.args.self.now.same before in
       let done = c.in-Ok-run_recorded.ensures in
-      let mine : IsRecordOf c.args.self.now.store.state c.args.command (map plain c.push_reserved.new.self.items) =
-      (subst (λ (t : Plain AnyJob). refusal any_kind t c.args.command ≡ None) at done.exact, rw (c.push_reserved.ensures.items, c.in-Ok.ensures.items) (ap (λ r. r ∷ []) (done.kept_as ∙ ap (λ (t : Plain AnyJob). record_of any_kind t c.args.command) at))) in
+      let mine : AreRecordsOf any_kind c.args.self.now.store.state (c.args.command ∷ []) (map plain c.push_reserved.new.self.items) =
+      one_record c.args.self.now.store.state c.args.command (map plain c.push_reserved.new.self.items) (subst (λ (t : Plain AnyJob). refusal any_kind t c.args.command ≡ None) at done.exact)
+      (rw (c.push_reserved.ensures.items, c.in-Ok.ensures.items) (ap (λ r. r ∷ []) (done.kept_as ∙ ap (λ (t : Plain AnyJob). record_of any_kind t c.args.command) at))) in
       done.outcome c.args.self.now.state [] (sym (outcome-none any_kind c.args.self.now.state))
       ∙ (ap (λ (t : Plain AnyJob). outcome any_kind t (c.args.command ∷ [])) at
-      ∙ sym (worked c.keep.result _ _ _ _ c.keep.ensures.works c.keep.ensures.room before whole (c.keep.ensures.state c.args.command mine)));
+      ∙ sym (worked c.keep.result _ _ _ _ c.keep.ensures.works c.keep.ensures.room before whole (c.keep.ensures.state (c.args.command ∷ []) mine)));
 }
 
 pub returns-in-Ok-keep-clause-keeps : goal.returns-in-Ok-keep-clause-keeps
 returns-in-Ok-keep-clause-keeps g c honest start H h all there =
     let at = c.args.self.now.same (sym c.is_broken.ensures.broken ∙ c.if-is_broken.false) in
     let done = c.in-Ok-run_recorded.ensures in
-    let mine : IsRecordOf c.args.self.now.store.state c.args.command (map plain c.push_reserved.new.self.items) =
-    (subst (λ (t : Plain AnyJob). refusal any_kind t c.args.command ≡ None) at done.exact, rw (c.push_reserved.ensures.items, c.in-Ok.ensures.items) (ap (λ r. r ∷ []) (done.kept_as ∙ ap (λ (t : Plain AnyJob). record_of any_kind t c.args.command) at))) in
-    c.keep.ensures.keeps honest start H c.args.command h all there mine
+    let mine : AreRecordsOf any_kind c.args.self.now.store.state (c.args.command ∷ []) (map plain c.push_reserved.new.self.items) =
+    one_record c.args.self.now.store.state c.args.command (map plain c.push_reserved.new.self.items) (subst (λ (t : Plain AnyJob). refusal any_kind t c.args.command ≡ None) at done.exact)
+    (rw (c.push_reserved.ensures.items, c.in-Ok.ensures.items) (ap (λ r. r ∷ []) (done.kept_as ∙ ap (λ (t : Plain AnyJob). record_of any_kind t c.args.command) at))) in
+    c.keep.ensures.keeps honest start H (c.args.command ∷ []) h all there mine
 
 pub returns-clause-keeps : goal.returns-clause-keeps
 returns-clause-keeps g c honest start H h all there =
     let at = c.args.self.now.same (sym c.is_broken.ensures.broken ∙ c.if-is_broken.false) in
     let done = c.in-Ok-run_recorded.ensures in
-    let mine : IsRecordOf c.args.self.now.store.state c.args.command (map plain c.push_reserved.new.self.items) =
-    (subst (λ (t : Plain AnyJob). refusal any_kind t c.args.command ≡ None) at done.exact, rw (c.push_reserved.ensures.items, c.in-Ok.ensures.items) (ap (λ r. r ∷ []) (done.kept_as ∙ ap (λ (t : Plain AnyJob). record_of any_kind t c.args.command) at))) in
-    c.keep.ensures.keeps honest start H c.args.command h all there mine
+    let mine : AreRecordsOf any_kind c.args.self.now.store.state (c.args.command ∷ []) (map plain c.push_reserved.new.self.items) =
+    one_record c.args.self.now.store.state c.args.command (map plain c.push_reserved.new.self.items) (subst (λ (t : Plain AnyJob). refusal any_kind t c.args.command ≡ None) at done.exact)
+    (rw (c.push_reserved.ensures.items, c.in-Ok.ensures.items) (ap (λ r. r ∷ []) (done.kept_as ∙ ap (λ (t : Plain AnyJob). record_of any_kind t c.args.command) at))) in
+    c.keep.ensures.keeps honest start H (c.args.command ∷ []) h all there mine
 
 pub returns-in-Ok-keep-clause-endless : goal.returns-in-Ok-keep-clause-endless
 returns-in-Ok-keep-clause-endless g c = λ endless.
@@ -72,33 +76,56 @@ returns-in-Err-2-clause-served g c = λ endless slot.
     limits_refuse s c.in-Err.fault c.number-number.ensures.state endless (subst (λ (d : Command AnyJob). refusal any_kind s d ≡ Some c.in-Err.fault) slot refused))
 
 pub returns-then-is_broken-clause-calls : goal.returns-then-is_broken-clause-calls
-returns-then-is_broken-clause-calls g c = takes_no_call (command_calls (frame_len c.args.self.now.state c.args.command) c.args.self.now.store.file.places) (g.D.Disk.view c.args.self.now.store.file.disk) _
+returns-then-is_broken-clause-calls g c = takes_no_call (command_calls (frame_len c.args.self.now.state (c.args.command ∷ [])) c.args.self.now.store.file.places) (g.D.Disk.view c.args.self.now.store.file.disk) _
 
 pub returns-in_default-clause-calls : goal.returns-in_default-clause-calls
-returns-in_default-clause-calls g c = takes_no_call (command_calls (frame_len c.args.self.now.state c.args.command) c.args.self.now.store.file.places) (g.D.Disk.view c.args.self.now.store.file.disk) _
+returns-in_default-clause-calls g c = takes_no_call (command_calls (frame_len c.args.self.now.state (c.args.command ∷ [])) c.args.self.now.store.file.places) (g.D.Disk.view c.args.self.now.store.file.disk) _
 
 pub returns-in-Err-clause-calls : goal.returns-in-Err-clause-calls
-returns-in-Err-clause-calls g c = takes_no_call (command_calls (frame_len c.args.self.now.state c.args.command) c.args.self.now.store.file.places) (g.D.Disk.view c.args.self.now.store.file.disk) _
+returns-in-Err-clause-calls g c = takes_no_call (command_calls (frame_len c.args.self.now.state (c.args.command ∷ [])) c.args.self.now.store.file.places) (g.D.Disk.view c.args.self.now.store.file.disk) _
 
 pub returns-in-Err-2-clause-calls : goal.returns-in-Err-2-clause-calls
-returns-in-Err-2-clause-calls g c = takes_no_call (command_calls (frame_len c.args.self.now.state c.args.command) c.args.self.now.store.file.places) (g.D.Disk.view c.args.self.now.store.file.disk) _
+returns-in-Err-2-clause-calls g c = takes_no_call (command_calls (frame_len c.args.self.now.state (c.args.command ∷ [])) c.args.self.now.store.file.places) (g.D.Disk.view c.args.self.now.store.file.disk) _
 
 pub returns-in-Ok-keep-clause-calls : goal.returns-in-Ok-keep-clause-calls
 returns-in-Ok-keep-clause-calls g c =
     let V = g.D.Disk.view in
     let at = c.args.self.now.same (sym c.is_broken.ensures.broken ∙ c.if-is_broken.false) in
     let done = c.in-Ok-run_recorded.ensures in
-    let mine : IsRecordOf c.args.self.now.store.state c.args.command (map plain c.push_reserved.new.self.items) =
-    (subst (λ (t : Plain AnyJob). refusal any_kind t c.args.command ≡ None) at done.exact, rw (c.push_reserved.ensures.items, c.in-Ok.ensures.items) (ap (λ r. r ∷ []) (done.kept_as ∙ ap (λ (t : Plain AnyJob). record_of any_kind t c.args.command) at))) in
-    takes_as (command_calls (frame_len c.args.self.now.state c.args.command) c.args.self.now.store.file.places) (V c.args.self.now.store.file.disk) (V c.keep.new.store.file.disk) c.keep.result _ (λ _. subst (λ r. IsOk r) (sym c.in-Ok-keep.is) refl)
-    (subst (λ (t : Plain AnyJob). Takes (command_calls (frame_len t c.args.command) c.args.self.now.store.file.places) (V c.args.self.now.store.file.disk) (V c.keep.new.store.file.disk) c.keep.result) (sym at) (c.keep.ensures.calls c.args.command mine))
+    let mine : AreRecordsOf any_kind c.args.self.now.store.state (c.args.command ∷ []) (map plain c.push_reserved.new.self.items) =
+    one_record c.args.self.now.store.state c.args.command (map plain c.push_reserved.new.self.items) (subst (λ (t : Plain AnyJob). refusal any_kind t c.args.command ≡ None) at done.exact)
+    (rw (c.push_reserved.ensures.items, c.in-Ok.ensures.items) (ap (λ r. r ∷ []) (done.kept_as ∙ ap (λ (t : Plain AnyJob). record_of any_kind t c.args.command) at))) in
+    takes_as (command_calls (frame_len c.args.self.now.state (c.args.command ∷ [])) c.args.self.now.store.file.places) (V c.args.self.now.store.file.disk) (V c.keep.new.store.file.disk) c.keep.result _ (λ _. subst (λ r. IsOk r) (sym c.in-Ok-keep.is) refl)
+    (subst (λ (t : Plain AnyJob). Takes (command_calls (frame_len t (c.args.command ∷ [])) c.args.self.now.store.file.places) (V c.args.self.now.store.file.disk) (V c.keep.new.store.file.disk) c.keep.result) (sym at) (c.keep.ensures.calls (c.args.command ∷ []) mine))
 
 pub returns-clause-calls : goal.returns-clause-calls
 returns-clause-calls g c =
     let V = g.D.Disk.view in
     let at = c.args.self.now.same (sym c.is_broken.ensures.broken ∙ c.if-is_broken.false) in
     let done = c.in-Ok-run_recorded.ensures in
-    let mine : IsRecordOf c.args.self.now.store.state c.args.command (map plain c.push_reserved.new.self.items) =
-    (subst (λ (t : Plain AnyJob). refusal any_kind t c.args.command ≡ None) at done.exact, rw (c.push_reserved.ensures.items, c.in-Ok.ensures.items) (ap (λ r. r ∷ []) (done.kept_as ∙ ap (λ (t : Plain AnyJob). record_of any_kind t c.args.command) at))) in
-    takes_as (command_calls (frame_len c.args.self.now.state c.args.command) c.args.self.now.store.file.places) (V c.args.self.now.store.file.disk) (V c.keep.new.store.file.disk) c.keep.result _ (λ is. absurd (true≢false (sym is)))
-    (subst (λ (t : Plain AnyJob). Takes (command_calls (frame_len t c.args.command) c.args.self.now.store.file.places) (V c.args.self.now.store.file.disk) (V c.keep.new.store.file.disk) c.keep.result) (sym at) (c.keep.ensures.calls c.args.command mine))
+    let mine : AreRecordsOf any_kind c.args.self.now.store.state (c.args.command ∷ []) (map plain c.push_reserved.new.self.items) =
+    one_record c.args.self.now.store.state c.args.command (map plain c.push_reserved.new.self.items) (subst (λ (t : Plain AnyJob). refusal any_kind t c.args.command ≡ None) at done.exact)
+    (rw (c.push_reserved.ensures.items, c.in-Ok.ensures.items) (ap (λ r. r ∷ []) (done.kept_as ∙ ap (λ (t : Plain AnyJob). record_of any_kind t c.args.command) at))) in
+    takes_as (command_calls (frame_len c.args.self.now.state (c.args.command ∷ [])) c.args.self.now.store.file.places) (V c.args.self.now.store.file.disk) (V c.keep.new.store.file.disk) c.keep.result _ (λ is. absurd (true≢false (sym is)))
+    (subst (λ (t : Plain AnyJob). Takes (command_calls (frame_len t (c.args.command ∷ [])) c.args.self.now.store.file.places) (V c.args.self.now.store.file.disk) (V c.keep.new.store.file.disk) c.keep.result) (sym at) (c.keep.ensures.calls (c.args.command ∷ []) mine))
+
+pub keep-requires-clause-right : goal.keep-requires-clause-right
+keep-requires-clause-right g c =
+    let at = c.args.self.now.same (sym c.is_broken.ensures.broken ∙ c.if-is_broken.false) in
+    let done = c.in-Ok-run_recorded.ensures in
+    let mine : AreRecordsOf any_kind c.args.self.now.store.state (c.args.command ∷ []) (map plain c.push_reserved.new.self.items) =
+    one_record c.args.self.now.store.state c.args.command (map plain c.push_reserved.new.self.items) (subst (λ (t : Plain AnyJob). refusal any_kind t c.args.command ≡ None) at done.exact)
+    (rw (c.push_reserved.ensures.items, c.in-Ok.ensures.items) (ap (λ r. r ∷ []) (done.kept_as ∙ ap (λ (t : Plain AnyJob). record_of any_kind t c.args.command) at))) in
+    (c.args.command ∷ [], mine)
+
+pub returns-in-Ok-keep-clause-number : goal.returns-in-Ok-keep-clause-number
+returns-in-Ok-keep-clause-number g c =
+    let at = c.args.self.now.same (sym c.is_broken.ensures.broken ∙ c.if-is_broken.false) in
+    let done = c.in-Ok-run_recorded.ensures in
+    let mine : AreRecordsOf any_kind c.args.self.now.store.state (c.args.command ∷ []) (map plain c.push_reserved.new.self.items) =
+    one_record c.args.self.now.store.state c.args.command (map plain c.push_reserved.new.self.items) (subst (λ (t : Plain AnyJob). refusal any_kind t c.args.command ≡ None) at done.exact)
+    (rw (c.push_reserved.ensures.items, c.in-Ok.ensures.items) (ap (λ r. r ∷ []) (done.kept_as ∙ ap (λ (t : Plain AnyJob). record_of any_kind t c.args.command) at))) in
+    c.in-Ok-keep.ensures.mark.0 ∙ ap (λ (t : Plain AnyJob). t.number) (c.in-Ok-keep.ensures.state (c.args.command ∷ []) mine) ∙ ap (λ (t : Plain AnyJob). t.number + 1) (sym at)
+
+pub returns-in-Ok-keep-clause-moves : goal.returns-in-Ok-keep-clause-moves
+returns-in-Ok-keep-clause-moves g c = c.in-Ok-run_recorded.ensures.outcome c.args.self.now.state [] (sym (outcome-none any_kind c.args.self.now.state))

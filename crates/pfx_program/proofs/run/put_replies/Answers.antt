@@ -1,0 +1,14 @@
+use Rattle.std.proofs.Common.{rules, ◌≡◌, Err}
+use Rattle.pfx_program.proofs.SlotLemmas.{lines_fail, lines_more}
+use Rattle.pfx_program.proofs.run.put_replies.Goals as goal
+
+pub returns-in_err-put_reply-clause-err : goal.returns-in_err-put_reply-clause-err
+returns-in_err-put_reply-clause-err g c =
+    let is : c.from_residual.result ≡ Err c.in_err-put_reply.field-0.0 = search rules in
+    rw is (lines_fail c.args.said.now c.loop-entry.entry-index c.entry-item.result (g.W.Write.contents c.args.output.now) (g.W.Write.contents c.loop-entry.output) (g.W.Write.contents c.put_reply.new.output)
+    c.in_err-put_reply.field-0.0 c.loop-entry-test.true c.entry-item.is c.loop-entry.invariant c.in_err-put_reply.ensures.err)
+
+pub loop-entry-preserved : goal.loop-entry-preserved
+loop-entry-preserved g c =
+    lines_more c.args.said.now c.loop-entry.entry-index c.entry-item.result (g.W.Write.contents c.args.output.now) (g.W.Write.contents c.loop-entry.output) (g.W.Write.contents c.put_reply.new.output)
+    c.loop-entry-test.true c.entry-item.is c.loop-entry.invariant c.in_ok-put_reply.ensures.ok
