@@ -1,0 +1,132 @@
+-- Frames that stand in an image, and the records in them.
+use Rattle.std.specs.Prelude.{◌≡◌, ◌≢◌, ◌<◌, ◌≤◌, ◌+◌, ℕ, List, [], ◌∷◌, ◌++◌, length, not, if◌then◌else◌, take, drop, Option, Some, None, refl}
+use Rattle.std.specs.Prelude.{Vec}
+use Rattle.std.specs.declared.alloc.Global.{Global}
+use Rattle.pfx_segment.specs.Reading.{views}
+use Rattle.std.proofs.Common.{zero, suc, get_or, sym, ◌∙◌, ap, ap₂, arith, append-nil, append_assoc, length-append, subst}
+use Rattle.pfx_effect.specs.Applying.{applied, after_record, is_right}
+use Rattle.pfx_header.specs.Headers.{Header}
+use Rattle.pfx_jobs.specs.Kind.{Kind, Laws}
+use Rattle.pfx_machine.specs.Plain.{Plain}
+use Rattle.pfx_record.specs.Batches.{PlainBatch, batch_bytes}
+use Rattle.pfx_record.specs.Reading.{IsBatch, NoBatch}
+use Rattle.pfx_record.specs.Records.{Plain as Recorded}
+use Rattle.pfx_record.proofs.Bodies.{one_batch}
+use Rattle.pfx_segment.specs.Frames.{AreFrames}
+use Rattle.pfx_segment.proofs.FrameLemmas.{read_is}
+use Rattle.pfx_recovery.specs.Codec.{Codec}
+use Rattle.pfx_recovery.specs.Layout.{slot_at, segment_at}
+use Rattle.pfx_recovery.specs.Store.{Parts, Replays}
+use Rattle.pfx_recovery.proofs.Answers.{ok_same}
+use Rattle.pfx_recovery.proofs.Stages.{replay_is}
+use Rattle.pfx_format.specs.Batches.{batch_in}
+use Rattle.pfx_format.specs.Format.{format}
+use Rattle.pfx_format.proofs.Batches.{batch_spelled, batch_there}
+use Rattle.pfx_format.proofs.Keeping.{after_set}
+use Rattle.pfx_format.proofs.Nexts.{after_of}
+use Rattle.pfx_replay.specs.Trails.{IsWay, records_if, records_in}
+use Rattle.pfx_replay.proofs.Following.{applied_by}
+
+-- frames are fewer than the bytes that they stand in
+pub few : (gate end : ℕ) (frames : List (List ℕ)) (x : List ℕ) → gate < end → AreFrames gate end frames x → length frames + gate < end
+few gate end [] x less are = omega arith
+few gate end (frame ∷ frames) x less are = let rest = few (gate + length frame) end frames x are.2 are.3 in omega (arith, rest, are.1.whole)
+
+-- there are only these
+pub one_run : (gate end : ℕ) (frames others : List (List ℕ)) (x : List ℕ) → gate < end → end ≤ length x → AreFrames gate end frames x → AreFrames gate end others x → frames ≡ others
+one_run gate end frames others x less inside are also =
+    let n : length frames < end = (let f = few gate end frames x less are in omega (arith, f)) in
+    let m : length others < end = (let f = few gate end others x less also in omega (arith, f)) in
+    ok_same frames others (sym (read_is end gate end frames x are n inside) ∙ read_is end gate end others x also m inside)
+
+module _ {H S : Type 0} (K : Codec H S) where
+  pub one_end : (s : S) (frames : List (List ℕ)) (t u : S) → Replays K s frames t → Replays K s frames u → t ≡ u
+  one_end s frames t u one other = ok_same t u (sym (replay_is K 0 s frames t one) ∙ replay_is K 0 s frames u other)
+
+  some_one : (a b : S) → Some a ≡ Some b → a ≡ b
+  some_one a b h = ap (λ o. elim o [ Some x ↦ x | None ↦ a ]) h
+
+  -- a way is the one that was found
+  pub way_is : (h : H) (p : Parts S) (image : List ℕ) (at body place segment : ℕ) (start : S) (found : List (List ℕ)) → at ≡ slot_at (K.layout h) (not p.slot) → body ≡ (K.layout h).body
+      → place ≡ segment_at (K.layout h) (not p.segment) → segment ≡ (K.layout h).segment → place + segment ≤ length image
+      → Some start ≡ K.read_state h (take body (drop (at + 1) image)) → AreFrames (place + 9) (place + segment) found image
+      → (s : S) (frames : List (List ℕ)) → IsWay K h p image s frames → (s ≡ start) × (frames ≡ found)
+  way_is h p image at body place segment start found at_is body_is place_is segment_is inside read are s frames way =
+      let room : place + 9 < place + segment = omega (arith, (K.layout h).room, segment_is) in
+      let there : AreFrames (place + 9) (place + segment) frames image = subst (λ k. AreFrames (k + 9) (k + segment) frames image) (sym place_is)
+      (subst (λ k. AreFrames (segment_at (K.layout h) (not p.segment) + 9) (segment_at (K.layout h) (not p.segment) + k) frames image) (sym segment_is) way.segment.are) in (
+        some_one s start (sym way.slot.body ∙ ap₂ (λ a b. K.read_state h (take b (drop (a + 1) image))) (sym at_is) (sym body_is) ∙ sym read),
+        one_run (place + 9) (place + segment) frames found image room inside there are,
+      )
+
+module _ {J : Type 0} (K : Kind J) (L : Laws K) where
+  none_of : {A : Type 0} (o : Option A) → ((a : A) → o ≡ Some a → ⊥) → o ≡ None
+  none_of None h = refl
+  none_of (Some a) h = absurd (h a refl)
+
+  module _ (workers : ℕ) (frame : List ℕ) where
+    -- no records are found in bytes that begin with no batch, or are longer than one
+    pub no_batch : NoBatch K workers frame → [] ≡ records_if K (batch_in K workers frame)
+    no_batch h = ap (records_if K) (sym (none_of (batch_in K workers frame) (λ batch found.
+        let spelled = batch_spelled K L workers frame batch found in
+        h batch spelled.0 (record { rest = []; is = spelled.1 ∙ sym (append-nil (batch_bytes K batch)) }))))
+
+    pub too_long : (batch : PlainBatch J) (taken : ℕ) → IsBatch K workers frame batch taken → taken ≢ length frame → [] ≡ records_if K (batch_in K workers frame)
+    too_long batch taken h other = ap (records_if K) (sym (none_of (batch_in K workers frame) (λ found is.
+        let spelled = batch_spelled K L workers frame found is in
+        let same = one_batch K L workers frame batch found h.fits spelled.0 h.begins (record { rest = []; is = spelled.1 ∙ sym (append-nil (batch_bytes K found)) }) in
+        other (h.long ∙ ap length (sym (spelled.1 ∙ ap (batch_bytes K) same))))))
+
+    pub whole : (batch : PlainBatch J) (taken : ℕ) → IsBatch K workers frame batch taken → taken ≡ length frame → batch.records ≡ records_if K (batch_in K workers frame)
+    whole batch taken h same =
+        let none : length h.begins.rest ≡ 0 = (let long = ap length h.begins.is ∙ length-append (batch_bytes K batch) h.begins.rest in omega (arith, h.long, same, long)) in
+        let is : frame ≡ batch_bytes K batch = h.begins.is ∙ (ap (λ l. batch_bytes K batch ++ l) (empty h.begins.rest none) ∙ append-nil (batch_bytes K batch)) in
+        sym (ap (records_if K) (ap (batch_in K workers) is ∙ batch_there K L workers batch h.fits))
+      where
+        empty : (l : List ℕ) → length l ≡ 0 → l ≡ []
+        empty [] h = refl
+        empty (x ∷ l) h = absurd (omega (arith, h))
+
+  applied-append : (s t u : Plain J) (xs ys : List (Recorded J)) → applied K s xs ≡ Some t → applied K t ys ≡ Some u → applied K s (xs ++ ys) ≡ Some u
+  applied-append s t u [] ys first next = subst (λ r. applied K r ys ≡ Some u) (sym (ap (λ o. elim o [ Some x ↦ x | None ↦ s ]) first)) next
+  applied-append s t u (x ∷ xs) ys first next =
+      let by = applied_by K s t x xs (is_right K s x) refl first in
+      ap (λ b. if b then applied K (after_record s x) (xs ++ ys) else None) by.0 ∙ applied-append (after_record s x) t u xs ys by.1 next
+
+  -- frames whose records lead to a state have these records
+  pub frames_applied : (h : Header) (s t : Plain J) (frames : List (List ℕ)) → s.ledger.set ≡ h.set → Replays (format K) s frames t → applied K s (records_in K h.set.workers frames) ≡ Some t
+  frames_applied h s t [] set is = ap Some is
+  frames_applied h s t (frame ∷ frames) set run =
+      let step = after_of K s frame run.0 run.1 in
+      let same : records_if K (batch_in K h.set.workers frame) ≡ step.batch.records = ap (λ k. records_if K (batch_in K k.workers frame)) (sym set) ∙ ap (records_if K) step.found in
+      applied-append s run.0 t (records_if K (batch_in K h.set.workers frame)) (records_in K h.set.workers frames)
+      (ap (applied K s) same ∙ step.taken) (frames_applied h run.0 t frames (after_set K h s frame run.0 set run.1) run.2)
+
+  pub records-append : (workers : ℕ) (xs ys : List (List ℕ)) → records_in K workers (xs ++ ys) ≡ records_in K workers xs ++ records_in K workers ys
+  records-append workers [] ys = refl
+  records-append workers (x ∷ xs) ys = ap (λ l. records_if K (batch_in K workers x) ++ l) (records-append workers xs ys) ∙ sym (append_assoc (records_if K (batch_in K workers x)) (records_in K workers xs) (records_in K workers ys))
+
+  pub frames_joined : (h : Header) (s m t : Plain J) (before frames : List (List ℕ)) → s.ledger.set ≡ h.set → m.ledger.set ≡ h.set → Replays (format K) s before m → Replays (format K) m frames t
+      → applied K s (records_in K h.set.workers (before ++ frames)) ≡ Some t
+  frames_joined h s m t before frames set also one other =
+      ap (applied K s) (records-append h.set.workers before frames)
+      ∙ applied-append s m t (records_in K h.set.workers before) (records_in K h.set.workers frames) (frames_applied h s m before set one) (frames_applied h m t frames also other)
+
+-- the records of frames from a place on
+pub records_left : {J : Type 0} (K : Kind J) (workers : ℕ) (frames : List (Vec ℕ Global)) (i : ℕ) (f d : Vec ℕ Global) → f ≡ get_or frames i d → i < length frames
+    → records_in K workers (views (drop i frames)) ≡ records_if K (batch_in K workers f.items) ++ records_in K workers (views (drop (i + 1) frames))
+records_left K workers [] i f d is within = absurd (omega arith)
+records_left K workers (x ∷ frames) zero f d is within = ap (λ (y : Vec ℕ Global). records_if K (batch_in K workers y.items) ++ records_in K workers (views frames)) (sym is)
+records_left K workers (x ∷ frames) (suc i) f d is within =
+    let next : i + 1 ≡ suc i = omega arith in
+    records_left K workers frames i f d is (omega arith) ∙ ap (λ k. records_if K (batch_in K workers f.items) ++ records_in K workers (views (drop k frames))) next
+    ∙ ap (λ k. records_if K (batch_in K workers f.items) ++ records_in K workers (views (drop k (x ∷ frames)))) (behind i)
+  where
+    behind : (k : ℕ) → suc (suc k) ≡ suc k + 1
+    behind k = omega arith
+
+pub records_none : {J : Type 0} (K : Kind J) (workers : ℕ) (frames : List (Vec ℕ Global)) (i : ℕ) → length frames ≤ i → records_in K workers (views (drop i frames)) ≡ []
+records_none K workers [] zero past = refl
+records_none K workers [] (suc i) past = refl
+records_none K workers (x ∷ frames) zero past = absurd (omega arith)
+records_none K workers (x ∷ frames) (suc i) past = records_none K workers frames i (omega arith)

@@ -1,0 +1,13 @@
+pub mod Examples
+pub mod Following
+pub mod FrameRuns
+pub mod Opens
+pub mod Parts
+pub mod ReadOn
+pub mod Rowing
+pub mod Rows
+pub mod Sessions
+pub mod Steps
+pub mod Stores
+pub mod Substrings
+pub mod Wrongs

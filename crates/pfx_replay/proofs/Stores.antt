@@ -1,0 +1,107 @@
+-- What is known of a file that a store leaves.
+use Rattle.std.specs.Prelude.{◌≡◌, ◌+◌, ◌++◌, ℕ, List, [], ◌∷◌, not, take, drop, Bool, true, false, Option, Some, None, MatchOption, refl}
+use Rattle.std.proofs.Common.{sym, ◌∙◌, ap, ap₂, subst}
+use Rattle.pfx_effect.specs.Applying.{applied}
+use Rattle.pfx_checkpoint.specs.Found.{read_state}
+use Rattle.pfx_format.specs.Format.{format, layout}
+use Rattle.pfx_format.proofs.Keeping.{after_set, read_set}
+use Rattle.pfx_header.specs.Headers.{Header}
+use Rattle.pfx_jobs.specs.Kind.{Kind, Laws}
+use Rattle.pfx_machine.specs.Plain.{Plain}
+use Rattle.pfx_record.specs.Records.{Plain as Recorded}
+use Rattle.pfx_recovery.specs.Layout.{segment_at, slot_at}
+use Rattle.pfx_recovery.specs.Store.{Parts, IsStore, Other, Replays}
+use Rattle.pfx_segment.specs.Frames.{AreFrames}
+use Rattle.pfx_replay.specs.Trails.{IsWay, IsWayIf, history, records_in}
+use Rattle.pfx_replay.specs.Verdicts.{IsVerdict}
+use Rattle.pfx_replay.specs.declared.verdict.Verdict.{Verdict}
+use Rattle.pfx_replay.proofs.FrameRuns.{frames_applied, frames_joined}
+
+-- the frames of a segment
+abbrev pub AreIn : Header → List ℕ → Bool → List (List ℕ) → Type 0
+AreIn h image b frames = AreFrames (segment_at (layout h) b + 9) (segment_at (layout h) b + (layout h).segment) frames image
+
+pub verdict_by : (found : Option Verdict) (Nothing : Type 0) (P Q : Verdict → Type 0) → MatchOption found Nothing P → (Nothing → ⊥) → ((v : Verdict) → P v → Q v) → MatchOption found ⊥ Q
+verdict_by None N P Q h never f = absurd (never h)
+verdict_by (Some v) N P Q h never f = f v h
+
+module _ {J : Type 0} (K : Kind J) (L : Laws K) (h : Header) where
+  some_same : {A : Type 0} (a b : A) → Some a ≡ Some b → a ≡ b
+  some_same a b is = ap (λ o. elim o [ Some x ↦ x | None ↦ a ]) is
+
+  pub set_of_read : (bytes : List ℕ) (s : Plain J) → Some s ≡ read_state K h.set bytes → s.ledger.set ≡ h.set
+  set_of_read bytes s is = read_set K h bytes s (sym is)
+
+  replays_set : (s t : Plain J) (frames : List (List ℕ)) → s.ledger.set ≡ h.set → Replays (format K) s frames t → t.ledger.set ≡ h.set
+  replays_set s t [] set is = ap (λ (r : Plain J). r.ledger.set) (sym is) ∙ set
+  replays_set s t (frame ∷ frames) set run = replays_set run.0 t frames (after_set K h s frame run.0 set run.1) run.2
+
+  none_before : (b : Bool) (p : Parts (Plain J)) (t : Plain J) (image : List ℕ) → Other (format K) h b p t image → b ≡ false → p.before ≡ []
+  none_before false p t image is e = is.2
+  none_before true p t image is e = cc
+
+  are_before : (b : Bool) (p : Parts (Plain J)) (t : Plain J) (image : List ℕ) → Other (format K) h b p t image → b ≡ true → AreIn h image (not p.segment) p.before
+  are_before false p t image is e = cc
+  are_before true p t image is e = is.0.are
+
+  lead_before : (b : Bool) (p : Parts (Plain J)) (t : Plain J) (image : List ℕ) → Other (format K) h b p t image → Replays (format K) p.base p.before p.middle
+  lead_before false p t image is = subst (λ l. Replays (format K) p.base l p.middle) (sym is.2) is.1
+  lead_before true p t image is = is.1
+
+  module _ (image : List ℕ) (p : Parts (Plain J)) (t : Plain J) (is : IsStore (format K) h p t image) (slot segment turned : Bool) (slot_is : p.slot ≡ slot) (segment_is : p.segment ≡ segment) (turned_is : p.turned ≡ turned) where
+    pub found_by : (P : List (List ℕ) → List (List ℕ) → Type 0)
+        → ((before frames : List (List ℕ)) → (turned ≡ false → before ≡ []) → (turned ≡ true → AreIn h image (not segment) before) → AreIn h image segment frames → P before frames) → P p.before p.frames
+    found_by P f = f p.before p.frames (λ e. none_before p.turned p t image is.other (turned_is ∙ e))
+        (λ e. subst (λ b. AreIn h image (not b) p.before) segment_is (are_before p.turned p t image is.other (turned_is ∙ e)))
+        (subst (λ b. AreIn h image b p.frames) segment_is is.current.are)
+
+    base_set : p.base.ledger.set ≡ h.set
+    base_set = read_set K h _ p.base is.slot.body
+
+    pub base_is : (at body : ℕ) (b : Plain J) → at ≡ slot_at (layout h) slot → body ≡ (layout h).body → Some b ≡ read_state K h.set (take body (drop (at + 1) image)) → b ≡ p.base
+    base_is at body b at_is body_is read = some_same b p.base (read ∙ ap₂ (λ a n. read_state K h.set (take n (drop (a + 1) image))) (at_is ∙ ap (slot_at (layout h)) (sym slot_is)) body_is ∙ is.slot.body)
+
+    behind_applied : applied K p.base (records_in K h.set.workers (p.before ++ p.frames)) ≡ Some t
+    behind_applied =
+        let lead = lead_before p.turned p t image is.other in
+        frames_joined K L h p.base p.middle t p.before p.frames base_set (replays_set p.base p.middle p.before base_set lead) lead is.state
+
+    -- what is answered of these records
+    abbrev pub Answered : Plain J → List (Recorded J) → Plain J → List (Recorded J) → Option Verdict → Type 0
+    Answered start before base behind found =
+        MatchOption found ((x y : Plain J) → applied K start before ≡ Some x → applied K base behind ≡ Some y → ⊥) (λ v. IsVerdict K (record { start = start; before = before; checkpoint = base; behind = behind }) v)
+
+    pub answered_as : (found : Option Verdict) (a b : Plain J) (before again : List (Recorded J)) (base : Plain J) (behind : List (Recorded J)) → a ≡ b → before ≡ again → Answered a before base behind found → Answered b again base behind found
+    answered_as found a b before again base behind same also given = subst (λ s. Answered s again base behind found) same (subst (λ l. Answered a l base behind found) also given)
+
+    -- the verdict where no way leads from the other checkpoint
+    pub verdict_none : (found : Option Verdict) (base : Plain J) (behind : List (Recorded J)) → base ≡ p.base → behind ≡ records_in K h.set.workers (p.before ++ p.frames) → IsWayIf (format K) h p image None
+        → MatchOption found ((x y : Plain J) → applied K base [] ≡ Some x → applied K base behind ≡ Some y → ⊥) (λ v. IsVerdict K (record { start = base; before = []; checkpoint = base; behind = behind }) v)
+        → MatchOption found ⊥ (λ v. (way : Option (Plain J × List (List ℕ))) × IsWayIf (format K) h p image way × IsVerdict K (history K h.set.workers p way) v)
+    verdict_none found base behind base_same behind_same way given =
+        verdict_by found _ _ _ given
+        (λ none. none base t refl (subst (λ b. applied K b behind ≡ Some t) (sym base_same) (subst (λ l. applied K p.base l ≡ Some t) (sym behind_same) behind_applied)))
+        (λ v verdict. (
+          None,
+          way,
+          subst (λ b. IsVerdict K (record { start = b; before = []; checkpoint = b; behind = records_in K h.set.workers (p.before ++ p.frames) }) v) base_same
+              (subst (λ l. IsVerdict K (record { start = base; before = []; checkpoint = base; behind = l }) v) behind_same verdict),
+        ))
+
+    -- the verdict where a way does
+    pub verdict_some : (found : Option Verdict) (start base : Plain J) (frames : List (List ℕ)) (before behind : List (Recorded J)) → base ≡ p.base → before ≡ records_in K h.set.workers frames
+        → behind ≡ records_in K h.set.workers (p.before ++ p.frames) → IsWay (format K) h p image start frames
+        → MatchOption found ((x y : Plain J) → applied K start before ≡ Some x → applied K base behind ≡ Some y → ⊥) (λ v. IsVerdict K (record { start = start; before = before; checkpoint = base; behind = behind }) v)
+        → MatchOption found ⊥ (λ v. (way : Option (Plain J × List (List ℕ))) × IsWayIf (format K) h p image way × IsVerdict K (history K h.set.workers p way) v)
+    verdict_some found start base frames before behind base_same before_same behind_same way given =
+        let set = read_set K h _ start way.slot.body in
+        verdict_by found _ _ _ given
+        (λ none. none way.reached t (subst (λ l. applied K start l ≡ Some way.reached) (sym before_same) (frames_applied K L h start way.reached frames set way.leads))
+        (subst (λ b. applied K b behind ≡ Some t) (sym base_same) (subst (λ l. applied K p.base l ≡ Some t) (sym behind_same) behind_applied)))
+        (λ v verdict. (
+          Some (start, frames),
+          way,
+          subst (λ b. IsVerdict K (record { start = start; before = records_in K h.set.workers frames; checkpoint = b; behind = records_in K h.set.workers (p.before ++ p.frames) }) v) base_same
+              (subst (λ l. IsVerdict K (record { start = start; before = records_in K h.set.workers frames; checkpoint = base; behind = l }) v) behind_same
+              (subst (λ l. IsVerdict K (record { start = start; before = l; checkpoint = base; behind = behind }) v) before_same verdict)),
+        ))

@@ -1,0 +1,13 @@
+use Rattle.std.proofs.Common.{◌+◌, ◌∙◌, sym, ap, Some}
+use Rattle.std.specs.Prelude.{slice_set}
+use Rattle.pfx_machine.specs.declared.command.Command.TheVariants.{Submit}
+use Rattle.pfx_machine.proofs.Places.{state_step-given}
+use Rattle.pfx_replay.specs.Stated.{plain_of}
+use Rattle.pfx_replay.proofs.Steps.{outcome-one}
+use Rattle.pfx_replay.proofs.jobs.PlainState.submitted.Goals as goal
+
+pub returns : goal.returns
+returns g c =
+    let s = plain_of c.args.self in
+    ap (λ k. record { number = s.number + 1; ledger = s.ledger; jobs = slice_set s.jobs k (Some c.args.job) }) c.from.ensures
+    ∙ state_step-given g.J.Job.kind s c.args.task c.args.job ∙ sym (outcome-one g.J.Job.kind g.met.J.Job.laws s (Submit c.args.task c.args.job))

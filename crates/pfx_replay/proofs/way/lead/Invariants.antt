@@ -1,0 +1,12 @@
+use Rattle.std.proofs.Common.{drop}
+use Rattle.pfx_segment.specs.Reading.{views}
+use Rattle.pfx_recovery.specs.Store.{Replays}
+use Rattle.pfx_replay.proofs.way.lead.Given as goal
+
+abbrev pub invariant-loop-frame : goal.invariant-loop-frame
+invariant-loop-frame g l =
+    let K = g.F.Format.codec in
+    record {
+      on : (t : _) → Replays K l.reached (views (drop l.frame-index l.frames)) t → Replays K l.fn.state (views l.frames) t;
+      back : (t : _) → Replays K l.fn.state (views l.frames) t → Replays K l.reached (views (drop l.frame-index l.frames)) t;
+    }

@@ -1,0 +1,10 @@
+pub mod Commands
+pub mod Judged
+pub mod Lines
+pub mod Numbers
+pub mod Reading
+pub mod Shown
+pub mod Stated
+pub mod Trails
+pub mod Verdicts
+pub mod Ways

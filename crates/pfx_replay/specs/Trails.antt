@@ -1,0 +1,54 @@
+-- The records that a store's file has, and where they begin.
+use Rattle.std.specs.Prelude.{◌≡◌, ℕ, ◌+◌, List, [], ◌∷◌, ◌++◌, not, Option, Some, None, Result, Ok}
+use Rattle.pfx_format.specs.Batches.{batch_in}
+use Rattle.pfx_format.specs.Format.{format}
+use Rattle.pfx_header.specs.Headers.{Header}
+use Rattle.pfx_jobs.specs.Kind.{Kind}
+use Rattle.pfx_machine.specs.Plain.{Plain}
+use Rattle.pfx_record.specs.Batches.{PlainBatch}
+use Rattle.pfx_record.specs.Records.{Plain as Recorded}
+use Rattle.pfx_recovery.specs.Codec.{Codec}
+use Rattle.pfx_recovery.specs.Layout.{slot_at, segment_at}
+use Rattle.pfx_recovery.specs.Recovery.{Found}
+use Rattle.pfx_recovery.specs.Refusals.{Refusal}
+use Rattle.pfx_recovery.specs.Store.{Parts, InSlot, InSegment, Replays}
+use Rattle.pfx_replay.specs.Verdicts.{History, IsVerdict}
+use Rattle.pfx_replay.specs.declared.verdict.Verdict.{Verdict}
+
+module _ {H S : Type 0} (K : Codec H S) (h : H) (p : Parts S) (image : List ℕ) where
+  -- The other checkpoint holds this state, and these frames, which stand in the other segment, lead from it to the number of
+  -- the checkpoint in use.
+  pub record IsWay (s : S) (frames : List (List ℕ)) : Type 0 where
+    pub slot : InSlot K h s (slot_at (K.layout h) (not p.slot)) image
+    pub segment : InSegment K h (K.number s + 1) frames (segment_at (K.layout h) (not p.segment)) image
+    pub reached : S
+    pub leads : Replays K s frames reached
+    pub number : K.number reached ≡ K.number p.base
+
+  -- that is the way to the checkpoint in use, or there is none
+  abbrev pub IsWayIf : Option (S × List (List ℕ)) → Type 0
+  IsWayIf (Some w) = IsWay w.0 w.1
+  IsWayIf None = (s : S) (frames : List (List ℕ)) → IsWay s frames → ⊥
+
+module _ {J : Type 0} (K : Kind J) where
+  -- the records of a frame, and of frames, in their order
+  abbrev pub records_if : Option (PlainBatch J) → List (Recorded J)
+  records_if None = []
+  records_if (Some batch) = batch.records
+
+  abbrev pub records_in : ℕ → List (List ℕ) → List (Recorded J)
+  records_in workers [] = []
+  records_in workers (frame ∷ frames) = records_if (batch_in K workers frame) ++ records_in workers frames
+
+  -- what the file records from the lesser checkpoint on, where a way leads from there; else from the checkpoint in use on
+  abbrev pub history : ℕ → Parts (Plain J) → Option (Plain J × List (List ℕ)) → History J
+  history workers p None = record { start = p.base; before = []; checkpoint = p.base; behind = records_in workers (p.before ++ p.frames) }
+  history workers p (Some w) = record { start = w.0; before = records_in workers w.1; checkpoint = p.base; behind = records_in workers (p.before ++ p.frames) }
+
+  -- a state is recovered from the image, and this is the verdict on what the file records
+  pub record IsReplayed (image : List ℕ) (read : Result (Found Header (Plain J)) Refusal) (verdict : Verdict) : Type 0 where
+    pub found : Found Header (Plain J)
+    pub read_is : read ≡ Ok found
+    pub way : Option (Plain J × List (List ℕ))
+    pub way_is : IsWayIf (format K) found.head found.parts image way
+    pub is : IsVerdict K (history found.head.set.workers found.parts way) verdict

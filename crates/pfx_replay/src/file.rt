@@ -1,0 +1,141 @@
+// What a store's file records, and the verdict on it.
+ghost use Rattle.std.specs.Prelude.{◌≡◌, ◌≤◌, ◌+◌, ◌++◌, [], ℕ, List, length, map, not, true, false, Option, Some, IfOk, MatchOption};
+ghost use Rattle.pfx_effect.specs.Applying.{applied};
+ghost use Rattle.pfx_format.specs.Format.{format, layout};
+ghost use Rattle.pfx_machine.specs.Plain.{Plain};
+ghost use Rattle.pfx_record.specs.Records.{plain};
+ghost use Rattle.pfx_recovery.specs.Layout.{segment_at, file_len};
+ghost use Rattle.pfx_recovery.specs.Store.{Parts, IsStore};
+ghost use Rattle.pfx_segment.specs.Frames.{AreFrames};
+ghost use Rattle.pfx_replay.specs.Trails.{IsWayIf, history, records_in};
+ghost use Rattle.pfx_replay.specs.Verdicts.{History, IsVerdict};
+
+use crate::history::judge_history;
+use crate::image::{frames_in, state_in};
+use crate::jobs::PlainState;
+use crate::records::add_records;
+use crate::verdict::Verdict;
+use crate::way::find_way;
+use pfx_effect::apply_all;
+use pfx_jobs::job::Job;
+use pfx_journal::{FileFormat, FileHeader};
+use pfx_machine::State;
+use pfx_opening::Format;
+use pfx_record::Record;
+use std::alloc::{AllocError, Global};
+
+// Adds the records of a segment's frames, or answers `false` where a frame doesn't fit.
+fn add_segment<J: Job>(
+    alloc: Global,
+    records: &mut Vec<Record<J>>,
+    header: &FileHeader,
+    image: &[u8],
+    second: bool,
+) -> Result<bool, AllocError>
+    requires { length image.now ≡ file_len (layout header.now) }
+    ensures { IfOk result (λ added. (frames : List (List ℕ))
+        → AreFrames (segment_at (layout header.now) second + 9) (segment_at (layout header.now) second + (layout header.now).segment) frames image.now
+        → (added ≡ true) × (map plain records.new.items ≡ map plain records.old.items ++ records_in J.kind header.now.set.workers frames)) }
+{
+    let sizes = FileFormat::<J>::sizes(header);
+    let place = sizes.segment_at(second);
+    match frames_in(alloc, image, place + 9, place + sizes.segment)? {
+        None => Ok(false),
+        Some(frames) => {
+            add_records(alloc, records, header.set().workers(), &frames)?;
+            Ok(true)
+        }
+    }
+}
+
+// The records of the segment that frames go to, and before them those of the other, if it was read first. `None` comes
+// where a frame doesn't fit.
+fn file_records<J: Job>(
+    alloc: Global,
+    header: &FileHeader,
+    image: &[u8],
+    segment: bool,
+    turned: bool,
+) -> Result<Option<Vec<Record<J>>>, AllocError>
+    requires { length image.now ≡ file_len (layout header.now) }
+    ensures { IfOk result (λ found. (before frames : List (List ℕ))
+        → (turned ≡ false → before ≡ [])
+        → (turned ≡ true → AreFrames (segment_at (layout header.now) (not segment) + 9) (segment_at (layout header.now) (not segment) + (layout header.now).segment) before image.now)
+        → AreFrames (segment_at (layout header.now) segment + 9) (segment_at (layout header.now) segment + (layout header.now).segment) frames image.now
+        → MatchOption found ⊥ (λ records. map plain records.items ≡ records_in J.kind header.now.set.workers (before ++ frames))) }
+{
+    let mut records = Vec::new(alloc);
+    if turned {
+        if !add_segment(alloc, &mut records, header, image, !segment)? {
+            return Ok(None);
+        }
+    }
+    if !add_segment(alloc, &mut records, header, image, segment)? {
+        return Ok(None);
+    }
+    Ok(Some(records))
+}
+
+// The verdict on records that lead from a start to a checkpoint, and on from there, or `None` where some aren't right.
+fn judge_trail<J: Job>(
+    alloc: Global,
+    start: State<J>,
+    before: &[Record<J>],
+    base: State<J>,
+    behind: &[Record<J>],
+) -> Result<Option<Verdict>, AllocError>
+    requires { start.ledger.set ≡ base.ledger.set }
+    ensures { IfOk result (λ found. MatchOption found
+        ((t u : Plain J) → applied J.kind start (map plain before.now) ≡ Some t → applied J.kind base (map plain behind.now) ≡ Some u → ⊥)
+        (λ verdict. IsVerdict J.kind (record { start = start; before = map plain before.now; checkpoint = base; behind = map plain behind.now }) verdict)) }
+{
+    let first = PlainState::of(alloc, &start)?;
+    let checkpoint = PlainState::of(alloc, &base)?;
+    let mut led = start;
+    if !apply_all(&mut led, before) {
+        return Ok(None);
+    }
+    let mut reached = base;
+    if !apply_all(&mut reached, behind) {
+        return Ok(None);
+    }
+    let verdict = judge_history(alloc, first, before, checkpoint, behind)?;
+    Ok(Some(verdict))
+}
+
+/// The verdict on a file with these parts, or `None` where the bytes aren't those of a store's file.
+pub(crate) fn judge_file<J: Job>(
+    alloc: Global,
+    header: &FileHeader,
+    image: &[u8],
+    slot: bool,
+    segment: bool,
+    turned: bool,
+) -> Result<Option<Verdict>, AllocError>
+    requires { length image.now ≡ file_len (layout header.now) }
+    ensures { IfOk result (λ found. (p : Parts (Plain J)) → (t : Plain J) → IsStore (format J.kind) header.now p t image.now
+        → p.slot ≡ slot → p.segment ≡ segment → p.turned ≡ turned
+        → MatchOption found ⊥ (λ verdict. (way : Option (Plain J × List (List ℕ)))
+        × IsWayIf (format J.kind) header.now p image.now way × IsVerdict J.kind (history J.kind header.now.set.workers p way) verdict)) }
+{
+    let sizes = FileFormat::<J>::sizes(header);
+    let at = sizes.slot_at(slot);
+    let Some(base) = state_in::<FileFormat<J>>(alloc, header, image, at, sizes.body)? else {
+        return Ok(None);
+    };
+    let Some(behind) = file_records(alloc, header, image, segment, turned)? else {
+        return Ok(None);
+    };
+    match find_way::<FileFormat<J>>(alloc, header, image, slot, segment, base.number())? {
+        None => {
+            let start = base.copy_of(alloc)?;
+            let before = Vec::new(alloc);
+            judge_trail(alloc, start, &before, base, &behind)
+        }
+        Some((start, frames)) => {
+            let mut before = Vec::new(alloc);
+            add_records(alloc, &mut before, header.set().workers(), &frames)?;
+            judge_trail(alloc, start, &before, base, &behind)
+        }
+    }
+}

@@ -1,0 +1,91 @@
+// A history against what its commands do.
+ghost use Rattle.std.specs.Prelude.{◌≡◌, ◌↔◌, ◌<◌, ℕ, length, map, IsTrue, IfOk, Some};
+ghost use Rattle.pfx_effect.specs.Applying.{applied};
+ghost use Rattle.pfx_machine.specs.Plain.{Plain};
+ghost use Rattle.pfx_record.specs.Records.{plain};
+ghost use Rattle.pfx_replay.specs.Stated.{plain_of};
+ghost use Rattle.pfx_replay.specs.Verdicts.{History, IsVerdict};
+
+use crate::jobs::PlainState;
+use crate::judged::Judged;
+use crate::judging::{is_same, judge_all};
+use crate::verdict::{Difference, Verdict};
+use pfx_jobs::job::Job;
+use pfx_record::Record;
+use std::alloc::{AllocError, Global};
+
+// Whether two lists have the same numbers.
+fn are_numbers(one: &[u64], other: &[u64]) -> bool
+    ensures { IsTrue result ↔ (one.now ≡ other.now) }
+{
+    one == other
+}
+
+// Whether two lists have the same jobs.
+fn are_jobs<J: Job>(one: &[Option<J>], other: &[Option<J>]) -> bool
+    ensures { IsTrue result ↔ (one.now ≡ other.now) }
+{
+    if one.len() != other.len() {
+        return false;
+    }
+    for i in 0..one.len() {
+        if !is_same(&one[i], &other[i]) {
+            return false;
+        }
+    }
+    true
+}
+
+// Whether two states of a set are the same.
+fn are_states<J: Job>(one: &PlainState<J>, other: &PlainState<J>) -> bool
+    requires { (plain_of one.now).ledger.set ≡ (plain_of other.now).ledger.set }
+    ensures { IsTrue result ↔ (plain_of one.now ≡ plain_of other.now) }
+{
+    if one.number != other.number {
+        return false;
+    }
+    if one.ledger.slot != other.ledger.slot {
+        return false;
+    }
+    if !are_numbers(&one.ledger.allocations, &other.ledger.allocations) {
+        return false;
+    }
+    are_jobs(&one.jobs, &other.jobs)
+}
+
+/// The verdict on records that lead from a start to a checkpoint, and on from there.
+pub(crate) fn judge_history<J: Job>(
+    alloc: Global,
+    start: PlainState<J>,
+    before: &[Record<J>],
+    checkpoint: PlainState<J>,
+    behind: &[Record<J>],
+) -> Result<Verdict, AllocError>
+    requires set { (plain_of start).ledger.set ≡ (plain_of checkpoint).ledger.set }
+    requires before { (t : Plain J) × (applied J.kind (plain_of start) (map plain before.now) ≡ Some t) }
+    requires behind { (t : Plain J) × (applied J.kind (plain_of checkpoint) (map plain behind.now) ≡ Some t) }
+    ensures { IfOk result (IsVerdict J.kind (record {
+      start = plain_of start;
+      before = map plain before.now;
+      checkpoint = plain_of checkpoint;
+      behind = map plain behind.now;
+    })) }
+{
+    let number = checkpoint.number;
+    let reached = match judge_all(alloc, start, before)? {
+        Judged::Agrees(reached) => reached,
+        Judged::Differs { number, what } => return Ok(Verdict::Differs { number, what }),
+    };
+    if !are_states(&reached, &checkpoint) {
+        return Ok(Verdict::Differs {
+            number,
+            what: Difference::Checkpoint,
+        });
+    }
+    match judge_all(alloc, checkpoint, behind)? {
+        Judged::Agrees(last) => Ok(Verdict::Agrees {
+            number: last.number,
+        }),
+        Judged::Differs { number, what } => Ok(Verdict::Differs { number, what }),
+    }
+}

@@ -1,0 +1,147 @@
+// Records against what their commands do.
+ghost use Rattle.std.specs.Prelude.{◌≡◌, ◌≢◌, ◌↔◌, ◌+◌, ◌∷◌, [], ℕ, List, length, map, slice_get, IsTrue, IfOk, Some, None, Ok};
+ghost use Rattle.pfx_choice.specs.PfRows.{chosen};
+ghost use Rattle.pfx_machine.specs.Outcome.{outcome};
+ghost use Rattle.pfx_machine.specs.Plain.{Plain};
+ghost use Rattle.pfx_machine.specs.Refusals.{refusal};
+ghost use Rattle.pfx_record.specs.Records.{plain, ran, tasks_of};
+ghost use Rattle.pfx_effect.specs.Applying.{applied, is_right};
+ghost use Rattle.pfx_effect.specs.Recording.{place_of, state_after_step};
+ghost use Rattle.pfx_replay.specs.Judged.{GivesAll, GivesOne};
+ghost use Rattle.pfx_replay.specs.Stated.{plain_of};
+
+use crate::jobs::PlainState;
+use crate::judged::Judged;
+use crate::verdict::Difference;
+use pfx_jobs::job::{Job, are_same};
+use pfx_record::{Place, Record};
+use std::alloc::{AllocError, Global};
+
+// The state of a job after a step, unless there is none or it is done.
+fn stepped<J: Job>(jobs: &[Option<J>], task: u16) -> Option<J>
+    ensures { result ≡ state_after_step J.kind (slice_get jobs.now task) }
+{
+    match jobs.get(usize::from(task)) {
+        None => None,
+        Some(None) => None,
+        Some(Some(job)) => {
+            if job.is_done() {
+                return None;
+            }
+            let mut next = job.copy_of();
+            next.step();
+            Some(next)
+        }
+    }
+}
+
+/// Whether two places have the same job's state, or none.
+pub(crate) fn is_same<J: Job>(one: &Option<J>, other: &Option<J>) -> bool
+    ensures { IsTrue result ↔ (one.now ≡ other.now) }
+{
+    match (one, other) {
+        (None, None) => true,
+        (Some(one), Some(other)) => are_same(one, other),
+        _ => false,
+    }
+}
+
+// Whether a place of a row has the state behind its task's quantum.
+fn is_stepped<J: Job>(jobs: &[Option<J>], place: &Place<J>) -> bool
+    ensures { IsTrue result ↔ (place.now ≡ place_of J.kind jobs.now place.now.task) }
+{
+    is_same(&place.state, &stepped(jobs, place.task))
+}
+
+// Whether each place of a row has the state behind its task's quantum.
+fn are_stepped<J: Job>(jobs: &[Option<J>], row: &[Place<J>]) -> bool
+    ensures { IsTrue result ↔ (row.now ≡ map (place_of J.kind jobs.now) (tasks_of row.now)) }
+{
+    for place in row {
+        if !is_stepped(jobs, place) {
+            return false;
+        }
+    }
+    true
+}
+
+// Whether the places of a row are those of these tasks.
+fn are_tasks<J>(row: &[Place<J>], tasks: &[u16]) -> bool
+    ensures { IsTrue result ↔ (tasks_of row.now ≡ tasks.now) }
+{
+    if row.len() != tasks.len() {
+        return false;
+    }
+    for i in 0..row.len() {
+        if row[i].task != tasks[i] {
+            return false;
+        }
+    }
+    true
+}
+
+// A slot's record.
+fn judge_row<J: Job>(
+    alloc: Global,
+    state: PlainState<J>,
+    row: &[Place<J>],
+) -> Result<Judged<J>, AllocError>
+    requires { IsTrue (is_right J.kind (plain_of state) (ran row.now)) }
+    ensures { IfOk result (GivesOne J.kind (plain_of state) (ran row.now)) }
+{
+    let number = state.number + 1;
+    let Some(tasks) = state.ledger.row(alloc)? else {
+        return Ok(Judged::Differs {
+            number,
+            what: Difference::Row,
+        });
+    };
+    if !are_tasks(row, &tasks) {
+        return Ok(Judged::Differs {
+            number,
+            what: Difference::Row,
+        });
+    }
+    if !are_stepped(&state.jobs, row) {
+        return Ok(Judged::Differs {
+            number,
+            what: Difference::State,
+        });
+    }
+    Ok(Judged::Agrees(state.ran(&tasks)))
+}
+
+// One record.
+fn judge_one<J: Job>(
+    alloc: Global,
+    state: PlainState<J>,
+    entry: &Record<J>,
+) -> Result<Judged<J>, AllocError>
+    requires { IsTrue (is_right J.kind (plain_of state) (plain entry.now)) }
+    ensures { IfOk result (GivesOne J.kind (plain_of state) (plain entry.now)) }
+{
+    match entry {
+        Record::Submit { task, job } => Ok(Judged::Agrees(state.submitted(*task, job.copy_of()))),
+        Record::Slot { row } => judge_row(alloc, state, row),
+        Record::Withdraw { task } => Ok(Judged::Agrees(state.withdrawn(*task))),
+    }
+}
+
+/// Records behind a state, one after the other, up to the first that isn't what its command does.
+pub(crate) fn judge_all<J: Job>(
+    alloc: Global,
+    state: PlainState<J>,
+    records: &[Record<J>],
+) -> Result<Judged<J>, AllocError>
+    requires { (t : Plain J) × (applied J.kind (plain_of state) (map plain records.now) ≡ Some t) }
+    ensures { IfOk result (GivesAll J.kind (plain_of state) (map plain records.now)) }
+{
+    let mut reached = state;
+    for entry in records {
+        match judge_one(alloc, reached, entry)? {
+            Judged::Agrees(next) => reached = next,
+            Judged::Differs { number, what } => return Ok(Judged::Differs { number, what }),
+        }
+    }
+    Ok(Judged::Agrees(reached))
+}

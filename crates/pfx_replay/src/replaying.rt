@@ -1,0 +1,76 @@
+//! A replay of a store's file.
+ghost use Rattle.std.specs.Prelude.{◌≡◌, ◌≤◌, ℕ, List, length, Err, IfOk, IfErr, IsErrOf, MatchResult};
+ghost use Rattle.pfx_disk.specs.Disk.{IsHonest, HasFailed};
+ghost use Rattle.pfx_format.specs.Format.{format};
+ghost use Rattle.pfx_opening.specs.Answers.{IsRefusal};
+ghost use Rattle.pfx_opening.specs.Looking.{IsKept, Looks, Reaches};
+ghost use Rattle.pfx_recovery.specs.Recovery.{found, recovered};
+ghost use Rattle.pfx_replay.specs.Reading.{IsNoRefusal};
+ghost use Rattle.pfx_replay.specs.Trails.{IsReplayed};
+
+use crate::file::judge_file;
+use crate::verdict::Verdict;
+use pfx_disk::Disk;
+use pfx_jobs::job::Job;
+use pfx_journal::FileFormat;
+use pfx_opening::{OpenFault, Opened, Part, Refusal, open};
+use std::alloc::Global;
+
+// All bytes of a disk, of which there are so many.
+fn read_image<D: Disk>(alloc: Global, disk: &mut D, len: usize) -> Result<Vec<u8>, OpenFault>
+    requires inside { Reaches len (D.view disk.old) }
+    ensures looks { Looks (D.view disk.old) (D.view disk.new) }
+    ensures device { IsErrOf result OpenFault.Device → HasFailed (D.view disk.old) (D.view disk.new) }
+    ensures refused { IfErr result IsNoRefusal }
+    ensures long { IfOk result (λ image. length image.items ≡ len) }
+    ensures exact { (bytes : List ℕ) → IsKept bytes (D.view disk.old) → len ≡ length bytes → IfOk result (λ image. image.items ≡ bytes) }
+{
+    let mut image = vec![in alloc; 0; len]?;
+    disk.read(0, &mut image)?;
+    Ok(image)
+}
+
+/// Reads a store's file and runs its commands again, from the lesser checkpoint on where the file has the records from
+/// there to the other, and from the one in use on where it hasn't. The disk comes back.
+///
+/// `Agrees` says that each recorded row is PF's, each recorded state of a job is the one behind its quantum, and the
+/// checkpoint on the way holds the state that the commands lead to; `Differs` names the first number where that isn't so,
+/// and what differs there: a row before a state, a state before a checkpoint. Where the file isn't a store's, it is refused
+/// as `open` refuses it. Nothing is written.
+pub fn replay<J: Job, D: Disk>(alloc: Global, disk: D) -> Result<(Verdict, D), (OpenFault, D)>
+    ensures verdict { IsHonest (D.view disk) → IfOk result (λ r.
+        IsReplayed J.kind (D.view disk).contents (found (format J.kind) (D.view disk).contents) r.0) }
+    ensures refused { IsHonest (D.view disk) → IfErr result (λ e. IsRefusal e.0 (λ refusal.
+        recovered (format J.kind) (D.view disk).contents ≡ Err refusal)) }
+    ensures device { IfErr result (λ e. e.0 ≡ OpenFault.Device → HasFailed (D.view disk) (D.view e.1)) }
+    ensures looks { MatchResult result (λ r. Looks (D.view disk) (D.view r.1)) (λ e. Looks (D.view disk) (D.view e.1)) }
+{
+    let Opened { file, header, .. } = match open::<FileFormat<J>, D>(alloc, disk) {
+        Ok(opened) => opened,
+        Err(fault) => return Err(fault),
+    };
+    let places = file.places;
+    let mut disk = file.into_disk();
+    let image = match read_image(alloc, &mut disk, places.len) {
+        Ok(image) => image,
+        Err(fault) => return Err((fault, disk)),
+    };
+    match judge_file::<J>(
+        alloc,
+        &header,
+        &image,
+        places.slot,
+        places.segment,
+        places.turned,
+    ) {
+        Ok(Some(verdict)) => Ok((verdict, disk)),
+        Ok(None) => Err((
+            OpenFault::Refused(Refusal::Damaged {
+                at: 0,
+                what: Part::Checkpoint,
+            }),
+            disk,
+        )),
+        Err(_) => Err((OpenFault::NoMemory, disk)),
+    }
+}

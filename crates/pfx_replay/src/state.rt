@@ -1,0 +1,128 @@
+// A state as plain numbers and jobs, and the state after a command.
+ghost use Rattle.std.specs.Prelude.{◌≡◌, ◌<◌, ◌+◌, ◌^◌, ◌∷◌, [], if◌then◌else◌, Bool, IfOk, Ok, None};
+ghost use Rattle.pfx_choice.specs.PfRows.{chosen};
+ghost use Rattle.pfx_machine.specs.Outcome.{outcome};
+ghost use Rattle.pfx_machine.specs.Refusals.{refusal};
+ghost use Rattle.pfx_machine.specs.Steps.{once_job, served};
+ghost use Rattle.pfx_machine.specs.declared.command.Command.TheVariants.{Submit, Slot, Withdraw};
+ghost use Rattle.pfx_replay.specs.Shown.{ledger_of};
+ghost use Rattle.pfx_replay.specs.Stated.{plain_of};
+
+use crate::jobs::PlainState;
+use crate::ledger::holds;
+use crate::numbers::PlainLedger;
+use pfx_jobs::job::Job;
+use pfx_machine::State;
+use std::alloc::{AllocError, Global};
+
+// A copy of a task's job, if it has one.
+fn copy_one<J: Job>(place: &Option<J>) -> Option<J>
+    ensures { result ≡ place.now }
+{
+    match place {
+        Some(job) => Some(job.copy_of()),
+        None => None,
+    }
+}
+
+// A copy of all tasks' jobs.
+fn copy_jobs<J: Job>(alloc: Global, jobs: &[Option<J>]) -> Result<Vec<Option<J>>, AllocError>
+    ensures { IfOk result (λ copies. copies.items ≡ jobs.now) }
+{
+    let mut copies = Vec::with_capacity(alloc, jobs.len())?;
+    for place in jobs {
+        copies.push(copy_one(place))?;
+    }
+    Ok(copies)
+}
+
+// Steps a job that runs, unless there is none or it is done.
+fn step_one<J: Job>(place: &mut Option<J>, runs: bool)
+    ensures { place.new ≡ (if runs then once_job J.kind place.old else place.old) }
+{
+    if let Some(job) = place {
+        if runs && !job.is_done() {
+            job.step();
+        }
+    }
+}
+
+// Steps the job of each task of the row, one task after the other.
+fn step_all<J: Job>(jobs: &mut Vec<Option<J>>, row: &[u16])
+    ensures { jobs.new.items ≡ served J.kind row.now jobs.old.items }
+{
+    for task in 0..jobs.len() {
+        step_one(&mut jobs[task], holds(row, task));
+    }
+}
+
+impl<J: Job> PlainState<J> {
+    /// The numbers of a state.
+    pub(crate) fn of(alloc: Global, state: &State<J>) -> Result<PlainState<J>, AllocError>
+        ensures { IfOk result (λ s. plain_of s ≡ state.now) }
+    {
+        Ok(PlainState {
+            number: state.number(),
+            ledger: PlainLedger::of(alloc, state.columns())?,
+            jobs: copy_jobs(alloc, state.jobs())?,
+        })
+    }
+
+    /// The state after a job was given to a task.
+    pub(crate) fn submitted(self, task: u16, job: J) -> PlainState<J>
+        requires { refusal J.kind (plain_of self) (Submit task job) ≡ None }
+        ensures { plain_of result ≡ outcome J.kind (plain_of self) (Submit task job ∷ []) }
+    {
+        let PlainState {
+            number,
+            ledger,
+            jobs,
+        } = self;
+        let mut jobs = jobs;
+        jobs[usize::from(task)] = Some(job);
+        PlainState {
+            number: number + 1,
+            ledger,
+            jobs,
+        }
+    }
+
+    /// The state after a task's job was taken away.
+    pub(crate) fn withdrawn(self, task: u16) -> PlainState<J>
+        requires { refusal J.kind (plain_of self) (Withdraw task) ≡ None }
+        ensures { plain_of result ≡ outcome J.kind (plain_of self) (Withdraw task ∷ []) }
+    {
+        let PlainState {
+            number,
+            ledger,
+            jobs,
+        } = self;
+        let mut jobs = jobs;
+        jobs[usize::from(task)] = None;
+        PlainState {
+            number: number + 1,
+            ledger,
+            jobs,
+        }
+    }
+
+    /// The state after a slot with this row, which is PF's.
+    pub(crate) fn ran(self, row: &[u16]) -> PlainState<J>
+        requires number { (plain_of self).number + 1 < 2 ^ 48 }
+        requires row { chosen (plain_of self).ledger ≡ Ok row.now }
+        ensures { plain_of result ≡ outcome J.kind (plain_of self) (Slot ∷ []) }
+    {
+        let PlainState {
+            number,
+            ledger,
+            jobs,
+        } = self;
+        let mut jobs = jobs;
+        step_all(&mut jobs, row);
+        PlainState {
+            number: number + 1,
+            ledger: ledger.after(row),
+            jobs,
+        }
+    }
+}

@@ -1,0 +1,76 @@
+// The way from the lesser checkpoint to the checkpoint in use.
+ghost use Rattle.std.specs.Prelude.{◌≡◌, ◌≢◌, ◌≤◌, ◌<◌, ◌+◌, ◌^◌, ℕ, List, length, IfOk, MatchOption};
+ghost use Rattle.pfx_segment.specs.Reading.{views};
+ghost use Rattle.pfx_recovery.specs.Layout.{file_len};
+ghost use Rattle.pfx_recovery.specs.Store.{Parts, Replays};
+ghost use Rattle.pfx_replay.specs.Trails.{IsWayIf};
+ghost use Rattle.pfx_replay.specs.Ways.{way_of};
+
+use crate::image::{first_in, frames_in, state_in};
+use pfx_disk::GATE_OPEN;
+use pfx_opening::Format;
+use std::alloc::{AllocError, Global};
+
+// The state that frames lead to, or `None` where one isn't right at the state that it comes to.
+fn lead<F: Format>(
+    alloc: Global,
+    state: F::State,
+    frames: &[Vec<u8>],
+) -> Result<Option<F::State>, AllocError>
+    ensures { IfOk result (λ found. MatchOption found
+        ((t : F.State) → Replays F.codec state (views frames.now) t → ⊥)
+        (λ t. Replays F.codec state (views frames.now) t)) }
+{
+    let mut reached = state;
+    for frame in frames {
+        match F::apply(alloc, reached, frame)? {
+            Some(next) => reached = next,
+            None => return Ok(None),
+        }
+    }
+    Ok(Some(reached))
+}
+
+/// The state in the slot that isn't in use, and the frames of the segment beside this one that lead from it to this
+/// number, or `None` where there are none.
+pub(crate) fn find_way<F: Format>(
+    alloc: Global,
+    header: &F::Header,
+    image: &[u8],
+    slot: bool,
+    segment: bool,
+    number: u64,
+) -> Result<Option<(F::State, Vec<Vec<u8>>)>, AllocError>
+    requires { length image.now ≡ file_len (F.codec.layout header.now) }
+    ensures { IfOk result (λ found. (p : Parts F.State) → p.slot ≡ slot → p.segment ≡ segment → F.codec.number p.base ≡ number
+        → IsWayIf F.codec header.now p image.now (way_of found)) }
+{
+    let sizes = F::sizes(header);
+    let at = sizes.slot_at(!slot);
+    if image[at] != GATE_OPEN {
+        return Ok(None);
+    }
+    let Some(start) = state_in::<F>(alloc, header, image, at, sizes.body)? else {
+        return Ok(None);
+    };
+    let place = sizes.segment_at(!segment);
+    let Some(first) = first_in::<F>(image, place) else {
+        return Ok(None);
+    };
+    if first == 0 || first - 1 != F::number(&start) {
+        return Ok(None);
+    }
+    let Some(frames) = frames_in(alloc, image, place + 9, place + sizes.segment)? else {
+        return Ok(None);
+    };
+    let Some(reached) = lead::<F>(alloc, start, &frames)? else {
+        return Ok(None);
+    };
+    if F::number(&reached) != number {
+        return Ok(None);
+    }
+    match state_in::<F>(alloc, header, image, at, sizes.body)? {
+        Some(start) => Ok(Some((start, frames))),
+        None => Ok(None),
+    }
+}
