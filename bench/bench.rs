@@ -1,8 +1,9 @@
-//! The proved crates beside plain Rust programs of the same rules, in one run: slots a second of PF's choice, nanoseconds for
-//! a task's class and for its step to the next slot, and steps a second of rule 110. Built and run by `bench/run`, which names
+//! The proved crates beside plain Rust programs of the same rules, in one run: slots a second of PF's choice (beside PD2 too, a scheduler
+//! that gives other rows, with a heap, for its speed), nanoseconds for a task's class and for its step to the next slot, and steps a second of rule 110. Built and run by `bench/run`, which names
 //! the proved program `pfx_bench`, and, where it could be built, `embed`, the C program of `embed.c`. Only std is used.
 
-use std::cmp::Ordering;
+use std::cmp::{Ordering, Reverse};
+use std::collections::BinaryHeap;
 use std::process::Command;
 use std::time::Instant;
 
@@ -107,6 +108,73 @@ fn plan(m: usize, weights: &[(u32, u32)], slots: u64) -> u64 {
     sum
 }
 
+// PD2: fair too, by the ends of subtasks and two ties, so its rows are others than PF's. It keeps no ledger.
+
+struct Pd2 {
+    weights: Vec<(i64, i64)>,
+    got: Vec<i64>,
+    waiting: BinaryHeap<Reverse<(i64, i64, i64, u16)>>,
+    /// The tasks whose next subtask begins in a slot, modulo the wheel's size.
+    wheel: Vec<Vec<u16>>,
+    slot: i64,
+}
+
+const WHEEL: usize = 1 << 11;
+
+impl Pd2 {
+    fn new(m: usize, weights: &[(u32, u32)]) -> Pd2 {
+        let weights: Vec<(i64, i64)> = filled(m, weights).iter().map(|w| (i64::from(w.0), i64::from(w.1))).collect();
+        let mut wheel = vec![Vec::new(); WHEEL];
+        wheel[0] = (0..weights.len() as u16).collect();
+        Pd2 { got: vec![0; weights.len()], weights, waiting: BinaryHeap::new(), wheel, slot: 0 }
+    }
+
+    /// The next subtask's end, whether it overlaps the one behind it, where the windows of a heavy task come apart, the number.
+    fn key(&self, x: u16) -> (i64, i64, i64, u16) {
+        let ((e, p), i) = (self.weights[usize::from(x)], self.got[usize::from(x)] + 1);
+        let up = |a: i64, b: i64| (a + b - 1) / b;
+        let end = up(i * p, e);
+        let overlap = end - i * p / e;
+        let apart = if 2 * e < p { 0 } else { up(up(end * (p - e), p) * p, p - e) };
+        (end, 1 - overlap, -apart, x)
+    }
+
+    fn row(&mut self, m: usize, row: &mut Vec<u16>) {
+        let begins = |s: &Pd2, x: u16| s.got[usize::from(x)] * s.weights[usize::from(x)].1 / s.weights[usize::from(x)].0;
+        let at = self.slot as usize % WHEEL;
+        let mut due = std::mem::take(&mut self.wheel[at]);
+        due.retain(|&x| {
+            let late = begins(self, x) > self.slot;
+            if !late {
+                self.waiting.push(Reverse(self.key(x)));
+            }
+            late
+        });
+        self.wheel[at] = due;
+        for _ in 0..m {
+            let Some(Reverse((_, _, _, x))) = self.waiting.pop() else { break };
+            row.push(x);
+            self.got[usize::from(x)] += 1;
+            let next = begins(self, x).max(self.slot + 1) as usize % WHEEL;
+            self.wheel[next].push(x);
+        }
+        row.sort_unstable();
+        self.slot += 1;
+    }
+}
+
+fn plan_pd2(m: usize, weights: &[(u32, u32)], slots: u64) -> u64 {
+    let (mut pd2, mut row, mut sum) = (Pd2::new(m, weights), Vec::new(), 0u64);
+    for _ in 0..slots {
+        row.clear();
+        pd2.row(m, &mut row);
+        for x in &row {
+            sum = sum.wrapping_mul(31).wrapping_add(u64::from(*x)).wrapping_add(1);
+        }
+    }
+    sum
+}
+
 /// Adds the rows to the tasks' numbers, each row once all lags are known to stay in range, and takes the classes eight
 /// times before each row where that is asked for.
 fn add_rows(tasks: &mut [Task], rows: &[Vec<u16>], out: &mut [u8], classes: bool, slot: &mut u64) -> u64 {
@@ -181,6 +249,40 @@ fn share(p: u32, part: f64) -> (u32, u32) {
     (((f64::from(p) * part) as u32).max(1), p)
 }
 
+fn divisors() -> Vec<u32> {
+    (2..=1001).filter(|d| 720_720 % d == 0).collect()
+}
+
+fn powers() -> Vec<u32> {
+    (3..=20).map(|k| 1 << k).collect()
+}
+
+/// Tasks of drawn periods, whose drawn weights are raised until they take about 97 parts of 100.
+fn drawn(m: usize, n: usize, periods: &[u32], seed: u64) -> Vec<(u32, u32)> {
+    let mut state = seed;
+    let mut next = |below: u64| {
+        state = state.wrapping_mul(6364136223846793005).wrapping_add(1442695040888963407);
+        (state >> 33) % below
+    };
+    let mut tasks: Vec<(u32, u32)> = (0..n).map(|_| (1, periods[next(periods.len() as u64) as usize])).collect();
+    let part = |w: (u32, u32)| f64::from(w.0) / f64::from(w.1);
+    let mut sum: f64 = tasks.iter().map(|w| part(*w)).sum();
+    for _ in 0..200_000 {
+        if sum >= m as f64 * 0.97 {
+            break;
+        }
+        let x = next(n as u64) as usize;
+        let p = tasks[x].1;
+        let weight = (1 + next(1000)) as f64 / 1000.0 * (1.9 * m as f64 / n as f64).min(0.98);
+        let raised = (((weight * f64::from(p)) as u32).clamp(1, p - 1), p);
+        let all = sum - part(tasks[x]) + part(raised);
+        if all <= m as f64 * 0.999 && all > sum {
+            (tasks[x], sum) = (raised, all);
+        }
+    }
+    tasks
+}
+
 /// The measured sets: name, workers, weights.
 fn sets() -> Vec<(&'static str, usize, Vec<(u32, u32)>)> {
     vec![
@@ -188,6 +290,11 @@ fn sets() -> Vec<(&'static str, usize, Vec<(u32, u32)>)> {
         ("16 tasks on 4", 4, (0..16).map(|i| share(720720 / (1 + i), 0.24)).collect()),
         ("128 tasks on 16", 16, (0..128).map(|i| share(8 << (i % 18), 0.123)).collect()),
         ("1024 tasks on 64", 64, (0..1024).map(|i| share(720720 / (1 + i % 16), 0.0611)).collect()),
+        ("17 tasks of 1/17 on 1", 1, vec![(1, 17); 17]),
+        ("16 drawn tasks on 4", 4, drawn(4, 16, &divisors(), 16)),
+        ("128 drawn tasks on 16", 16, drawn(16, 128, &powers(), 128)),
+        ("1024 drawn tasks on 64", 64, drawn(64, 1024, &divisors(), 1024)),
+        ("1024 drawn, periods 2^k", 64, drawn(64, 1024, &powers(), 1025)),
         ("hard: 2 long periods on 2", 2, vec![(LONGEST - 1, LONGEST), (LONGEST / 2 - 1, LONGEST / 2)]),
         ("hard: 64 near 1 on 64", 64, (0..64).map(|i| (LONGEST - 1 - 2 * i, LONGEST)).collect()),
         ("hard: 128 near 1/2 on 64", 64, (0..128).map(|i| (LONGEST / 2 - 1 - 2 * i, LONGEST)).collect()),
@@ -225,6 +332,23 @@ fn proved(program: &str, words: &[String]) -> (u64, f64) {
     assert!(ran.status.success(), "{}", String::from_utf8_lossy(&ran.stderr));
     let number = |text: &[u8]| String::from_utf8_lossy(text).trim().parse::<u64>().expect("a number");
     (number(&ran.stdout), number(&ran.stderr) as f64 / 1e9)
+}
+
+/// The least seconds of fifteen runs each of PF in Rust, the proved program and PD2, taken in turn; the first two with the same result.
+fn beside_pd2(count: u64, m: usize, weights: &[(u32, u32)], program: &str, words: &[String]) -> [f64; 3] {
+    let mut least = [f64::MAX; 3];
+    for _ in 0..15 {
+        let start = Instant::now();
+        let sum = std::hint::black_box(plan(m, weights, count));
+        least[0] = least[0].min(start.elapsed().as_secs_f64());
+        let (other, seconds) = proved(program, words);
+        assert_eq!(sum, other, "both programs make the same");
+        least[1] = least[1].min(seconds);
+        let start = Instant::now();
+        std::hint::black_box(plan_pd2(m, weights, count));
+        least[2] = least[2].min(start.elapsed().as_secs_f64());
+    }
+    least
 }
 
 /// Both programs' least seconds of fifteen runs each, taken in turn, with the same result.
@@ -281,14 +405,14 @@ fn from_c(program: &str, embed: &str) {
 fn main() {
     let program = std::env::args().nth(1).expect("the path of pfx_bench");
     let embed = std::env::args().nth(2);
-    println!("{:<28} {:>14} {:>14} {:>7}", "PF's choice", "Rust slots/s", "pfx slots/s", "ratio");
+    println!("{:<28} {:>12} {:>12} {:>12} {:>8} {:>8}", "PF's choice, slots/s", "Rust", "pfx", "PD2", "to Rust", "to PD2");
     for (name, m, weights) in sets() {
-        let run = |slots| plan(m, &weights, slots);
-        let count = calibrated(run);
+        let count = calibrated(|slots| plan(m, &weights, slots));
         let mut words = vec!["plan".to_string(), count.to_string(), m.to_string()];
         words.extend(weights.iter().map(|w| format!("{}/{}", w.0, w.1)));
-        let (a, b) = both(count, run, &program, &words);
-        println!("{name:<28} {:>14.0} {:>14.0} {:>7.2}", count as f64 / a, count as f64 / b, a / b);
+        let [a, b, c] = beside_pd2(count, m, &weights, &program, &words);
+        let n = count as f64;
+        println!("{name:<28} {:>12.0} {:>12.0} {:>12.0} {:>8.2} {:>8.2}", n / a, n / b, n / c, a / b, c / b);
     }
     if let Some(embed) = embed {
         from_c(&program, &embed);

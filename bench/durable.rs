@@ -8,6 +8,7 @@ use std::time::Instant;
 
 const COMMANDS: usize = 2000;
 const MANY: usize = 100_000;
+const SLOTS: usize = 20_000;
 
 fn show(name: &str, mut micros: Vec<u128>) -> u128 {
     micros.sort_unstable();
@@ -79,6 +80,21 @@ fn endless(pfx: &str, set: &str, room: &Path, segment: u32) -> f64 {
     mean
 }
 
+// The program over a new store with so many slots kept at once: how many slots a second, and what it prints.
+fn batched(pfx: &str, set: &Path, room: &Path, count: usize, batch: usize) -> (f64, Vec<u8>) {
+    let store = room.join("store");
+    let script = room.join("script.csv");
+    let _ = std::fs::remove_file(&store);
+    std::fs::write(&script, format!("slot,,,{count},\n")).unwrap();
+    let made = Command::new(pfx).arg("init").arg(set).arg(&store).stdout(Stdio::null()).status().unwrap();
+    assert!(made.success());
+    let start = Instant::now();
+    let done = Command::new(pfx).arg("run").arg(&store).arg(&script).args(["--batch", &batch.to_string()]).output().unwrap();
+    let seconds = start.elapsed().as_secs_f64();
+    assert!(done.status.success());
+    (count as f64 / seconds, done.stdout)
+}
+
 fn main() {
     let words: Vec<String> = std::env::args().collect();
     let (pfx, set, room) = (&words[1], &words[2], Path::new(&words[3]));
@@ -89,5 +105,11 @@ fn main() {
     let least = endless(pfx, set, room, 4233);
     let most = endless(pfx, set, room, 16_777_216);
     println!("a turn and a checkpoint every 190 commands cost {:.1} us a command", least - most);
+    let (alone, lines) = batched(pfx, Path::new(set), room, SLOTS, 1);
+    for batch in [2, 4, 8, 16] {
+        let (together, same) = batched(pfx, Path::new(set), room, SLOTS, batch);
+        assert!(same == lines);
+        println!("--batch {batch:<2} {together:>8.0} slots a second, alone {alone:.0}: {:.1} times", together / alone);
+    }
     std::io::stdout().flush().unwrap();
 }

@@ -9,6 +9,7 @@ use pfx_header::SegmentSizeFault;
 use pfx_journal::InitFault;
 use pfx_opening::{OpenFault, Part as FilePart, Refusal};
 use std::fs::{File, OpenOptions, TryLockError};
+use std::io::{Read, Stdin};
 use std::path::Path;
 use std::time::Duration;
 use std::{io, thread};
@@ -29,12 +30,43 @@ pub(crate) fn fault_of(error: &io::Error, other: Fault) -> Fault
     }
 }
 
-/// A file that is read.
-pub(crate) fn input(rt: &HostRuntime, path: &str) -> Result<File, Fault> {
+/// What a set or a script is read from.
+#[derive(Drop)]
+pub(crate) enum Source {
+    /// Standard input, of which no more is asked for than is there.
+    Standard(Stdin),
+    /// A file.
+    File(File),
+}
+
+impl Read for Source {
+    fn read(&mut self, bytes: &mut [u8]) -> io::Result<usize> {
+        match self {
+            Source::Standard(input) => input.read(bytes),
+            Source::File(file) => file.read(bytes),
+        }
+    }
+}
+
+/// What is read: standard input where the path is `-`, else the file.
+pub(crate) fn input(rt: &HostRuntime, path: &str) -> Result<Source, Fault> {
+    if path == "-" {
+        return Ok(Source::Standard(rt.stdin()));
+    }
     match File::open(rt, path) {
-        Ok(file) => Ok(file),
+        Ok(file) => Ok(Source::File(file)),
         Err(error) => Err(fault_of(&error, Fault::InputFailed)),
     }
+}
+
+/// Keeps the places of the three standard streams: where one of them is closed, a file that is opened would else become it, and
+/// a store's file would take what is printed. What is returned has to live as long as any file is open.
+pub(crate) fn taken_streams(rt: &HostRuntime) -> [io::Result<File>; 3] {
+    [
+        File::open(rt, "/dev/null"),
+        File::open(rt, "/dev/null"),
+        File::open(rt, "/dev/null"),
+    ]
 }
 
 fn opened(rt: &HostRuntime, path: &str, create: bool) -> Result<File, Fault> {

@@ -3,7 +3,7 @@
 //! It does what its words ask for, over the system's own files. Where that fails it prints one fault line on standard
 //! error and ends with the fault's exit status: 3 where the set, the ledger or the plan is refused, 4 where the store is or
 //! its disk failed, 5 where memory ran out, 7 where the script has a record without form, 8 where a file or an output
-//! failed. Help and version end with 0, words that it doesn't take with 2.
+//! failed. Help and version end with 0, words that it doesn't take with 2, a replay that finds a difference with 6.
 #![tactic(auto)]
 
 ghost use Rattle.std.specs.Prelude.{◌≡◌};
@@ -11,10 +11,13 @@ ghost use Rattle.pfx_fault.specs.Refusals.{status_of};
 
 mod files;
 mod plan;
+mod replay;
 mod store;
 
+use crate::files::taken_streams;
 use crate::plan::plan;
-use crate::store::{init, run, status};
+use crate::replay::replay;
+use crate::store::{init, run, show, status};
 use clap::Error;
 use clap::error::ErrorKind;
 use pfx_fault::{Fault, put_fault};
@@ -25,6 +28,9 @@ use std::{env, io};
 
 /// The exit status of words that the program doesn't take.
 const USAGE: u8 = 2;
+
+/// The exit status of a replay that finds a difference.
+const DIFFERS: u8 = 6;
 
 // Prints the fault's line. Where standard error fails too, the status still tells.
 fn failed(rt: &HostRuntime, fault: Fault) -> u8
@@ -62,8 +68,19 @@ fn done(rt: &HostRuntime, alloc: Global, words: &[&str]) -> u8 {
     let done = match request {
         Request::Plan { set, slots, at } => plan(rt, alloc, set, at, slots),
         Request::Init { set, file } => init(rt, alloc, set, file),
-        Request::Run { file, script, .. } => run(rt, alloc, file, script),
+        Request::Run {
+            file,
+            script,
+            batch,
+            ..
+        } => run(rt, alloc, file, script, batch.unwrap_or(1).max(1)),
         Request::Status { file } => status(rt, alloc, file),
+        Request::Replay { file } => match replay(rt, alloc, file) {
+            Ok(true) => Ok(()),
+            Ok(false) => return DIFFERS,
+            Err(fault) => Err(fault),
+        },
+        Request::Show { file, task } => show(rt, alloc, file, task),
     };
     match done {
         Ok(()) => 0,
@@ -79,6 +96,7 @@ fn given(rt: &HostRuntime, alloc: Global) -> io::Result<Vec<String>> {
 
 fn main(rt: HostRuntime) -> ExitCode {
     let alloc = rt.alloc();
+    let _streams = taken_streams(&rt);
     let given = match given(&rt, alloc) {
         Ok(given) => given,
         Err(error) if error.kind() == io::ErrorKind::OutOfMemory => {

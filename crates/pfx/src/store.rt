@@ -1,4 +1,6 @@
-//! `pfx init SET FILE`, `pfx run FILE SCRIPT`, `pfx status FILE`.
+//! `pfx init SET FILE`, `pfx run FILE SCRIPT`, `pfx status FILE`, `pfx show FILE TASK`.
+
+ghost use Rattle.std.specs.Prelude.{◌<◌};
 
 use crate::files::{
     disk, fault_of, init_fault, input, open_fault, shared_disk, size_fault, sync_directory,
@@ -9,7 +11,7 @@ use pfx_fault::Fault;
 use pfx_header::check_segment;
 use pfx_journal::Store;
 use pfx_kinds::any::AnyJob;
-use pfx_program::{created_line, read_task_set, run_status};
+use pfx_program::{created_line, read_task_set, run_show, run_status};
 use pfx_script::Script;
 use std::alloc::Global;
 use std::io;
@@ -48,12 +50,20 @@ fn engine(alloc: Global, disk: FileDisk) -> Result<DurableEngine<FileDisk>, Faul
     }
 }
 
-/// Runs a script on the store of a file. Its lines are printed as they come.
-pub(crate) fn run(rt: &HostRuntime, alloc: Global, file: &str, script: &str) -> Result<(), Fault> {
+/// Runs a script on the store of a file, up to `window` slots of a record at once. Its lines are printed as they come.
+pub(crate) fn run(
+    rt: &HostRuntime,
+    alloc: Global,
+    file: &str,
+    script: &str,
+    window: u32,
+) -> Result<(), Fault>
+    requires { 0 < window }
+{
     let mut script = Script::new(alloc, input(rt, script)?);
     let mut engine = engine(alloc, disk(rt, file, false)?)?;
     let mut output = io::writer(rt);
-    run_durable(alloc, &mut script, &mut output, &mut engine)
+    run_durable(alloc, &mut script, window, &mut output, &mut engine)
 }
 
 /// Prints the board of the store of a file.
@@ -69,4 +79,27 @@ pub(crate) fn status(rt: &HostRuntime, alloc: Global, file: &str) -> Result<(), 
         Ok(()) => Ok(()),
         Err(error) => Err(fault_of(&error, Fault::OutputFailed)),
     }
+}
+
+// The number of a task; one that is greater than any is no task's.
+fn task_of(task: u32) -> u16 {
+    if task < 65_535 { task as u16 } else { 65_535 }
+}
+
+/// Prints what the jobs of the store of a file have computed, or the one of a task.
+pub(crate) fn show(
+    rt: &HostRuntime,
+    alloc: Global,
+    file: &str,
+    task: Option<u32>,
+) -> Result<(), Fault> {
+    let store = match Store::<FileDisk, AnyJob>::open(alloc, shared_disk(rt, file)?) {
+        Ok(store) => store,
+        Err((fault, _disk)) => return Err(open_fault(fault)),
+    };
+    let task = match task {
+        Some(task) => Some(task_of(task)),
+        None => None,
+    };
+    run_show(alloc, &mut io::writer(rt), store.state(), task)
 }

@@ -6,7 +6,7 @@ use Rattle.clap.specs.Faults.{fault_of}
 use Rattle.clap.specs.declared.error.kind.ErrorKind.TheVariants as kind
 use Rattle.clap.proofs.OnLiterals.{clap_on_literals}
 use Rattle.pfx_words.specs.Commands.{pfx_app}
-use Rattle.pfx_words.specs.Requests.{plan, init, run, status, asked}
+use Rattle.pfx_words.specs.Requests.{plan, init, run, status, replay, show, asked}
 
 -- `pfx` and these words
 abbrev pfx : List Text → List Text
@@ -70,7 +70,7 @@ takes_a_store = refl
 abbrev run_script : List Text
 run_script = pfx (codes "run" ∷ codes "a.pfx" ∷ codes "a.csv" ∷ [])
 
-pub asks_for_a_run : asked run_script ≡ Some (run (codes "a.pfx") (codes "a.csv") None)
+pub asks_for_a_run : asked run_script ≡ Some (run (codes "a.pfx") (codes "a.csv") None None)
 unfolding clap_on_literals asked
 asks_for_a_run = refl
 
@@ -82,7 +82,7 @@ takes_a_run = refl
 abbrev run_by_none : List Text
 run_by_none = pfx (codes "run" ∷ codes "a.pfx" ∷ codes "a.csv" ∷ codes "--workers" ∷ codes "0" ∷ [])
 
-pub asks_for_no_workers : asked run_by_none ≡ Some (run (codes "a.pfx") (codes "a.csv") (Some 0))
+pub asks_for_no_workers : asked run_by_none ≡ Some (run (codes "a.pfx") (codes "a.csv") (Some 0) None)
 unfolding clap_on_literals asked
 asks_for_no_workers = refl
 
@@ -90,9 +90,25 @@ pub takes_no_workers : takes pfx_app run_by_none ≡ true
 unfolding clap_on_literals
 takes_no_workers = refl
 
-pub asks_for_most_workers : asked (pfx (codes "run" ∷ codes "--workers=64" ∷ codes "a.pfx" ∷ codes "a.csv" ∷ [])) ≡ Some (run (codes "a.pfx") (codes "a.csv") (Some 64))
+pub asks_for_most_workers : asked (pfx (codes "run" ∷ codes "--workers=64" ∷ codes "a.pfx" ∷ codes "a.csv" ∷ [])) ≡ Some (run (codes "a.pfx") (codes "a.csv") (Some 64) None)
 unfolding clap_on_literals asked
 asks_for_most_workers = refl
+
+-- with a number of slots kept at once, the least and the greatest, and with both
+abbrev run_in_batches : List Text
+run_in_batches = pfx (codes "run" ∷ codes "a.pfx" ∷ codes "a.csv" ∷ codes "--workers" ∷ codes "0" ∷ codes "--batch" ∷ codes "16" ∷ [])
+
+pub asks_for_batches : asked run_in_batches ≡ Some (run (codes "a.pfx") (codes "a.csv") (Some 0) (Some 16))
+unfolding clap_on_literals asked
+asks_for_batches = refl
+
+pub takes_batches : takes pfx_app run_in_batches ≡ true
+unfolding clap_on_literals
+takes_batches = refl
+
+pub asks_for_least_batch : asked (pfx (codes "run" ∷ codes "--batch=1" ∷ codes "a.pfx" ∷ codes "a.csv" ∷ [])) ≡ Some (run (codes "a.pfx") (codes "a.csv") None (Some 1))
+unfolding clap_on_literals asked
+asks_for_least_batch = refl
 
 abbrev show_store : List Text
 show_store = pfx (codes "status" ∷ codes "a.pfx" ∷ [])
@@ -105,7 +121,38 @@ pub takes_a_board : takes pfx_app show_store ≡ true
 unfolding clap_on_literals
 takes_a_board = refl
 
+abbrev replay_store : List Text
+replay_store = pfx (codes "replay" ∷ codes "a.pfx" ∷ [])
+
+pub asks_for_a_replay : asked replay_store ≡ Some (replay (codes "a.pfx"))
+unfolding clap_on_literals asked
+asks_for_a_replay = refl
+
+pub takes_a_replay : takes pfx_app replay_store ≡ true
+unfolding clap_on_literals
+takes_a_replay = refl
+
+-- what its jobs have computed, and that of one task
+abbrev show_jobs : List Text
+show_jobs = pfx (codes "show" ∷ codes "a.pfx" ∷ [])
+
+pub asks_for_the_jobs : asked show_jobs ≡ Some (show (codes "a.pfx") None)
+unfolding clap_on_literals asked
+asks_for_the_jobs = refl
+
+pub takes_the_jobs : takes pfx_app show_jobs ≡ true
+unfolding clap_on_literals
+takes_the_jobs = refl
+
+pub asks_for_one_job : asked (pfx (codes "show" ∷ codes "a.pfx" ∷ codes "2" ∷ [])) ≡ Some (show (codes "a.pfx") (Some 2))
+unfolding clap_on_literals asked
+asks_for_one_job = refl
+
 -- ---- words that are refused
+
+pub too_large_task : fault_of pfx_app (pfx (codes "show" ∷ codes "a.pfx" ∷ codes "65536" ∷ [])) ≡ kind.ValueValidation ∷ []
+unfolding clap_on_literals
+too_large_task = refl
 
 pub too_many_slots : fault_of pfx_app (pfx (codes "plan" ∷ codes "a.toml" ∷ codes "1048577" ∷ [])) ≡ kind.ValueValidation ∷ []
 unfolding clap_on_literals
@@ -143,6 +190,14 @@ pub two_files_to_show : fault_of pfx_app (pfx (codes "status" ∷ codes "a.pfx" 
 unfolding clap_on_literals
 two_files_to_show = refl
 
+pub no_file_to_replay : fault_of pfx_app (pfx (codes "replay" ∷ [])) ≡ kind.MissingRequiredArgument ∷ []
+unfolding clap_on_literals
+no_file_to_replay = refl
+
+pub two_files_to_replay : fault_of pfx_app (pfx (codes "replay" ∷ codes "a.pfx" ∷ codes "b.pfx" ∷ [])) ≡ kind.UnknownArgument ∷ []
+unfolding clap_on_literals
+two_files_to_replay = refl
+
 pub too_many_workers : fault_of pfx_app (pfx (codes "run" ∷ codes "a.pfx" ∷ codes "a.csv" ∷ codes "--workers" ∷ codes "65" ∷ [])) ≡ kind.ValueValidation ∷ []
 unfolding clap_on_literals
 too_many_workers = refl
@@ -158,3 +213,11 @@ workers_twice = refl
 pub workers_of_a_store : fault_of pfx_app (pfx (codes "init" ∷ codes "a.toml" ∷ codes "a.pfx" ∷ codes "--workers=2" ∷ [])) ≡ kind.UnknownArgument ∷ []
 unfolding clap_on_literals
 workers_of_a_store = refl
+
+pub no_batch : fault_of pfx_app (pfx (codes "run" ∷ codes "a.pfx" ∷ codes "a.csv" ∷ codes "--batch" ∷ codes "0" ∷ [])) ≡ kind.ValueValidation ∷ []
+unfolding clap_on_literals
+no_batch = refl
+
+pub too_large_batch : fault_of pfx_app (pfx (codes "run" ∷ codes "a.pfx" ∷ codes "a.csv" ∷ codes "--batch" ∷ codes "17" ∷ [])) ≡ kind.ValueValidation ∷ []
+unfolding clap_on_literals
+too_large_batch = refl

@@ -5,4 +5,7 @@ pub mod Plain
 pub mod PlainPlan
 pub mod PlainInit
 pub mod PlainRun
+pub mod PlainBatch
+pub mod PlainShow
 pub mod PlainStatus
+pub mod PlainReplay

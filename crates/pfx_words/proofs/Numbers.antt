@@ -60,9 +60,8 @@ number_written most d ds h up small =
     let fits : n < 4294967296 = omega arith in
     rw ((no_sign d ds h).1, digits_pass (d ∷ ds) h.1, lt-ltb 0 (length (d ∷ ds)) h.0, lt-ltb n 4294967296 fits) refl
 
-pub number_passes : (most d : ℕ) (ds : List ℕ) → IsNumeral 10 (d ∷ ds) → digits_value 10 (d ∷ ds) ≤ most → most < 4294967296 → is_signed_in (pos 0) (pos most) (d ∷ ds) ≡ true
-number_passes most d ds h up small =
+pub number_passes : (least most d : ℕ) (ds : List ℕ) → IsNumeral 10 (d ∷ ds) → least ≤ digits_value 10 (d ∷ ds) → digits_value 10 (d ∷ ds) ≤ most → most < 4294967296 → is_signed_in (pos least) (pos most) (d ∷ ds) ≡ true
+number_passes least most d ds h low up small =
     let n = digits_value 10 (d ∷ ds) in
     let fits : n < 9223372036854775808 = omega arith in
-    let low : 0 ≤ n = omega arith in
-    rw ((no_sign d ds h).0, (no_sign d ds h).1, digits_pass (d ∷ ds) h.1, lt-ltb 0 (length (d ∷ ds)) h.0, lt-ltb n 9223372036854775808 fits, le-leb 0 n low, le-leb n most up) refl
+    rw ((no_sign d ds h).0, (no_sign d ds h).1, digits_pass (d ∷ ds) h.1, lt-ltb 0 (length (d ∷ ds)) h.0, lt-ltb n 9223372036854775808 fits, le-leb least n low, le-leb n most up) refl

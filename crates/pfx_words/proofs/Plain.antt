@@ -1,8 +1,9 @@
 -- Words that don't begin with a hyphen, at a command whose subcommands and positionals take one word each.
-use Rattle.std.proofs.Common.{◌≡◌, ℕ, Bool, refl, [], ◌∷◌, List, None, true, false, ap, ap₂, ◌&&◌}
-use Rattle.std.specs.Prelude.{unwrap_or, slice_get, fold}
+use Rattle.std.proofs.Common.{◌≡◌, ℕ, Bool, refl, [], ◌∷◌, List, Some, None, true, false, ap, ap₂, ◌&&◌}
+use Rattle.std.specs.Prelude.{unwrap_or, slice_get, fold, ◌==◌, if◌then◌else◌}
 use Rattle.std.specs.List.{list_all}
 use Rattle.std.specs.Str.Parse.{starts_with_minus}
+use Rattle.clap.specs.Lexer.{without_minus}
 use Rattle.clap.specs.Walk.{Text, Rule, Held, Walk, Step, idle, option, value, walked, word_met, plain_word, arg_by_index, to_positional, finished, after_step}
 use Rattle.clap.specs.Simple.{Shape, built, new_shape}
 use Rattle.clap.specs.Takes.{word_passes, turn_passes, walk_passes, settle_passes, step_passes, default_passes, is_valid}
@@ -50,6 +51,32 @@ pub plain_passes : (s : Shape) (h : Held) (k : ℕ) (word : Text) (rest : List T
 unfolding walk_passes
 plain_passes s h k word rest e = ap₂ (λ (b : Bool) (w : Walk). b && walk_passes s [] w rest) (plain_turn s k word h e) (plain_walked s h k word e)
 
+-- ---- a hyphen alone is such a word too
+
+abbrev pub dash : Text
+dash = 45 ∷ []
+
+dash_met : (c : List Rule) (k : ℕ) (h : Held) → word_met c [] false idle k dash h ≡ (h, value)
+dash_met c k h = refl
+
+dash_walked : (s : Shape) (h : Held) (k : ℕ) → walked s.rules [] (between h k) dash ≡ with_word s k h dash
+unfolding walked
+dash_walked s h k = ap (λ (met : Held × Step). after_step s.rules dash (between h k) met.0 met.1) (dash_met s.rules k h)
+
+pub dash_on : (s : Shape) (h : Held) (k : ℕ) (rest : List Text) → on_from s (between h k) (dash ∷ rest) ≡ on_from s (with_word s k h dash) rest
+dash_on s h k rest = ap (λ (w : Walk). on_from s w rest) (dash_walked s h k)
+
+dash_word_passes : (s : Shape) (h : Held) → word_passes s [] false idle dash h ≡ true
+dash_word_passes s h = refl
+
+dash_turn : (s : Shape) (k : ℕ) (h : Held) → turn_passes s [] (between h k) dash ≡ step_passes s k h value
+dash_turn s k h = ap₂ (λ (b : Bool) (met : Held × Step). b && step_passes s k met.0 met.1) (dash_word_passes s h) (dash_met s.rules k h)
+
+pub dash_passes : (s : Shape) (h : Held) (k : ℕ) (rest : List Text)
+    → walk_passes s [] (between h k) (dash ∷ rest) ≡ (step_passes s k h value && walk_passes s [] (with_word s k h dash) rest)
+unfolding walk_passes
+dash_passes s h k rest = ap₂ (λ (b : Bool) (w : Walk). b && walk_passes s [] w rest) (dash_turn s k h) (dash_walked s h k)
+
 -- ---- the value of an option, behind it
 
 -- such a word is the value of the option that waits for one
@@ -78,11 +105,19 @@ pub plain_value_passes : (s : Shape) (id : Text) (h : Held) (k : ℕ) (word : Te
     → turn_passes s [] (waiting_for id h k) word ≡ step_passes s k (plain_word s.rules (option id) word h).0 (plain_word s.rules (option id) word h).1
 plain_value_passes s id h k word e = ap₂ (λ (b : Bool) (met : Held × Step). b && step_passes s k met.0 met.1) (plain_value_word_passes s id word h e) (plain_value_met s.rules id k word h e)
 
+-- the getter reads it as it was written
+pub plain_minus : (d : ℕ) (ds : Text) → (d == 45) ≡ false → without_minus (d ∷ ds) ≡ d ∷ ds
+plain_minus d ds g = ap (λ (b : Bool). unwrap_or (if b then Some ds else None) (d ∷ ds)) g
+
 -- ---- all the words
 
 -- what is asked of the words once they are walked over
 abbrev pub ends_well : Shape → Bool → Held → Bool
 ends_well s walks h = walks && (settle_passes s.rules s.args_override_self h && (list_all default_passes s.rules && is_valid s (finished s.rules h) false))
+
+pub ends_so : (s : Shape) (walks : Bool) (h : Held) → walks ≡ true → settle_passes s.rules s.args_override_self h ≡ true → list_all default_passes s.rules ≡ true → is_valid s (finished s.rules h) false ≡ true
+    → ends_well s walks h ≡ true
+ends_so s walks h one two three four = λ i. one i && (two i && (three i && four i))
 
 pub and_true : (b : Bool) → (b && true) ≡ b
 and_true true = refl

@@ -10,7 +10,7 @@ use Rattle.clap.proofs.OnLiterals.{clap_on_literals}
 use Rattle.pfx_words.specs.Commands.{pfx_app}
 use Rattle.pfx_words.specs.Requests.{IsSlots, plan, plan_of, number_of, asked, asked_in}
 use Rattle.pfx_words.proofs.Numbers.{no_sign, number_written, number_passes}
-use Rattle.pfx_words.proofs.Plain.{sub_built, with_word, on_from, plain_on, plain_passes, ends_well, and_true}
+use Rattle.pfx_words.proofs.Plain.{sub_built, with_word, on_from, plain_on, plain_passes, dash, dash_on, dash_passes, ends_well, and_true}
 
 abbrev plan_built : Shape
 plan_built = sub_built 0
@@ -61,8 +61,36 @@ takes_plain program set slots e f g =
 
 pub plain_plan_taken : (program set slots : Text) → starts_with_minus set ≡ false → IsSlots slots → takes pfx_app (program ∷ codes "plan" ∷ set ∷ slots ∷ []) ≡ true
 plain_plan_taken program set [] e h = absurd (omega (arith, h.0.0))
-plain_plan_taken program set (d ∷ ds) e h = takes_plain program set (d ∷ ds) e (no_sign d ds h.0).0 (number_passes 1048576 d ds h.0 h.1 (omega arith))
+plain_plan_taken program set (d ∷ ds) e h = takes_plain program set (d ∷ ds) e (no_sign d ds h.0).0 (number_passes 0 1048576 d ds h.0 (omega arith) h.1 (omega arith))
 
 pub plain_plan_asked : (program set slots : Text) → starts_with_minus set ≡ false → IsSlots slots → asked (program ∷ codes "plan" ∷ set ∷ slots ∷ []) ≡ Some (plan set (digits_value 10 slots) None)
 plain_plan_asked program set [] e h = absurd (omega (arith, h.0.0))
 plain_plan_asked program set (d ∷ ds) e h = asked_plain program set d ds e (no_sign d ds h.0).0 ∙ ap (λ n. plan_of (Some set) n None) (number_written 1048576 d ds h.0 h.1 (omega arith))
+
+-- ---- with the set on standard input
+
+dash_walk : (slots : Text) → starts_with_minus slots ≡ false → on_from plan_built (walk_from nothing_held) (dash ∷ slots ∷ []) ≡ after_both dash slots
+dash_walk slots f = dash_on plan_built nothing_held 1 (slots ∷ []) ∙ plain_on plan_built (after_set dash).held 2 slots [] f
+
+asked_dash : (program : Text) (d : ℕ) (ds : Text) → (d == 45) ≡ false → asked (program ∷ codes "plan" ∷ dash ∷ (d ∷ ds) ∷ []) ≡ plan_of (Some dash) (number_of (d ∷ ds)) None
+asked_dash program d ds f =
+    asked_steps program dash (d ∷ ds) ∙ ap (λ (w : Walk). asked_in (Some (codes "plan", finished plan_built.rules w.held))) (dash_walk (d ∷ ds) f) ∙ asked_held dash d ds f
+
+dash_walk_passes : (slots : Text) → starts_with_minus slots ≡ false
+    → walk_passes plan_built [] (walk_from nothing_held) (dash ∷ slots ∷ []) ≡ (step_passes plan_built 1 nothing_held value && (step_passes plan_built 2 (after_set dash).held value && true))
+unfolding walk_passes
+dash_walk_passes slots f =
+    dash_passes plan_built nothing_held 1 (slots ∷ [])
+    ∙ ap (λ (b : Bool). step_passes plan_built 1 nothing_held value && b) (plain_passes plan_built (after_set dash).held 2 slots [] f)
+
+takes_dash : (program slots : Text) → starts_with_minus slots ≡ false → is_signed_in (pos 0) (pos 1048576) slots ≡ true → takes pfx_app (program ∷ codes "plan" ∷ dash ∷ slots ∷ []) ≡ true
+takes_dash program slots f g =
+    takes_steps program dash slots ∙ ap₂ (λ (b : Bool) (w : Walk). ends_well plan_built b w.held) (dash_walk_passes slots f) (dash_walk slots f) ∙ well_held dash slots g
+
+pub dash_plan_taken : (program slots : Text) → IsSlots slots → takes pfx_app (program ∷ codes "plan" ∷ dash ∷ slots ∷ []) ≡ true
+dash_plan_taken program [] h = absurd (omega (arith, h.0.0))
+dash_plan_taken program (d ∷ ds) h = takes_dash program (d ∷ ds) (no_sign d ds h.0).0 (number_passes 0 1048576 d ds h.0 (omega arith) h.1 (omega arith))
+
+pub dash_plan_asked : (program slots : Text) → IsSlots slots → asked (program ∷ codes "plan" ∷ dash ∷ slots ∷ []) ≡ Some (plan dash (digits_value 10 slots) None)
+dash_plan_asked program [] h = absurd (omega (arith, h.0.0))
+dash_plan_asked program (d ∷ ds) h = asked_dash program d ds (no_sign d ds h.0).0 ∙ ap (λ n. plan_of (Some dash) n None) (number_written 1048576 d ds h.0 h.1 (omega arith))

@@ -40,12 +40,36 @@ abbrev pub run_words : App
 run_words = with_rule (with_rule (new_app (codes "run")) (required (codes "FILE"))) (required (codes "SCRIPT"))
 
 -- and `--workers N`, which may be left out
+abbrev pub run_by_workers : App
+run_by_workers = with_rule run_words workers
+
+-- how many slots are kept at once: 1 to 16, as the value of `--batch`
+abbrev pub batch : Rule
+batch = record (new_rule (codes "batch")) { long = Some (codes "batch"); value_names = 1; parser = Some (vp.Signed (pos 1) (pos 16)) }
+
+-- and `--batch N`, which may be left out too
 abbrev pub run_app : App
-run_app = with_rule run_words workers
+run_app = with_rule run_by_workers batch
 
 -- `status FILE`
 abbrev pub status_app : App
 status_app = with_rule (new_app (codes "status")) (required (codes "FILE"))
+
+-- `replay FILE`
+abbrev pub replay_app : App
+replay_app = with_rule (new_app (codes "replay")) (required (codes "FILE"))
+
+-- a task by its number: 0 to 65,535, which may be left out
+abbrev pub task : Rule
+task = record (new_rule (codes "TASK")) { parser = Some (vp.Signed (pos 0) (pos 65535)) }
+
+-- `show FILE`
+abbrev pub show_words : App
+show_words = with_rule (new_app (codes "show")) (required (codes "FILE"))
+
+-- and a task
+abbrev pub show_app : App
+show_app = with_rule show_words task
 
 -- `pfx`: one of its subcommands has to follow, and each of them tells the version too
 abbrev pub bare_app : App
@@ -53,7 +77,7 @@ bare_app = on_top (λ s. record s { subcommand_required = true; has_version = tr
 
 -- `pfx` with its subcommands
 abbrev pub pfx_app : App
-pfx_app = with_subcommand (with_subcommand (with_subcommand (with_subcommand bare_app plan_app.top) init_app.top) run_app.top) status_app.top
+pfx_app = with_subcommand (with_subcommand (with_subcommand (with_subcommand (with_subcommand (with_subcommand bare_app plan_app.top) init_app.top) run_app.top) status_app.top) replay_app.top) show_app.top
 
 -- the command is this one, with no global argument
 abbrev pub IsCommand : Command → App → Type 0

@@ -14,15 +14,19 @@ use Rattle.pfx_words.specs.declared.request.Request.TheVariants as request
 pub data Asked : Type 0 where
   plan : Text → ℕ → Option Text → Asked
   init : Text → Text → Asked
-  run : Text → Text → Option ℕ → Asked
+  run : Text → Text → Option ℕ → Option ℕ → Asked
   status : Text → Asked
+  replay : Text → Asked
+  show : Text → Option ℕ → Asked
 
 -- the request that a value of the code is
 abbrev pub asked_by : Request → Asked
 asked_by (request.Plan set slots at) = plan set.now slots (option_map (λ s. s.now) at)
 asked_by (request.Init set file) = init set.now file.now
-asked_by (request.Run file script workers) = run file.now script.now workers
+asked_by (request.Run file script workers batch) = run file.now script.now workers batch
 asked_by (request.Status file) = status file.now
+asked_by (request.Replay file) = replay file.now
+asked_by (request.Show file task) = show file.now task
 
 -- one digit or more, of a number of 32 bits
 abbrev pub is_number : Text → Bool
@@ -58,18 +62,30 @@ init_of None file = None
 abbrev pub init_in : List Row → Option Asked
 init_in rows = init_of (text_at (codes "SET") rows) (text_at (codes "FILE") rows)
 
--- a run, if both its words are there, with the number of workers, if there is one
-abbrev pub run_of : Option Text → Option Text → Option ℕ → Option Asked
-run_of (Some file) (Some script) workers = Some (run file script workers)
-run_of (Some file) None workers = None
-run_of None script workers = None
+-- a run, if both its words are there, with the number of workers and that of slots kept at once, where there are any
+abbrev pub run_of : Option Text → Option Text → Option ℕ → Option ℕ → Option Asked
+run_of (Some file) (Some script) workers batch = Some (run file script workers batch)
+run_of (Some file) None workers batch = None
+run_of None script workers batch = None
 
 abbrev pub run_in : List Row → Option Asked
-run_in rows = run_of (text_at (codes "FILE") rows) (text_at (codes "SCRIPT") rows) (number_at (codes "workers") rows)
+run_in rows = run_of (text_at (codes "FILE") rows) (text_at (codes "SCRIPT") rows) (number_at (codes "workers") rows) (number_at (codes "batch") rows)
 
 -- a look at a store, if its word is there
 abbrev pub status_in : List Row → Option Asked
 status_in rows = option_map status (text_at (codes "FILE") rows)
+
+-- a replay of a store, if its word is there
+abbrev pub replay_in : List Row → Option Asked
+replay_in rows = option_map replay (text_at (codes "FILE") rows)
+
+-- what the jobs of a store computed, or that of a task, if the store's word is there
+abbrev pub show_of : Option Text → Option ℕ → Option Asked
+show_of (Some file) task = Some (show file task)
+show_of None task = None
+
+abbrev pub show_in : List Row → Option Asked
+show_in rows = show_of (text_at (codes "FILE") rows) (number_at (codes "TASK") rows)
 
 -- what the subcommand of this name asks for, by what was found for its arguments
 abbrev pub asked_of : Text → List Row → Option Asked
@@ -78,7 +94,9 @@ asked_of name rows =
     else (if bytes_eq name (codes "init") then init_in rows
     else (if bytes_eq name (codes "run") then run_in rows
     else (if bytes_eq name (codes "status") then status_in rows
-    else None)))
+    else (if bytes_eq name (codes "replay") then replay_in rows
+    else (if bytes_eq name (codes "show") then show_in rows
+    else None)))))
 
 abbrev pub asked_in : Option (Text × List Row) → Option Asked
 asked_in None = None
@@ -95,3 +113,11 @@ IsSlots text = IsNumeral 10 text × (digits_value 10 text ≤ 1048576)
 -- the text is a number of workers in digits: 0 to 64
 abbrev pub IsWorkers : Text → Type 0
 IsWorkers text = IsNumeral 10 text × (digits_value 10 text ≤ 64)
+
+-- the text is a number of slots kept at once in digits: 1 to 16
+abbrev pub IsBatch : Text → Type 0
+IsBatch text = IsNumeral 10 text × (1 ≤ digits_value 10 text) × (digits_value 10 text ≤ 16)
+
+-- the text is a task's number in digits: 0 to 65,535
+abbrev pub IsTask : Text → Type 0
+IsTask text = IsNumeral 10 text × (digits_value 10 text ≤ 65535)

@@ -31,7 +31,7 @@ const EXAMPLE: &str = "Example:
 pub(crate) fn init_command<'a>(alloc: Global) -> Result<Command<'a>, AllocError>
     ensures { IfOk result (λ c. IsCommand c init_app) }
 {
-    let set = required_word(alloc, "SET").help("The set file, in TOML");
+    let set = required_word(alloc, "SET").help("The set file, in TOML; - is standard input");
     let file = required_word(alloc, "FILE").help("The file to make the store in");
     let command = Command::new(alloc, "init")
         .about(ABOUT)

@@ -4,7 +4,7 @@ ghost use Rattle.std.specs.Prelude.{◌≡◌, ◌∷◌, [], Some, None, true, 
 ghost use Rattle.std.specs.Str.Parse.{digits_value, starts_with_minus};
 ghost use Rattle.clap.specs.Takes.{takes};
 ghost use Rattle.pfx_words.specs.Commands.{pfx_app};
-ghost use Rattle.pfx_words.specs.Requests.{IsSlots, IsWorkers, asked, plan, init, run, status};
+ghost use Rattle.pfx_words.specs.Requests.{IsBatch, IsSlots, IsTask, IsWorkers, asked, show, plan, init, run, status, replay};
 
 /// `pfx plan SET SLOTS`: for any `set` that doesn't begin with a hyphen, and any `slots` of digits that write 0 to
 /// 1,048,576, the command takes these words, and they ask for the plan of that many slots.
@@ -26,13 +26,13 @@ pub fn plain_init(program: &str, set: &str, file: &str)
 {}
 
 /// `pfx run FILE SCRIPT`: for any `file` and `script` that don't begin with a hyphen, the command takes these words, and
-/// they ask for a run of that script on that file, by no stated number of workers.
+/// they ask for a run of that script on that file, by no stated number of workers, and with no stated number of slots kept at once.
 pub fn plain_run(program: &str, file: &str, script: &str)
     requires file { starts_with_minus file.now ≡ false }
     requires script { starts_with_minus script.now ≡ false }
     ensures taken { takes pfx_app (program.now ∷ codes "run" ∷ file.now ∷ script.now ∷ []) ≡ true }
     ensures asked { asked (program.now ∷ codes "run" ∷ file.now ∷ script.now ∷ [])
-        ≡ Some (run file.now script.now None) }
+        ≡ Some (run file.now script.now None None) }
 {}
 
 /// `pfx run FILE SCRIPT --workers N`: the same words with any `workers` of digits that write 0 to 64 ask for a run by
@@ -44,7 +44,19 @@ pub fn plain_workers(program: &str, file: &str, script: &str, workers: &str)
     ensures taken { takes pfx_app
         (program.now ∷ codes "run" ∷ file.now ∷ script.now ∷ codes "--workers" ∷ workers.now ∷ []) ≡ true }
     ensures asked { asked (program.now ∷ codes "run" ∷ file.now ∷ script.now ∷ codes "--workers" ∷ workers.now ∷ [])
-        ≡ Some (run file.now script.now (Some (digits_value 10 workers.now))) }
+        ≡ Some (run file.now script.now (Some (digits_value 10 workers.now)) None) }
+{}
+
+/// `pfx run FILE SCRIPT --batch N`: the same words with any `batch` of digits that write 1 to 16 ask for a run that keeps so
+/// many slots at once at the most.
+pub fn plain_batch(program: &str, file: &str, script: &str, batch: &str)
+    requires file { starts_with_minus file.now ≡ false }
+    requires script { starts_with_minus script.now ≡ false }
+    requires batch { IsBatch batch.now }
+    ensures taken { takes pfx_app
+        (program.now ∷ codes "run" ∷ file.now ∷ script.now ∷ codes "--batch" ∷ batch.now ∷ []) ≡ true }
+    ensures asked { asked (program.now ∷ codes "run" ∷ file.now ∷ script.now ∷ codes "--batch" ∷ batch.now ∷ [])
+        ≡ Some (run file.now script.now None (Some (digits_value 10 batch.now))) }
 {}
 
 /// `pfx status FILE`: for any `file` that doesn't begin with a hyphen, the command takes these words, and they ask for
@@ -53,4 +65,52 @@ pub fn plain_status(program: &str, file: &str)
     requires file { starts_with_minus file.now ≡ false }
     ensures taken { takes pfx_app (program.now ∷ codes "status" ∷ file.now ∷ []) ≡ true }
     ensures asked { asked (program.now ∷ codes "status" ∷ file.now ∷ []) ≡ Some (status file.now) }
+{}
+
+/// `pfx plan - SLOTS`: a hyphen alone is taken as a set too, which is standard input.
+pub fn standard_plan(program: &str, slots: &str)
+    requires slots { IsSlots slots.now }
+    ensures taken { takes pfx_app (program.now ∷ codes "plan" ∷ codes "-" ∷ slots.now ∷ []) ≡ true }
+    ensures asked { asked (program.now ∷ codes "plan" ∷ codes "-" ∷ slots.now ∷ [])
+        ≡ Some (plan (codes "-") (digits_value 10 slots.now) None) }
+{}
+
+/// `pfx init - FILE`: the same of a new store's set.
+pub fn standard_init(program: &str, file: &str)
+    requires file { starts_with_minus file.now ≡ false }
+    ensures taken { takes pfx_app (program.now ∷ codes "init" ∷ codes "-" ∷ file.now ∷ []) ≡ true }
+    ensures asked { asked (program.now ∷ codes "init" ∷ codes "-" ∷ file.now ∷ []) ≡ Some (init (codes "-") file.now) }
+{}
+
+/// `pfx run FILE -`: a hyphen alone is taken as a script too, which is standard input.
+pub fn standard_run(program: &str, file: &str)
+    requires file { starts_with_minus file.now ≡ false }
+    ensures taken { takes pfx_app (program.now ∷ codes "run" ∷ file.now ∷ codes "-" ∷ []) ≡ true }
+    ensures asked { asked (program.now ∷ codes "run" ∷ file.now ∷ codes "-" ∷ [])
+        ≡ Some (run file.now (codes "-") None None) }
+{}
+
+/// `pfx replay FILE`: for any `file` that doesn't begin with a hyphen, the command takes these words, and they ask for
+/// a replay of that file.
+pub fn plain_replay(program: &str, file: &str)
+    requires file { starts_with_minus file.now ≡ false }
+    ensures taken { takes pfx_app (program.now ∷ codes "replay" ∷ file.now ∷ []) ≡ true }
+    ensures asked { asked (program.now ∷ codes "replay" ∷ file.now ∷ []) ≡ Some (replay file.now) }
+{}
+
+/// `pfx show FILE`: for any `file` that doesn't begin with a hyphen, the command takes these words, and they ask for what all
+/// jobs of that file have computed.
+pub fn plain_show(program: &str, file: &str)
+    requires file { starts_with_minus file.now ≡ false }
+    ensures taken { takes pfx_app (program.now ∷ codes "show" ∷ file.now ∷ []) ≡ true }
+    ensures asked { asked (program.now ∷ codes "show" ∷ file.now ∷ []) ≡ Some (show file.now None) }
+{}
+
+/// `pfx show FILE TASK`: the same words with any `task` of digits that write 0 to 65,535 ask for the job of that task.
+pub fn plain_show_task(program: &str, file: &str, task: &str)
+    requires file { starts_with_minus file.now ≡ false }
+    requires task { IsTask task.now }
+    ensures taken { takes pfx_app (program.now ∷ codes "show" ∷ file.now ∷ task.now ∷ []) ≡ true }
+    ensures asked { asked (program.now ∷ codes "show" ∷ file.now ∷ task.now ∷ [])
+        ≡ Some (show file.now (Some (digits_value 10 task.now))) }
 {}

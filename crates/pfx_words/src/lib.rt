@@ -12,8 +12,10 @@ mod init;
 pub mod laws;
 mod plan;
 mod program;
+mod replay;
 mod request;
 mod run;
+mod show;
 mod status;
 
 pub use program::read_words;

@@ -46,7 +46,7 @@ fn at_option<'a>(alloc: Global) -> Arg<'a>
 fn bare_plan<'a>(alloc: Global) -> Result<Command<'a>, AllocError>
     ensures { IfOk result (λ c. IsCommand c plan_words) }
 {
-    let set = required_word(alloc, "SET").help("The set file, in TOML");
+    let set = required_word(alloc, "SET").help("The set file, in TOML; - is standard input");
     let command = Command::new(alloc, "plan")
         .about(ABOUT)
         .long_about(LONG)

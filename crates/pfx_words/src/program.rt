@@ -13,7 +13,9 @@ ghost use Rattle.pfx_words.specs.Requests.{asked_by, asked_in, asked};
 use crate::Request;
 use crate::init::{init_command, init_request};
 use crate::plan::{plan_command, plan_request};
+use crate::replay::{replay_command, replay_request};
 use crate::run::{run_command, run_request};
+use crate::show::{show_command, show_request};
 use crate::status::{status_command, status_request};
 use clap::error::ErrorKind;
 use clap::{ArgMatches, Command, Error};
@@ -31,7 +33,9 @@ const EXAMPLE: &str = "Example:
   pfx plan examples/thirds.toml 4               the first four slots of three tasks of weight 2/3
   pfx init examples/thirds.toml thirds.pfx      a new store of these tasks
   pfx run thirds.pfx examples/thirds.csv        a script of commands, run on the store
-  pfx status thirds.pfx                         where its tasks and jobs stand";
+  pfx status thirds.pfx                         where its tasks and jobs stand
+  pfx replay thirds.pfx                         whether its records are what its commands do
+  pfx show thirds.pfx                           what its jobs have computed";
 
 fn bare_command<'a>(alloc: Global) -> Command<'a>
     ensures { IsCommand result bare_app }
@@ -52,7 +56,9 @@ fn pfx_command<'a>(alloc: Global) -> Result<Command<'a>, AllocError>
         .subcommand(plan_command(alloc)?)?
         .subcommand(init_command(alloc)?)?
         .subcommand(run_command(alloc)?)?
-        .subcommand(status_command(alloc)?)
+        .subcommand(status_command(alloc)?)?
+        .subcommand(replay_command(alloc)?)?
+        .subcommand(show_command(alloc)?)
 }
 
 fn request_in<'a>(matches: &ArgMatches<'a>) -> Option<Request<'a>>
@@ -64,6 +70,8 @@ fn request_in<'a>(matches: &ArgMatches<'a>) -> Option<Request<'a>>
         "init" => init_request(inner),
         "run" => run_request(inner),
         "status" => status_request(inner),
+        "replay" => replay_request(inner),
+        "show" => show_request(inner),
         _ => None,
     }
 }

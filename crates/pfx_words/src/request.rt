@@ -5,7 +5,7 @@
 pub enum Request<'a> {
     /// Print the plan of some slots of a set.
     Plan {
-        /// The path of the set file.
+        /// The path of the set file; `-` is standard input.
         set: &'a str,
         /// How many slots, 0 to 1,048,576.
         slots: u32,
@@ -14,7 +14,7 @@ pub enum Request<'a> {
     },
     /// Make a new store from a set.
     Init {
-        /// The path of the set file.
+        /// The path of the set file; `-` is standard input.
         set: &'a str,
         /// The path of the store's file.
         file: &'a str,
@@ -23,15 +23,29 @@ pub enum Request<'a> {
     Run {
         /// The path of the store's file.
         file: &'a str,
-        /// The path of the script, in CSV.
+        /// The path of the script, in CSV; `-` is standard input.
         script: &'a str,
         /// How many workers run the jobs, 0 to 64, where the words say so; 0 is one thread. Today it
         /// changes nothing: all jobs run on one thread.
         workers: Option<u32>,
+        /// How many slots of a record are kept at once at the most, 1 to 16, where the words say so; else it is 1.
+        batch: Option<u32>,
     },
     /// Show the board of a store.
     Status {
         /// The path of the store's file.
         file: &'a str,
+    },
+    /// Compare what a store's file records with what its commands do.
+    Replay {
+        /// The path of the store's file.
+        file: &'a str,
+    },
+    /// Show what the jobs of a store have computed.
+    Show {
+        /// The path of the store's file.
+        file: &'a str,
+        /// The number of the task, 0 to 65,535, where one alone is asked for.
+        task: Option<u32>,
     },
 }

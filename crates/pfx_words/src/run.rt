@@ -1,9 +1,9 @@
-//! `pfx run FILE SCRIPT --workers N`.
+//! `pfx run FILE SCRIPT --workers N --batch N`.
 
 ghost use Rattle.std.specs.Prelude.{◌≡◌, IfOk, option_map};
 ghost use Rattle.clap.specs.Matches.{found_of};
 ghost use Rattle.clap.specs.Walk.{rows_of};
-ghost use Rattle.pfx_words.specs.Commands.{workers, run_words, run_app, IsArgument, IsCommand};
+ghost use Rattle.pfx_words.specs.Commands.{workers, batch, run_words, run_by_workers, run_app, IsArgument, IsCommand};
 ghost use Rattle.pfx_words.specs.Requests.{asked_by, run_in};
 
 use crate::Request;
@@ -32,10 +32,18 @@ Commands are numbered as they are accepted, and each prints a line: 1 submitted 
 2 ran 0: 0 1 (command 2: in slot 0 ran tasks 0 and 1), 3 withdrawn 0. One that is refused gets no
 number, as in refused 32 TaskBusy task=0, and the script goes on. settle prints settled 3 and the end
 of the script closed 3, with the last number. A record of another form ends the run; what was done
-before it stands.";
+before it stands.
+
+A script is read a record at a time: each record's lines are printed, once what they tell is kept,
+before the next record is waited for. So another program can keep pfx run FILE - as a child, write a
+record to it, and read the answer.
+
+With --batch N up to N slots of one record are kept at once, by one write of the file, and their lines
+are printed then. The output is the same for each N; a large one is faster.";
 
 const EXAMPLE: &str = "Example:
-  pfx run thirds.pfx examples/thirds.csv    a job of three steps and three slots, then the board";
+  pfx run thirds.pfx examples/thirds.csv    a job of three steps and three slots, then the board
+  echo slot,,,2, | pfx run thirds.pfx -     two slots";
 
 fn workers_option<'a>(alloc: Global) -> Arg<'a>
     ensures { IsArgument result workers }
@@ -47,12 +55,22 @@ fn workers_option<'a>(alloc: Global) -> Arg<'a>
         .value_parser(value_parser!(u32).range(0..=64))
 }
 
-// The command without its option.
+fn batch_option<'a>(alloc: Global) -> Arg<'a>
+    ensures { IsArgument result batch }
+{
+    Arg::new(alloc, "batch")
+        .long("batch")
+        .value_name("N")
+        .help("How many slots of a record are kept at once, 1 to 16; 1 if it isn't given")
+        .value_parser(value_parser!(u32).range(1..=16))
+}
+
+// The command without its options.
 fn bare_run<'a>(alloc: Global) -> Result<Command<'a>, AllocError>
     ensures { IfOk result (λ c. IsCommand c run_words) }
 {
     let file = required_word(alloc, "FILE").help("The store's file");
-    let script = required_word(alloc, "SCRIPT").help("The script, in CSV");
+    let script = required_word(alloc, "SCRIPT").help("The script, in CSV; - is standard input");
     let command = Command::new(alloc, "run")
         .about(ABOUT)
         .long_about(LONG)
@@ -60,10 +78,16 @@ fn bare_run<'a>(alloc: Global) -> Result<Command<'a>, AllocError>
     command.arg(file)?.arg(script)
 }
 
+fn run_by_workers<'a>(alloc: Global) -> Result<Command<'a>, AllocError>
+    ensures { IfOk result (λ c. IsCommand c run_by_workers) }
+{
+    bare_run(alloc)?.arg(workers_option(alloc))
+}
+
 pub(crate) fn run_command<'a>(alloc: Global) -> Result<Command<'a>, AllocError>
     ensures { IfOk result (λ c. IsCommand c run_app) }
 {
-    bare_run(alloc)?.arg(workers_option(alloc))
+    run_by_workers(alloc)?.arg(batch_option(alloc))
 }
 
 pub(crate) fn run_request<'a>(matches: &ArgMatches<'a>) -> Option<Request<'a>>
@@ -72,9 +96,11 @@ pub(crate) fn run_request<'a>(matches: &ArgMatches<'a>) -> Option<Request<'a>>
     let file = text_under(matches, "FILE")?;
     let script = text_under(matches, "SCRIPT")?;
     let workers = number_under(matches, "workers");
+    let batch = number_under(matches, "batch");
     Some(Request::Run {
         file,
         script,
         workers,
+        batch,
     })
 }

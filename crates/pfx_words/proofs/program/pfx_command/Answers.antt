@@ -6,4 +6,6 @@ returns c =
     let one = with_one_more _ _ _ _ _ c.bare_command.ensures c.in_ok-plan_command.ensures c.in_ok-subcommand.ensures in
     let two = with_one_more _ _ _ _ _ one c.in_ok-init_command.ensures c.in_ok-subcommand-2.ensures in
     let three = with_one_more _ _ _ _ _ two c.in_ok-run_command.ensures c.in_ok-subcommand-3.ensures in
-    with_last _ _ _ _ _ three c.in_ok-status_command.ensures c.subcommand-4.ensures
+    let four = with_one_more _ _ _ _ _ three c.in_ok-status_command.ensures c.in_ok-subcommand-4.ensures in
+    let five = with_one_more _ _ _ _ _ four c.in_ok-replay_command.ensures c.in_ok-subcommand-5.ensures in
+    with_last _ _ _ _ _ five c.in_ok-show_command.ensures c.subcommand-6.ensures
