@@ -1,0 +1,184 @@
+#!/usr/bin/env python3
+"""Real work under pfx's shares: hashes the chunks of a file for each task, every granted chunk once in effect.
+
+driver.py SET STORE IN OUT [--chunk BYTES]: for each task NAME of the set, chunk K of the file IN/NAME is hashed in the K-th slot
+that the task gets, and OUT/NAME/K is its hash. It ends once all chunks are hashed. Whatever is killed, start it again with the
+same words: it goes on where it was. The variable PFX names the program pfx. docs/DRIVERS.md says why it is right.
+
+It takes a unit's effect for granted once it is there: the file OUT/NAME/K, made whole by one link. To drive work of your own,
+replace `Units`."""
+import argparse
+import concurrent.futures
+import hashlib
+import os
+import subprocess
+import sys
+import time
+import tomllib
+
+BUSY = "pfx: error 58 Busy"
+FULL = "refused 64 SessionFull"
+PATIENCE = 60           # seconds
+
+
+class Gone(Exception):
+    """The child was killed: start another one."""
+
+
+class Busy(Exception):
+    """Another run still has the store open: try again soon."""
+
+
+class Pfx:
+    """The store, driven by a child over pipes. What a call answers is durable."""
+
+    def __init__(self, program, store):
+        self.child = subprocess.Popen([program, "run", store, "-"], stdin=subprocess.PIPE, stdout=subprocess.PIPE,
+                                      stderr=subprocess.PIPE, bufsize=0)
+        self.lines = os.fdopen(os.dup(self.child.stdout.fileno()), "r")
+
+    def ask(self, records):
+        try:
+            self.child.stdin.write(records)
+        except BrokenPipeError:
+            pass                                     # the next line tells
+
+    def line(self):
+        line = self.lines.readline()
+        if not line.endswith("\n"):
+            self.over()
+        return line[:-1]
+
+    def over(self):
+        """The child has ended before it answered."""
+        fault = self.child.stderr.read().decode()
+        status = self.child.wait()
+        if status < 0:
+            raise Gone
+        if fault.startswith(BUSY):
+            raise Busy
+        sys.exit(fault or f"pfx ended with status {status}")
+
+    def allocations(self):
+        """How many slots each task was ever given, idle tasks behind the others."""
+        self.ask(b"status,,,,\nsettle,,,,\n")
+        lines = [self.line()]
+        while not lines[-1].startswith("settled "):
+            lines.append(self.line())
+        return [int(line.split()[1].removeprefix("alloc=")) for line in lines[1:-1]]
+
+    def slot(self):
+        """The tasks of the next slot; None where this run takes no more commands."""
+        self.ask(b"slot,,,1,\n")
+        line = self.line()
+        if line == FULL:
+            return None
+        if " ran " not in line:
+            sys.exit(f"pfx: {line}")
+        return [int(task) for task in line.split(":")[1].split()]
+
+    def close(self):
+        """The end of the input: the child says `closed N` and ends."""
+        self.child.stdin.close()
+        self.lines.read()
+        self.child.wait()
+
+    def __enter__(self):
+        return self
+
+    def __exit__(self, *_):
+        if self.child.stdin and not self.child.stdin.closed:
+            self.child.stdin.close()
+        self.child.wait()
+        for end in (self.lines, self.child.stdout, self.child.stderr):
+            end.close()
+
+
+class Units:
+    """The work: unit (NAME, K) hashes chunk K of the file IN/NAME, and its effect is the file OUT/NAME/K."""
+
+    def __init__(self, names, source, target, chunk):
+        self.names, self.source, self.target, self.chunk = names, source, target, chunk
+        self.most = [-(-os.path.getsize(f"{source}/{name}") // chunk) for name in names]
+        for name in names:
+            os.makedirs(f"{target}/{name}", exist_ok=True)
+
+    def missing(self, task, upto):
+        """The units of a task up to this count that have no effect."""
+        folder = f"{self.target}/{self.names[task]}"
+        there = set(os.listdir(folder))
+        for draft in there:
+            if draft.startswith("."):
+                os.unlink(f"{folder}/{draft}")       # of a driver that was killed: there is one at a time
+        return [(task, k) for k in range(1, min(upto, self.most[task]) + 1) if str(k) not in there]
+
+    def do(self, unit):
+        """Does a unit, and makes its effect whole and durable by one atomic act that bears its key. Done twice, it is there once."""
+        task, k = unit
+        folder = f"{self.target}/{self.names[task]}"
+        with open(f"{self.source}/{self.names[task]}", "rb") as it:
+            it.seek((k - 1) * self.chunk)
+            effect = hashlib.sha256(it.read(self.chunk)).hexdigest()
+        draft = f"{folder}/.{k}.{os.getpid()}"
+        with open(draft, "w") as it:
+            it.write(effect + "\n")
+            it.flush()
+            os.fsync(it.fileno())
+        try:
+            os.link(draft, f"{folder}/{k}")
+        except FileExistsError:
+            pass
+        os.unlink(draft)
+        there = os.open(folder, os.O_RDONLY)
+        os.fsync(there)
+        os.close(there)
+
+
+def drive(pfx, units, pool):
+    """Does what is owed, and then slot after slot, until every task has all its units. Whether it has come to that end."""
+    alloc = pfx.allocations()
+    tasks = range(len(units.names))
+    list(pool.map(units.do, [unit for task in tasks for unit in units.missing(task, alloc[task])]))
+    while any(alloc[task] < units.most[task] for task in tasks):
+        row = pfx.slot()
+        if row is None:
+            return False
+        granted = []
+        for task in row:
+            alloc[task] += 1
+            if task in tasks and alloc[task] <= units.most[task]:
+                granted.append((task, alloc[task]))
+        list(pool.map(units.do, granted))            # the slot ends when its longest unit does
+    return True
+
+
+def main():
+    words = argparse.ArgumentParser(description=__doc__.split("\n")[0])
+    for name in ("SET", "STORE", "IN", "OUT"):
+        words.add_argument(name)
+    words.add_argument("--chunk", type=int, default=65536)
+    given = words.parse_args()
+    with open(given.SET, "rb") as it:
+        it = tomllib.load(it)
+    program = os.environ.get("PFX", "pfx")
+    if not os.path.exists(given.STORE):
+        subprocess.run([program, "init", given.SET, given.STORE], check=True, stdout=subprocess.DEVNULL)
+    units = Units([task["name"] for task in it["task"]], given.IN, given.OUT, given.chunk)
+    until = None
+    with concurrent.futures.ThreadPoolExecutor(it["workers"]) as pool:
+        while True:
+            try:
+                with Pfx(program, given.STORE) as pfx:
+                    if drive(pfx, units, pool):
+                        pfx.close()
+                        return
+            except Gone:
+                until = None
+            except Busy:
+                until = until or time.monotonic() + PATIENCE
+                if time.monotonic() > until:
+                    sys.exit(BUSY)
+                time.sleep(0.02)
+
+
+main()
