@@ -1,7 +1,7 @@
 mod RunningLemmas
 pub mod Promising
 mod Commands
-mod Keeps
+pub mod Keeps
 mod Serving
 mod Stepping
 mod WindowLemmas

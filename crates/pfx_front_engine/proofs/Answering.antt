@@ -1,0 +1,67 @@
+-- Why a command of a front's only client has no answer.
+use Rattle.std.proofs.Common.{◌≡◌, ◌≤◌, ℕ, List, [], ◌∷◌, ◌++◌, Err, refl, sym, ap, subst, ◌∙◌, arith, inl, inr}
+use Rattle.pfx_book.proofs.Notes.{greatest_more}
+use Rattle.pfx_book.specs.Calls.{noted}
+use Rattle.pfx_book.specs.Notes.{alone, greatest}
+use Rattle.pfx_book.specs.declared.faults.BookFault.{BookFault}
+use Rattle.pfx_book.specs.declared.faults.BookFault.TheVariants as book
+use Rattle.pfx_book.specs.declared.note.Note.{Note}
+use Rattle.pfx_book.specs.declared.note.Note.TheVariants as note
+use Rattle.pfx_fault.specs.declared.refusals.Fault.{Fault}
+use Rattle.pfx_fault.specs.declared.refusals.Fault.TheVariants as fault
+use Rattle.pfx_front.specs.Calling.{HasNoReply}
+use Rattle.pfx_front.specs.Sole.{IsAlone, state_of}
+use Rattle.pfx_front.specs.declared.faults.CallFault as front
+use Rattle.pfx_front.specs.declared.faults.CallFault.TheVariants as frontfault
+use Rattle.pfx_kinds.specs.AnyKind.{any_kind}
+use Rattle.pfx_kinds.specs.declared.any.AnyJob.{AnyJob}
+use Rattle.pfx_machine.specs.Plain.{Plain}
+use Rattle.pfx_machine.specs.Runs.{answer}
+use Rattle.pfx_machine.specs.declared.command.Command.{Command}
+use Rattle.pfx_machine.specs.declared.command.Reply.{Reply}
+use Rattle.pfx_machine.specs.declared.faults.MachineFault.{MachineFault}
+use Rattle.pfx_machine.specs.declared.faults.MachineFault.TheVariants as machine
+use Rattle.pfx_program.specs.Promises.{IsEngineFault}
+use Rattle.pfx_front_engine.specs.Asking.{IsAnswered, IsFrontFault, IsReason, IsUnanswered, why_machine, why_of}
+use Rattle.pfx_front_engine.proofs.Notes.{alone_more, answered, greatest_same_answers, known_last, refused, stays_as, stays_with, tagged}
+
+pub engine_fault : (s : Plain AnyJob) (f : Fault) → IsFrontFault f → IsEngineFault (λ t g. IsFrontFault g) s f
+engine_fault s fault.NoMemory h = tt
+engine_fault s fault.InputFailed h = absurd h
+engine_fault s fault.OutputFailed h = absurd h
+engine_fault s (fault.BadScript at) h = absurd h
+engine_fault s other h = h
+
+machine_reason : (s : Plain AnyJob) (c : Command AnyJob) (f : MachineFault) → answer any_kind s c ≡ Err f → IsReason s c (why_machine f)
+machine_reason s c machine.NoMemory h = tt
+machine_reason s c other h = h
+
+module _ (B : Plain AnyJob) (c : Command AnyJob) (was is : ℕ × List (Note AnyJob)) where
+  noted_why : (b : BookFault) (n : ℕ) → is ≡ noted (note.Refused n c b) was → IsAlone any_kind B is.1 → IsUnanswered B was.1 c is.1 (why_of (frontfault.Refused b))
+  noted_why b n same l = record { reason = by b l'; stays = stays_with B.number was.1 is.1 (note.Refused n c b) refl (ap (λ p. alone p.1) same ∙ alone_more was.1 (note.Refused n c b) refl); known = rises }
+    where
+      rises : greatest was.1 ≤ greatest is.1
+      rises = let top = ap (λ p. greatest p.1) same in let more = greatest_more was.1 (note.Refused n c b) in omega (arith, top, more)
+
+      l' : IsAlone any_kind B (was.1 ++ note.Refused n c b ∷ [])
+      l' = subst (λ (p : ℕ × List (Note AnyJob)). IsAlone any_kind B p.1) same l
+
+      by : (d : BookFault) → IsAlone any_kind B (was.1 ++ note.Refused n c d ∷ []) → IsReason (state_of any_kind B was.1) c (why_of (frontfault.Refused d))
+      by book.SessionFull k = tt
+      by (book.Machine f) k = machine_reason (state_of any_kind B was.1) c f (refused B was.1 n c f k)
+
+  pub unanswered : (why : front.CallFault) → HasNoReply c was is why → IsAlone any_kind B is.1 → IsUnanswered B was.1 c is.1 (why_of why)
+  unanswered (frontfault.Refused b) (inl h) l = rw h.0 (record { reason = tt; stays = stays_as B.number was.1 is.1 (ap (λ p. alone p.1) h.1); known = (let top = ap (λ p. greatest p.1) h.1 in omega (arith, top)) })
+  unanswered (frontfault.Refused b) (inr h) l = noted_why b h.0 h.1 l
+  unanswered (frontfault.StoreFailed marked cause) h l = record { reason = tt; stays = stays_as B.number was.1 is.1 (ap tagged h.1); known = (let top = greatest_same_answers was.1 is.1 h.1 in omega (arith, top)) }
+
+  pub answered_as : (n : ℕ) (said : Reply) → is ≡ noted (note.Accepted n c said) was → IsAlone any_kind B is.1 → IsAnswered B was.1 c n said is.1
+  answered_as n said same l =
+      let at : is.1 ≡ was.1 ++ note.Accepted n c said ∷ [] = ap (λ p. p.1) same in
+      let h = answered B was.1 n c said (subst (IsAlone any_kind B) at l) in
+      record {
+        accepted = h.0;
+        next = h.1;
+        noted = ap alone at ∙ alone_more was.1 (note.Accepted n c said) refl;
+        known = subst (λ (notes : List (Note AnyJob)). n ≤ greatest notes) (sym at) (known_last was.1 n c said);
+      }

@@ -1,0 +1,4 @@
+pub mod Notes
+pub mod Answering
+pub mod Promising
+pub mod Served

@@ -1,0 +1,6 @@
+use Rattle.pfx_front_engine.proofs.Promising.{same}
+use Rattle.pfx_front_engine.specs.declared.engine.FrontEngine.{FrontEngine}
+use Rattle.pfx_front_engine.proofs.engine.FrontEngineEngine.settled.Goals as goal
+
+pub returns-clause-same : goal.returns-clause-same
+returns-clause-same g c = same {E = FrontEngine g.row.B.Denot g.row.K.Denot g.row.R.Denot g.row.K-Seat.Denot} (λ e. e.client) g.B.Named.start _ _ c.settle.ensures.stays

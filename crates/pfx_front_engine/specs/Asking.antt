@@ -1,0 +1,67 @@
+-- What comes of a command of a front's only client.
+use Rattle.std.specs.Prelude.{◌≡◌, ◌<◌, ◌≤◌, ℕ, ◌+◌, ◌++◌, List, [], ◌∷◌, length, Ok, Err, ⊤}
+use Rattle.pfx_book.specs.Notes.{alone, greatest}
+use Rattle.pfx_book.specs.declared.faults.BookFault.TheVariants as book
+use Rattle.pfx_book.specs.declared.note.Note.{Note}
+use Rattle.pfx_book.specs.declared.note.Note.TheVariants.{Accepted}
+use Rattle.pfx_fault.specs.declared.refusals.Fault.{Fault}
+use Rattle.pfx_fault.specs.declared.refusals.Fault.TheVariants as fault
+use Rattle.pfx_front.specs.Sole.{state_of}
+use Rattle.pfx_front.specs.declared.faults.CallFault as front
+use Rattle.pfx_front.specs.declared.faults.CallFault.TheVariants as frontfault
+use Rattle.pfx_kinds.specs.AnyKind.{any_kind}
+use Rattle.pfx_kinds.specs.declared.any.AnyJob.{AnyJob}
+use Rattle.pfx_machine.specs.Plain.{Plain}
+use Rattle.pfx_machine.specs.Runs.{answer}
+use Rattle.pfx_machine.specs.declared.command.Command.{Command}
+use Rattle.pfx_machine.specs.declared.command.Reply.{Reply}
+use Rattle.pfx_machine.specs.declared.faults.MachineFault.{MachineFault}
+use Rattle.pfx_machine.specs.declared.faults.MachineFault.TheVariants as machine
+use Rattle.pfx_program.specs.Promises.{AreAnswered, slots_for}
+use Rattle.pfx_program.specs.declared.engine.CallFault.{CallFault}
+use Rattle.pfx_program.specs.declared.engine.CallFault.TheVariants as callfault
+use Rattle.pfx_front_engine.specs.Keeping.{KeepsBy}
+
+-- what the machine's refusal is to a run: for want of memory the run ends
+abbrev pub why_machine : MachineFault → CallFault
+why_machine machine.NoMemory = callfault.Failed fault.NoMemory
+why_machine other = callfault.Refused other
+
+-- what a front's refusal is to a run
+abbrev pub why_of : front.CallFault → CallFault
+why_of (frontfault.Refused book.SessionFull) = callfault.Failed fault.SessionFull
+why_of (frontfault.Refused (book.Machine f)) = why_machine f
+why_of (frontfault.StoreFailed marked cause) = callfault.Failed (fault.StoreFailed marked cause)
+
+-- what a front ends a run with
+abbrev pub IsFrontFault : Fault → Type 0
+IsFrontFault fault.NoMemory = ⊤
+IsFrontFault fault.SessionFull = ⊤
+IsFrontFault (fault.StoreFailed marked cause) = ⊤
+IsFrontFault other = ⊥
+
+-- the machine refuses the command, or the front ends the run
+abbrev pub IsReason : Plain AnyJob → Command AnyJob → CallFault → Type 0
+IsReason s c (callfault.Refused f) = answer any_kind s c ≡ Err f
+IsReason s c (callfault.Failed f) = IsFrontFault f
+
+-- the command was accepted, as the machine does behind the commands before it
+pub record IsAnswered (start : Plain AnyJob) (was : List (Note AnyJob)) (c : Command AnyJob) (number : ℕ) (said : Reply)
+    (is : List (Note AnyJob)) : Type 0 where
+  pub accepted : answer any_kind (state_of any_kind start was) c ≡ Ok said
+  pub next : number ≡ (state_of any_kind start was).number + 1
+  pub noted : alone is ≡ alone was ++ (1, Accepted number c said) ∷ []
+  pub known : number ≤ greatest is
+
+-- the command wasn't accepted, and no other was
+pub record IsUnanswered (start : Plain AnyJob) (was : List (Note AnyJob)) (c : Command AnyJob) (is : List (Note AnyJob)) (why : CallFault) : Type 0 where
+  pub reason : IsReason (state_of any_kind start was) c why
+  pub stays : KeepsBy start.number was [] 0 is
+  pub known : greatest was ≤ greatest is
+
+-- Slots were accepted one after the other, some, and the number at the most, and nothing else was
+pub record AreAsked (start : Plain AnyJob) (was : List (Note AnyJob)) (count : ℕ) (said : List (ℕ × Reply)) (is : List (Note AnyJob)) : Type 0 where
+  pub some : 0 < length said
+  pub few : length said ≤ count
+  pub answered : AreAnswered (state_of any_kind start was) said
+  pub kept : KeepsBy start.number was (slots_for said) 0 is

@@ -1,0 +1,4 @@
+pub mod Keeping
+pub mod KeepingLaws
+pub mod Asking
+pub mod Running

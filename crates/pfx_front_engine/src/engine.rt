@@ -1,0 +1,99 @@
+//! The engine.
+ghost use Rattle.std.specs.Prelude.{◌≡◌, ◌≢◌, [], IfOk, IfErr, OnOk};
+ghost use Rattle.pfx_front.specs.Sole.{state_of};
+ghost use Rattle.pfx_kinds.specs.AnyKind.{any_kind};
+ghost use Rattle.pfx_program.specs.Promises.{Promise, Laws, AreAnswered, AreDone, AreNotDone, IsDone, IsNotDone, IsSame, IsEngineFault, Shows, slots_for};
+ghost use Rattle.pfx_front_engine.specs.Asking.{AreAsked, IsAnswered, IsUnanswered, IsFrontFault};
+ghost use Rattle.pfx_front_engine.specs.Keeping.{IsSettled, KeepsBy};
+ghost use Rattle.pfx_front_engine.specs.KeepingLaws.{keeps_none, keeps_more, keeps_fewer};
+
+use crate::asking::{ask, ask_slots, board, settle};
+use crate::client::Client;
+use pfx_crew::desk::Desk;
+use pfx_fault::Fault;
+use pfx_front::calls::Front;
+use pfx_front::name::Since;
+use pfx_jobs::quantum::{Done, Quantum};
+use pfx_kinds::any::AnyJob;
+use pfx_machine::{Board, Command, Reply};
+use pfx_program::{CallFault, Engine};
+use std::alloc::Global;
+use std::sync::Wait;
+
+/// How many Slots are asked for before the last one's receipt is waited for: as many as may be accepted and not yet durable.
+pub const WINDOW: u32 = 64;
+
+/// A front, and its only client.
+#[derive(Drop)]
+pub(crate) struct FrontEngine<
+    B: Since<AnyJob>,
+    K: Desk<Quantum<AnyJob>, Done<AnyJob>> + Drop,
+    R: Wait + Drop,
+> {
+    /// The system, by which calls wait.
+    pub(crate) rt: R,
+    /// The front.
+    pub(crate) front: Front<AnyJob, B, K>,
+    /// Its only client.
+    pub(crate) client: Client<B>,
+}
+
+impl<B: Since<AnyJob>, K: Desk<Quantum<AnyJob>, Done<AnyJob>> + Drop, R: Wait + Drop> Engine
+    for FrontEngine<B, K, R>
+where
+    K::Seat: Drop,
+{
+    // The state is that behind all accepted commands; a command is kept once the pass has its receipt.
+    ghost promise = { record {
+      state = λ engine. state_of any_kind B.start engine.client;
+      faults = λ s f. IsFrontFault f;
+      settled = λ engine. IsSettled B.start.number engine.client;
+      keeps = λ a H n b. KeepsBy B.start.number a.client H n b.client;
+    } };
+
+    fn call(
+        &mut self,
+        _alloc: Global,
+        command: Command<AnyJob>,
+    ) -> Result<(u64, Reply), CallFault> {
+        match ask(&self.rt, &self.front, &mut self.client, command) {
+            Err(why) => Err(why),
+            Ok(reply) => match settle(&self.rt, &self.front, &mut self.client) {
+                Ok(_number) => Ok(reply),
+                Err(fault) => Err(CallFault::Failed(fault)),
+            },
+        }
+    }
+
+    fn slots(&mut self, alloc: Global, count: u32) -> Result<Vec<(u64, Reply)>, CallFault> {
+        match ask_slots(
+            &self.rt,
+            alloc,
+            &self.front,
+            &mut self.client,
+            count.min(WINDOW),
+        ) {
+            Err(why) => Err(why),
+            Ok(said) => match settle(&self.rt, &self.front, &mut self.client) {
+                Ok(_number) => Ok(said),
+                Err(fault) => Err(CallFault::Failed(fault)),
+            },
+        }
+    }
+
+    fn settled(&mut self, _alloc: Global) -> Result<u64, Fault> {
+        settle(&self.rt, &self.front, &mut self.client)
+    }
+
+    fn status(&mut self, _alloc: Global) -> Result<Board, Fault> {
+        if let Err(fault) = settle(&self.rt, &self.front, &mut self.client) {
+            return Err(fault);
+        }
+        match board(&self.rt, &self.front, &mut self.client) {
+            Ok(board) => Ok(board),
+            Err(_) => Err(Fault::NoMemory),
+        }
+    }
+
+    ghost laws = { record { none = λ e. keeps_none _ _; more = λ a b c H G n settled one two. keeps_more _ _ _ _ H G n one two; fewer = λ a b H n m le one. keeps_fewer _ _ H n m _ le one } };
+}

@@ -1,0 +1,182 @@
+//! Running a script over a front.
+ghost use Rattle.std.specs.Prelude.{◌≡◌, ◌⊎◌, ◌<◌};
+ghost use Rattle.pfx_front.specs.Starting.{Begins};
+ghost use Rattle.pfx_kinds.specs.AnyKind.{any_kind};
+ghost use Rattle.pfx_front_engine.specs.Running.{IsServedRun};
+
+use crate::client::Client;
+use crate::engine::FrontEngine;
+use pfx_crew::desk::Desk;
+use pfx_disk::Disk;
+use pfx_fault::Fault;
+use pfx_front::calls::Front;
+use pfx_front::closing::Given;
+use pfx_front::faults::StartFault;
+use pfx_front::name::{Names, Since};
+use pfx_jobs::quantum::{Done, Quantum};
+use pfx_journal::Store;
+use pfx_kinds::any::AnyJob;
+use pfx_program::run_script;
+use pfx_script::Script;
+use std::alloc::Global;
+use std::io::{Read, Write};
+use std::marker::Brand;
+use std::sync::Wait;
+use std::thread::Threads;
+
+/// What a run over a front leaves.
+#[derive(Drop)]
+pub struct Served<D: Disk> {
+    /// The store.
+    pub store: Store<D, AnyJob>,
+    /// What the run answered.
+    pub result: Result<(), Fault>,
+}
+
+/// Why a front doesn't start, as a run's fault.
+fn start_fault(fault: StartFault) -> Fault
+    ensures { (result ≡ Fault.NoThread) ⊎ (result ≡ Fault.NoMemory) }
+{
+    match fault {
+        StartFault::NoThread => Fault::NoThread,
+        StartFault::NoMemory => Fault::NoMemory,
+    }
+}
+
+/// Never returns.
+fn never<D: Disk, R: Wait>(rt: &R) -> Served<D>
+    ensures { ⊥ }
+{
+    for _ in rt.forever() {}
+    unreachable!()
+}
+
+/// Runs a script through a front of this name, which is started for it and ended behind it.
+fn serve<
+    I: Read + Drop,
+    W: Write,
+    D: Disk + Drop + Send + 'static,
+    B: Since<AnyJob> + Send + Sync + 'static,
+    K: Desk<Quantum<AnyJob>, Done<AnyJob>> + Drop + Send + Sync + 'static,
+    R: Threads + Wait + Copy + Drop + Send + Sync + 'static,
+>(
+    rt: R,
+    alloc: Global,
+    names: Names<AnyJob>,
+    store: Store<D, AnyJob>,
+    desk: K,
+    workers: u32,
+    script: &mut Script<I>,
+    window: u32,
+    output: &mut W,
+) -> Served<D>
+where
+    K::Seat: Drop + Send + 'static,
+    requires some { 0 < window }
+    requires named { (names.tokens.table.shared.table_id ≡ B.table) × (names.list.seen.book ≡ B.book) × (B.origin ≡ B.start) }
+    requires begins { Begins any_kind B.start B.failures B.clock store.file.broken store.state (D.view store.file.disk) }
+    ensures { IsServedRun B.start script.old (W.contents output.old) (W.contents output.new) (D.view result.store.file.disk) result.result }
+{
+    let number = store.state().number();
+    let Ok(mut passes) = Vec::with_capacity(alloc, 1) else {
+        return Served {
+            store,
+            result: Err(Fault::NoMemory),
+        };
+    };
+    match Front::<AnyJob, B, K>::start::<D, R>(rt, alloc, names, store, desk, workers, 1) {
+        Err((fault, store)) => Served {
+            store,
+            result: Err(start_fault(fault)),
+        },
+        Ok((front, crew, readers)) => {
+            if let Some(pass) = front.pass(&rt) {
+                let client = Client::new(pass, number);
+                let mut engine = FrontEngine { rt, front, client };
+                let result = run_script(alloc, script, window, output, &mut engine);
+                let FrontEngine { front, client, .. } = engine;
+                passes.push_reserved(client.into_pass());
+                if let Ok(closed) = front.close(&rt, crew, Given { passes, readers }) {
+                    return Served {
+                        store: closed.store,
+                        result,
+                    };
+                }
+            }
+
+            // A new front gives its first pass out, and ends with it.
+            never(&rt)
+        }
+    }
+}
+
+/// Runs a script through a front that is named here.
+fn serve_named<
+    I: Read + Drop,
+    W: Write,
+    D: Disk + Drop + Send + 'static,
+    K: Desk<Quantum<AnyJob>, Done<AnyJob>> + Drop + Send + Sync + 'static,
+    R: Threads + Wait + Copy + Drop + Send + Sync + 'static,
+>(
+    rt: R,
+    alloc: Global,
+    names: Names<AnyJob>,
+    store: Store<D, AnyJob>,
+    desk: K,
+    workers: u32,
+    script: &mut Script<I>,
+    window: u32,
+    output: &mut W,
+) -> Served<D>
+where
+    K::Seat: Drop + Send + 'static,
+    requires some { 0 < window }
+    requires begins { Begins any_kind store.state (D.view store.file.disk).failures (D.view store.file.disk).clock store.file.broken store.state (D.view store.file.disk) }
+    ensures { IsServedRun store.state script.old (W.contents output.old) (W.contents output.new) (D.view result.store.file.disk) result.result }
+{
+    serve::<I, W, D, Brand, K, R>(
+        rt, alloc, names, store, desk, workers, script, window, output,
+    )
+}
+
+/// Runs the records of a script that are left on a store, as `run_script` does over any engine, through a front that is started
+/// for it and ended behind it: with one thread for the flusher, and so many workers at the desk, or none, where the calling thread
+/// runs the jobs.
+///
+/// Of the slots of a record up to `window` are asked for before the last of them is waited for, 1 or more, and 64 at the most.
+///
+/// What is printed is the same for any number of workers and any window. A printed line is a receipt: whatever the run answers, each
+/// image that a stop may leave behind it is recovered to the outcome of a beginning of the script's accepted commands which holds
+/// every command whose line was printed. `NoThread` says that the system gives no thread; then nothing was done.
+pub fn run_served<
+    I: Read + Drop,
+    W: Write,
+    D: Disk + Drop + Send + 'static,
+    K: Desk<Quantum<AnyJob>, Done<AnyJob>> + Drop + Send + Sync + 'static,
+    R: Threads + Wait + Copy + Drop + Send + Sync + 'static,
+>(
+    rt: R,
+    alloc: Global,
+    store: Store<D, AnyJob>,
+    desk: K,
+    workers: u32,
+    script: &mut Script<I>,
+    window: u32,
+    output: &mut W,
+) -> Served<D>
+where
+    K::Seat: Drop + Send + 'static,
+    requires some { 0 < window }
+    requires begins { Begins any_kind store.state (D.view store.file.disk).failures (D.view store.file.disk).clock store.file.broken store.state (D.view store.file.disk) }
+    ensures { IsServedRun store.state script.old (W.contents output.old) (W.contents output.new) (D.view result.store.file.disk) result.result }
+{
+    match Names::new(alloc) {
+        Ok(names) => serve_named(
+            rt, alloc, names, store, desk, workers, script, window, output,
+        ),
+        Err(_) => Served {
+            store,
+            result: Err(Fault::NoMemory),
+        },
+    }
+}
