@@ -12,12 +12,14 @@ ghost use Rattle.pfx_fault.specs.Refusals.{status_of};
 mod files;
 mod plan;
 mod replay;
+mod run;
 mod store;
 
 use crate::files::taken_streams;
 use crate::plan::plan;
 use crate::replay::replay;
-use crate::store::{init, run, show, status};
+use crate::run::run;
+use crate::store::{init, show, status};
 use clap::Error;
 use clap::error::ErrorKind;
 use pfx_fault::{Fault, put_fault};
@@ -71,9 +73,9 @@ fn done(rt: &HostRuntime, alloc: Global, words: &[&str]) -> u8 {
         Request::Run {
             file,
             script,
+            workers,
             batch,
-            ..
-        } => run(rt, alloc, file, script, batch.unwrap_or(1).max(1)),
+        } => run(rt, alloc, file, script, workers, batch),
         Request::Status { file } => status(rt, alloc, file),
         Request::Replay { file } => match replay(rt, alloc, file) {
             Ok(true) => Ok(()),

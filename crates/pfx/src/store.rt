@@ -1,18 +1,20 @@
-//! `pfx init SET FILE`, `pfx run FILE SCRIPT`, `pfx status FILE`, `pfx show FILE TASK`.
+//! `pfx init SET FILE`, `pfx status FILE`, `pfx show FILE TASK`.
 
-ghost use Rattle.std.specs.Prelude.{◌<◌};
+ghost use Rattle.std.specs.Prelude.{IfOk};
+ghost use Rattle.pfx_disk.specs.File.{file_view};
+ghost use Rattle.pfx_front.specs.Starting.{Begins};
+ghost use Rattle.pfx_kinds.specs.AnyKind.{any_kind};
 
 use crate::files::{
     disk, fault_of, init_fault, input, open_fault, shared_disk, size_fault, sync_directory,
 };
 use pfx_disk::FileDisk;
-use pfx_engine::{DurableEngine, run_durable};
+use pfx_engine::DurableEngine;
 use pfx_fault::Fault;
 use pfx_header::check_segment;
 use pfx_journal::Store;
 use pfx_kinds::any::AnyJob;
 use pfx_program::{created_line, read_task_set, run_show, run_status};
-use pfx_script::Script;
 use std::alloc::Global;
 use std::io;
 use std::io::{BufWriter, Write};
@@ -38,37 +40,30 @@ pub(crate) fn init(rt: &HostRuntime, alloc: Global, set: &str, file: &str) -> Re
     }
 }
 
-// The engine over the store on a disk.
-fn engine(alloc: Global, disk: FileDisk) -> Result<DurableEngine<FileDisk>, Fault> {
-    let store = match Store::open(alloc, disk) {
-        Ok(store) => store,
-        Err((fault, _disk)) => return Err(open_fault(fault)),
-    };
+/// The store on a disk.
+pub(crate) fn opened(alloc: Global, disk: FileDisk) -> Result<Store<FileDisk, AnyJob>, Fault>
+    ensures { IfOk result (λ s. Begins any_kind s.state (file_view s.file.disk).failures (file_view s.file.disk).clock s.file.broken s.state (file_view s.file.disk)) }
+{
+    match Store::open(alloc, disk) {
+        Ok(store) => Ok(store),
+        Err((fault, _disk)) => Err(open_fault(fault)),
+    }
+}
+
+/// The engine of one thread over a store.
+pub(crate) fn engine(
+    alloc: Global,
+    store: Store<FileDisk, AnyJob>,
+) -> Result<DurableEngine<FileDisk>, Fault> {
     match DurableEngine::new(alloc, store) {
         Ok(engine) => Ok(engine),
         Err(_) => Err(Fault::NoMemory),
     }
 }
 
-/// Runs a script on the store of a file, up to `window` slots of a record at once. Its lines are printed as they come.
-pub(crate) fn run(
-    rt: &HostRuntime,
-    alloc: Global,
-    file: &str,
-    script: &str,
-    window: u32,
-) -> Result<(), Fault>
-    requires { 0 < window }
-{
-    let mut script = Script::new(alloc, input(rt, script)?);
-    let mut engine = engine(alloc, disk(rt, file, false)?)?;
-    let mut output = io::writer(rt);
-    run_durable(alloc, &mut script, window, &mut output, &mut engine)
-}
-
 /// Prints the board of the store of a file.
 pub(crate) fn status(rt: &HostRuntime, alloc: Global, file: &str) -> Result<(), Fault> {
-    let mut engine = engine(alloc, shared_disk(rt, file)?)?;
+    let mut engine = engine(alloc, opened(alloc, shared_disk(rt, file)?)?)?;
     let Ok(mut output) = BufWriter::new(alloc, io::writer(rt)) else {
         return Err(Fault::NoMemory);
     };
@@ -93,10 +88,7 @@ pub(crate) fn show(
     file: &str,
     task: Option<u32>,
 ) -> Result<(), Fault> {
-    let store = match Store::<FileDisk, AnyJob>::open(alloc, shared_disk(rt, file)?) {
-        Ok(store) => store,
-        Err((fault, _disk)) => return Err(open_fault(fault)),
-    };
+    let store = opened(alloc, shared_disk(rt, file)?)?;
     let task = match task {
         Some(task) => Some(task_of(task)),
         None => None,

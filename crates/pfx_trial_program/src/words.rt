@@ -395,7 +395,7 @@ fn has_a_help_page_for_each(rt: HostRuntime) {
         ("init", "  created m=2 real=3 idle=0 hyper=3 size=2098049\n"),
         ("init", "  pfx init examples/thirds.toml thirds.pfx "),
         ("run", "Usage: pfx run [OPTIONS] <FILE> <SCRIPT>\n"),
-        ("run", "0 to 64; today all jobs run on one thread\n"),
+        ("run", "0 to 64; as many as the set has if it isn't given\n"),
         ("run", "  submit,TASK,KIND,GOAL,DATA "),
         ("run", "  pfx run thirds.pfx examples/thirds.csv "),
         ("status", "Usage: pfx status <FILE>\n"),

@@ -25,10 +25,11 @@ pub enum Request<'a> {
         file: &'a str,
         /// The path of the script, in CSV; `-` is standard input.
         script: &'a str,
-        /// How many workers run the jobs, 0 to 64, where the words say so; 0 is one thread. Today it
-        /// changes nothing: all jobs run on one thread.
+        /// How many workers run the jobs, 0 to 64, where the words say so; 0 is one thread for all. Else it is as many as the
+        /// store's set has.
         workers: Option<u32>,
-        /// How many slots of a record are kept at once at the most, 1 to 16, where the words say so; else it is 1.
+        /// How many slots of a record are kept at once at the most, 1 to 16, where the words say so; else it is 1, or 64 with
+        /// workers.
         batch: Option<u32>,
     },
     /// Show the board of a store.

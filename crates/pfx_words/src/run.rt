@@ -38,8 +38,10 @@ A script is read a record at a time: each record's lines are printed, once what 
 before the next record is waited for. So another program can keep pfx run FILE - as a child, write a
 record to it, and read the answer.
 
-With --batch N up to N slots of one record are kept at once, by one write of the file, and their lines
-are printed then. The output is the same for each N; a large one is faster.";
+With --workers N the jobs of a slot run on N threads, while another thread keeps the slots before it; with
+0 one thread does all. Without it there are as many as the store's set has workers. With --batch N up to
+N slots of one record are kept at once, by one write of the file, and their lines are printed then. The
+output is the same for all of them.";
 
 const EXAMPLE: &str = "Example:
   pfx run thirds.pfx examples/thirds.csv    a job of three steps and three slots, then the board
@@ -51,7 +53,7 @@ fn workers_option<'a>(alloc: Global) -> Arg<'a>
     Arg::new(alloc, "workers")
         .long("workers")
         .value_name("N")
-        .help("How many workers run the jobs, 0 to 64; today all jobs run on one thread")
+        .help("How many workers run the jobs, 0 to 64; as many as the set has if it isn't given")
         .value_parser(value_parser!(u32).range(0..=64))
 }
 
@@ -61,7 +63,7 @@ fn batch_option<'a>(alloc: Global) -> Arg<'a>
     Arg::new(alloc, "batch")
         .long("batch")
         .value_name("N")
-        .help("How many slots of a record are kept at once, 1 to 16; 1 if it isn't given")
+        .help("How many slots of a record are kept at once, 1 to 16; else 1, or 64 with workers")
         .value_parser(value_parser!(u32).range(1..=16))
 }
 

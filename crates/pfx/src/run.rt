@@ -1,0 +1,85 @@
+//! `pfx run FILE SCRIPT`.
+
+ghost use Rattle.std.specs.Prelude.{◌<◌};
+ghost use Rattle.pfx_disk.specs.File.{file_view};
+ghost use Rattle.pfx_front.specs.Starting.{Begins};
+ghost use Rattle.pfx_kinds.specs.AnyKind.{any_kind};
+
+use crate::files::{Source, disk, input};
+use crate::store::{engine, opened};
+use pfx_crew::channel::ChannelDesk;
+use pfx_disk::FileDisk;
+use pfx_engine::run_durable;
+use pfx_fault::Fault;
+use pfx_front_engine::engine::WINDOW;
+use pfx_front_engine::scripts::run_served;
+use pfx_jobs::quantum::{Done, Quantum};
+use pfx_journal::Store;
+use pfx_kinds::any::AnyJob;
+use pfx_script::Script;
+use std::alloc::Global;
+use std::io;
+
+// Runs a script on a store by one thread.
+fn run_alone(
+    rt: &HostRuntime,
+    alloc: Global,
+    store: Store<FileDisk, AnyJob>,
+    script: &mut Script<Source>,
+    window: u32,
+) -> Result<(), Fault>
+    requires { 0 < window }
+{
+    let mut engine = engine(alloc, store)?;
+    run_durable(alloc, script, window, &mut io::writer(rt), &mut engine)
+}
+
+// Runs a script on a store by so many workers.
+fn run_by(
+    rt: &HostRuntime,
+    alloc: Global,
+    store: Store<FileDisk, AnyJob>,
+    workers: u32,
+    script: &mut Script<Source>,
+    window: u32,
+) -> Result<(), Fault>
+    requires some { 0 < window }
+    requires begins { Begins any_kind store.state (file_view store.file.disk).failures (file_view store.file.disk).clock store.file.broken store.state (file_view store.file.disk) }
+{
+    let Ok(desk) = ChannelDesk::<Quantum<AnyJob>, Done<AnyJob>>::new(alloc) else {
+        return Err(Fault::NoMemory);
+    };
+    let mut output = io::writer(rt);
+    run_served(
+        *rt,
+        alloc,
+        store,
+        desk,
+        workers,
+        script,
+        window,
+        &mut output,
+    )
+    .result
+}
+
+/// Runs a script on the store of a file by so many workers, as many as its set has where none are said, or for 0 by one thread. Up to `window` slots of a record are kept at once; where that isn't said, it is 1, or 64 with workers. Lines are
+/// printed as they come.
+pub(crate) fn run(
+    rt: &HostRuntime,
+    alloc: Global,
+    file: &str,
+    script: &str,
+    workers: Option<u32>,
+    window: Option<u32>,
+) -> Result<(), Fault> {
+    let mut script = Script::new(alloc, input(rt, script)?);
+    let store = opened(alloc, disk(rt, file, false)?)?;
+    let workers = workers.unwrap_or(store.state().columns().workers());
+    if workers == 0 {
+        run_alone(rt, alloc, store, &mut script, window.unwrap_or(1).max(1))
+    } else {
+        let window = window.unwrap_or(WINDOW).max(1);
+        run_by(rt, alloc, store, workers, &mut script, window)
+    }
+}
