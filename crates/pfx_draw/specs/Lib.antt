@@ -1,0 +1,5 @@
+pub mod Bars
+pub mod Each
+pub mod Lags
+pub mod Sizes
+pub mod Text

@@ -1,0 +1,7 @@
+//! A plan as a picture.
+#![tactic(auto)]
+
+mod bars;
+mod lags;
+mod sizes;
+mod text;
