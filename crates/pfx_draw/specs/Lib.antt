@@ -1,5 +1,8 @@
 pub mod Bars
 pub mod Each
+pub mod Frame
 pub mod Lags
+pub mod Line
+pub mod Phrases
 pub mod Sizes
 pub mod Text

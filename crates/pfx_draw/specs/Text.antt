@@ -1,4 +1,4 @@
--- Words with numbers, and the steps of a path.
+-- The steps of a path.
 use Rattle.std.specs.Prelude.{codes, ℕ, List, ◌++◌}
 use Rattle.std.specs.Fmt.{decimal}
 
@@ -6,7 +6,7 @@ use Rattle.std.specs.Fmt.{decimal}
 abbrev pub with_number : List ℕ → ℕ → List ℕ
 with_number words n = words ++ decimal n
 
--- the steps of a path: go to a point, draw to a point, across and down
+-- go to a point, draw to a point, across and down
 abbrev pub move_to : ℕ → ℕ → List ℕ
 move_to x y = with_number (codes "M") x ++ with_number (codes " ") y
 

@@ -6,7 +6,7 @@ ghost use Rattle.pfx_draw.specs.Bars.{has};
 ghost use Rattle.pfx_draw.specs.Lags.{behind_by, ahead_by, signed, lag_text, level_by, level, levels, summed, IsCourse};
 
 use crate::bars::has;
-use crate::text::put_with_number;
+use crate::text::{put_number, put_with_number};
 use std::alloc::{AllocError, Global};
 
 /// A task of weight e/p, which got `alloc` of the slots before the first that is drawn.
@@ -83,7 +83,7 @@ fn put_signed(alloc: Global, text: &mut Vec<u8>, behind: u64, ahead: u64) -> Res
     if ahead > 0 {
         put_with_number(alloc, text, "-", ahead)
     } else {
-        put_with_number(alloc, text, "", behind)
+        put_number(alloc, text, behind)
     }
 }
 
@@ -128,8 +128,8 @@ fn level(c: Course, i: u64, k: u64) -> u64
     level_by(behind, ahead)
 }
 
-// The runs with one slot more.
-fn counted(k: u64, marks: &[u64], i: usize) -> u64
+/// How many slots a task got with the `i`-th, where it got `k` of those before.
+pub(crate) fn counted(k: u64, marks: &[u64], i: usize) -> u64
     requires { k ≤ 1440 }
     ensures { result ≡ k + one (has marks.now 1 i) }
 {

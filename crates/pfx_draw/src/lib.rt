@@ -2,6 +2,9 @@
 #![tactic(auto)]
 
 mod bars;
+mod frame;
 mod lags;
+mod line;
+mod phrases;
 mod sizes;
 mod text;

@@ -1,16 +1,25 @@
 //! Text that grows at its end.
 
 ghost use Rattle.std.specs.Prelude.{◌≡◌, ◌++◌, OnOk};
+ghost use Rattle.std.specs.Fmt.{decimal};
 ghost use Rattle.pfx_draw.specs.Text.{with_number, move_to, line_to, across_to, down_to};
 
 use std::alloc::{AllocError, Global};
 
-/// Puts words at the end of a text.
-pub(crate) fn put(text: &mut Vec<u8>, words: &str) -> Result<(), AllocError>
-    ensures { OnOk result (text.new.items ≡ text.old.items ++ words.now) }
+/// Puts bytes at the end of a text.
+pub(crate) fn put_bytes(text: &mut Vec<u8>, bytes: &[u8]) -> Result<(), AllocError>
+    ensures { OnOk result (text.new.items ≡ text.old.items ++ bytes.now) }
 {
-    text.extend_from_slice(words.as_bytes())?;
+    text.extend_from_slice(bytes)?;
     Ok(())
+}
+
+/// Puts a number in decimal digits at the end of a text.
+pub(crate) fn put_number(alloc: Global, text: &mut Vec<u8>, n: u64) -> Result<(), AllocError>
+    ensures { OnOk result (text.new.items ≡ text.old.items ++ decimal n) }
+{
+    let digits = n.to_string(alloc)?;
+    put_bytes(text, digits.as_bytes())
 }
 
 /// Puts words and a number behind them.
@@ -22,9 +31,8 @@ pub(crate) fn put_with_number(
 ) -> Result<(), AllocError>
     ensures { OnOk result (text.new.items ≡ text.old.items ++ with_number words.now n) }
 {
-    let digits = n.to_string(alloc)?;
-    put(text, words)?;
-    put(text, digits.as_str())
+    put_bytes(text, words.as_bytes())?;
+    put_number(alloc, text, n)
 }
 
 /// Puts the step of a path to a point, with nothing drawn.
