@@ -19,7 +19,7 @@ abbrev pub counted : ℕ → Phrase → List ℕ
 counted n word = decimal n ++ (say word ++ (if n == 1 then [] else say phrase.Plural))
 
 -- `nightly: 8 tasks on 4 workers, slots 0 to 59`
-abbrev pub title : Sizes → List ℕ → ℕ → ℕ → List ℕ
+unfoldable pub title : Sizes → List ℕ → ℕ → ℕ → List ℕ
 title s name real workers =
     named name ++ counted real phrase.Task ++ say phrase.On ++ counted workers phrase.Worker
     ++ say_number phrase.Slots s.first ++ say_number phrase.To (s.first + s.slots - 1)
@@ -45,7 +45,7 @@ level_key = say phrase.LevelKey ++ say phrase.KeyBehind ++ say phrase.KeyMiddle 
 abbrev pub key : ℕ → List ℕ
 key lanes = say phrase.KeyBegin ++ (if nat_le lanes 48 then say phrase.LineKey else level_key)
 
-abbrev pub head : Sizes → List ℕ → List ℕ
+unfoldable pub head : Sizes → List ℕ → List ℕ
 head s words = opening s ++ spoken words ++ heading s words ++ key s.lanes
 
 -- a line from the lanes' top to their end
@@ -70,7 +70,7 @@ grid_lines s = each (grid_piece s) (ticks s)
 abbrev pub numbers : Sizes → List ℕ
 numbers s = each (number_piece s) (ticks s)
 
-abbrev pub grid : Sizes → List ℕ
+unfoldable pub grid : Sizes → List ℕ
 grid s = say phrase.PathBegin ++ grid_lines s ++ say phrase.GridEnd ++ numbers s
 
 -- how far behind the first slot the k-th one lies that begins a hyperperiod of l slots
@@ -87,10 +87,10 @@ abbrev pub hyper_lines : Sizes → ℕ → List ℕ
 hyper_lines s l = each (hyper_piece s l) (hyper_count s l)
 
 -- a dashed line at each, where there are 40 at the most
-abbrev pub dashes : Sizes → ℕ → List ℕ
+unfoldable pub dashes : Sizes → ℕ → List ℕ
 dashes s l =
     if nat_lt 0 (hyper_count s l) && nat_le (hyper_count s l) 40
     then say phrase.PathBegin ++ hyper_lines s l ++ say phrase.DashEnd else []
 
-abbrev pub foot : Sizes → ℕ → List ℕ
+unfoldable pub foot : Sizes → ℕ → List ℕ
 foot s l = say_number phrase.NameY (lanes_end s + 22) ++ say_number phrase.FootHyper l ++ say phrase.FootEnd

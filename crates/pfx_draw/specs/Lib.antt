@@ -1,7 +1,9 @@
 pub mod Bars
+pub mod Drawing
 pub mod Each
 pub mod Frame
 pub mod Lags
+pub mod Lane
 pub mod Line
 pub mod Phrases
 pub mod Sizes

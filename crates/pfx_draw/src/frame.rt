@@ -55,6 +55,7 @@ fn put_counted(alloc: Global, text: &mut Vec<u8>, n: u64, word: Phrase) -> Resul
 }
 
 /// The picture's title.
+#[tactic(auto, unfolding(crate::specs::Frame::title))]
 pub(crate) fn title(
     alloc: Global,
     s: Sizes,
@@ -134,6 +135,7 @@ fn put_key(text: &mut Vec<u8>, lanes: u64) -> Result<(), AllocError>
 }
 
 /// Puts what stands above the slots' numbers.
+#[tactic(auto, unfolding(crate::specs::Frame::head))]
 pub(crate) fn put_head(
     alloc: Global,
     text: &mut Vec<u8>,
@@ -218,6 +220,7 @@ fn put_numbers(alloc: Global, text: &mut Vec<u8>, s: Sizes) -> Result<(), AllocE
 }
 
 /// Puts the slots' numbers, and the lines below them.
+#[tactic(auto, unfolding(crate::specs::Frame::grid))]
 pub(crate) fn put_grid(alloc: Global, text: &mut Vec<u8>, s: Sizes) -> Result<(), AllocError>
     requires { IsDrawable s }
     ensures { OnOk result (text.new.items ≡ text.old.items ++ grid s) }
@@ -283,6 +286,7 @@ fn put_hyper_lines(
 }
 
 /// Puts a dashed line at each multiple of the hyperperiod, where there are few.
+#[tactic(auto, unfolding(crate::specs::Frame::dashes))]
 pub(crate) fn put_dashes(
     alloc: Global,
     text: &mut Vec<u8>,
@@ -303,6 +307,7 @@ pub(crate) fn put_dashes(
 }
 
 /// Puts what stands below the lanes.
+#[tactic(auto, unfolding(crate::specs::Frame::foot))]
 pub(crate) fn put_foot(
     alloc: Global,
     text: &mut Vec<u8>,

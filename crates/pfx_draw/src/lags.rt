@@ -141,7 +141,8 @@ pub(crate) fn counted(k: u64, marks: &[u64], i: usize) -> u64
 pub(crate) fn levels(alloc: Global, c: Course, marks: &[u64]) -> Result<Vec<u64>, AllocError>
     requires course { IsCourse c }
     requires number { length marks.now ≤ 1440 }
-    ensures { IfOk result (λ v. v.items ≡ levels c marks.now) }
+    ensures levels { IfOk result (λ v. v.items ≡ levels c marks.now) }
+    ensures number { IfOk result (λ v. length v.items ≡ length marks.now) }
 {
     let mut found = Vec::new(alloc);
     let mut k = 0;
