@@ -7,4 +7,5 @@ pub mod Lane
 pub mod Line
 pub mod Phrases
 pub mod Sizes
+pub mod Start
 pub mod Text

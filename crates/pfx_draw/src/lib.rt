@@ -6,9 +6,12 @@ mod drawing;
 mod frame;
 mod lags;
 mod lane;
+mod ledger;
 mod line;
 mod phrases;
 mod sizes;
+mod start;
 mod text;
 
 pub use drawing::{DrawFault, draw};
+pub use start::read_start;
