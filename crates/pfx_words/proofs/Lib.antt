@@ -9,3 +9,4 @@ pub mod PlainBatch
 pub mod PlainShow
 pub mod PlainStatus
 pub mod PlainReplay
+pub mod PlainDraw

@@ -71,13 +71,28 @@ show_words = with_rule (new_app (codes "show")) (required (codes "FILE"))
 abbrev pub show_app : App
 show_app = with_rule show_words task
 
+-- a count of slots that are drawn: 1 to 1,440
+abbrev pub drawn_slots : Rule
+drawn_slots = record (required (codes "SLOTS")) { parser = Some (vp.Signed (pos 1) (pos 1440)) }
+
+-- `draw SET SLOTS`
+abbrev pub draw_words : App
+draw_words = with_rule (with_rule (new_app (codes "draw")) (required (codes "SET"))) drawn_slots
+
+-- and `--at LEDGER`, which may be left out
+abbrev pub draw_app : App
+draw_app = with_rule draw_words at_ledger
+
 -- `pfx`: one of its subcommands has to follow, and each of them tells the version too
 abbrev pub bare_app : App
 bare_app = on_top (λ s. record s { subcommand_required = true; has_version = true; propagate_version = true }) (new_app (codes "pfx"))
 
 -- `pfx` with its subcommands
 abbrev pub pfx_app : App
-pfx_app = with_subcommand (with_subcommand (with_subcommand (with_subcommand (with_subcommand (with_subcommand bare_app plan_app.top) init_app.top) run_app.top) status_app.top) replay_app.top) show_app.top
+pfx_app =
+    with_subcommand
+    (with_subcommand (with_subcommand (with_subcommand (with_subcommand (with_subcommand (with_subcommand bare_app plan_app.top) init_app.top) run_app.top) status_app.top) replay_app.top) show_app.top)
+    draw_app.top
 
 -- the command is this one, with no global argument
 abbrev pub IsCommand : Command → App → Type 0

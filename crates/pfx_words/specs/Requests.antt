@@ -18,6 +18,7 @@ pub data Asked : Type 0 where
   status : Text → Asked
   replay : Text → Asked
   show : Text → Option ℕ → Asked
+  draw : Text → ℕ → Option Text → Asked
 
 -- the request that a value of the code is
 abbrev pub asked_by : Request → Asked
@@ -27,6 +28,7 @@ asked_by (request.Run file script workers batch) = run file.now script.now worke
 asked_by (request.Status file) = status file.now
 asked_by (request.Replay file) = replay file.now
 asked_by (request.Show file task) = show file.now task
+asked_by (request.Draw set slots at) = draw set.now slots (option_map (λ s. s.now) at)
 
 -- one digit or more, of a number of 32 bits
 abbrev pub is_number : Text → Bool
@@ -87,6 +89,15 @@ show_of None task = None
 abbrev pub show_in : List Row → Option Asked
 show_in rows = show_of (text_at (codes "FILE") rows) (number_at (codes "TASK") rows)
 
+-- a picture of a plan, if both its words are there, with the ledger to begin with, if there is one
+abbrev pub draw_of : Option Text → Option ℕ → Option Text → Option Asked
+draw_of (Some set) (Some slots) at = Some (draw set slots at)
+draw_of (Some set) None at = None
+draw_of None slots at = None
+
+abbrev pub draw_in : List Row → Option Asked
+draw_in rows = draw_of (text_at (codes "SET") rows) (number_at (codes "SLOTS") rows) (text_at (codes "at") rows)
+
 -- what the subcommand of this name asks for, by what was found for its arguments
 abbrev pub asked_of : Text → List Row → Option Asked
 asked_of name rows =
@@ -96,7 +107,8 @@ asked_of name rows =
     else (if bytes_eq name (codes "status") then status_in rows
     else (if bytes_eq name (codes "replay") then replay_in rows
     else (if bytes_eq name (codes "show") then show_in rows
-    else None)))))
+    else (if bytes_eq name (codes "draw") then draw_in rows
+    else None))))))
 
 abbrev pub asked_in : Option (Text × List Row) → Option Asked
 asked_in None = None
@@ -121,3 +133,7 @@ IsBatch text = IsNumeral 10 text × (1 ≤ digits_value 10 text) × (digits_valu
 -- the text is a task's number in digits: 0 to 65,535
 abbrev pub IsTask : Text → Type 0
 IsTask text = IsNumeral 10 text × (digits_value 10 text ≤ 65535)
+
+-- the text is a count of slots that are drawn in digits: 1 to 1,440
+abbrev pub IsDrawnSlots : Text → Type 0
+IsDrawnSlots text = IsNumeral 10 text × (1 ≤ digits_value 10 text) × (digits_value 10 text ≤ 1440)

@@ -4,7 +4,7 @@ ghost use Rattle.std.specs.Prelude.{◌≡◌, ◌∷◌, [], Some, None, true, 
 ghost use Rattle.std.specs.Str.Parse.{digits_value, starts_with_minus};
 ghost use Rattle.clap.specs.Takes.{takes};
 ghost use Rattle.pfx_words.specs.Commands.{pfx_app};
-ghost use Rattle.pfx_words.specs.Requests.{IsBatch, IsSlots, IsTask, IsWorkers, asked, show, plan, init, run, status, replay};
+ghost use Rattle.pfx_words.specs.Requests.{IsBatch, IsDrawnSlots, IsSlots, IsTask, IsWorkers, asked, draw, show, plan, init, run, status, replay};
 
 /// `pfx plan SET SLOTS`: for any `set` that doesn't begin with a hyphen, and any `slots` of digits that write 0 to
 /// 1,048,576, the command takes these words, and they ask for the plan of that many slots.
@@ -113,4 +113,22 @@ pub fn plain_show_task(program: &str, file: &str, task: &str)
     ensures taken { takes pfx_app (program.now ∷ codes "show" ∷ file.now ∷ task.now ∷ []) ≡ true }
     ensures asked { asked (program.now ∷ codes "show" ∷ file.now ∷ task.now ∷ [])
         ≡ Some (show file.now (Some (digits_value 10 task.now))) }
+{}
+
+/// `pfx draw SET SLOTS`: for any `set` that doesn't begin with a hyphen, and any `slots` of digits that write 1 to 1,440, the
+/// command takes these words, and they ask for the picture of that many slots.
+pub fn plain_draw(program: &str, set: &str, slots: &str)
+    requires set { starts_with_minus set.now ≡ false }
+    requires slots { IsDrawnSlots slots.now }
+    ensures taken { takes pfx_app (program.now ∷ codes "draw" ∷ set.now ∷ slots.now ∷ []) ≡ true }
+    ensures asked { asked (program.now ∷ codes "draw" ∷ set.now ∷ slots.now ∷ [])
+        ≡ Some (draw set.now (digits_value 10 slots.now) None) }
+{}
+
+/// `pfx draw - SLOTS`: a hyphen alone is taken as a set too, which is standard input.
+pub fn standard_draw(program: &str, slots: &str)
+    requires slots { IsDrawnSlots slots.now }
+    ensures taken { takes pfx_app (program.now ∷ codes "draw" ∷ codes "-" ∷ slots.now ∷ []) ≡ true }
+    ensures asked { asked (program.now ∷ codes "draw" ∷ codes "-" ∷ slots.now ∷ [])
+        ≡ Some (draw (codes "-") (digits_value 10 slots.now) None) }
 {}

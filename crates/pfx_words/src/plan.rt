@@ -34,7 +34,7 @@ fn slots_word<'a>(alloc: Global) -> Arg<'a>
         .value_parser(value_parser!(u32).range(0..=1_048_576))
 }
 
-fn at_option<'a>(alloc: Global) -> Arg<'a>
+pub(crate) fn at_option<'a>(alloc: Global) -> Arg<'a>
     ensures { IsArgument result at_ledger }
 {
     Arg::new(alloc, "at").long("at").value_name("T:A,A,..").help(

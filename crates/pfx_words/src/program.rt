@@ -11,6 +11,7 @@ ghost use Rattle.pfx_words.specs.Commands.{bare_app, pfx_app, IsCommand};
 ghost use Rattle.pfx_words.specs.Requests.{asked_by, asked_in, asked};
 
 use crate::Request;
+use crate::draw::{draw_command, draw_request};
 use crate::init::{init_command, init_request};
 use crate::plan::{plan_command, plan_request};
 use crate::replay::{replay_command, replay_request};
@@ -35,7 +36,8 @@ const EXAMPLE: &str = "Example:
   pfx run thirds.pfx examples/thirds.csv        a script of commands, run on the store
   pfx status thirds.pfx                         where its tasks and jobs stand
   pfx replay thirds.pfx                         whether its records are what its commands do
-  pfx show thirds.pfx                           what its jobs have computed";
+  pfx show thirds.pfx                           what its jobs have computed
+  pfx draw examples/thirds.toml 12              twelve slots of them as a picture";
 
 fn bare_command<'a>(alloc: Global) -> Command<'a>
     ensures { IsCommand result bare_app }
@@ -58,7 +60,8 @@ fn pfx_command<'a>(alloc: Global) -> Result<Command<'a>, AllocError>
         .subcommand(run_command(alloc)?)?
         .subcommand(status_command(alloc)?)?
         .subcommand(replay_command(alloc)?)?
-        .subcommand(show_command(alloc)?)
+        .subcommand(show_command(alloc)?)?
+        .subcommand(draw_command(alloc)?)
 }
 
 fn request_in<'a>(matches: &ArgMatches<'a>) -> Option<Request<'a>>
@@ -72,6 +75,7 @@ fn request_in<'a>(matches: &ArgMatches<'a>) -> Option<Request<'a>>
         "status" => status_request(inner),
         "replay" => replay_request(inner),
         "show" => show_request(inner),
+        "draw" => draw_request(inner),
         _ => None,
     }
 }

@@ -49,4 +49,13 @@ pub enum Request<'a> {
         /// The number of the task, 0 to 65,535, where one alone is asked for.
         task: Option<u32>,
     },
+    /// Draw the plan of some slots of a set.
+    Draw {
+        /// The path of the set file; `-` is standard input.
+        set: &'a str,
+        /// How many slots, 1 to 1,440.
+        slots: u32,
+        /// The ledger to begin with, as `T:A,A,..`; without one the plan begins at slot 0.
+        at: Option<&'a str>,
+    },
 }

@@ -8,4 +8,5 @@ returns c =
     let three = with_one_more _ _ _ _ _ two c.in_ok-run_command.ensures c.in_ok-subcommand-3.ensures in
     let four = with_one_more _ _ _ _ _ three c.in_ok-status_command.ensures c.in_ok-subcommand-4.ensures in
     let five = with_one_more _ _ _ _ _ four c.in_ok-replay_command.ensures c.in_ok-subcommand-5.ensures in
-    with_last _ _ _ _ _ five c.in_ok-show_command.ensures c.subcommand-6.ensures
+    let six = with_one_more _ _ _ _ _ five c.in_ok-show_command.ensures c.in_ok-subcommand-6.ensures in
+    with_last _ _ _ _ _ six c.in_ok-draw_command.ensures c.subcommand-7.ensures
