@@ -157,7 +157,7 @@ def main():
     hyper, everyone = filled(given["workers"], tasks)
     first, got = 0, [0] * len(everyone)
     if len(sys.argv) > 3:
-        at, allocs = sys.argv[3].split(":")
+        at, allocs = sys.argv[3].removeprefix("--at=").split(":")
         first, got = int(at), [int(a) for a in allocs.split(",")]
     now, rows = list(got), []
     for t in range(first, first + slots):

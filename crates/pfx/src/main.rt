@@ -9,12 +9,14 @@
 ghost use Rattle.std.specs.Prelude.{◌≡◌};
 ghost use Rattle.pfx_fault.specs.Refusals.{status_of};
 
+mod draw;
 mod files;
 mod plan;
 mod replay;
 mod run;
 mod store;
 
+use crate::draw::draw;
 use crate::files::taken_streams;
 use crate::plan::plan;
 use crate::replay::replay;
@@ -33,6 +35,10 @@ const USAGE: u8 = 2;
 
 /// The exit status of a replay that finds a difference.
 const DIFFERS: u8 = 6;
+
+/// What is said of a picture that would be too large.
+const TOO_LARGE: &str =
+    "more than 262144 slots over the lanes of all tasks; draw fewer, and further ones with --at";
 
 // Prints the fault's line. Where standard error fails too, the status still tells.
 fn failed(rt: &HostRuntime, fault: Fault) -> u8
@@ -83,6 +89,11 @@ fn done(rt: &HostRuntime, alloc: Global, words: &[&str]) -> u8 {
             Err(fault) => Err(fault),
         },
         Request::Show { file, task } => show(rt, alloc, file, task),
+        Request::Draw { set, slots, at } => match draw(rt, alloc, set, at, slots) {
+            Ok(true) => Ok(()),
+            Ok(false) => return refused(rt, TOO_LARGE),
+            Err(fault) => Err(fault),
+        },
     };
     match done {
         Ok(()) => 0,

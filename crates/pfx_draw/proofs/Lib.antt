@@ -1,3 +1,4 @@
 pub mod Bounds
 pub mod Courses
+pub mod Failures
 pub mod Pieces

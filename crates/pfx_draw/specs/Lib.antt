@@ -6,6 +6,7 @@ pub mod Lags
 pub mod Lane
 pub mod Line
 pub mod Phrases
+pub mod Run
 pub mod Sizes
 pub mod Start
 pub mod Text

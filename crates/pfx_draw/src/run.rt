@@ -1,0 +1,47 @@
+//! The picture that is made of a set file's bytes.
+
+ghost use Rattle.std.specs.Prelude.{◌≡◌, IfSome, IfOk, IfErr, option_map};
+ghost use Rattle.pfx_program.specs.Faults.{fault_of_choice};
+ghost use Rattle.pfx_draw.specs.Run.{Pictures, PictureFails};
+
+use crate::drawing::{DrawFault, draw};
+use crate::start::read_start;
+use pfx_choice::ChoiceFault;
+use pfx_fault::Fault;
+use std::alloc::Global;
+use std::io::Read;
+
+fn choice_fault(fault: ChoiceFault) -> Fault
+    ensures { result ≡ fault_of_choice fault }
+{
+    match fault {
+        ChoiceFault::SlotLimit => Fault::SlotLimit,
+        ChoiceFault::TooManyUrgent { urgent, m } => Fault::TooManyUrgent { urgent, m },
+        ChoiceFault::TooFewEligible { eligible, m } => Fault::TooFewEligible { eligible, m },
+        ChoiceFault::NoMemory => Fault::NoMemory,
+    }
+}
+
+/// The picture of the plan of `slots` slots of the set that the reader gives, from slot 0 or from the ledger on that `at`
+/// gives, as the text of an SVG; `None` where it would be too large, as `draw` says.
+///
+/// Faults come as from `read_start`, and then that of a slot without a row: `TooManyUrgent`, `TooFewEligible` or
+/// `SlotLimit`.
+pub fn run_draw<R: Read>(
+    alloc: Global,
+    input: &mut R,
+    at: Option<&str>,
+    name: &str,
+    slots: u64,
+) -> Result<Option<Vec<u8>>, Fault>
+    ensures ok { IfOk result (λ r. IfSome (R.remaining input.old) (λ bytes. Pictures bytes (option_map (λ s. s.now) at.entry) name.now slots (option_map (λ v. v.items) r))) }
+    ensures err { IfErr result (λ f. IfSome (R.remaining input.old) (λ bytes. PictureFails bytes (option_map (λ s. s.now) at.entry) slots f)) }
+{
+    let (file, ledger) = read_start(alloc, input, at)?;
+    match draw(alloc, name, file.tasks.as_slice(), ledger, slots) {
+        Ok(text) => Ok(Some(text)),
+        Err(DrawFault::TooLarge) => Ok(None),
+        Err(DrawFault::NoRow { cause, .. }) => Err(choice_fault(cause)),
+        Err(DrawFault::NoMemory) => Err(Fault::NoMemory),
+    }
+}
