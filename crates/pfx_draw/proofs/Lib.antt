@@ -1,4 +1,5 @@
 pub mod Bounds
 pub mod Courses
+pub mod Drawn
 pub mod Failures
 pub mod Pieces

@@ -4,6 +4,7 @@ pub mod Each
 pub mod Frame
 pub mod Lags
 pub mod Lane
+pub mod Laws
 pub mod Line
 pub mod Phrases
 pub mod Run

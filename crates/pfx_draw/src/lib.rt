@@ -5,6 +5,7 @@
 //! numbers alone. A lane a task: `bars` has the runs of slots in which it runs, `lags` what it is due less what it got, `line`
 //! the line of that, `lane` all of a lane; `frame` has what stands round the lanes, `sizes` where all of it stands, and
 //! `phrases` the words between the numbers. `start` reads a set and a ledger as `pfx plan` does, `run` draws what was read.
+//! `laws` says of the lags that are drawn that they are the ledgers' own.
 #![tactic(auto)]
 
 mod bars;
@@ -12,6 +13,7 @@ mod drawing;
 mod frame;
 mod lags;
 mod lane;
+pub mod laws;
 mod ledger;
 mod line;
 mod phrases;
