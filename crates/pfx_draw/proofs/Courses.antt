@@ -1,5 +1,5 @@
 -- A task of a ledger has a course of small numbers.
-use Rattle.std.proofs.Common.{ℕ, ◌<◌, ◌+◌, ◌^◌, arith}
+use Rattle.std.proofs.Common.{ℕ, ◌<◌, ◌+◌, arith}
 use Rattle.pfx_columns.specs.Ledgers.{Ledger, IsLedger, total, task}
 use Rattle.pfx_columns.proofs.Placing.{weight_of_task}
 use Rattle.pfx_columns.proofs.Shown.{alloc_within}

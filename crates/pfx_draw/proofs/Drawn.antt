@@ -1,6 +1,6 @@
 -- The lags that are drawn are the ledgers' own.
-use Rattle.std.proofs.Common.{◌≡◌, ◌<◌, ◌≤◌, ℕ, zero, suc, ◌+◌, ◌-◌, ◌*◌, Bool, true, false, List, [], ◌∷◌, length, get_or, take, map, refl, sym, ap, ap₂, ◌∙◌, add-one, arith}
-use Rattle.std.specs.Prelude.{◌==◌, ◌&&◌, nat_lt, count_by}
+use Rattle.std.proofs.Common.{◌≡◌, ◌<◌, ◌≤◌, ℕ, zero, suc, ◌+◌, ◌-◌, ◌*◌, Bool, true, false, List, [], ◌∷◌, length, get_or, take, refl, sym, ap, ap₂, ◌∙◌, add-one, arith}
+use Rattle.std.specs.Prelude.{◌==◌, ◌&&◌, nat_lt}
 use Rattle.std.proofs.lemmas.Bool.{lt-ltb}
 use Rattle.std.proofs.lemmas.List.{get_or-map, length-map, length-take-le}
 use Rattle.std.proofs.lemmas.List.Sums.{count_by_more_yes, count_by_more_no}
@@ -8,7 +8,7 @@ use Rattle.pfx_weights.specs.Rows.{is_in, one, Schedule}
 use Rattle.pfx_columns.specs.Ledgers.{Ledger, IsLedger, task, total}
 use Rattle.pfx_choice.specs.Plans.{past, times_in, allocs_past}
 use Rattle.pfx_draw.specs.Bars.{has}
-use Rattle.pfx_draw.specs.Drawing.{course_of, marks_of}
+use Rattle.pfx_draw.specs.Drawing.{marks_of}
 use Rattle.pfx_draw.specs.Lags.{runs_in}
 use Rattle.pfx_draw.specs.Laws.{DrawsLagOf}
 

@@ -1,5 +1,5 @@
 -- Pieces one after the other, and greatest numbers.
-use Rattle.std.proofs.Common.{◌≡◌, ℕ, zero, suc, ◌+◌, List, [], ◌++◌, refl, sym, ap, ◌∙◌, add-one, append_assoc, append-nil}
+use Rattle.std.proofs.Common.{◌≡◌, ℕ, ◌+◌, List, [], ◌++◌, refl, sym, ap, ◌∙◌, add-one, append_assoc, append-nil}
 use Rattle.std.specs.Prelude.{max, Bool}
 use Rattle.pfx_weights.specs.Rows.{count, one}
 use Rattle.pfx_draw.specs.Each.{each, most}

@@ -1,5 +1,5 @@
 -- Bars along a lane: the runs of slots that have a mark.
-use Rattle.std.specs.Prelude.{ℕ, ◌+◌, ◌-◌, ◌*◌, ◌≤◌, ◌==◌, nat_lt, nat_le, Bool, true, false, not, ◌&&◌, ◌||◌, if◌then◌else◌, List, [], ◌++◌, length, slice_index_or}
+use Rattle.std.specs.Prelude.{ℕ, ◌+◌, ◌-◌, ◌==◌, nat_lt, nat_le, Bool, false, not, ◌&&◌, ◌||◌, if◌then◌else◌, List, [], ◌++◌, length, slice_index_or}
 use Rattle.pfx_draw.specs.Each.{each}
 use Rattle.pfx_draw.specs.Sizes.{x_at}
 use Rattle.pfx_draw.specs.Text.{move_to, across_to}

@@ -1,11 +1,10 @@
 -- The picture of a plan: of a set with names, from a ledger on, by the rows of its slots.
-use Rattle.std.specs.Prelude.{◌≡◌, ◌≢◌, ◌≤◌, ◌<◌, ◌*◌, ◌^◌, ◌⊎◌, ⊤, ℕ, List, ◌++◌, length, map, min}
+use Rattle.std.specs.Prelude.{◌≡◌, ◌<◌, ◌*◌, ◌^◌, ◌⊎◌, ⊤, ℕ, List, ◌++◌, length, map, min}
 use Rattle.std.specs.Fmt.{decimal}
 use Rattle.pfx_weights.specs.Rows.{is_in, one, Schedule}
 use Rattle.pfx_columns.specs.Ledgers.{Ledger, total, task}
 use Rattle.pfx_choice.specs.Plans.{IsPlan}
 use Rattle.pfx_choice.specs.Dooms.{IsDoomed}
-use Rattle.pfx_choice.specs.declared.faults.ChoiceFault.{ChoiceFault}
 use Rattle.pfx_set_text.specs.SetFile.{FileTask}
 use Rattle.pfx_program.specs.Lines.{name_of}
 use Rattle.pfx_draw.specs.Each.{each, most}

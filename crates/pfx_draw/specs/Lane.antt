@@ -1,5 +1,5 @@
 -- A task's lane: a group with a title, bars where it runs, and its lag.
-use Rattle.std.specs.Prelude.{ℕ, ◌+◌, ◌-◌, ◌*◌, ◌/◌, ◌%◌, ◌==◌, nat_lt, nat_le, if◌then◌else◌, List, [], ◌∷◌, ◌++◌, length}
+use Rattle.std.specs.Prelude.{ℕ, ◌+◌, ◌-◌, ◌/◌, ◌%◌, ◌==◌, nat_lt, nat_le, if◌then◌else◌, List, [], ◌++◌, length}
 use Rattle.std.specs.Fmt.{decimal}
 use Rattle.pfx_draw.specs.Bars.{bars_path, run_track, cell_track}
 use Rattle.pfx_draw.specs.Lags.{lag_text, levels, runs_in, summed}

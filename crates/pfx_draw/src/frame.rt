@@ -97,12 +97,7 @@ fn put_spoken(text: &mut Vec<u8>, words: &[u8]) -> Result<(), AllocError>
     put_phrase(text, Phrase::DescEnd)
 }
 
-fn put_heading(
-    alloc: Global,
-    text: &mut Vec<u8>,
-    s: Sizes,
-    words: &[u8],
-) -> Result<(), AllocError>
+fn put_heading(alloc: Global, text: &mut Vec<u8>, s: Sizes, words: &[u8]) -> Result<(), AllocError>
     requires { IsDrawable s }
     ensures { OnOk result (text.new.items ≡ text.old.items ++ heading s words.now) }
 {

@@ -175,12 +175,7 @@ fn put_lag_line(text: &mut Vec<u8>, s: Sizes, path: &[u8]) -> Result<(), AllocEr
     }
 }
 
-fn put_name_label(
-    alloc: Global,
-    text: &mut Vec<u8>,
-    y: u64,
-    name: &[u8],
-) -> Result<(), AllocError>
+fn put_name_label(alloc: Global, text: &mut Vec<u8>, y: u64, name: &[u8]) -> Result<(), AllocError>
     ensures { OnOk result (text.new.items ≡ text.old.items ++ name_label y name.now) }
 {
     put_phrase_number(alloc, text, Phrase::NameY, y)?;
@@ -333,12 +328,7 @@ fn put_all_cells(
     put_cells(alloc, text, s, y, marks, 6)
 }
 
-fn put_small_name(
-    alloc: Global,
-    text: &mut Vec<u8>,
-    y: u64,
-    name: &[u8],
-) -> Result<(), AllocError>
+fn put_small_name(alloc: Global, text: &mut Vec<u8>, y: u64, name: &[u8]) -> Result<(), AllocError>
     ensures { OnOk result (text.new.items ≡ text.old.items ++ small_name y name.now) }
 {
     put_phrase_number(alloc, text, Phrase::NameY, y)?;

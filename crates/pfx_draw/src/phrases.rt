@@ -106,16 +106,20 @@ fn words_of(phrase: Phrase) -> &'static str
         Phrase::On => " on ",
         Phrase::Slots => ", slots ",
         Phrase::To => " to ",
-        Phrase::Desc => "</title>\n<desc id='d'>A lane for each task: a bar in each slot in which it runs, ",
-        Phrase::DescEnd => "and the lag behind each slot, what it is due less what it got.</desc>\n",
+        Phrase::Desc =>
+            "</title>\n<desc id='d'>A lane for each task: a bar in each slot in which it runs, ",
+        Phrase::DescEnd =>
+            "and the lag behind each slot, what it is due less what it got.</desc>\n",
         Phrase::GroundWidth => "<rect width='",
-        Phrase::GroundEnd => "' fill='#FFFFFF'/>\n<text x='12' y='22' font-size='14' font-weight='bold'>",
+        Phrase::GroundEnd =>
+            "' fill='#FFFFFF'/>\n<text x='12' y='22' font-size='14' font-weight='bold'>",
         Phrase::TextEnd => "</text>\n",
         Phrase::KeyBegin => "<text x='12' y='40' font-size='11' fill='#555555'>",
         Phrase::LineKey => {
             "bar: runs in that slot; line: lag, due less got; dots: one slot behind (above), one ahead (below)</text>\n"
         }
-        Phrase::LevelKey => "dark: runs in that slot; ground: by 3/4, 1/2, 1/4 of a slot behind</text>\n",
+        Phrase::LevelKey =>
+            "dark: runs in that slot; ground: by 3/4, 1/2, 1/4 of a slot behind</text>\n",
         Phrase::KeyBehind => {
             "<path d='M480 36h20' stroke='#4A94C9' stroke-width='12'/><path d='M500 36h20' stroke='#8FBFE0' stroke-width='12'/>"
         }

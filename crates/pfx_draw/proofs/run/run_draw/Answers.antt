@@ -1,4 +1,4 @@
-use Rattle.std.proofs.Common.{rules, ◌≡◌, ℕ, List, Err, map, option_map, subst}
+use Rattle.std.proofs.Common.{rules, ◌≡◌, List, Err, map, option_map, subst}
 use Rattle.pfx_set_text.specs.Views.{task_view, set_view}
 use Rattle.pfx_set_text.specs.declared.set.NamedTask.{NamedTask}
 use Rattle.pfx_program.proofs.PlanLemmas.{if_some}
