@@ -28,6 +28,8 @@ use pfx_fault::{Fault, put_fault};
 use pfx_words::{Request, read_words};
 use std::alloc::Global;
 use std::process::ExitCode;
+use std::sync::Wait;
+use std::thread::Threads;
 use std::{env, io};
 
 /// The exit status of words that the program doesn't take.
@@ -67,7 +69,12 @@ fn answered(rt: &HostRuntime, error: &Error) -> u8 {
     error.exit_code() as u8
 }
 
-fn done(rt: &HostRuntime, alloc: Global, words: &[&str]) -> u8 {
+fn done<R: Threads + Wait + Copy + Drop + Send + Sync + 'static>(
+    rt: &HostRuntime,
+    threads: R,
+    alloc: Global,
+    words: &[&str],
+) -> u8 {
     let request = match read_words(alloc, words) {
         Ok(Some(request)) => request,
         Ok(None) => return refused(rt, "the words ask for nothing"),
@@ -81,7 +88,7 @@ fn done(rt: &HostRuntime, alloc: Global, words: &[&str]) -> u8 {
             script,
             workers,
             batch,
-        } => run(rt, alloc, file, script, workers, batch),
+        } => run(rt, threads, alloc, file, script, workers, batch),
         Request::Status { file } => status(rt, alloc, file),
         Request::Replay { file } => match replay(rt, alloc, file) {
             Ok(true) => Ok(()),
@@ -123,5 +130,5 @@ fn main(rt: HostRuntime) -> ExitCode {
             return ExitCode::from(failed(&rt, Fault::NoMemory));
         }
     }
-    ExitCode::from(done(&rt, alloc, words.as_slice()))
+    ExitCode::from(done(&rt, rt, alloc, words.as_slice()))
 }

@@ -19,6 +19,8 @@ use pfx_kinds::any::AnyJob;
 use pfx_script::Script;
 use std::alloc::Global;
 use std::io;
+use std::sync::Wait;
+use std::thread::Threads;
 
 // Runs a script on a store by one thread.
 fn run_alone(
@@ -35,8 +37,9 @@ fn run_alone(
 }
 
 // Runs a script on a store by so many workers.
-fn run_by(
+fn run_by<R: Threads + Wait + Copy + Drop + Send + Sync + 'static>(
     rt: &HostRuntime,
+    threads: R,
     alloc: Global,
     store: Store<FileDisk, AnyJob>,
     workers: u32,
@@ -51,7 +54,7 @@ fn run_by(
     };
     let mut output = io::writer(rt);
     run_served(
-        *rt,
+        threads,
         alloc,
         store,
         desk,
@@ -63,10 +66,11 @@ fn run_by(
     .result
 }
 
-/// Runs a script on the store of a file by so many workers, as many as its set has where none are said, or for 0 by one thread. Up to `window` slots of a record are kept at once; where that isn't said, it is 1, or 64 with workers. Lines are
-/// printed as they come.
-pub(crate) fn run(
+/// Runs a script on the store of a file by so many workers, as many as its set has where none are said, or for 0 by one thread. Up
+/// to `window` slots of a record are kept at once; where that isn't said, it is 1, or 64 with workers. Lines are printed as they come.
+pub(crate) fn run<R: Threads + Wait + Copy + Drop + Send + Sync + 'static>(
     rt: &HostRuntime,
+    threads: R,
     alloc: Global,
     file: &str,
     script: &str,
@@ -80,6 +84,6 @@ pub(crate) fn run(
         run_alone(rt, alloc, store, &mut script, window.unwrap_or(1).max(1))
     } else {
         let window = window.unwrap_or(WINDOW).max(1);
-        run_by(rt, alloc, store, workers, &mut script, window)
+        run_by(rt, threads, alloc, store, workers, &mut script, window)
     }
 }

@@ -196,11 +196,11 @@ fn says_which_subcommands_there_are(rt: HostRuntime) {
     let rows = [
         (
             ["pfx"].as_slice(),
-            "[subcommands: plan, init, run, status, replay, show, help]",
+            "[subcommands: plan, init, run, status, replay, show, draw, help]",
         ),
         (
             [].as_slice(),
-            "[subcommands: plan, init, run, status, replay, show, help]",
+            "[subcommands: plan, init, run, status, replay, show, draw, help]",
         ),
         (
             ["pfx", "paln", "a.toml", "4"].as_slice(),
