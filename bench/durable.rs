@@ -2,7 +2,7 @@
 use std::fs::OpenOptions;
 use std::io::{BufRead, BufReader, Write};
 use std::os::unix::fs::FileExt;
-use std::path::Path;
+use std::path::{Path, PathBuf};
 use std::process::{Command, Stdio};
 use std::time::Instant;
 
@@ -40,16 +40,21 @@ fn bare(room: &Path) -> Vec<u128> {
         .collect()
 }
 
-// The program over a new store: the time from one command's line to the next one's, and the store's length.
-fn run(pfx: &str, set: &Path, room: &Path, count: usize) -> (Vec<u128>, u64) {
-    let store = room.join("store");
-    let script = room.join("script.csv");
+// A new store, and a script of so many slots.
+fn new_store(pfx: &str, set: &Path, room: &Path, count: usize) -> (PathBuf, PathBuf) {
+    let (store, script) = (room.join("store"), room.join("script.csv"));
     let _ = std::fs::remove_file(&store);
     std::fs::write(&script, format!("slot,,,{count},\n")).unwrap();
     let made = Command::new(pfx).arg("init").arg(set).arg(&store).stdout(Stdio::null()).status().unwrap();
     assert!(made.success());
+    (store, script)
+}
+
+// The program over a new store: the time from one command's line to the next one's, and the store's length.
+fn run(pfx: &str, set: &Path, room: &Path, count: usize) -> (Vec<u128>, u64) {
+    let (store, script) = new_store(pfx, set, room, count);
     let length = std::fs::metadata(&store).unwrap().len();
-    let mut child = Command::new(pfx).arg("run").arg(&store).arg(&script).stdout(Stdio::piped()).spawn().unwrap();
+    let mut child = Command::new(pfx).arg("run").arg(&store).arg(&script).args(["--workers", "0"]).stdout(Stdio::piped()).spawn().unwrap();
     let mut lines = BufReader::new(child.stdout.take().unwrap()).lines();
     let mut micros = Vec::new();
     let mut last: Option<Instant> = None;
@@ -82,14 +87,9 @@ fn endless(pfx: &str, set: &str, room: &Path, segment: u32) -> f64 {
 
 // The program over a new store with so many slots kept at once: how many slots a second, and what it prints.
 fn batched(pfx: &str, set: &Path, room: &Path, count: usize, batch: usize) -> (f64, Vec<u8>) {
-    let store = room.join("store");
-    let script = room.join("script.csv");
-    let _ = std::fs::remove_file(&store);
-    std::fs::write(&script, format!("slot,,,{count},\n")).unwrap();
-    let made = Command::new(pfx).arg("init").arg(set).arg(&store).stdout(Stdio::null()).status().unwrap();
-    assert!(made.success());
+    let (store, script) = new_store(pfx, set, room, count);
     let start = Instant::now();
-    let done = Command::new(pfx).arg("run").arg(&store).arg(&script).args(["--batch", &batch.to_string()]).output().unwrap();
+    let done = Command::new(pfx).arg("run").arg(&store).arg(&script).args(["--workers", "0", "--batch", &batch.to_string()]).output().unwrap();
     let seconds = start.elapsed().as_secs_f64();
     assert!(done.status.success());
     (count as f64 / seconds, done.stdout)
