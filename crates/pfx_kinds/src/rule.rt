@@ -38,13 +38,19 @@ fn cell(cells: &[u8; CELL_BYTES], i: usize) -> u8
     cells[i / 8] >> (7 - i % 8) & 1
 }
 
-/// Whether all cells past the width are 0.
+/// Whether all cells past the width are 0: those in the byte where it ends, and the bytes behind.
 fn is_clear_past(width: u16, cells: &[u8; CELL_BYTES]) -> bool
     requires { width ≤ 512 }
     ensures { result ≡ is_clear_past width cells.now }
 {
-    'cells: for i in width as usize..512 {
+    let whole = (width as usize + 7) / 8;
+    'cells: for i in width as usize..8 * whole {
         if cell(cells, i) != 0 {
+            return false;
+        }
+    }
+    'bytes: for j in whole..CELL_BYTES {
+        if cells[j] != 0 {
             return false;
         }
     }
