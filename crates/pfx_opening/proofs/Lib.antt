@@ -3,3 +3,4 @@ pub mod Numbers
 pub mod Giving
 pub mod Walking
 pub mod Stages
+pub mod InMemory

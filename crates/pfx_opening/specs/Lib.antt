@@ -6,3 +6,4 @@ pub mod Looking
 pub mod Walking
 pub mod ToyCodec
 pub mod ToyLaws
+pub mod InMemory

@@ -105,7 +105,7 @@ fn a_new_file_has_no_frame(rt: HostRuntime) {
     check(&rt, stand_open(&opened.file, false, false), "other gates");
     check(&rt, opened.middle.is_none(), "middle");
     check(&rt, !opened.file.broken, "broken");
-    check(&rt, opened.file.disk.clock() == 9, "calls");
+    check(&rt, opened.file.disk.clock() == 4, "calls");
 }
 
 // Behind a closed gate no frame is read.
@@ -156,7 +156,7 @@ fn two_segments_are_read(rt: HostRuntime) {
     check(&rt, is_in(&opened.file, false, true, true), "in use");
     check(&rt, ends_at(&opened.file, 87, LEN), "gate and end");
     check(&rt, stand_open(&opened.file, false, true), "other gates");
-    check(&rt, opened.file.disk.clock() == 19, "calls");
+    check(&rt, opened.file.disk.clock() == 4, "calls");
     check(&rt, has_middle(&opened), "middle");
 }
 
@@ -277,7 +277,7 @@ fn opens_at_18(alloc: Global, disk: FaultDisk<MemoryDisk>) -> bool {
 #[test]
 fn a_failed_call_gives_the_disk_back(rt: HostRuntime) {
     let alloc = rt.alloc();
-    for k in 0..19 {
+    for k in 0..4 {
         check_at(&rt, is_given_back(alloc, k), "call", k as usize);
     }
 }
