@@ -12,7 +12,6 @@ use Rattle.pfx_book.specs.Register.{Register}
 use Rattle.pfx_book.specs.declared.note.Note.{Note}
 use Rattle.pfx_book.specs.declared.note.Note.TheVariants.{Receipt}
 use Rattle.pfx_disk.specs.Disk.{View, IsHonest}
-use Rattle.pfx_engine.specs.Running.{IsKeptAsPrinted}
 use Rattle.pfx_engine.specs.Surviving as engine
 use Rattle.pfx_engine.proofs.Keeps.{survives_more}
 use Rattle.pfx_fault.specs.declared.refusals.Fault.{Fault}
@@ -28,7 +27,7 @@ use Rattle.pfx_machine.specs.Outcome.{outcome}
 use Rattle.pfx_machine.specs.Plain.{Plain}
 use Rattle.pfx_machine.specs.declared.command.Command.{Command}
 use Rattle.pfx_program.proofs.StepLemmas.{commands_append}
-use Rattle.pfx_program.specs.Running.{Carried, Ends, Halts, Runs, Stopped}
+use Rattle.pfx_program.specs.Running.{Carried, Ends, Halts, Runs, Stopped, first_text}
 use Rattle.pfx_program.specs.Script.{Step, at_start, course_from, text_of}
 use Rattle.pfx_program.specs.Script as script
 use Rattle.pfx_recovery.specs.Recovery.{recovered}
@@ -37,7 +36,7 @@ use Rattle.pfx_front_engine.proofs.Notes.{commands_are, tagged}
 use Rattle.pfx_front_engine.proofs.Promising.{promise}
 use Rattle.pfx_front_engine.specs.Asking.{IsFrontFault}
 use Rattle.pfx_front_engine.specs.Keeping.{HasReceipt, KeepsBy}
-use Rattle.pfx_front_engine.specs.Running.{IsServedRun, PrintsAll}
+use Rattle.pfx_front_engine.specs.Running.{EndsBehind, IsServedRun}
 
 -- one pass in any order is that pass
 pub one_pass : {P : Type 0} (p : P) (ps : List P) → IsPermutation (p ∷ []) ps → ps ≡ p ∷ []
@@ -80,6 +79,12 @@ session_alone K B r n notes h =
     first [] = []
     first (x ∷ xs) = x
 
+-- what is a beginning of the first of some steps' text is one of the first of more
+begun : (tried rest : List Step) (front back : List ℕ) → first_text tried ≡ front ++ back → (more : List ℕ) × (first_text (tried ++ rest) ≡ front ++ more)
+begun [] rest [] back h = (first_text rest, refl)
+begun [] rest (c ∷ front) back h = cc
+begun (x ∷ tried) rest front back h = (back, h)
+
 module _ (B : Plain AnyJob) (r : Register AnyJob) (disk : View) (began : ℕ) (b : List (Note AnyJob)) (session : r.history ≡ alone b) (accepted : r.session.accepted ≡ commands_of r.history) where
   as_engine : (H : List (Command AnyJob)) (n m : ℕ) (image : List ℕ) → r.session.accepted ≡ H → B.number + n ≤ m → Survives any_kind B r.session.accepted m image → engine.Survives B H n image
   as_engine H n m image are le v =
@@ -114,64 +119,67 @@ module _ (B : Plain AnyJob) (r : Register AnyJob) (disk : View) (began : ℕ) (b
           as_engine H n h.number image are (omega (arith, high, long)) (one.images image (honest.counted h.clock image one.past here))
 
   module _ {E : Type 0} (notes : E → List (Note AnyJob)) where
-    -- what was printed at a halt
-    part_of : (reading : Type 0) (s : Plain AnyJob) (text : List ℕ) (tried : List Step) (t : Plain AnyJob) (was is : Option (List ℕ)) (f : Fault) → Halts reading (λ t g. IsFrontFault g) s text tried t was is f
-        → (part : List ℕ) × Appends was is (text ++ part)
-    part_of reading s text tried t was is fault.OutputFailed h = (h.1, h.4)
-    part_of reading s text tried t was is fault.InputFailed h = ([], subst (Appends was is) (sym (append-nil text)) h.2)
-    part_of reading s text tried t was is fault.NoMemory h = ([], subst (Appends was is) (sym (append-nil text)) h.1)
-    part_of reading s text tried t was is (fault.BadScript at) h = absurd h
-    part_of reading s text tried t was is other h = ([], subst (Appends was is) (sym (append-nil text)) h.2)
-
-    module _ (x y : E) (none : notes x ≡ []) (end : notes y ≡ b) (held : IsHonest disk → IsHeld any_kind B began r disk) (lines : Records) (records : List Fields) (was is : Option (List ℕ)) where
+    module _ (x y : E) (none : notes x ≡ []) (end : notes y ≡ b) (held : IsHonest disk → IsHeld any_kind B began r disk) (lines : Records) (records : List Fields) (failed : Bool) (was is : Option (List ℕ)) where
       mine : (H : List (Command AnyJob)) (n : ℕ) → KeepsBy B.number (notes x) H n (notes y) → IsHonest disk → (image : List ℕ) → disk.now image → engine.Survives B H n image
       mine H n kept honest image here = survives (notes x) H n none (subst (KeepsBy B.number (notes x) H n) end kept) honest (held honest) image here
 
-      carried_kept : Carried (promise notes B) (course_from (lines.place + 1) (at_start B) records).steps x y was is → IsHonest disk → IsKeptAsPrinted B lines records was is disk
-      carried_kept h honest =
+      carried_kept : Carried (promise notes B) (course_from (lines.place + 1) (at_start B) records).steps x y was is → IsHonest disk → (image : List ℕ) → disk.now image
+          → engine.Survives B (script.commands_of ((course_from (lines.place + 1) (at_start B) records).steps ++ [])) (length (script.commands_of (course_from (lines.place + 1) (at_start B) records).steps)) image
+      carried_kept h honest image here =
           let steps : List Step = (course_from (lines.place + 1) (at_start B) records).steps in
-          let all : steps ≡ steps ++ [] = sym (append-nil steps) in
-          record {
-            printed = steps;
-            rest = [];
-            course = all;
-            part = [];
-            text = subst (Appends was is) (sym (append-nil (text_of steps))) h.text;
-            survive = λ image here. subst (λ (l : List Step). engine.Survives B (script.commands_of l) (length (script.commands_of steps)) image) all
-                (mine (script.commands_of steps) (length (script.commands_of steps)) h.keeps honest image here);
-          }
+          subst (λ (l : List Step). engine.Survives B (script.commands_of l) (length (script.commands_of steps)) image) (sym (append-nil steps))
+          (mine (script.commands_of steps) (length (script.commands_of steps)) h.keeps honest image here)
 
-      stopped_kept : (most : ℕ) (reading : Type 0) (f : Fault) → Stopped (promise notes B) most reading (course_from (lines.place + 1) (at_start B) records).steps x y was is f → IsHonest disk → IsKeptAsPrinted B lines records was is disk
-      stopped_kept most reading f h honest =
-          let part = part_of reading _ (text_of h.printed) h.tried _ was is f h.why in
+      -- a run that went through its whole course
+      whole : (result : Result (Unit {0}) Fault) → EndsBehind (course_from (lines.place + 1) (at_start B) records).steps [] (course_from (lines.place + 1) (at_start B) records).ends_at failed was is result
+          → IfSome lines.left (λ all. all ≡ records) → Carried (promise notes B) (course_from (lines.place + 1) (at_start B) records).steps x y was is → IsServedRun B lines failed was is disk result
+      whole result ends known h = record {
+        records = records;
+        known = known;
+        printed = (course_from (lines.place + 1) (at_start B) records).steps;
+        rest = [];
+        course = sym (append-nil (course_from (lines.place + 1) (at_start B) records).steps);
+        ends = ends;
+        kept = carried_kept h;
+      }
+
+      stopped : (most : ℕ) (f : Fault) → IfSome lines.left (λ all. all ≡ records) → Stopped (promise notes B) most (failed ≡ true) (course_from (lines.place + 1) (at_start B) records).steps x y was is f
+          → ((printed tried rest : List Step) (s t : Plain AnyJob) → Halts (failed ≡ true) (λ u g. IsFrontFault g) s (text_of printed) tried t was is f
+            → EndsBehind printed (tried ++ rest) (course_from (lines.place + 1) (at_start B) records).ends_at failed was is (Err f))
+          → IsServedRun B lines failed was is disk (Err f)
+      stopped most f known h ends =
           let split : (script.commands_of h.printed ++ script.commands_of h.tried) ++ script.commands_of h.rest ≡ script.commands_of (h.printed ++ (h.tried ++ h.rest)) =
           append_assoc (script.commands_of h.printed) (script.commands_of h.tried) (script.commands_of h.rest)
           ∙ ap (λ (l : List (Command AnyJob)). script.commands_of h.printed ++ l) (sym (commands_append h.tried h.rest)) ∙ sym (commands_append h.printed (h.tried ++ h.rest)) in
           record {
+            records = records;
+            known = known;
             printed = h.printed;
             rest = h.tried ++ h.rest;
             course = h.split;
-            part = part.0;
-            text = part.1;
-            survive = λ image here. subst (λ (l : List (Command AnyJob)). engine.Survives B l (length (script.commands_of h.printed)) image) split
+            ends = ends h.printed h.tried h.rest _ _ h.why;
+            kept = λ honest image here. subst (λ (l : List (Command AnyJob)). engine.Survives B l (length (script.commands_of h.printed)) image) split
                 (survives_more B (script.commands_of h.printed ++ script.commands_of h.tried) (script.commands_of h.rest) (length (script.commands_of h.printed)) image
                 (mine (script.commands_of h.printed ++ script.commands_of h.tried) (length (script.commands_of h.printed)) h.keeps honest image here));
           }
 
-      by_end : (most : ℕ) (reading : Type 0) (result : Result (Unit {0}) Fault) → Ends (promise notes B) most reading (course_from (lines.place + 1) (at_start B) records) x y was is result
-          → PrintsAll (course_from (lines.place + 1) (at_start B) records) was is result × (IsHonest disk → IsKeptAsPrinted B lines records was is disk)
-      by_end most reading (Ok u) h = ((h.0, h.1.text), carried_kept h.1)
-      by_end most reading (Err (fault.BadScript at)) h = ((h.0, h.1.text), carried_kept h.1)
-      by_end most reading (Err other) h = (tt, stopped_kept most reading other h)
+      by_end : (most : ℕ) (result : Result (Unit {0}) Fault) → IfSome lines.left (λ all. all ≡ records) → Ends (promise notes B) most (failed ≡ true) (course_from (lines.place + 1) (at_start B) records) x y was is result
+          → IsServedRun B lines failed was is disk result
+      by_end most (Ok u) known h = whole (Ok u) (h.0, refl, h.1.text) known h.1
+      by_end most (Err (fault.BadScript at)) known h = whole (Err (fault.BadScript at)) (h.0, refl, h.1.text) known h.1
+      by_end most (Err fault.OutputFailed) known h = stopped most fault.OutputFailed known h (λ printed tried rest s t why. (why.1, (begun tried rest why.1 why.2 why.3).0, (begun tried rest why.1 why.2 why.3).1, why.4))
+      by_end most (Err fault.InputFailed) known h = stopped most fault.InputFailed known h (λ printed tried rest s t why. (why.0, why.2))
+      by_end most (Err fault.NoMemory) known h = stopped most fault.NoMemory known h (λ printed tried rest s t why. (tt, why.1))
+      by_end most (Err fault.NoThread) known h = stopped most fault.NoThread known h (λ printed tried rest s t why. absurd why.0)
+      by_end most (Err other) known h = stopped most other known h (λ printed tried rest s t why. (why.0, why.2))
 
     -- a run, and the end of its front
     pub served : (most : ℕ) (x y : E) → notes x ≡ [] → notes y ≡ b → (IsHonest disk → IsHeld any_kind B began r disk) → (lines : Records) (failed : Bool) (was is : Option (List ℕ)) (result : Result (Unit {0}) Fault)
-        → Runs (promise notes B) most lines failed x y was is result → IsServedRun B lines was is disk result
+        → Runs (promise notes B) most lines failed x y was is result → IsServedRun B lines failed was is disk result
     served most x y none end held lines failed was is result h =
         let at : state_of any_kind B (notes x) ≡ B = ap (state_of any_kind B) none ∙ outcome-none any_kind B in
         let ends = subst (λ (s : Plain AnyJob). Ends (promise notes B) most (failed ≡ true) (course_from (lines.place + 1) (at_start s) h.records) x y was is result) at h.ends in
-        let e = by_end x y none end held lines h.records was is most (failed ≡ true) result ends in
-        record { records = h.records; known = h.known; prints = e.0; kept = e.1 }
+        by_end x y none end held lines h.records failed was is most result h.known ends
 
 nothing_more : (was : Option (List ℕ)) → Appends was was []
 nothing_more None = tt
@@ -182,30 +190,29 @@ known_rest None = ([], tt)
 known_rest (Some all) = (all, refl)
 
 -- a run whose front didn't start
-pub unserved : (B : Plain AnyJob) (disk : View) (lines : Records) (was : Option (List ℕ)) (f : Fault) → (f ≡ fault.NoThread) ⊎ (f ≡ fault.NoMemory)
-    → (IsHonest disk → (image : List ℕ) → disk.since disk.clock image → recovered (format any_kind) image ≡ Ok B) → IsServedRun B lines was was disk (Err f)
-unserved B disk lines was f why images = record {
+pub unserved : (B : Plain AnyJob) (disk : View) (lines : Records) (failed : Bool) (was : Option (List ℕ)) (f : Fault) → (f ≡ fault.NoThread) ⊎ (f ≡ fault.NoMemory)
+    → (IsHonest disk → (image : List ℕ) → disk.since disk.clock image → recovered (format any_kind) image ≡ Ok B) → IsServedRun B lines failed was was disk (Err f)
+unserved B disk lines failed was f why images = record {
   records = rest.0;
   known = rest.1;
-  prints = by why;
-  kept = λ honest. record {
-    printed = [];
-    rest = (course_from (lines.place + 1) (at_start B) rest.0).steps;
-    course = refl;
-    part = [];
-    text = nothing_more was;
-    survive = λ image here. record {
-      count = 0;
-      at_least = omega arith;
-      at_most = omega arith;
-      recovered = images honest image (honest.counted disk.clock image (omega arith) here) ∙ ap Ok (sym (outcome-none any_kind B));
-    };
+  printed = [];
+  rest = (course_from (lines.place + 1) (at_start B) rest.0).steps;
+  course = refl;
+  ends = by why;
+  kept = λ honest image here. record {
+    count = 0;
+    at_least = omega arith;
+    at_most = omega arith;
+    recovered = images honest image (honest.counted disk.clock image (omega arith) here) ∙ ap Ok (sym (outcome-none any_kind B));
   };
 }
   where
     rest : (records : List Fields) × IfSome lines.left (λ all. all ≡ records)
     rest = known_rest lines.left
 
-    by : (f ≡ fault.NoThread) ⊎ (f ≡ fault.NoMemory) → PrintsAll (course_from (lines.place + 1) (at_start B) rest.0) was was (Err f)
-    by (inl is) = subst (λ (g : Fault). PrintsAll (course_from (lines.place + 1) (at_start B) rest.0) was was (Err g)) (sym is) tt
-    by (inr is) = subst (λ (g : Fault). PrintsAll (course_from (lines.place + 1) (at_start B) rest.0) was was (Err g)) (sym is) tt
+    Ends_so : Fault → Type 0
+    Ends_so g = EndsBehind [] (course_from (lines.place + 1) (at_start B) rest.0).steps (course_from (lines.place + 1) (at_start B) rest.0).ends_at failed was was (Err g)
+
+    by : (f ≡ fault.NoThread) ⊎ (f ≡ fault.NoMemory) → Ends_so f
+    by (inl is) = subst Ends_so (sym is) (refl, nothing_more was)
+    by (inr is) = subst Ends_so (sym is) (tt, nothing_more was)
