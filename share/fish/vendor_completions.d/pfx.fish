@@ -42,14 +42,14 @@ complete -c pfx -n '__fish_seen_subcommand_from run' -l workers -x -d 'How many 
 complete -c pfx -n '__fish_seen_subcommand_from run' -l batch -x -d 'How many slots of a record are kept at once, 1 to 16'
 complete -c pfx -n '__fish_seen_subcommand_from draw' -l at -x -d 'Begin with a ledger, T:A,A,..'
 
-complete -c pfx -n '__pfx_at plan 1' -a '(__fish_complete_suffix .toml)'
-complete -c pfx -n '__pfx_at init 1' -a '(__fish_complete_suffix .toml)'
+complete -c pfx -k -n '__pfx_at plan 1' -a '(__fish_complete_suffix .toml)'
+complete -c pfx -k -n '__pfx_at init 1' -a '(__fish_complete_suffix .toml)'
 complete -c pfx -n '__pfx_at init 2' -F
 complete -c pfx -n '__pfx_at run 1' -F
-complete -c pfx -n '__pfx_at run 2' -a '(__fish_complete_suffix .csv)'
+complete -c pfx -k -n '__pfx_at run 2' -a '(__fish_complete_suffix .csv)'
 complete -c pfx -n '__pfx_at status 1' -F
 complete -c pfx -n '__pfx_at replay 1' -F
 complete -c pfx -n '__pfx_at show 1' -F
-complete -c pfx -n '__pfx_at draw 1' -a '(__fish_complete_suffix .toml)'
-complete -c pfx -n '__pfx_at check 1' -a '(__fish_complete_suffix .toml)'
+complete -c pfx -k -n '__pfx_at draw 1' -a '(__fish_complete_suffix .toml)'
+complete -c pfx -k -n '__pfx_at check 1' -a '(__fish_complete_suffix .toml)'
 complete -c pfx -n '__pfx_at help 1' -a 'plan init run status replay show draw check help'
