@@ -9,6 +9,7 @@
 ghost use Rattle.std.specs.Prelude.{◌≡◌};
 ghost use Rattle.pfx_fault.specs.Refusals.{status_of};
 
+mod check;
 mod draw;
 mod files;
 mod plan;
@@ -16,6 +17,7 @@ mod replay;
 mod run;
 mod store;
 
+use crate::check::{check, refused_by_all};
 use crate::draw::draw;
 use crate::files::taken_streams;
 use crate::plan::plan;
@@ -100,6 +102,10 @@ fn done<R: Threads + Wait + Copy + Drop + Send + Sync + 'static>(
             Ok(true) => Ok(()),
             Ok(false) => return refused(rt, TOO_LARGE),
             Err(fault) => Err(fault),
+        },
+        Request::Check { set } => match check(rt, alloc, set) {
+            Ok(()) => Ok(()),
+            Err(refusal) => return refused_by_all(rt, &refusal),
         },
     };
     match done {

@@ -14,7 +14,6 @@ mod frame;
 mod lags;
 mod lane;
 pub mod laws;
-mod ledger;
 mod line;
 mod phrases;
 mod run;

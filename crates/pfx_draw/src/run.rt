@@ -1,26 +1,14 @@
 //! The picture that is made of a set file's bytes.
 
-ghost use Rattle.std.specs.Prelude.{◌≡◌, IfSome, IfOk, IfErr, option_map};
-ghost use Rattle.pfx_program.specs.Faults.{fault_of_choice};
+ghost use Rattle.std.specs.Prelude.{IfSome, IfOk, IfErr, option_map};
 ghost use Rattle.pfx_draw.specs.Run.{Pictures, PictureFails};
 
 use crate::drawing::{DrawFault, draw};
 use crate::start::read_start;
-use pfx_choice::ChoiceFault;
 use pfx_fault::Fault;
+use pfx_program::choice_fault;
 use std::alloc::Global;
 use std::io::Read;
-
-fn choice_fault(fault: ChoiceFault) -> Fault
-    ensures { result ≡ fault_of_choice fault }
-{
-    match fault {
-        ChoiceFault::SlotLimit => Fault::SlotLimit,
-        ChoiceFault::TooManyUrgent { urgent, m } => Fault::TooManyUrgent { urgent, m },
-        ChoiceFault::TooFewEligible { eligible, m } => Fault::TooFewEligible { eligible, m },
-        ChoiceFault::NoMemory => Fault::NoMemory,
-    }
-}
 
 /// The picture of the plan of `slots` slots of the set that the reader gives, from slot 0 or from the ledger on that `at`
 /// gives, as the text of an SVG; `None` where it would be too large, as `draw` says.

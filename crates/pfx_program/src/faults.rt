@@ -10,7 +10,8 @@ use pfx_kinds::start::StartFault;
 use pfx_machine::MachineFault;
 use pfx_weights::SetFault;
 
-pub(crate) fn set_fault(fault: SetFault) -> Fault
+/// The program's fault for the refusal of a task set.
+pub fn set_fault(fault: SetFault) -> Fault
     ensures { result ≡ fault_of_set fault }
 {
     match fault {
@@ -34,7 +35,8 @@ pub(crate) fn ledger_fault(fault: LedgerFault) -> Fault
     }
 }
 
-pub(crate) fn choice_fault(fault: ChoiceFault) -> Fault
+/// The program's fault for a slot that has no row.
+pub fn choice_fault(fault: ChoiceFault) -> Fault
     ensures { result ≡ fault_of_choice fault }
 {
     match fault {

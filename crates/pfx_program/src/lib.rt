@@ -12,6 +12,7 @@
 //! of that. An engine is anything that carries commands out as the machine does: a `State` in memory is one. Slots of one record are
 //! asked for several at once, as many as the caller's window has; what is printed doesn't depend on it. `run_status`
 //! writes the board of an engine's state, `created_line` is the line of a new store, and `read_task_set` reads a store's set.
+//! `read_all`, `started`, `set_fault` and `choice_fault` are there for other words that are asked of a set file.
 //! `laws` says of them all that a plan's lines are the rows of a plan, and that a script's commands are acceptable.
 #![tactic(auto)]
 
@@ -31,7 +32,8 @@ mod show;
 
 pub use created::created_line;
 pub use engine::{CallFault, Engine};
-pub use plan::run_plan;
+pub use faults::{choice_fault, set_fault};
+pub use plan::{read_all, run_plan, started};
 pub use run::{run_record, run_script, run_status};
 pub use set::read_task_set;
 pub use show::run_show;

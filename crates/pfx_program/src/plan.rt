@@ -17,7 +17,8 @@ use pfx_weights::{Row, TaskSet};
 use std::alloc::Global;
 use std::io::{ErrorKind, Read, Write};
 
-pub(crate) fn read_all<R: Read>(alloc: Global, input: &mut R) -> Result<Vec<u8>, Fault>
+/// All that a reader gives. `InputFailed` comes where it fails, `NoMemory` where a growth was refused.
+pub fn read_all<R: Read>(alloc: Global, input: &mut R) -> Result<Vec<u8>, Fault>
     ensures ok { IfOk result (λ v. IfSome (R.remaining input.old) (λ bytes. v.items ≡ bytes)) }
     ensures err { IfErr result IsInputFault }
 {
@@ -29,7 +30,9 @@ pub(crate) fn read_all<R: Read>(alloc: Global, input: &mut R) -> Result<Vec<u8>,
     }
 }
 
-fn started(alloc: Global, file: &SetText, at: Option<&str>) -> Result<Columns, Fault>
+/// The ledger with which a plan of a file's set begins: at slot 0, or the one that `at` gives as `T:A,A,..`. The refusals are
+/// those of `run_plan`: of the set, and then of the ledger.
+pub fn started(alloc: Global, file: &SetText, at: Option<&str>) -> Result<Columns, Fault>
     ensures ok { IfOk result (IsStart (set_view file.now) (option_map (λ s. s.now) at.entry)) }
     ensures err { IfErr result (StartFails (set_view file.now) (option_map (λ s. s.now) at.entry)) }
 {

@@ -180,6 +180,18 @@ fn reads_a_replay(rt: HostRuntime) {
     }
 }
 
+#[test]
+fn reads_a_check(rt: HostRuntime) {
+    let rows = [
+        (["pfx", "check", "a.toml"].as_slice(), "a.toml"),
+        (["pfx", "check", "-"].as_slice(), "-"),
+        (["pfx", "check", "--", "--help"].as_slice(), "--help"),
+    ];
+    for (words, set) in rows {
+        assert!(rt; asks(rt.alloc(), words, Request::Check { set }), "{set}");
+    }
+}
+
 /// Whether the words are answered by a text with this part, and this exit status.
 fn is_answered(alloc: Global, words: &[&str], status: i32, part: &str) -> bool {
     let Err(error) = read_words(alloc, words) else {
@@ -196,11 +208,11 @@ fn says_which_subcommands_there_are(rt: HostRuntime) {
     let rows = [
         (
             ["pfx"].as_slice(),
-            "[subcommands: plan, init, run, status, replay, show, draw, help]",
+            "[subcommands: plan, init, run, status, replay, show, draw, check, help]",
         ),
         (
             [].as_slice(),
-            "[subcommands: plan, init, run, status, replay, show, draw, help]",
+            "[subcommands: plan, init, run, status, replay, show, draw, check, help]",
         ),
         (
             ["pfx", "paln", "a.toml", "4"].as_slice(),

@@ -10,3 +10,4 @@ pub mod PlainShow
 pub mod PlainStatus
 pub mod PlainReplay
 pub mod PlainDraw
+pub mod PlainCheck

@@ -83,6 +83,10 @@ draw_words = with_rule (with_rule (new_app (codes "draw")) (required (codes "SET
 abbrev pub draw_app : App
 draw_app = with_rule draw_words at_ledger
 
+-- `check SET`
+abbrev pub check_app : App
+check_app = with_rule (new_app (codes "check")) (required (codes "SET"))
+
 -- `pfx`: one of its subcommands has to follow, and each of them tells the version too
 abbrev pub bare_app : App
 bare_app = on_top (λ s. record s { subcommand_required = true; has_version = true; propagate_version = true }) (new_app (codes "pfx"))
@@ -91,8 +95,10 @@ bare_app = on_top (λ s. record s { subcommand_required = true; has_version = tr
 abbrev pub pfx_app : App
 pfx_app =
     with_subcommand
+    (with_subcommand
     (with_subcommand (with_subcommand (with_subcommand (with_subcommand (with_subcommand (with_subcommand bare_app plan_app.top) init_app.top) run_app.top) status_app.top) replay_app.top) show_app.top)
-    draw_app.top
+    draw_app.top)
+    check_app.top
 
 -- the command is this one, with no global argument
 abbrev pub IsCommand : Command → App → Type 0

@@ -19,6 +19,7 @@ pub data Asked : Type 0 where
   replay : Text → Asked
   show : Text → Option ℕ → Asked
   draw : Text → ℕ → Option Text → Asked
+  check : Text → Asked
 
 -- the request that a value of the code is
 abbrev pub asked_by : Request → Asked
@@ -29,6 +30,7 @@ asked_by (request.Status file) = status file.now
 asked_by (request.Replay file) = replay file.now
 asked_by (request.Show file task) = show file.now task
 asked_by (request.Draw set slots at) = draw set.now slots (option_map (λ s. s.now) at)
+asked_by (request.Check set) = check set.now
 
 -- one digit or more, of a number of 32 bits
 abbrev pub is_number : Text → Bool
@@ -98,6 +100,10 @@ draw_of None slots at = None
 abbrev pub draw_in : List Row → Option Asked
 draw_in rows = draw_of (text_at (codes "SET") rows) (number_at (codes "SLOTS") rows) (text_at (codes "at") rows)
 
+-- a look at a set, if its word is there
+abbrev pub check_in : List Row → Option Asked
+check_in rows = option_map check (text_at (codes "SET") rows)
+
 -- what the subcommand of this name asks for, by what was found for its arguments
 abbrev pub asked_of : Text → List Row → Option Asked
 asked_of name rows =
@@ -108,7 +114,8 @@ asked_of name rows =
     else (if bytes_eq name (codes "replay") then replay_in rows
     else (if bytes_eq name (codes "show") then show_in rows
     else (if bytes_eq name (codes "draw") then draw_in rows
-    else None))))))
+    else (if bytes_eq name (codes "check") then check_in rows
+    else None)))))))
 
 abbrev pub asked_in : Option (Text × List Row) → Option Asked
 asked_in None = None

@@ -4,7 +4,7 @@ ghost use Rattle.std.specs.Prelude.{◌≡◌, ◌∷◌, [], Some, None, true, 
 ghost use Rattle.std.specs.Str.Parse.{digits_value, starts_with_minus};
 ghost use Rattle.clap.specs.Takes.{takes};
 ghost use Rattle.pfx_words.specs.Commands.{pfx_app};
-ghost use Rattle.pfx_words.specs.Requests.{IsBatch, IsDrawnSlots, IsSlots, IsTask, IsWorkers, asked, draw, show, plan, init, run, status, replay};
+ghost use Rattle.pfx_words.specs.Requests.{IsBatch, IsDrawnSlots, IsSlots, IsTask, IsWorkers, asked, check, draw, show, plan, init, run, status, replay};
 
 /// `pfx plan SET SLOTS`: for any `set` that doesn't begin with a hyphen, and any `slots` of digits that write 0 to
 /// 1,048,576, the command takes these words, and they ask for the plan of that many slots.
@@ -131,4 +131,18 @@ pub fn standard_draw(program: &str, slots: &str)
     ensures taken { takes pfx_app (program.now ∷ codes "draw" ∷ codes "-" ∷ slots.now ∷ []) ≡ true }
     ensures asked { asked (program.now ∷ codes "draw" ∷ codes "-" ∷ slots.now ∷ [])
         ≡ Some (draw (codes "-") (digits_value 10 slots.now) None) }
+{}
+
+/// `pfx check SET`: for any `set` that doesn't begin with a hyphen, the command takes these words, and they ask for what that
+/// set asks for.
+pub fn plain_check(program: &str, set: &str)
+    requires set { starts_with_minus set.now ≡ false }
+    ensures taken { takes pfx_app (program.now ∷ codes "check" ∷ set.now ∷ []) ≡ true }
+    ensures asked { asked (program.now ∷ codes "check" ∷ set.now ∷ []) ≡ Some (check set.now) }
+{}
+
+/// `pfx check -`: a hyphen alone is taken as a set too, which is standard input.
+pub fn standard_check(program: &str)
+    ensures taken { takes pfx_app (program.now ∷ codes "check" ∷ codes "-" ∷ []) ≡ true }
+    ensures asked { asked (program.now ∷ codes "check" ∷ codes "-" ∷ []) ≡ Some (check (codes "-")) }
 {}

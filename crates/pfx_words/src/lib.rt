@@ -8,6 +8,7 @@
 #![tactic(auto)]
 
 mod arguments;
+mod check;
 mod draw;
 mod init;
 pub mod laws;

@@ -58,4 +58,9 @@ pub enum Request<'a> {
         /// The ledger to begin with, as `T:A,A,..`; without one the plan begins at slot 0.
         at: Option<&'a str>,
     },
+    /// Say what a set asks for, or all that is wrong with it.
+    Check {
+        /// The path of the set file; `-` is standard input.
+        set: &'a str,
+    },
 }

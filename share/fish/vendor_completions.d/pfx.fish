@@ -1,0 +1,55 @@
+# Completion of pfx in fish: its subcommands, their options, set files (*.toml), scripts (*.csv) and stores.
+
+function __pfx_place -d 'The place of the word that is typed behind the subcommand, options and their values left out'
+    set -l place -1
+    set -l skip 0
+    for word in (commandline -opc)[2..-1]
+        if test $skip = 1
+            set skip 0
+        else
+            switch $word
+                case --at --workers --batch
+                    set skip 1
+                case '-?*'
+                case '*'
+                    set place (math $place + 1)
+            end
+        end
+    end
+    math $place + 1
+end
+
+function __pfx_at -d 'Whether the word that is typed is one of this subcommand, at this place' -a subcommand place
+    __fish_seen_subcommand_from $subcommand; and test (__pfx_place) = $place
+end
+
+complete -c pfx -f
+complete -c pfx -s h -l help -d 'Print help'
+complete -c pfx -s V -l version -d 'Print version'
+
+complete -c pfx -n __fish_use_subcommand -a plan -d 'Print which tasks run in each of the first slots'
+complete -c pfx -n __fish_use_subcommand -a init -d 'Make a new store from a task set'
+complete -c pfx -n __fish_use_subcommand -a run -d 'Run a script of commands on a store'
+complete -c pfx -n __fish_use_subcommand -a status -d 'Show where the tasks and jobs of a store stand'
+complete -c pfx -n __fish_use_subcommand -a replay -d "Run a store's commands again, and compare them with its records"
+complete -c pfx -n __fish_use_subcommand -a show -d 'Show what the jobs of a store have computed'
+complete -c pfx -n __fish_use_subcommand -a draw -d 'Draw the first slots of a plan as a picture'
+complete -c pfx -n __fish_use_subcommand -a check -d 'Say what a task set asks for, or all that is wrong with it'
+complete -c pfx -n __fish_use_subcommand -a help -d 'Print this message or the help of the given subcommand(s)'
+
+complete -c pfx -n '__fish_seen_subcommand_from plan' -l at -x -d 'Begin with a ledger, T:A,A,..'
+complete -c pfx -n '__fish_seen_subcommand_from run' -l workers -x -d 'How many workers run the jobs, 0 to 64'
+complete -c pfx -n '__fish_seen_subcommand_from run' -l batch -x -d 'How many slots of a record are kept at once, 1 to 16'
+complete -c pfx -n '__fish_seen_subcommand_from draw' -l at -x -d 'Begin with a ledger, T:A,A,..'
+
+complete -c pfx -k -n '__pfx_at plan 1' -a '(__fish_complete_suffix .toml)'
+complete -c pfx -k -n '__pfx_at init 1' -a '(__fish_complete_suffix .toml)'
+complete -c pfx -n '__pfx_at init 2' -F
+complete -c pfx -n '__pfx_at run 1' -F
+complete -c pfx -k -n '__pfx_at run 2' -a '(__fish_complete_suffix .csv)'
+complete -c pfx -n '__pfx_at status 1' -F
+complete -c pfx -n '__pfx_at replay 1' -F
+complete -c pfx -n '__pfx_at show 1' -F
+complete -c pfx -k -n '__pfx_at draw 1' -a '(__fish_complete_suffix .toml)'
+complete -c pfx -k -n '__pfx_at check 1' -a '(__fish_complete_suffix .toml)'
+complete -c pfx -n '__pfx_at help 1' -a 'plan init run status replay show draw check help'
