@@ -1,22 +1,26 @@
 //! `pfx plan SET SLOTS --at LEDGER`.
 
 use crate::files::{fault_of, input};
+use crate::traces::{Kept, Traces, watched};
 use pfx_fault::Fault;
 use pfx_program::run_plan;
 use std::alloc::Global;
-use std::io;
 use std::io::{BufWriter, Write};
 
-/// Prints the plan.
+/// Prints the plan. The traces have the set's text, as far as it was read.
 pub(crate) fn plan(
     rt: &HostRuntime,
     alloc: Global,
     set: &str,
     at: Option<&str>,
     slots: u32,
+    traces: &mut Traces,
 ) -> Result<(), Fault> {
-    let mut input = input(rt, set)?;
-    let Ok(mut output) = BufWriter::new(alloc, io::writer(rt)) else {
+    let mut input = Kept {
+        source: input(rt, set)?,
+        text: &mut traces.set,
+    };
+    let Ok(mut output) = BufWriter::new(alloc, watched(rt, &traces.seen)) else {
         return Err(Fault::NoMemory);
     };
     let planned = run_plan(alloc, &mut input, at, &mut output, u64::from(slots));

@@ -9,6 +9,7 @@
 
 mod arguments;
 mod draw;
+mod explain;
 mod init;
 pub mod laws;
 mod plan;

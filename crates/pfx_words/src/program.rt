@@ -12,6 +12,7 @@ ghost use Rattle.pfx_words.specs.Requests.{asked_by, asked_in, asked};
 
 use crate::Request;
 use crate::draw::{draw_command, draw_request};
+use crate::explain::{explain_command, explain_request};
 use crate::init::{init_command, init_request};
 use crate::plan::{plan_command, plan_request};
 use crate::replay::{replay_command, replay_request};
@@ -37,7 +38,8 @@ const EXAMPLE: &str = "Example:
   pfx status thirds.pfx                         where its tasks and jobs stand
   pfx replay thirds.pfx                         whether its records are what its commands do
   pfx show thirds.pfx                           what its jobs have computed
-  pfx draw examples/thirds.toml 12              twelve slots of them as a picture";
+  pfx draw examples/thirds.toml 12              twelve slots of them as a picture
+  pfx explain BadWeight                         what this fault means";
 
 fn bare_command<'a>(alloc: Global) -> Command<'a>
     ensures { IsCommand result bare_app }
@@ -61,7 +63,8 @@ fn pfx_command<'a>(alloc: Global) -> Result<Command<'a>, AllocError>
         .subcommand(status_command(alloc)?)?
         .subcommand(replay_command(alloc)?)?
         .subcommand(show_command(alloc)?)?
-        .subcommand(draw_command(alloc)?)
+        .subcommand(draw_command(alloc)?)?
+        .subcommand(explain_command(alloc)?)
 }
 
 fn request_in<'a>(matches: &ArgMatches<'a>) -> Option<Request<'a>>
@@ -76,6 +79,7 @@ fn request_in<'a>(matches: &ArgMatches<'a>) -> Option<Request<'a>>
         "replay" => replay_request(inner),
         "show" => show_request(inner),
         "draw" => draw_request(inner),
+        "explain" => explain_request(inner),
         _ => None,
     }
 }

@@ -31,6 +31,8 @@ pub enum Request<'a> {
         /// How many slots of a record are kept at once at the most, 1 to 16, where the words say so; else it is 1, or 64 with
         /// workers.
         batch: Option<u32>,
+        /// Whether the script ends behind its first refused record.
+        strict: bool,
     },
     /// Show the board of a store.
     Status {
@@ -57,5 +59,10 @@ pub enum Request<'a> {
         slots: u32,
         /// The ledger to begin with, as `T:A,A,..`; without one the plan begins at slot 0.
         at: Option<&'a str>,
+    },
+    /// Say what a fault means.
+    Explain {
+        /// The fault's number or its name.
+        fault: &'a str,
     },
 }
