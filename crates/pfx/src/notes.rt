@@ -4,8 +4,8 @@ use crate::files::Source;
 use crate::traces::{Seen, Traces};
 use pfx_fault::Fault;
 use pfx_notes::{
-    Named, Note, input_note, output_note, passed_over_note, refused_note, script_note, set_note,
-    store_note,
+    Named, Note, input_note, output_note, passed_over_note, record_note, refused_note, script_note,
+    set_note, store_note,
 };
 use pfx_words::Request;
 use std::alloc::{AllocError, Global};
@@ -141,7 +141,7 @@ fn run_note(
     match fault {
         Fault::BadScript { at } => match text_of(rt, script) {
             Some(text) => script_note(alloc, script, text.as_slice(), at),
-            None => Ok(None),
+            None => record_note(alloc, script, at),
         },
         Fault::NotAStore if script != "-" && is_store(rt, script) => {
             store_note(alloc, file, Some(script), fault)

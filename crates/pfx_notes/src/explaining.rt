@@ -1,8 +1,9 @@
 //! `pfx explain`: the entry of a fault.
 
-ghost use Rattle.std.specs.Prelude.{◌≡◌, true, IfSome, OnOk};
+ghost use Rattle.std.specs.Prelude.{◌≡◌, true, false, IfNone, IfSome, OnOk};
 ghost use Rattle.std.specs.Io.KnownBytes.{Appends};
-ghost use Rattle.pfx_notes.specs.Explaining.{entry_text, names};
+ghost use Rattle.pfx_fault.specs.declared.refusals.Fault.{Fault};
+ghost use Rattle.pfx_notes.specs.Explaining.{AreSpared, entry_text, faults_of, names};
 
 use crate::entries::{Entry, OF_RUNS, OF_SETS, OF_STORES};
 use pfx_fault::Fault;
@@ -21,7 +22,8 @@ fn names(word: &str, fault: Fault) -> bool
 }
 
 fn entry_in(word: &str, entries: &[Entry]) -> Option<Entry>
-    ensures { IfSome result (λ entry. names word.now entry.fault ≡ true) }
+    ensures found { IfSome result (λ entry. names word.now entry.fault ≡ true) }
+    ensures none { IfNone result (AreSpared word.now (faults_of entries.now)) }
 {
     for entry in entries {
         if names(word, entry.fault) {
@@ -31,9 +33,10 @@ fn entry_in(word: &str, entries: &[Entry]) -> Option<Entry>
     None
 }
 
-/// The entry of the fault that a word names by its number or by its name.
+/// The entry of the fault that a word names by its number or by its name; `None` where it names no fault.
 pub fn entry_named(word: &str) -> Option<Entry>
-    ensures { IfSome result (λ entry. names word.now entry.fault ≡ true) }
+    ensures found { IfSome result (λ entry. names word.now entry.fault ≡ true) }
+    ensures none { IfNone result ((fault : Fault) → names word.now fault ≡ false) }
 {
     if let Some(entry) = entry_in(word, &OF_SETS) {
         return Some(entry);

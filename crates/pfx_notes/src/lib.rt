@@ -24,6 +24,6 @@ pub use explaining::{entry_named, put_entry};
 pub use files::{Named, input_note, output_note, store_note};
 pub use note::Note;
 pub use refusals::refused_note;
-pub use scripts::script_note;
+pub use scripts::{record_note, script_note};
 pub use sets::set_note;
 pub use warnings::passed_over_note;

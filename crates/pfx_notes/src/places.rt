@@ -54,6 +54,26 @@ pub(crate) fn place_at(text: &[u8], offset: usize) -> Place {
     }
 }
 
+/// The place of the first line behind so many bytes of a text that isn't empty.
+pub(crate) fn line_behind(text: &[u8], offset: usize) -> Place {
+    let mut at = offset.min(text.len());
+    for byte in &text[at..] {
+        if *byte != b'\n' && *byte != b'\r' {
+            break;
+        }
+        at = at.saturating_add(1);
+    }
+    place_at(text, at)
+}
+
+/// A text without a byte order mark in front.
+pub(crate) fn without_mark(text: &[u8]) -> &[u8] {
+    match text {
+        [0xEF, 0xBB, 0xBF, rest @ ..] => rest,
+        _ => text,
+    }
+}
+
 fn unquoted(key: &str) -> &str {
     let key = key.trim();
     match key.strip_prefix('"') {

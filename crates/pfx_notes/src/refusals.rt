@@ -1,7 +1,7 @@
 //! Notes of records of a script whose commands were refused.
 
 use crate::note::Note;
-use crate::places::{Place, located};
+use crate::places::{Place, line_behind, located, without_mark};
 use csv::{ByteRecord, ReaderBuilder};
 use pfx_numerals::number_in;
 use std::alloc::{AllocError, Global};
@@ -18,9 +18,9 @@ fn answers_of(row: &ByteRecord) -> u64 {
     }
 }
 
-fn line_of(row: &ByteRecord) -> Option<Place> {
-    let line = usize::try_from(row.position()?.line()).ok()?;
-    Some(Place { line, column: 1 })
+fn line_of(text: &[u8], row: &ByteRecord) -> Option<Place> {
+    let byte = usize::try_from(row.position()?.byte()).ok()?;
+    Some(line_behind(text, byte))
 }
 
 // The place and the line of the record that has the answer behind so many ones.
@@ -38,7 +38,7 @@ fn record_behind(alloc: Global, text: &[u8], answers: u64) -> Option<(u64, Optio
         }
         let most = answers_of(&row);
         if left < most {
-            return Some((place.saturating_add(1), line_of(&row)));
+            return Some((place.saturating_add(1), line_of(text, &row)));
         }
         left = left.saturating_sub(most);
     }
@@ -77,7 +77,7 @@ pub fn refused_note(
     refusal: &[u8],
     refused: u64,
 ) -> Result<Option<Note>, AllocError> {
-    let Some((place, line)) = record_behind(alloc, text, answers) else {
+    let Some((place, line)) = record_behind(alloc, without_mark(text), answers) else {
         return Ok(None);
     };
     let refusal = from_utf8(refusal).unwrap_or("");

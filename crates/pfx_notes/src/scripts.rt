@@ -1,7 +1,7 @@
 //! Notes of scripts.
 
 use crate::note::{Note, of_lines, two_lines};
-use crate::places::{Place, located};
+use crate::places::{line_behind, located, without_mark};
 use csv::{ByteRecord, ReaderBuilder};
 use pfx_numerals::number_in;
 use std::alloc::{AllocError, Global};
@@ -10,6 +10,9 @@ use std::str::from_utf8;
 const VERBS: &str =
     "A record begins with submit, slot, withdraw, settle or status, and no header line stands above them.";
 
+const RECORD: &str =
+    "A record has five fields, VERB,TASK,KIND,GOAL,DATA, as submit,0,count,5, or slot,,,3, with unused ones empty.";
+
 const TASK: &str =
     "A task is its number, 0 for the set's first one: pfx status has it in front of each line.";
 
@@ -17,6 +20,7 @@ const TASK: &str =
 #[derive(Clone, Copy)]
 struct Found<'a> {
     file: &'a str,
+    text: &'a [u8],
     row: &'a ByteRecord,
     place: u64,
 }
@@ -33,8 +37,8 @@ impl Found<'_> {
         let number = self.place;
         let what = format!(in alloc; "record {number} {what}")?;
         let place = match self.row.position() {
-            Some(position) => match usize::try_from(position.line()) {
-                Ok(line) => Some(Place { line, column: 1 }),
+            Some(position) => match usize::try_from(position.byte()) {
+                Ok(byte) => Some(line_behind(self.text, byte)),
                 Err(_) => None,
             },
             None => None,
@@ -195,6 +199,12 @@ fn read_to(alloc: Global, text: &[u8], place: u64, row: &mut ByteRecord) -> bool
     true
 }
 
+/// The note of the record at this place of a script whose text isn't at hand. Fails only where memory runs out.
+pub fn record_note(alloc: Global, file: &str, place: u64) -> Result<Option<Note>, AllocError> {
+    let what = format!(in alloc; "record {place} has no form of a record")?;
+    two_lines(alloc, located(alloc, file, None, what.as_str())?, RECORD)
+}
+
 /// The note of the script's record at this place, counted from 1, which has no form: its line, what is wrong, what to write. `file` is
 /// the word that names the script, `text` what stands in it. `None` where the text has no such record. Fails only where memory runs
 /// out.
@@ -204,12 +214,14 @@ pub fn script_note(
     text: &[u8],
     place: u64,
 ) -> Result<Option<Note>, AllocError> {
+    let text = without_mark(text);
     let mut row = ByteRecord::new(alloc);
     if place == 0 || !read_to(alloc, text, place, &mut row) {
         return Ok(None);
     }
     let found = Found {
         file,
+        text,
         row: &row,
         place,
     };

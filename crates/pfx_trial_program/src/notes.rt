@@ -2,8 +2,8 @@
 
 use pfx_fault::Fault;
 use pfx_notes::{
-    Named, Note, entry_named, input_note, output_note, passed_over_note, put_entry, refused_note,
-    script_note, set_note, store_note,
+    Named, Note, entry_named, input_note, output_note, passed_over_note, put_entry, record_note,
+    refused_note, script_note, set_note, store_note,
 };
 use std::alloc::{AllocError, Global};
 
@@ -81,6 +81,10 @@ fn says_what_is_wrong_with_a_script(rt: HostRuntime) {
     let note = script_note(rt.alloc(), "a.csv", text, 2);
     let lines = "  a.csv:3:1: record 2 has 1 field, `slot 3`, and a record has five
   Write it as slot,,,COUNT, and leave fields that aren't used empty, with their commas.\n";
+    assert!(rt; says(rt.alloc(), note, lines));
+    let note = record_note(rt.alloc(), "-", 3);
+    let lines = "  standard input: record 3 has no form of a record
+  A record has five fields, VERB,TASK,KIND,GOAL,DATA, as submit,0,count,5, or slot,,,3, with unused ones empty.\n";
     assert!(rt; says(rt.alloc(), note, lines));
     let note = refused_note(rt.alloc(), "a.csv", b"slot,,,2,\nwithdraw,0,,,\n", 2, b"33 NoJob task=0", 3);
     let lines = "  a.csv:2:1: record 2 was refused: 33 NoJob task=0

@@ -386,7 +386,7 @@ fn takes_up_to_64_workers(rt: HostRuntime) {
 fn answers_with_help_and_version(rt: HostRuntime) {
     let rows = [
         (["pfx", "--help"].as_slice(), "Usage: pfx <COMMAND>"),
-        (["pfx", "-h"].as_slice(), "  plan    Print which tasks run"),
+        (["pfx", "-h"].as_slice(), "  plan     Print which tasks run"),
         (
             ["pfx", "plan", "--help"].as_slice(),
             "Usage: pfx plan [OPTIONS] <SET> <SLOTS>",
