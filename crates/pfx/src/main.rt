@@ -75,7 +75,8 @@ fn answered(rt: &HostRuntime, error: &Error) -> u8 {
         return failed(rt, Fault::NoMemory);
     }
     match error.print(rt) {
-        Err(gone) if gone.kind() == io::ErrorKind::BrokenPipe => return Fault::OutputFailed.status(),
+        Err(gone) if gone.kind() == io::ErrorKind::BrokenPipe =>
+            return Fault::OutputFailed.status(),
         Err(_) if !error.use_stderr() => return failed(rt, Fault::OutputFailed),
         _ => {}
     }

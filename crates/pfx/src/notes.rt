@@ -210,17 +210,19 @@ pub(crate) fn is_closed(traces: &Traces, fault: Fault) -> bool {
 }
 
 // Says that records were refused: the first of them, and how many.
-fn warn_refused(
-    rt: &HostRuntime,
-    alloc: Global,
-    script: &str,
-    seen: &Seen,
-) {
+fn warn_refused(rt: &HostRuntime, alloc: Global, script: &str, seen: &Seen) {
     let Some(text) = text_of(rt, script) else {
         return;
     };
     let refusal = &seen.refusal[..seen.len.min(seen.refusal.len())];
-    let note = refused_note(alloc, script, text.as_slice(), seen.answers, refusal, seen.refused);
+    let note = refused_note(
+        alloc,
+        script,
+        text.as_slice(),
+        seen.answers,
+        refusal,
+        seen.refused,
+    );
     if let Ok(Some(note)) = note {
         let _ = eprintln!(rt; "pfx: warning: a record was refused");
         put_note(rt, alloc, Ok(Some(note)));

@@ -109,10 +109,5 @@ pub(crate) fn show(
         Some(task) => Some(task_of(task)),
         None => None,
     };
-    run_show(
-        alloc,
-        &mut watched(rt, &traces.seen),
-        store.state(),
-        task,
-    )
+    run_show(alloc, &mut watched(rt, &traces.seen), store.state(), task)
 }

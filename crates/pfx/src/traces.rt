@@ -196,9 +196,7 @@ impl Lines<'_> {
     fn give(&mut self, bytes: &mut [u8]) -> usize {
         let end = self.end.min(ROOM);
         let at = self.at.min(end);
-        let count = line_len(&self.room[at..end])
-            .min(end - at)
-            .min(bytes.len());
+        let count = line_len(&self.room[at..end]).min(end - at).min(bytes.len());
         bytes[..count].copy_from_slice(&self.room[at..at + count]);
         self.at = at + count;
         count

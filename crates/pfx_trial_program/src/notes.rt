@@ -9,8 +9,8 @@ use std::alloc::{AllocError, Global};
 
 /// The numbers of the faults, as USAGE has them.
 const NUMBERS: [u8; 37] = [
-    10, 11, 12, 13, 14, 16, 17, 19, 20, 21, 22, 23, 24, 25, 26, 31, 32, 33, 34, 41, 42, 43, 51, 52, 53,
-    54, 55, 56, 57, 58, 61, 64, 68, 71, 72, 73, 90,
+    10, 11, 12, 13, 14, 16, 17, 19, 20, 21, 22, 23, 24, 25, 26, 31, 32, 33, 34, 41, 42, 43, 51, 52,
+    53, 54, 55, 56, 57, 58, 61, 64, 68, 71, 72, 73, 90,
 ];
 
 /// Whether the fault of this number has an entry, under its number and under its name.
@@ -48,7 +48,13 @@ fn begins(alloc: Global, word: &str, front: &[u8]) -> bool {
 
 #[test]
 fn prints_an_entry(rt: HostRuntime) {
-    assert!(rt; begins(rt.alloc(), "BadWeight", b"14 BadWeight, status 3\n\nThe weight e/p of this task"));
+    assert!(rt;
+        begins(
+            rt.alloc(),
+            "BadWeight",
+            b"14 BadWeight, status 3\n\nThe weight e/p of this task"
+        )
+    );
 }
 
 /// Whether these are the note's lines.
@@ -65,7 +71,13 @@ fn says(alloc: Global, note: Result<Option<Note>, AllocError>, lines: &str) -> b
 #[test]
 fn says_what_is_wrong_with_a_set(rt: HostRuntime) {
     let text = b"workers = 2\n\n[[task]]\nname = \"big\"\ne =  3\np = 3\n";
-    let note = set_note(rt.alloc(), "a.toml", text, None, Fault::BadWeight { task: 0 });
+    let note = set_note(
+        rt.alloc(),
+        "a.toml",
+        text,
+        None,
+        Fault::BadWeight { task: 0 },
+    );
     let lines = "  a.toml:5:6: task 0 \"big\" has e = 3, p = 3
   A weight e/p is below 1: make e smaller than p, or take the task and one worker out of the set.\n";
     assert!(rt; says(rt.alloc(), note, lines));
@@ -86,7 +98,14 @@ fn says_what_is_wrong_with_a_script(rt: HostRuntime) {
     let lines = "  standard input: record 3 has no form of a record
   A record has five fields, VERB,TASK,KIND,GOAL,DATA, as submit,0,count,5, or slot,,,3, with unused ones empty.\n";
     assert!(rt; says(rt.alloc(), note, lines));
-    let note = refused_note(rt.alloc(), "a.csv", b"slot,,,2,\nwithdraw,0,,,\n", 2, b"33 NoJob task=0", 3);
+    let note = refused_note(
+        rt.alloc(),
+        "a.csv",
+        b"slot,,,2,\nwithdraw,0,,,\n",
+        2,
+        b"33 NoJob task=0",
+        3,
+    );
     let lines = "  a.csv:2:1: record 2 was refused: 33 NoJob task=0
   Take away only what is there: pfx status says job=open or job=done of a task that has one.
   2 more records were refused.\n";
@@ -117,5 +136,10 @@ fn warns_of_keys(rt: HostRuntime) {
   A set has the keys workers and segment and tables [[task]]; a task has name, e and p.
   One more key is passed over.\n";
     assert!(rt; says(rt.alloc(), note, lines));
-    assert!(rt; matches!(passed_over_note(rt.alloc(), "a.toml", b"workers = 2\n"), Ok(None)));
+    assert!(rt;
+        matches!(
+            passed_over_note(rt.alloc(), "a.toml", b"workers = 2\n"),
+            Ok(None)
+        )
+    );
 }

@@ -163,7 +163,10 @@ fn reads_a_strict_run(rt: HostRuntime) {
 fn reads_an_explain(rt: HostRuntime) {
     for fault in ["14", "BadWeight", "explain"] {
         let words = ["pfx", "explain", fault];
-        assert!(rt; asks(rt.alloc(), words.as_slice(), Request::Explain { fault }), "{fault}");
+        assert!(rt;
+            asks(rt.alloc(), words.as_slice(), Request::Explain { fault }),
+            "{fault}"
+        );
     }
 }
 
