@@ -1,7 +1,7 @@
 //! `pfx draw SET SLOTS --at LEDGER`.
 
 use crate::files::{fault_of, input};
-use crate::traces::{Kept, Traces, watched};
+use crate::traces::{Kept, Traces, output_of};
 use pfx_draw::run_draw;
 use pfx_fault::Fault;
 use std::alloc::Global;
@@ -35,7 +35,7 @@ pub(crate) fn draw(
     let Some(text) = run_draw(alloc, &mut input, at, name_of(set), u64::from(slots))? else {
         return Ok(false);
     };
-    match watched(rt, &traces.seen).write_all(text.as_slice()) {
+    match output_of(rt, &traces.seen).write_all(text.as_slice()) {
         Ok(()) => Ok(true),
         Err(error) => Err(fault_of(&error, Fault::OutputFailed)),
     }

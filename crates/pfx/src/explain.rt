@@ -1,7 +1,7 @@
 //! `pfx explain FAULT`.
 
 use crate::files::fault_of;
-use crate::traces::{Traces, watched};
+use crate::traces::{Traces, output_of};
 use pfx_fault::Fault;
 use pfx_notes::{entry_named, put_entry};
 
@@ -10,7 +10,7 @@ pub(crate) fn explain(rt: &HostRuntime, word: &str, traces: &Traces) -> Result<b
     let Some(entry) = entry_named(word) else {
         return Ok(false);
     };
-    match put_entry(&mut watched(rt, &traces.seen), entry) {
+    match put_entry(&mut output_of(rt, &traces.seen), entry) {
         Ok(()) => Ok(true),
         Err(error) => Err(fault_of(&error, Fault::OutputFailed)),
     }

@@ -1,7 +1,7 @@
 //! `pfx plan SET SLOTS --at LEDGER`.
 
 use crate::files::{fault_of, input};
-use crate::traces::{Kept, Traces, watched};
+use crate::traces::{Kept, Traces, output_of};
 use pfx_fault::Fault;
 use pfx_program::run_plan;
 use std::alloc::Global;
@@ -20,7 +20,7 @@ pub(crate) fn plan(
         source: input(rt, set)?,
         text: &mut traces.set,
     };
-    let Ok(mut output) = BufWriter::new(alloc, watched(rt, &traces.seen)) else {
+    let Ok(mut output) = BufWriter::new(alloc, output_of(rt, &traces.seen)) else {
         return Err(Fault::NoMemory);
     };
     let planned = run_plan(alloc, &mut input, at, &mut output, u64::from(slots));

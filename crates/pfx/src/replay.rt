@@ -1,7 +1,7 @@
 //! `pfx replay FILE`.
 
 use crate::files::{fault_of, open_fault, shared_disk};
-use crate::traces::{Traces, watched};
+use crate::traces::{Traces, output_of};
 use pfx_disk::FileDisk;
 use pfx_fault::Fault;
 use pfx_kinds::any::AnyJob;
@@ -26,7 +26,7 @@ pub(crate) fn replay(
     traces: &Traces,
 ) -> Result<bool, Fault> {
     let verdict = verdict_of(rt, alloc, file)?;
-    let Ok(mut output) = BufWriter::new(alloc, watched(rt, &traces.seen)) else {
+    let Ok(mut output) = BufWriter::new(alloc, output_of(rt, &traces.seen)) else {
         return Err(Fault::NoMemory);
     };
     let put = put_verdict(&mut output, verdict);

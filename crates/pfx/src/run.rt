@@ -7,7 +7,7 @@ ghost use Rattle.pfx_kinds.specs.AnyKind.{any_kind};
 
 use crate::files::{disk, input};
 use crate::store::{engine, opened};
-use crate::traces::{Lines, Traces, lines, watched};
+use crate::traces::{Lines, Traces, output_of, script_of};
 use pfx_crew::channel::ChannelDesk;
 use pfx_disk::FileDisk;
 use pfx_engine::run_durable;
@@ -34,7 +34,7 @@ fn run_alone(
     requires { 0 < window }
 {
     let mut engine = engine(alloc, store)?;
-    let mut output = watched(rt, &traces.seen);
+    let mut output = output_of(rt, &traces.seen);
     run_durable(alloc, script, window, &mut output, &mut engine)
 }
 
@@ -55,7 +55,7 @@ fn run_by<R: Threads + Wait + Copy + Drop + Send + Sync + 'static>(
     let Ok(desk) = ChannelDesk::<Quantum<AnyJob>, Done<AnyJob>>::new(alloc) else {
         return Err(Fault::NoMemory);
     };
-    let mut output = watched(rt, &traces.seen);
+    let mut output = output_of(rt, &traces.seen);
     run_served(
         threads,
         alloc,
@@ -81,7 +81,7 @@ pub(crate) fn run<R: Threads + Wait + Copy + Drop + Send + Sync + 'static>(
     window: Option<u32>,
     traces: &Traces,
 ) -> Result<(), Fault> {
-    let mut script = Script::new(alloc, lines(input(rt, script)?, &traces.seen));
+    let mut script = Script::new(alloc, script_of(input(rt, script)?, &traces.seen));
     let store = opened(alloc, disk(rt, file, false)?)?;
     let workers = workers.unwrap_or(store.state().columns().workers());
     if workers == 0 {

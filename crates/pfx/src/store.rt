@@ -8,7 +8,7 @@ ghost use Rattle.pfx_kinds.specs.AnyKind.{any_kind};
 use crate::files::{
     disk, fault_of, init_fault, input, open_fault, shared_disk, size_fault, sync_directory,
 };
-use crate::traces::{Kept, Traces, watched};
+use crate::traces::{Kept, Traces, output_of};
 use pfx_disk::FileDisk;
 use pfx_engine::DurableEngine;
 use pfx_fault::Fault;
@@ -44,7 +44,7 @@ pub(crate) fn init(
     let Ok(line) = created_line(alloc, &set, store.places().len) else {
         return Err(Fault::NoMemory);
     };
-    match watched(rt, &traces.seen).write_all(line.as_bytes()) {
+    match output_of(rt, &traces.seen).write_all(line.as_bytes()) {
         Ok(()) => Ok(()),
         Err(error) => Err(fault_of(&error, Fault::OutputFailed)),
     }
@@ -79,7 +79,7 @@ pub(crate) fn status(
     traces: &Traces,
 ) -> Result<(), Fault> {
     let mut engine = engine(alloc, opened(alloc, shared_disk(rt, file)?)?)?;
-    let Ok(mut output) = BufWriter::new(alloc, watched(rt, &traces.seen)) else {
+    let Ok(mut output) = BufWriter::new(alloc, output_of(rt, &traces.seen)) else {
         return Err(Fault::NoMemory);
     };
     let shown = run_status(alloc, &mut output, &mut engine);
@@ -109,5 +109,5 @@ pub(crate) fn show(
         Some(task) => Some(task_of(task)),
         None => None,
     };
-    run_show(alloc, &mut watched(rt, &traces.seen), store.state(), task)
+    run_show(alloc, &mut output_of(rt, &traces.seen), store.state(), task)
 }

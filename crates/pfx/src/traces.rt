@@ -116,7 +116,7 @@ pub(crate) struct Watched<'a> {
 }
 
 /// Standard output.
-pub(crate) fn watched<'a>(rt: &'a HostRuntime, seen: &'a Cell<Seen>) -> Watched<'a> {
+pub(crate) fn output_of<'a>(rt: &'a HostRuntime, seen: &'a Cell<Seen>) -> Watched<'a> {
     Watched {
         printer: io::writer(rt),
         seen,
@@ -173,7 +173,7 @@ pub(crate) struct Lines<'a> {
 }
 
 /// The lines of a source.
-pub(crate) fn lines(source: Source, seen: &Cell<Seen>) -> Lines<'_> {
+pub(crate) fn script_of(source: Source, seen: &Cell<Seen>) -> Lines<'_> {
     Lines {
         source,
         seen,
