@@ -1,7 +1,7 @@
 //! `pfx draw SET SLOTS --at LEDGER`.
 
 use crate::files::{fault_of, input};
-use crate::traces::{Kept, Traces, output_of};
+use crate::traces::{Traces, output_of, set_source};
 use pfx_draw::run_draw;
 use pfx_fault::Fault;
 use std::alloc::Global;
@@ -28,10 +28,7 @@ pub(crate) fn draw(
     slots: u32,
     traces: &mut Traces,
 ) -> Result<bool, Fault> {
-    let mut input = Kept {
-        source: input(rt, set)?,
-        text: &mut traces.set,
-    };
+    let mut input = set_source(input(rt, set)?, &mut traces.set);
     let Some(text) = run_draw(alloc, &mut input, at, name_of(set), u64::from(slots))? else {
         return Ok(false);
     };

@@ -71,6 +71,26 @@ fn word_note(
     }
 }
 
+// The note of a word of which nothing else is known: it is standard input, or the file can be opened now.
+fn unread_note(alloc: Global, named: Named, path: &str) -> Result<Option<Note>, AllocError> {
+    if path == "-" {
+        input_note(alloc, named, path, "it can't be read", false)
+    } else {
+        Ok(None)
+    }
+}
+
+// The first of two notes, where there is one.
+fn first_of(
+    note: Option<Note>,
+    other: Result<Option<Note>, AllocError>,
+) -> Result<Option<Note>, AllocError> {
+    match note {
+        Some(note) => Ok(Some(note)),
+        None => other,
+    }
+}
+
 // The note of a file in which no store can be made.
 fn made_note(rt: &HostRuntime, alloc: Global, path: &str) -> Result<Option<Note>, AllocError> {
     match trouble(rt, path, true) {
@@ -90,16 +110,19 @@ fn input_failed(
 ) -> Result<Option<Note>, AllocError> {
     match request {
         Request::Plan { set, .. } | Request::Draw { set, .. } => {
-            word_note(rt, alloc, Named::Set, set)
+            let note = word_note(rt, alloc, Named::Set, set)?;
+            first_of(note, unread_note(alloc, Named::Set, set))
         }
-        Request::Init { set, file } => match word_note(rt, alloc, Named::Set, set)? {
-            Some(note) => Ok(Some(note)),
-            None => made_note(rt, alloc, file),
-        },
-        Request::Run { file, script, .. } => match word_note(rt, alloc, Named::Script, script)? {
-            Some(note) => Ok(Some(note)),
-            None => word_note(rt, alloc, Named::Store, file),
-        },
+        Request::Init { set, file } => {
+            let note = word_note(rt, alloc, Named::Set, set)?;
+            let note = first_of(note, made_note(rt, alloc, file))?;
+            first_of(note, unread_note(alloc, Named::Set, set))
+        }
+        Request::Run { file, script, .. } => {
+            let note = word_note(rt, alloc, Named::Script, script)?;
+            let note = first_of(note, word_note(rt, alloc, Named::Store, file))?;
+            first_of(note, unread_note(alloc, Named::Script, script))
+        }
         Request::Status { file } | Request::Replay { file } | Request::Show { file, .. } => {
             word_note(rt, alloc, Named::Store, file)
         }

@@ -1,7 +1,7 @@
 //! `pfx plan SET SLOTS --at LEDGER`.
 
 use crate::files::{fault_of, input};
-use crate::traces::{Kept, Traces, output_of};
+use crate::traces::{Traces, output_of, set_source};
 use pfx_fault::Fault;
 use pfx_program::run_plan;
 use std::alloc::Global;
@@ -16,10 +16,7 @@ pub(crate) fn plan(
     slots: u32,
     traces: &mut Traces,
 ) -> Result<(), Fault> {
-    let mut input = Kept {
-        source: input(rt, set)?,
-        text: &mut traces.set,
-    };
+    let mut input = set_source(input(rt, set)?, &mut traces.set);
     let Ok(mut output) = BufWriter::new(alloc, output_of(rt, &traces.seen)) else {
         return Err(Fault::NoMemory);
     };

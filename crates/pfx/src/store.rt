@@ -8,7 +8,7 @@ ghost use Rattle.pfx_kinds.specs.AnyKind.{any_kind};
 use crate::files::{
     disk, fault_of, init_fault, input, open_fault, shared_disk, size_fault, sync_directory,
 };
-use crate::traces::{Kept, Traces, output_of};
+use crate::traces::{Traces, output_of, set_source};
 use pfx_disk::FileDisk;
 use pfx_engine::DurableEngine;
 use pfx_fault::Fault;
@@ -28,10 +28,7 @@ pub(crate) fn init(
     file: &str,
     traces: &mut Traces,
 ) -> Result<(), Fault> {
-    let mut input = Kept {
-        source: input(rt, set)?,
-        text: &mut traces.set,
-    };
+    let mut input = set_source(input(rt, set)?, &mut traces.set);
     let (set, segment) = read_task_set(alloc, &mut input)?;
     if let Err(fault) = check_segment(&set, segment) {
         return Err(size_fault(fault));

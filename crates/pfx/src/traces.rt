@@ -145,18 +145,29 @@ impl Write for Watched<'_> {
     }
 }
 
-/// A set's source, whose bytes are kept as they are read. Where there is no room for them, none are.
+/// A set's source, whose bytes are kept as they are read. Where there is no room for all of them, none are.
 #[derive(Drop)]
 pub(crate) struct Kept<'a> {
-    pub(crate) source: Source,
-    pub(crate) text: &'a mut Vec<u8>,
+    source: Source,
+    text: &'a mut Vec<u8>,
+    whole: bool,
+}
+
+/// A source whose bytes come to stand in the text.
+pub(crate) fn set_source(source: Source, text: &mut Vec<u8>) -> Kept<'_> {
+    Kept {
+        source,
+        text,
+        whole: true,
+    }
 }
 
 impl Read for Kept<'_> {
     fn read(&mut self, bytes: &mut [u8]) -> io::Result<usize> {
         let count = self.source.read(bytes)?;
-        if self.text.extend_from_slice(&bytes[..count]).is_err() {
+        if self.whole && self.text.extend_from_slice(&bytes[..count]).is_err() {
             self.text.clear();
+            self.whole = false;
         }
         Ok(count)
     }
