@@ -1,10 +1,10 @@
 //! `pfx draw SET SLOTS --at LEDGER`.
 
 use crate::files::{fault_of, input};
+use crate::traces::{Traces, output_of, set_source};
 use pfx_draw::run_draw;
 use pfx_fault::Fault;
 use std::alloc::Global;
-use std::io;
 use std::io::Write;
 
 // The name of a set file: that of the file without folders and ending.
@@ -26,12 +26,13 @@ pub(crate) fn draw(
     set: &str,
     at: Option<&str>,
     slots: u32,
+    traces: &mut Traces,
 ) -> Result<bool, Fault> {
-    let mut input = input(rt, set)?;
+    let mut input = set_source(input(rt, set)?, &mut traces.set);
     let Some(text) = run_draw(alloc, &mut input, at, name_of(set), u64::from(slots))? else {
         return Ok(false);
     };
-    match io::writer(rt).write_all(text.as_slice()) {
+    match output_of(rt, &traces.seen).write_all(text.as_slice()) {
         Ok(()) => Ok(true),
         Err(error) => Err(fault_of(&error, Fault::OutputFailed)),
     }

@@ -3,7 +3,9 @@
 //! It does what its words ask for, over the system's own files. Where that fails it prints one fault line on standard
 //! error and ends with the fault's exit status: 3 where the set, the ledger or the plan is refused, 4 where the store is or
 //! its disk failed, 5 where memory ran out, 7 where the script has a record without form, 8 where a file or an output
-//! failed. Help and version end with 0, words that it doesn't take with 2, a replay that finds a difference with 6.
+//! failed. Help and version end with 0, words that it doesn't take with 2, a replay that finds a difference with 6, a
+//! strict run with a refused record with 7. Below the fault line at most three lines say where the mistake stands, what is
+//! wrong and what to change. Where the output's reader has gone nothing is said, and the status is 8.
 #![tactic(auto)]
 
 ghost use Rattle.std.specs.Prelude.{◌≡◌};
@@ -11,19 +13,25 @@ ghost use Rattle.pfx_fault.specs.Refusals.{status_of};
 
 mod check;
 mod draw;
+mod explain;
 mod files;
+mod notes;
 mod plan;
 mod replay;
 mod run;
 mod store;
+mod traces;
 
 use crate::check::{check, refused_by_all};
 use crate::draw::draw;
+use crate::explain::explain;
 use crate::files::taken_streams;
+use crate::notes::{is_closed, tell, warn};
 use crate::plan::plan;
 use crate::replay::replay;
 use crate::run::run;
 use crate::store::{init, show, status};
+use crate::traces::Traces;
 use clap::Error;
 use clap::error::ErrorKind;
 use pfx_fault::{Fault, put_fault};
@@ -39,6 +47,9 @@ const USAGE: u8 = 2;
 
 /// The exit status of a replay that finds a difference.
 const DIFFERS: u8 = 6;
+
+/// The exit status of a strict run that ends at a refused record.
+const REFUSED: u8 = 7;
 
 /// What is said of a picture that would be too large.
 const TOO_LARGE: &str =
@@ -65,10 +76,63 @@ fn answered(rt: &HostRuntime, error: &Error) -> u8 {
     if error.kind() == ErrorKind::OutOfMemory {
         return failed(rt, Fault::NoMemory);
     }
-    if error.print(rt).is_err() && !error.use_stderr() {
-        return failed(rt, Fault::OutputFailed);
+    match error.print(rt) {
+        Err(gone) if gone.kind() == io::ErrorKind::BrokenPipe =>
+            return Fault::OutputFailed.status(),
+        Err(_) if !error.use_stderr() => return failed(rt, Fault::OutputFailed),
+        _ => {}
     }
     error.exit_code() as u8
+}
+
+// Does what is asked for, and answers the exit status where nothing fails.
+fn carried_out<R: Threads + Wait + Copy + Drop + Send + Sync + 'static>(
+    rt: &HostRuntime,
+    threads: R,
+    alloc: Global,
+    request: Request<'_>,
+    traces: &mut Traces,
+) -> Result<u8, Fault> {
+    match request {
+        Request::Plan { set, slots, at } => plan(rt, alloc, set, at, slots, traces)?,
+        Request::Init { set, file } => init(rt, alloc, set, file, traces)?,
+        Request::Run {
+            file,
+            script,
+            workers,
+            batch,
+            strict,
+        } => {
+            traces.be_strict(strict);
+            run(rt, threads, alloc, file, script, workers, batch, traces)?;
+            if strict && traces.seen.get().refused > 0 {
+                return Ok(REFUSED);
+            }
+        }
+        Request::Status { file } => status(rt, alloc, file, traces)?,
+        Request::Replay { file } => {
+            if !replay(rt, alloc, file, traces)? {
+                return Ok(DIFFERS);
+            }
+        }
+        Request::Show { file, task } => show(rt, alloc, file, task, traces)?,
+        Request::Draw { set, slots, at } => {
+            if !draw(rt, alloc, set, at, slots, traces)? {
+                return Ok(refused(rt, TOO_LARGE));
+            }
+        }
+        Request::Check { set } => {
+            if let Err(refusal) = check(rt, alloc, set, traces) {
+                return Ok(refused_by_all(rt, alloc, &request, traces, &refusal));
+            }
+        }
+        Request::Explain { fault } => {
+            if !explain(rt, fault, traces)? {
+                return Ok(refused(rt, "no fault has this number or name"));
+            }
+        }
+    }
+    Ok(0)
 }
 
 fn done<R: Threads + Wait + Copy + Drop + Send + Sync + 'static>(
@@ -82,35 +146,18 @@ fn done<R: Threads + Wait + Copy + Drop + Send + Sync + 'static>(
         Ok(None) => return refused(rt, "the words ask for nothing"),
         Err(error) => return answered(rt, &error),
     };
-    let done = match request {
-        Request::Plan { set, slots, at } => plan(rt, alloc, set, at, slots),
-        Request::Init { set, file } => init(rt, alloc, set, file),
-        Request::Run {
-            file,
-            script,
-            workers,
-            batch,
-        } => run(rt, threads, alloc, file, script, workers, batch),
-        Request::Status { file } => status(rt, alloc, file),
-        Request::Replay { file } => match replay(rt, alloc, file) {
-            Ok(true) => Ok(()),
-            Ok(false) => return DIFFERS,
-            Err(fault) => Err(fault),
-        },
-        Request::Show { file, task } => show(rt, alloc, file, task),
-        Request::Draw { set, slots, at } => match draw(rt, alloc, set, at, slots) {
-            Ok(true) => Ok(()),
-            Ok(false) => return refused(rt, TOO_LARGE),
-            Err(fault) => Err(fault),
-        },
-        Request::Check { set } => match check(rt, alloc, set) {
-            Ok(()) => Ok(()),
-            Err(refusal) => return refused_by_all(rt, &refusal),
-        },
-    };
-    match done {
-        Ok(()) => 0,
-        Err(fault) => failed(rt, fault),
+    let mut traces = Traces::new(alloc);
+    match carried_out(rt, threads, alloc, request, &mut traces) {
+        Ok(status) => {
+            warn(rt, alloc, &request, &traces);
+            status
+        }
+        Err(fault) if is_closed(&traces, fault) => fault.status(),
+        Err(fault) => {
+            let status = failed(rt, fault);
+            tell(rt, alloc, &request, &traces, fault);
+            status
+        }
     }
 }
 

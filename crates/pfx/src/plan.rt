@@ -1,22 +1,23 @@
 //! `pfx plan SET SLOTS --at LEDGER`.
 
 use crate::files::{fault_of, input};
+use crate::traces::{Traces, output_of, set_source};
 use pfx_fault::Fault;
 use pfx_program::run_plan;
 use std::alloc::Global;
-use std::io;
 use std::io::{BufWriter, Write};
 
-/// Prints the plan.
+/// Prints the plan. The traces have the set's text, as far as it was read.
 pub(crate) fn plan(
     rt: &HostRuntime,
     alloc: Global,
     set: &str,
     at: Option<&str>,
     slots: u32,
+    traces: &mut Traces,
 ) -> Result<(), Fault> {
-    let mut input = input(rt, set)?;
-    let Ok(mut output) = BufWriter::new(alloc, io::writer(rt)) else {
+    let mut input = set_source(input(rt, set)?, &mut traces.set);
+    let Ok(mut output) = BufWriter::new(alloc, output_of(rt, &traces.seen)) else {
         return Err(Fault::NoMemory);
     };
     let planned = run_plan(alloc, &mut input, at, &mut output, u64::from(slots));

@@ -1,12 +1,12 @@
 //! `pfx replay FILE`.
 
 use crate::files::{fault_of, open_fault, shared_disk};
+use crate::traces::{Traces, output_of};
 use pfx_disk::FileDisk;
 use pfx_fault::Fault;
 use pfx_kinds::any::AnyJob;
 use pfx_replay::{Verdict, put_verdict};
 use std::alloc::Global;
-use std::io;
 use std::io::{BufWriter, Write};
 
 // What a replay of the store of a file finds.
@@ -19,9 +19,14 @@ fn verdict_of(rt: &HostRuntime, alloc: Global, file: &str) -> Result<Verdict, Fa
 }
 
 /// Prints what a replay of the store of a file finds, and answers whether all agrees. Nothing is written to the file.
-pub(crate) fn replay(rt: &HostRuntime, alloc: Global, file: &str) -> Result<bool, Fault> {
+pub(crate) fn replay(
+    rt: &HostRuntime,
+    alloc: Global,
+    file: &str,
+    traces: &Traces,
+) -> Result<bool, Fault> {
     let verdict = verdict_of(rt, alloc, file)?;
-    let Ok(mut output) = BufWriter::new(alloc, io::writer(rt)) else {
+    let Ok(mut output) = BufWriter::new(alloc, output_of(rt, &traces.seen)) else {
         return Err(Fault::NoMemory);
     };
     let put = put_verdict(&mut output, verdict);

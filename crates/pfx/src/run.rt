@@ -5,8 +5,9 @@ ghost use Rattle.pfx_disk.specs.File.{file_view};
 ghost use Rattle.pfx_front.specs.Starting.{Begins};
 ghost use Rattle.pfx_kinds.specs.AnyKind.{any_kind};
 
-use crate::files::{Source, disk, input};
+use crate::files::{disk, input};
 use crate::store::{engine, opened};
+use crate::traces::{Lines, Traces, output_of, script_of};
 use pfx_crew::channel::ChannelDesk;
 use pfx_disk::FileDisk;
 use pfx_engine::run_durable;
@@ -18,7 +19,6 @@ use pfx_journal::Store;
 use pfx_kinds::any::AnyJob;
 use pfx_script::Script;
 use std::alloc::Global;
-use std::io;
 use std::sync::Wait;
 use std::thread::Threads;
 
@@ -27,13 +27,15 @@ fn run_alone(
     rt: &HostRuntime,
     alloc: Global,
     store: Store<FileDisk, AnyJob>,
-    script: &mut Script<Source>,
+    script: &mut Script<Lines<'_>>,
     window: u32,
+    traces: &Traces,
 ) -> Result<(), Fault>
     requires { 0 < window }
 {
     let mut engine = engine(alloc, store)?;
-    run_durable(alloc, script, window, &mut io::writer(rt), &mut engine)
+    let mut output = output_of(rt, &traces.seen);
+    run_durable(alloc, script, window, &mut output, &mut engine)
 }
 
 // Runs a script on a store by so many workers.
@@ -43,8 +45,9 @@ fn run_by<R: Threads + Wait + Copy + Drop + Send + Sync + 'static>(
     alloc: Global,
     store: Store<FileDisk, AnyJob>,
     workers: u32,
-    script: &mut Script<Source>,
+    script: &mut Script<Lines<'_>>,
     window: u32,
+    traces: &Traces,
 ) -> Result<(), Fault>
     requires some { 0 < window }
     requires begins { Begins any_kind store.state (file_view store.file.disk).failures (file_view store.file.disk).clock store.file.broken store.state (file_view store.file.disk) }
@@ -52,7 +55,7 @@ fn run_by<R: Threads + Wait + Copy + Drop + Send + Sync + 'static>(
     let Ok(desk) = ChannelDesk::<Quantum<AnyJob>, Done<AnyJob>>::new(alloc) else {
         return Err(Fault::NoMemory);
     };
-    let mut output = io::writer(rt);
+    let mut output = output_of(rt, &traces.seen);
     run_served(
         threads,
         alloc,
@@ -76,14 +79,25 @@ pub(crate) fn run<R: Threads + Wait + Copy + Drop + Send + Sync + 'static>(
     script: &str,
     workers: Option<u32>,
     window: Option<u32>,
+    traces: &Traces,
 ) -> Result<(), Fault> {
-    let mut script = Script::new(alloc, input(rt, script)?);
+    let mut script = Script::new(alloc, script_of(input(rt, script)?, &traces.seen));
     let store = opened(alloc, disk(rt, file, false)?)?;
     let workers = workers.unwrap_or(store.state().columns().workers());
     if workers == 0 {
-        run_alone(rt, alloc, store, &mut script, window.unwrap_or(1).max(1))
+        let window = window.unwrap_or(1).max(1);
+        run_alone(rt, alloc, store, &mut script, window, traces)
     } else {
         let window = window.unwrap_or(WINDOW).max(1);
-        run_by(rt, threads, alloc, store, workers, &mut script, window)
+        run_by(
+            rt,
+            threads,
+            alloc,
+            store,
+            workers,
+            &mut script,
+            window,
+            traces,
+        )
     }
 }

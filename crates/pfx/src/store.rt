@@ -8,6 +8,7 @@ ghost use Rattle.pfx_kinds.specs.AnyKind.{any_kind};
 use crate::files::{
     disk, fault_of, init_fault, input, open_fault, shared_disk, size_fault, sync_directory,
 };
+use crate::traces::{Traces, output_of, set_source};
 use pfx_disk::FileDisk;
 use pfx_engine::DurableEngine;
 use pfx_fault::Fault;
@@ -16,13 +17,19 @@ use pfx_journal::Store;
 use pfx_kinds::any::AnyJob;
 use pfx_program::{created_line, read_task_set, run_show, run_status};
 use std::alloc::Global;
-use std::io;
 use std::io::{BufWriter, Write};
 
 /// Makes a store of a set in a file, which is made where it is missing, and prints its line. The set's refusals and the
 /// segment's come before the file is touched. The file's directory is synced before the line is printed.
-pub(crate) fn init(rt: &HostRuntime, alloc: Global, set: &str, file: &str) -> Result<(), Fault> {
-    let (set, segment) = read_task_set(alloc, &mut input(rt, set)?)?;
+pub(crate) fn init(
+    rt: &HostRuntime,
+    alloc: Global,
+    set: &str,
+    file: &str,
+    traces: &mut Traces,
+) -> Result<(), Fault> {
+    let mut input = set_source(input(rt, set)?, &mut traces.set);
+    let (set, segment) = read_task_set(alloc, &mut input)?;
     if let Err(fault) = check_segment(&set, segment) {
         return Err(size_fault(fault));
     }
@@ -34,7 +41,7 @@ pub(crate) fn init(rt: &HostRuntime, alloc: Global, set: &str, file: &str) -> Re
     let Ok(line) = created_line(alloc, &set, store.places().len) else {
         return Err(Fault::NoMemory);
     };
-    match io::writer(rt).write_all(line.as_bytes()) {
+    match output_of(rt, &traces.seen).write_all(line.as_bytes()) {
         Ok(()) => Ok(()),
         Err(error) => Err(fault_of(&error, Fault::OutputFailed)),
     }
@@ -62,9 +69,14 @@ pub(crate) fn engine(
 }
 
 /// Prints the board of the store of a file.
-pub(crate) fn status(rt: &HostRuntime, alloc: Global, file: &str) -> Result<(), Fault> {
+pub(crate) fn status(
+    rt: &HostRuntime,
+    alloc: Global,
+    file: &str,
+    traces: &Traces,
+) -> Result<(), Fault> {
     let mut engine = engine(alloc, opened(alloc, shared_disk(rt, file)?)?)?;
-    let Ok(mut output) = BufWriter::new(alloc, io::writer(rt)) else {
+    let Ok(mut output) = BufWriter::new(alloc, output_of(rt, &traces.seen)) else {
         return Err(Fault::NoMemory);
     };
     let shown = run_status(alloc, &mut output, &mut engine);
@@ -87,11 +99,12 @@ pub(crate) fn show(
     alloc: Global,
     file: &str,
     task: Option<u32>,
+    traces: &Traces,
 ) -> Result<(), Fault> {
     let store = opened(alloc, shared_disk(rt, file)?)?;
     let task = match task {
         Some(task) => Some(task_of(task)),
         None => None,
     };
-    run_show(alloc, &mut io::writer(rt), store.state(), task)
+    run_show(alloc, &mut output_of(rt, &traces.seen), store.state(), task)
 }

@@ -6,6 +6,7 @@
 //! - `script`: scripts as users write them.
 //! - `fault`: the refusals as a reader of the output sees them.
 //! - `words`: words as a shell passes them, and the texts that answer them.
+//! - `notes`: what stands below a fault's line, and what is said of each fault.
 //! - `program`: plans of whole set files.
 //! - `scripts`: scripts over a state in memory.
 //! - `shown`: what is printed of a new store, of a state as its board, and of its jobs.
@@ -18,6 +19,8 @@
 mod fault;
 #[cfg(test)]
 mod long;
+#[cfg(test)]
+mod notes;
 #[cfg(test)]
 mod numerals;
 #[cfg(test)]

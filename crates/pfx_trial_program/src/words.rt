@@ -132,10 +132,40 @@ fn reads_a_run(rt: HostRuntime) {
             script: "a.csv",
             workers,
             batch,
+            strict: false,
         };
         assert!(rt;
             asks(rt.alloc(), words, want),
             "{workers:?} workers, {batch:?} at once"
+        );
+    }
+}
+
+#[test]
+fn reads_a_strict_run(rt: HostRuntime) {
+    let rows = [
+        ["pfx", "run", "a.pfx", "a.csv", "--strict"],
+        ["pfx", "run", "--strict", "a.pfx", "a.csv"],
+    ];
+    for words in rows {
+        let want = Request::Run {
+            file: "a.pfx",
+            script: "a.csv",
+            workers: None,
+            batch: None,
+            strict: true,
+        };
+        assert!(rt; asks(rt.alloc(), words.as_slice(), want), "{}", words[2]);
+    }
+}
+
+#[test]
+fn reads_an_explain(rt: HostRuntime) {
+    for fault in ["14", "BadWeight", "explain"] {
+        let words = ["pfx", "explain", fault];
+        assert!(rt;
+            asks(rt.alloc(), words.as_slice(), Request::Explain { fault }),
+            "{fault}"
         );
     }
 }
@@ -208,11 +238,11 @@ fn says_which_subcommands_there_are(rt: HostRuntime) {
     let rows = [
         (
             ["pfx"].as_slice(),
-            "[subcommands: plan, init, run, status, replay, show, draw, check, help]",
+            "[subcommands: plan, init, run, status, replay, show, draw, check, explain, help]",
         ),
         (
             [].as_slice(),
-            "[subcommands: plan, init, run, status, replay, show, draw, check, help]",
+            "[subcommands: plan, init, run, status, replay, show, draw, check, explain, help]",
         ),
         (
             ["pfx", "paln", "a.toml", "4"].as_slice(),
@@ -371,7 +401,7 @@ fn takes_up_to_64_workers(rt: HostRuntime) {
 fn answers_with_help_and_version(rt: HostRuntime) {
     let rows = [
         (["pfx", "--help"].as_slice(), "Usage: pfx <COMMAND>"),
-        (["pfx", "-h"].as_slice(), "  plan    Print which tasks run"),
+        (["pfx", "-h"].as_slice(), "  plan     Print which tasks run"),
         (
             ["pfx", "plan", "--help"].as_slice(),
             "Usage: pfx plan [OPTIONS] <SET> <SLOTS>",
@@ -416,6 +446,8 @@ fn has_a_help_page_for_each(rt: HostRuntime) {
         ("replay", "Usage: pfx replay <FILE>\n"),
         ("replay", "  differs 10 Checkpoint "),
         ("replay", "  pfx replay thirds.pfx "),
+        ("explain", "Usage: pfx explain <FAULT>\n"),
+        ("explain", "  pfx explain BadWeight "),
     ];
     for (name, part) in rows {
         let words = ["pfx", name, "--help"];

@@ -1,5 +1,5 @@
 -- Rows that show which words the command takes, and what they ask for.
-use Rattle.std.proofs.Common.{◌≡◌, codes, refl, [], ◌∷◌, List, Some, None, true}
+use Rattle.std.proofs.Common.{◌≡◌, codes, refl, [], ◌∷◌, List, Some, None, true, false}
 use Rattle.clap.specs.Walk.{Text}
 use Rattle.clap.specs.Takes.{takes}
 use Rattle.clap.specs.Faults.{fault_of}
@@ -70,7 +70,7 @@ takes_a_store = refl
 abbrev run_script : List Text
 run_script = pfx (codes "run" ∷ codes "a.pfx" ∷ codes "a.csv" ∷ [])
 
-pub asks_for_a_run : asked run_script ≡ Some (run (codes "a.pfx") (codes "a.csv") None None)
+pub asks_for_a_run : asked run_script ≡ Some (run (codes "a.pfx") (codes "a.csv") None None false)
 unfolding clap_on_literals asked
 asks_for_a_run = refl
 
@@ -82,7 +82,7 @@ takes_a_run = refl
 abbrev run_by_none : List Text
 run_by_none = pfx (codes "run" ∷ codes "a.pfx" ∷ codes "a.csv" ∷ codes "--workers" ∷ codes "0" ∷ [])
 
-pub asks_for_no_workers : asked run_by_none ≡ Some (run (codes "a.pfx") (codes "a.csv") (Some 0) None)
+pub asks_for_no_workers : asked run_by_none ≡ Some (run (codes "a.pfx") (codes "a.csv") (Some 0) None false)
 unfolding clap_on_literals asked
 asks_for_no_workers = refl
 
@@ -90,7 +90,7 @@ pub takes_no_workers : takes pfx_app run_by_none ≡ true
 unfolding clap_on_literals
 takes_no_workers = refl
 
-pub asks_for_most_workers : asked (pfx (codes "run" ∷ codes "--workers=64" ∷ codes "a.pfx" ∷ codes "a.csv" ∷ [])) ≡ Some (run (codes "a.pfx") (codes "a.csv") (Some 64) None)
+pub asks_for_most_workers : asked (pfx (codes "run" ∷ codes "--workers=64" ∷ codes "a.pfx" ∷ codes "a.csv" ∷ [])) ≡ Some (run (codes "a.pfx") (codes "a.csv") (Some 64) None false)
 unfolding clap_on_literals asked
 asks_for_most_workers = refl
 
@@ -98,7 +98,7 @@ asks_for_most_workers = refl
 abbrev run_in_batches : List Text
 run_in_batches = pfx (codes "run" ∷ codes "a.pfx" ∷ codes "a.csv" ∷ codes "--workers" ∷ codes "0" ∷ codes "--batch" ∷ codes "16" ∷ [])
 
-pub asks_for_batches : asked run_in_batches ≡ Some (run (codes "a.pfx") (codes "a.csv") (Some 0) (Some 16))
+pub asks_for_batches : asked run_in_batches ≡ Some (run (codes "a.pfx") (codes "a.csv") (Some 0) (Some 16) false)
 unfolding clap_on_literals asked
 asks_for_batches = refl
 
@@ -106,7 +106,11 @@ pub takes_batches : takes pfx_app run_in_batches ≡ true
 unfolding clap_on_literals
 takes_batches = refl
 
-pub asks_for_least_batch : asked (pfx (codes "run" ∷ codes "--batch=1" ∷ codes "a.pfx" ∷ codes "a.csv" ∷ [])) ≡ Some (run (codes "a.pfx") (codes "a.csv") None (Some 1))
+pub asks_for_a_strict_run : asked (pfx (codes "run" ∷ codes "--strict" ∷ codes "a.pfx" ∷ codes "a.csv" ∷ codes "--batch=1" ∷ [])) ≡ Some (run (codes "a.pfx") (codes "a.csv") None (Some 1) true)
+unfolding clap_on_literals asked
+asks_for_a_strict_run = refl
+
+pub asks_for_least_batch : asked (pfx (codes "run" ∷ codes "--batch=1" ∷ codes "a.pfx" ∷ codes "a.csv" ∷ [])) ≡ Some (run (codes "a.pfx") (codes "a.csv") None (Some 1) false)
 unfolding clap_on_literals asked
 asks_for_least_batch = refl
 

@@ -6,8 +6,10 @@ pub mod PlainPlan
 pub mod PlainInit
 pub mod PlainRun
 pub mod PlainBatch
+pub mod PlainStrict
 pub mod PlainShow
 pub mod PlainStatus
 pub mod PlainReplay
 pub mod PlainDraw
 pub mod PlainCheck
+pub mod PlainExplain

@@ -2,6 +2,7 @@
 use Rattle.std.specs.Prelude.{◌≡◌, false, true, codes, Some, pos}
 use Rattle.clap.specs.Walk.{Rule, Text, rule_of}
 use Rattle.clap.specs.Simple.{App, app_of, new_app, new_rule, with_rule, with_subcommand, on_top}
+use Rattle.clap.specs.declared.builder.action.ArgAction.TheVariants.{SetTrue}
 use Rattle.clap.specs.declared.builder.arg.Arg.{Arg}
 use Rattle.clap.specs.declared.builder.command.Command.{Command}
 use Rattle.clap.specs.declared.builder.command.Command.TheViews.{out-Command}
@@ -48,8 +49,16 @@ abbrev pub batch : Rule
 batch = record (new_rule (codes "batch")) { long = Some (codes "batch"); value_names = 1; parser = Some (vp.Signed (pos 1) (pos 16)) }
 
 -- and `--batch N`, which may be left out too
+abbrev pub run_by_batch : App
+run_by_batch = with_rule run_by_workers batch
+
+-- whether a run ends at its first refused record: `--strict`, which has no value
+abbrev pub strict : Rule
+strict = record (new_rule (codes "strict")) { long = Some (codes "strict"); action = Some SetTrue }
+
+-- and `--strict`
 abbrev pub run_app : App
-run_app = with_rule run_by_workers batch
+run_app = with_rule run_by_batch strict
 
 -- `status FILE`
 abbrev pub status_app : App
@@ -87,6 +96,10 @@ draw_app = with_rule draw_words at_ledger
 abbrev pub check_app : App
 check_app = with_rule (new_app (codes "check")) (required (codes "SET"))
 
+-- `explain FAULT`
+abbrev pub explain_app : App
+explain_app = with_rule (new_app (codes "explain")) (required (codes "FAULT"))
+
 -- `pfx`: one of its subcommands has to follow, and each of them tells the version too
 abbrev pub bare_app : App
 bare_app = on_top (λ s. record s { subcommand_required = true; has_version = true; propagate_version = true }) (new_app (codes "pfx"))
@@ -96,9 +109,11 @@ abbrev pub pfx_app : App
 pfx_app =
     with_subcommand
     (with_subcommand
+    (with_subcommand
     (with_subcommand (with_subcommand (with_subcommand (with_subcommand (with_subcommand (with_subcommand bare_app plan_app.top) init_app.top) run_app.top) status_app.top) replay_app.top) show_app.top)
     draw_app.top)
-    check_app.top
+    check_app.top)
+    explain_app.top
 
 -- the command is this one, with no global argument
 abbrev pub IsCommand : Command → App → Type 0

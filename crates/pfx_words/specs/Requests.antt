@@ -1,5 +1,5 @@
 -- What the words of a command line ask for.
-use Rattle.std.specs.Prelude.{ℕ, Bool, ◌&&◌, ◌≤◌, nat_lt, if◌then◌else◌, codes, List, length, Option, Some, None, option_map, option_and_then}
+use Rattle.std.specs.Prelude.{ℕ, Bool, false, ◌&&◌, ◌≤◌, nat_lt, if◌then◌else◌, codes, List, length, Option, Some, None, option_map, option_and_then}
 use Rattle.std.specs.Char.{digit_value}
 use Rattle.std.specs.List.{list_all}
 use Rattle.std.specs.Str.{bytes_eq}
@@ -14,23 +14,25 @@ use Rattle.pfx_words.specs.declared.request.Request.TheVariants as request
 pub data Asked : Type 0 where
   plan : Text → ℕ → Option Text → Asked
   init : Text → Text → Asked
-  run : Text → Text → Option ℕ → Option ℕ → Asked
+  run : Text → Text → Option ℕ → Option ℕ → Bool → Asked
   status : Text → Asked
   replay : Text → Asked
   show : Text → Option ℕ → Asked
   draw : Text → ℕ → Option Text → Asked
   check : Text → Asked
+  explain : Text → Asked
 
 -- the request that a value of the code is
 abbrev pub asked_by : Request → Asked
 asked_by (request.Plan set slots at) = plan set.now slots (option_map (λ s. s.now) at)
 asked_by (request.Init set file) = init set.now file.now
-asked_by (request.Run file script workers batch) = run file.now script.now workers batch
+asked_by (request.Run file script workers batch strict) = run file.now script.now workers batch strict
 asked_by (request.Status file) = status file.now
 asked_by (request.Replay file) = replay file.now
 asked_by (request.Show file task) = show file.now task
 asked_by (request.Draw set slots at) = draw set.now slots (option_map (λ s. s.now) at)
 asked_by (request.Check set) = check set.now
+asked_by (request.Explain fault) = explain fault.now
 
 -- one digit or more, of a number of 32 bits
 abbrev pub is_number : Text → Bool
@@ -46,6 +48,14 @@ text_at id rows = first_of id rows
 
 abbrev pub number_at : Text → List Row → Option ℕ
 number_at id rows = option_and_then number_of (one_of id rows)
+
+-- whether the first text that was found for an argument says so
+abbrev pub is_yes : Option Text → Bool
+is_yes None = false
+is_yes (Some text) = bytes_eq text (codes "true")
+
+abbrev pub flag_at : Text → List Row → Bool
+flag_at id rows = is_yes (text_at id rows)
 
 -- a plan, if both its words are there, with the ledger to begin with, if there is one
 abbrev pub plan_of : Option Text → Option ℕ → Option Text → Option Asked
@@ -66,14 +76,16 @@ init_of None file = None
 abbrev pub init_in : List Row → Option Asked
 init_in rows = init_of (text_at (codes "SET") rows) (text_at (codes "FILE") rows)
 
--- a run, if both its words are there, with the number of workers and that of slots kept at once, where there are any
-abbrev pub run_of : Option Text → Option Text → Option ℕ → Option ℕ → Option Asked
-run_of (Some file) (Some script) workers batch = Some (run file script workers batch)
-run_of (Some file) None workers batch = None
-run_of None script workers batch = None
+-- a run, if both its words are there, with the number of workers and that of slots kept at once, where there are any, and whether it
+-- ends at its first refused record
+abbrev pub run_of : Option Text → Option Text → Option ℕ → Option ℕ → Bool → Option Asked
+run_of (Some file) (Some script) workers batch strict = Some (run file script workers batch strict)
+run_of (Some file) None workers batch strict = None
+run_of None script workers batch strict = None
 
 abbrev pub run_in : List Row → Option Asked
-run_in rows = run_of (text_at (codes "FILE") rows) (text_at (codes "SCRIPT") rows) (number_at (codes "workers") rows) (number_at (codes "batch") rows)
+run_in rows =
+    run_of (text_at (codes "FILE") rows) (text_at (codes "SCRIPT") rows) (number_at (codes "workers") rows) (number_at (codes "batch") rows) (flag_at (codes "strict") rows)
 
 -- a look at a store, if its word is there
 abbrev pub status_in : List Row → Option Asked
@@ -104,6 +116,10 @@ draw_in rows = draw_of (text_at (codes "SET") rows) (number_at (codes "SLOTS") r
 abbrev pub check_in : List Row → Option Asked
 check_in rows = option_map check (text_at (codes "SET") rows)
 
+-- what is said of a fault, if its word is there
+abbrev pub explain_in : List Row → Option Asked
+explain_in rows = option_map explain (text_at (codes "FAULT") rows)
+
 -- what the subcommand of this name asks for, by what was found for its arguments
 abbrev pub asked_of : Text → List Row → Option Asked
 asked_of name rows =
@@ -115,7 +131,8 @@ asked_of name rows =
     else (if bytes_eq name (codes "show") then show_in rows
     else (if bytes_eq name (codes "draw") then draw_in rows
     else (if bytes_eq name (codes "check") then check_in rows
-    else None)))))))
+    else (if bytes_eq name (codes "explain") then explain_in rows
+    else None))))))))
 
 abbrev pub asked_in : Option (Text × List Row) → Option Asked
 asked_in None = None

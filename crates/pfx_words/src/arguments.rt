@@ -4,7 +4,7 @@ ghost use Rattle.std.specs.Prelude.{◌≡◌, option_map};
 ghost use Rattle.clap.specs.Matches.{found_of};
 ghost use Rattle.clap.specs.Walk.{rows_of};
 ghost use Rattle.pfx_words.specs.Commands.{required, IsArgument};
-ghost use Rattle.pfx_words.specs.Requests.{text_at, number_at};
+ghost use Rattle.pfx_words.specs.Requests.{flag_at, text_at, number_at};
 
 use clap::{Arg, ArgMatches};
 use std::alloc::Global;
@@ -26,4 +26,14 @@ pub(crate) fn number_under(matches: &ArgMatches<'_>, name: &str) -> Option<u32>
     ensures { result ≡ number_at name.now (rows_of (found_of matches.now)) }
 {
     matches.get_one::<u32>(name)
+}
+
+// Whether a flag is there.
+pub(crate) fn flag_under(matches: &ArgMatches<'_>, name: &str) -> bool
+    ensures { result ≡ flag_at name.now (rows_of (found_of matches.now)) }
+{
+    match text_under(matches, name) {
+        Some(text) => text == "true",
+        None => false,
+    }
 }

@@ -4,7 +4,7 @@ ghost use Rattle.std.specs.Prelude.{◌≡◌, ◌∷◌, [], Some, None, true, 
 ghost use Rattle.std.specs.Str.Parse.{digits_value, starts_with_minus};
 ghost use Rattle.clap.specs.Takes.{takes};
 ghost use Rattle.pfx_words.specs.Commands.{pfx_app};
-ghost use Rattle.pfx_words.specs.Requests.{IsBatch, IsDrawnSlots, IsSlots, IsTask, IsWorkers, asked, check, draw, show, plan, init, run, status, replay};
+ghost use Rattle.pfx_words.specs.Requests.{IsBatch, IsDrawnSlots, IsSlots, IsTask, IsWorkers, asked, check, draw, explain, show, plan, init, run, status, replay};
 
 /// `pfx plan SET SLOTS`: for any `set` that doesn't begin with a hyphen, and any `slots` of digits that write 0 to
 /// 1,048,576, the command takes these words, and they ask for the plan of that many slots.
@@ -32,7 +32,7 @@ pub fn plain_run(program: &str, file: &str, script: &str)
     requires script { starts_with_minus script.now ≡ false }
     ensures taken { takes pfx_app (program.now ∷ codes "run" ∷ file.now ∷ script.now ∷ []) ≡ true }
     ensures asked { asked (program.now ∷ codes "run" ∷ file.now ∷ script.now ∷ [])
-        ≡ Some (run file.now script.now None None) }
+        ≡ Some (run file.now script.now None None false) }
 {}
 
 /// `pfx run FILE SCRIPT --workers N`: the same words with any `workers` of digits that write 0 to 64 ask for a run by
@@ -44,7 +44,7 @@ pub fn plain_workers(program: &str, file: &str, script: &str, workers: &str)
     ensures taken { takes pfx_app
         (program.now ∷ codes "run" ∷ file.now ∷ script.now ∷ codes "--workers" ∷ workers.now ∷ []) ≡ true }
     ensures asked { asked (program.now ∷ codes "run" ∷ file.now ∷ script.now ∷ codes "--workers" ∷ workers.now ∷ [])
-        ≡ Some (run file.now script.now (Some (digits_value 10 workers.now)) None) }
+        ≡ Some (run file.now script.now (Some (digits_value 10 workers.now)) None false) }
 {}
 
 /// `pfx run FILE SCRIPT --batch N`: the same words with any `batch` of digits that write 1 to 16 ask for a run that keeps so
@@ -56,7 +56,7 @@ pub fn plain_batch(program: &str, file: &str, script: &str, batch: &str)
     ensures taken { takes pfx_app
         (program.now ∷ codes "run" ∷ file.now ∷ script.now ∷ codes "--batch" ∷ batch.now ∷ []) ≡ true }
     ensures asked { asked (program.now ∷ codes "run" ∷ file.now ∷ script.now ∷ codes "--batch" ∷ batch.now ∷ [])
-        ≡ Some (run file.now script.now None (Some (digits_value 10 batch.now))) }
+        ≡ Some (run file.now script.now None (Some (digits_value 10 batch.now)) false) }
 {}
 
 /// `pfx status FILE`: for any `file` that doesn't begin with a hyphen, the command takes these words, and they ask for
@@ -87,7 +87,7 @@ pub fn standard_run(program: &str, file: &str)
     requires file { starts_with_minus file.now ≡ false }
     ensures taken { takes pfx_app (program.now ∷ codes "run" ∷ file.now ∷ codes "-" ∷ []) ≡ true }
     ensures asked { asked (program.now ∷ codes "run" ∷ file.now ∷ codes "-" ∷ [])
-        ≡ Some (run file.now (codes "-") None None) }
+        ≡ Some (run file.now (codes "-") None None false) }
 {}
 
 /// `pfx replay FILE`: for any `file` that doesn't begin with a hyphen, the command takes these words, and they ask for
@@ -145,4 +145,22 @@ pub fn plain_check(program: &str, set: &str)
 pub fn standard_check(program: &str)
     ensures taken { takes pfx_app (program.now ∷ codes "check" ∷ codes "-" ∷ []) ≡ true }
     ensures asked { asked (program.now ∷ codes "check" ∷ codes "-" ∷ []) ≡ Some (check (codes "-")) }
+{}
+
+/// `pfx run FILE SCRIPT --strict`: the same words as of `pfx run FILE SCRIPT` with the flag ask for a run that ends behind its first
+/// refused record.
+pub fn plain_strict(program: &str, file: &str, script: &str)
+    requires file { starts_with_minus file.now ≡ false }
+    requires script { starts_with_minus script.now ≡ false }
+    ensures taken { takes pfx_app (program.now ∷ codes "run" ∷ file.now ∷ script.now ∷ codes "--strict" ∷ []) ≡ true }
+    ensures asked { asked (program.now ∷ codes "run" ∷ file.now ∷ script.now ∷ codes "--strict" ∷ [])
+        ≡ Some (run file.now script.now None None true) }
+{}
+
+/// `pfx explain FAULT`: for any word that doesn't begin with a hyphen, the command takes these words, and they ask for what is said
+/// of the fault that it names.
+pub fn plain_explain(program: &str, fault: &str)
+    requires fault { starts_with_minus fault.now ≡ false }
+    ensures taken { takes pfx_app (program.now ∷ codes "explain" ∷ fault.now ∷ []) ≡ true }
+    ensures asked { asked (program.now ∷ codes "explain" ∷ fault.now ∷ []) ≡ Some (explain fault.now) }
 {}

@@ -10,6 +10,7 @@
 mod arguments;
 mod check;
 mod draw;
+mod explain;
 mod init;
 pub mod laws;
 mod plan;

@@ -13,6 +13,7 @@ ghost use Rattle.pfx_words.specs.Requests.{asked_by, asked_in, asked};
 use crate::Request;
 use crate::check::{check_command, check_request};
 use crate::draw::{draw_command, draw_request};
+use crate::explain::{explain_command, explain_request};
 use crate::init::{init_command, init_request};
 use crate::plan::{plan_command, plan_request};
 use crate::replay::{replay_command, replay_request};
@@ -39,7 +40,8 @@ const EXAMPLE: &str = "Example:
   pfx replay thirds.pfx                         whether its records are what its commands do
   pfx show thirds.pfx                           what its jobs have computed
   pfx draw examples/thirds.toml 12              twelve slots of them as a picture
-  pfx check examples/thirds.toml                what these tasks ask for, or all that is wrong with them";
+  pfx check examples/thirds.toml                what these tasks ask for, or all that is wrong with them
+  pfx explain BadWeight                         what this fault means";
 
 fn bare_command<'a>(alloc: Global) -> Command<'a>
     ensures { IsCommand result bare_app }
@@ -64,7 +66,8 @@ fn pfx_command<'a>(alloc: Global) -> Result<Command<'a>, AllocError>
         .subcommand(replay_command(alloc)?)?
         .subcommand(show_command(alloc)?)?
         .subcommand(draw_command(alloc)?)?
-        .subcommand(check_command(alloc)?)
+        .subcommand(check_command(alloc)?)?
+        .subcommand(explain_command(alloc)?)
 }
 
 fn request_in<'a>(matches: &ArgMatches<'a>) -> Option<Request<'a>>
@@ -80,6 +83,7 @@ fn request_in<'a>(matches: &ArgMatches<'a>) -> Option<Request<'a>>
         "show" => show_request(inner),
         "draw" => draw_request(inner),
         "check" => check_request(inner),
+        "explain" => explain_request(inner),
         _ => None,
     }
 }

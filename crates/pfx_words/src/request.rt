@@ -31,6 +31,8 @@ pub enum Request<'a> {
         /// How many slots of a record are kept at once at the most, 1 to 16, where the words say so; else it is 1, or 64 with
         /// workers.
         batch: Option<u32>,
+        /// Whether the script ends behind its first refused record.
+        strict: bool,
     },
     /// Show the board of a store.
     Status {
@@ -62,5 +64,10 @@ pub enum Request<'a> {
     Check {
         /// The path of the set file; `-` is standard input.
         set: &'a str,
+    },
+    /// Say what a fault means.
+    Explain {
+        /// The fault's number or its name.
+        fault: &'a str,
     },
 }

@@ -1,14 +1,14 @@
-//! `pfx run FILE SCRIPT --workers N --batch N`.
+//! `pfx run FILE SCRIPT --workers N --batch N --strict`.
 
 ghost use Rattle.std.specs.Prelude.{◌≡◌, IfOk, option_map};
 ghost use Rattle.clap.specs.Matches.{found_of};
 ghost use Rattle.clap.specs.Walk.{rows_of};
-ghost use Rattle.pfx_words.specs.Commands.{workers, batch, run_words, run_by_workers, run_app, IsArgument, IsCommand};
+ghost use Rattle.pfx_words.specs.Commands.{workers, batch, strict, run_words, run_by_workers, run_by_batch, run_app, IsArgument, IsCommand};
 ghost use Rattle.pfx_words.specs.Requests.{asked_by, run_in};
 
 use crate::Request;
-use crate::arguments::{number_under, required_word, text_under};
-use clap::{Arg, ArgMatches, Command, value_parser};
+use crate::arguments::{flag_under, number_under, required_word, text_under};
+use clap::{Arg, ArgAction, ArgMatches, Command, value_parser};
 use std::alloc::{AllocError, Global};
 
 const ABOUT: &str = "Run a script of commands on a store";
@@ -41,7 +41,10 @@ record to it, and read the answer.
 With --workers N the jobs of a slot run on N threads, while another thread keeps the slots before it; with
 0 one thread does all. Without it there are as many as the store's set has workers. With --batch N up to
 N slots of one record are kept at once, by one write of the file, and their lines are printed then. The
-output is the same for all of them.";
+output is the same for all of them.
+
+With --strict the script ends behind its first refused record, as if no more stood in it: nothing
+further is carried out, and the exit status is 7.";
 
 const EXAMPLE: &str = "Example:
   pfx run thirds.pfx examples/thirds.csv    a job of three steps and three slots, then the board
@@ -67,6 +70,15 @@ fn batch_option<'a>(alloc: Global) -> Arg<'a>
         .value_parser(value_parser!(u32).range(1..=16))
 }
 
+fn strict_flag<'a>(alloc: Global) -> Arg<'a>
+    ensures { IsArgument result strict }
+{
+    Arg::new(alloc, "strict")
+        .long("strict")
+        .help("End at the first refused record, with status 7")
+        .action(ArgAction::SetTrue)
+}
+
 // The command without its options.
 fn bare_run<'a>(alloc: Global) -> Result<Command<'a>, AllocError>
     ensures { IfOk result (λ c. IsCommand c run_words) }
@@ -86,10 +98,16 @@ fn run_by_workers<'a>(alloc: Global) -> Result<Command<'a>, AllocError>
     bare_run(alloc)?.arg(workers_option(alloc))
 }
 
+fn run_by_batch<'a>(alloc: Global) -> Result<Command<'a>, AllocError>
+    ensures { IfOk result (λ c. IsCommand c run_by_batch) }
+{
+    run_by_workers(alloc)?.arg(batch_option(alloc))
+}
+
 pub(crate) fn run_command<'a>(alloc: Global) -> Result<Command<'a>, AllocError>
     ensures { IfOk result (λ c. IsCommand c run_app) }
 {
-    run_by_workers(alloc)?.arg(batch_option(alloc))
+    run_by_batch(alloc)?.arg(strict_flag(alloc))
 }
 
 pub(crate) fn run_request<'a>(matches: &ArgMatches<'a>) -> Option<Request<'a>>
@@ -99,10 +117,12 @@ pub(crate) fn run_request<'a>(matches: &ArgMatches<'a>) -> Option<Request<'a>>
     let script = text_under(matches, "SCRIPT")?;
     let workers = number_under(matches, "workers");
     let batch = number_under(matches, "batch");
+    let strict = flag_under(matches, "strict");
     Some(Request::Run {
         file,
         script,
         workers,
         batch,
+        strict,
     })
 }

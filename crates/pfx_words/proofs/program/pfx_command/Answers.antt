@@ -10,4 +10,5 @@ returns c =
     let five = with_one_more _ _ _ _ _ four c.in_ok-replay_command.ensures c.in_ok-subcommand-5.ensures in
     let six = with_one_more _ _ _ _ _ five c.in_ok-show_command.ensures c.in_ok-subcommand-6.ensures in
     let seven = with_one_more _ _ _ _ _ six c.in_ok-draw_command.ensures c.in_ok-subcommand-7.ensures in
-    with_last _ _ _ _ _ seven c.in_ok-check_command.ensures c.subcommand-8.ensures
+    let eight = with_one_more _ _ _ _ _ seven c.in_ok-check_command.ensures c.in_ok-subcommand-8.ensures in
+    with_last _ _ _ _ _ eight c.in_ok-explain_command.ensures c.subcommand-9.ensures

@@ -1,0 +1,17 @@
+//! `pfx explain FAULT`.
+
+use crate::files::fault_of;
+use crate::traces::{Traces, output_of};
+use pfx_fault::Fault;
+use pfx_notes::{entry_named, put_entry};
+
+/// Prints what is to be known of the fault that a word names; `false` where it names none, with nothing printed.
+pub(crate) fn explain(rt: &HostRuntime, word: &str, traces: &Traces) -> Result<bool, Fault> {
+    let Some(entry) = entry_named(word) else {
+        return Ok(false);
+    };
+    match put_entry(&mut output_of(rt, &traces.seen), entry) {
+        Ok(()) => Ok(true),
+        Err(error) => Err(fault_of(&error, Fault::OutputFailed)),
+    }
+}

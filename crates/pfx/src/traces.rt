@@ -1,0 +1,231 @@
+//! What a command leaves for what is said behind it: the text of the set that it read, and what it printed.
+
+use crate::files::Source;
+use std::alloc::Global;
+use std::cell::Cell;
+use std::io;
+use std::io::{Error, ErrorKind, Printer, Read, Write};
+
+/// How many bytes of a refusal are kept.
+const KEPT: usize = 64;
+
+/// How many bytes of a script are read at once, where each line of it is given alone.
+const ROOM: usize = 4096;
+
+/// What was seen of the output.
+#[derive(Clone, Copy)]
+pub(crate) struct Seen {
+    /// Why the last write failed.
+    pub(crate) failed: Option<ErrorKind>,
+    /// How many answers stand before the first refusal. An answer is what is written at the start of a line.
+    pub(crate) answers: u64,
+    /// How many answers are refusals.
+    pub(crate) refused: u64,
+    /// What the first refusal says behind its first word, and how many bytes of it.
+    pub(crate) refusal: [u8; KEPT],
+    pub(crate) len: usize,
+    /// Whether a script ends behind its first refusal.
+    strict: bool,
+    // Whether a line begins with what is written next.
+    fresh: bool,
+}
+
+impl Seen {
+    /// Of an output without a byte.
+    pub(crate) fn new() -> Seen {
+        Seen {
+            failed: None,
+            answers: 0,
+            refused: 0,
+            refusal: [0u8; KEPT],
+            len: 0,
+            strict: false,
+            fresh: true,
+        }
+    }
+
+    // Whether the script has come to its end.
+    fn has_ended(&self) -> bool {
+        self.strict && self.refused > 0
+    }
+
+    // Keeps what the first refusal says.
+    fn keep(&mut self, words: &[u8]) {
+        let mut len: usize = 0;
+        for byte in words {
+            if *byte == b'\n' || len >= KEPT {
+                break;
+            }
+            self.refusal[len] = *byte;
+            len += 1;
+        }
+        self.len = len;
+    }
+
+    // Sees bytes that were written.
+    fn see(&mut self, bytes: &[u8]) {
+        let Some(last) = bytes.last() else {
+            return;
+        };
+        if self.fresh {
+            match bytes.strip_prefix(b"refused ") {
+                Some(words) => {
+                    if self.refused == 0 {
+                        self.keep(words);
+                    }
+                    self.refused = self.refused.saturating_add(1);
+                }
+                None if self.refused == 0 => self.answers = self.answers.saturating_add(1),
+                None => {}
+            }
+        }
+        self.fresh = *last == b'\n';
+    }
+}
+
+/// What a command leaves.
+#[derive(Drop)]
+pub(crate) struct Traces {
+    /// The text of its set.
+    pub(crate) set: Vec<u8>,
+    /// What was seen of its output.
+    pub(crate) seen: Cell<Seen>,
+}
+
+impl Traces {
+    pub(crate) fn new(alloc: Global) -> Traces {
+        Traces {
+            set: Vec::new(alloc),
+            seen: Cell::new(Seen::new()),
+        }
+    }
+
+    /// Makes a script end behind its first refusal, where it is strict.
+    pub(crate) fn be_strict(&mut self, strict: bool) {
+        let mut seen = self.seen.get();
+        seen.strict = strict;
+        self.seen.set(seen);
+    }
+}
+
+/// Standard output, of which is seen what is written to it.
+#[derive(Drop)]
+pub(crate) struct Watched<'a> {
+    printer: Printer<'a, HostRuntime>,
+    seen: &'a Cell<Seen>,
+}
+
+/// Standard output.
+pub(crate) fn output_of<'a>(rt: &'a HostRuntime, seen: &'a Cell<Seen>) -> Watched<'a> {
+    Watched {
+        printer: io::writer(rt),
+        seen,
+    }
+}
+
+impl Write for Watched<'_> {
+    fn write(&mut self, bytes: &[u8]) -> io::Result<usize> {
+        let mut seen = self.seen.get();
+        match self.printer.write(bytes) {
+            Ok(count) => {
+                seen.see(&bytes[..count]);
+                self.seen.set(seen);
+                Ok(count)
+            }
+            Err(error) => {
+                seen.failed = Some(error.kind());
+                self.seen.set(seen);
+                Err(error)
+            }
+        }
+    }
+
+    fn flush(&mut self) -> io::Result<()> {
+        self.printer.flush()
+    }
+}
+
+/// A set's source, whose bytes are kept as they are read. Where there is no room for all of them, none are.
+#[derive(Drop)]
+pub(crate) struct Kept<'a> {
+    source: Source,
+    text: &'a mut Vec<u8>,
+    whole: bool,
+}
+
+/// A source whose bytes come to stand in the text.
+pub(crate) fn set_source(source: Source, text: &mut Vec<u8>) -> Kept<'_> {
+    Kept {
+        source,
+        text,
+        whole: true,
+    }
+}
+
+impl Read for Kept<'_> {
+    fn read(&mut self, bytes: &mut [u8]) -> io::Result<usize> {
+        let count = self.source.read(bytes)?;
+        if self.whole && self.text.extend_from_slice(&bytes[..count]).is_err() {
+            self.text.clear();
+            self.whole = false;
+        }
+        Ok(count)
+    }
+}
+
+/// A script's source. A strict one gives a line at a time, and nothing behind the first refusal.
+#[derive(Drop)]
+pub(crate) struct Lines<'a> {
+    source: Source,
+    seen: &'a Cell<Seen>,
+    room: [u8; ROOM],
+    at: usize,
+    end: usize,
+}
+
+/// The lines of a source.
+pub(crate) fn script_of(source: Source, seen: &Cell<Seen>) -> Lines<'_> {
+    Lines {
+        source,
+        seen,
+        room: [0u8; ROOM],
+        at: 0,
+        end: 0,
+    }
+}
+
+// How many bytes there are up to the end of the first line.
+fn line_len(bytes: &[u8]) -> usize {
+    match bytes.iter().position(|b| *b == b'\n' || *b == b'\r') {
+        Some(at) => at + 1,
+        None => bytes.len(),
+    }
+}
+
+impl Lines<'_> {
+    // Gives what fits of the line that begins in the room.
+    fn give(&mut self, bytes: &mut [u8]) -> usize {
+        let end = self.end.min(ROOM);
+        let at = self.at.min(end);
+        let count = line_len(&self.room[at..end]).min(end - at).min(bytes.len());
+        bytes[..count].copy_from_slice(&self.room[at..at + count]);
+        self.at = at + count;
+        count
+    }
+}
+
+impl Read for Lines<'_> {
+    fn read(&mut self, bytes: &mut [u8]) -> io::Result<usize> {
+        if !self.seen.get().strict {
+            return self.source.read(bytes);
+        }
+        if self.seen.get().has_ended() {
+            return Ok(0);
+        }
+        if self.at >= self.end {
+            self.at = 0;
+            self.end = self.source.read(&mut self.room)?;
+        }
+        Ok(self.give(bytes))
+    }
+}

@@ -1,0 +1,94 @@
+//! Notes of records of a script whose commands were refused.
+
+use crate::note::Note;
+use crate::places::{Place, line_behind, located, without_mark};
+use csv::{ByteRecord, ReaderBuilder};
+use pfx_numerals::number_in;
+use std::alloc::{AllocError, Global};
+use std::str::from_utf8;
+
+// How many lines a record has at the most where none of them is a refusal.
+fn answers_of(row: &ByteRecord) -> u64 {
+    if row.get(0) != Some(b"slot") {
+        return 1;
+    }
+    match row.get(3) {
+        Some(count) => number_in(10, count).unwrap_or(1),
+        None => 1,
+    }
+}
+
+fn line_of(text: &[u8], row: &ByteRecord) -> Option<Place> {
+    let byte = usize::try_from(row.position()?.byte()).ok()?;
+    Some(line_behind(text, byte))
+}
+
+// The place and the line of the record that has the answer behind so many ones.
+fn record_behind(alloc: Global, text: &[u8], answers: u64) -> Option<(u64, Option<Place>)> {
+    let mut reader = ReaderBuilder::new()
+        .has_headers(false)
+        .flexible(true)
+        .from_reader(alloc, text);
+    let mut row = ByteRecord::new(alloc);
+    let mut left = answers;
+    for place in 0..u64::MAX {
+        match reader.read_byte_record(&mut row) {
+            Ok(true) => {}
+            _ => return None,
+        }
+        let most = answers_of(&row);
+        if left < most {
+            return Some((place.saturating_add(1), line_of(text, &row)));
+        }
+        left = left.saturating_sub(most);
+    }
+    None
+}
+
+// What to do about a refusal of this name.
+fn change_of(refusal: &str) -> &'static str {
+    if refusal.contains("NoSuchTask") {
+        "Tasks are numbered from 0 in the order of the set: pfx status has a line for each."
+    } else if refusal.contains("TaskBusy") {
+        "Run more slots until its job is done, or take the job away first: withdraw,TASK,,,"
+    } else if refusal.contains("NoJob") {
+        "Take away only what is there: pfx status says job=open or job=done of a task that has one."
+    } else if refusal.contains("BadKind") {
+        "The kinds are count, rule and scan."
+    } else if refusal.contains("BadGoal") {
+        "Give a count or a rule 1 step or more as the fourth field, and leave it empty for a scan."
+    } else if refusal.contains("BadData") {
+        "A count has digits or nothing, a rule RULE:CELLS as 110:00000001, a scan NEEDLE:TEXT as ab:abcab."
+    } else if refusal.contains("SessionFull") {
+        "Run the rest of the script as another one."
+    } else {
+        "The store has come to its end: make a new one."
+    }
+}
+
+/// The note of the first refused record of a script: where it stands, how it was refused, what to change, and how many more records were.
+/// `answers` are the answers that were printed before it, `refusal` is what its line says behind `refused`, `refused` how many records
+/// were refused in all. Fails only where memory runs out.
+pub fn refused_note(
+    alloc: Global,
+    file: &str,
+    text: &[u8],
+    answers: u64,
+    refusal: &[u8],
+    refused: u64,
+) -> Result<Option<Note>, AllocError> {
+    let Some((place, line)) = record_behind(alloc, without_mark(text), answers) else {
+        return Ok(None);
+    };
+    let refusal = from_utf8(refusal).unwrap_or("");
+    let what = format!(in alloc; "record {place} was refused: {refusal}")?;
+    let what = located(alloc, file, line, what.as_str())?;
+    let change = Some(String::from_str(alloc, change_of(refusal))?);
+    let others = refused.saturating_sub(1);
+    let more = match others {
+        0 => None,
+        1 => Some(String::from_str(alloc, "One more record was refused.")?),
+        _ => Some(format!(in alloc; "{others} more records were refused.")?),
+    };
+    Ok(Some(Note { what, change, more }))
+}

@@ -1,0 +1,145 @@
+//! Notes as a user reads them: each fault has its entry, and what stands below a fault's line.
+
+use pfx_fault::Fault;
+use pfx_notes::{
+    Named, Note, entry_named, input_note, output_note, passed_over_note, put_entry, record_note,
+    refused_note, script_note, set_note, store_note,
+};
+use std::alloc::{AllocError, Global};
+
+/// The numbers of the faults, as USAGE has them.
+const NUMBERS: [u8; 37] = [
+    10, 11, 12, 13, 14, 16, 17, 19, 20, 21, 22, 23, 24, 25, 26, 31, 32, 33, 34, 41, 42, 43, 51, 52,
+    53, 54, 55, 56, 57, 58, 61, 64, 68, 71, 72, 73, 90,
+];
+
+/// Whether the fault of this number has an entry, under its number and under its name.
+fn is_explained(alloc: Global, number: u8) -> bool {
+    let Ok(word) = number.to_string(alloc) else {
+        return false;
+    };
+    let Some(entry) = entry_named(word.as_str()) else {
+        return false;
+    };
+    match entry_named(entry.fault.name()) {
+        Some(same) => entry.fault.number() == number && same.fault == entry.fault,
+        None => false,
+    }
+}
+
+#[test]
+fn explains_each_fault(rt: HostRuntime) {
+    for number in NUMBERS {
+        assert!(rt; is_explained(rt.alloc(), number), "{number}");
+    }
+    for word in ["", "9", "014", "badweight", "15", "BadWeight task=2"] {
+        assert!(rt; entry_named(word).is_none(), "{word}");
+    }
+}
+
+/// Whether the entry begins so.
+fn begins(alloc: Global, word: &str, front: &[u8]) -> bool {
+    let mut text = Vec::new(alloc);
+    match entry_named(word) {
+        Some(entry) => put_entry(&mut text, entry).is_ok() && text.as_slice().starts_with(front),
+        None => false,
+    }
+}
+
+#[test]
+fn prints_an_entry(rt: HostRuntime) {
+    assert!(rt;
+        begins(
+            rt.alloc(),
+            "BadWeight",
+            b"14 BadWeight, status 3\n\nThe weight e/p of this task"
+        )
+    );
+}
+
+/// Whether these are the note's lines.
+fn says(alloc: Global, note: Result<Option<Note>, AllocError>, lines: &str) -> bool {
+    match note {
+        Ok(Some(note)) => match note.text(alloc) {
+            Ok(text) => text.as_slice() == lines.as_bytes(),
+            Err(_) => false,
+        },
+        _ => false,
+    }
+}
+
+#[test]
+fn says_what_is_wrong_with_a_set(rt: HostRuntime) {
+    let text = b"workers = 2\n\n[[task]]\nname = \"big\"\ne =  3\np = 3\n";
+    let note = set_note(
+        rt.alloc(),
+        "a.toml",
+        text,
+        None,
+        Fault::BadWeight { task: 0 },
+    );
+    let lines = "  a.toml:5:6: task 0 \"big\" has e = 3, p = 3
+  A weight e/p is below 1: make e smaller than p, or take the task and one worker out of the set.\n";
+    assert!(rt; says(rt.alloc(), note, lines));
+    let note = set_note(rt.alloc(), "-", b"workers = 0\n", None, Fault::BadWorkers);
+    let lines = "  standard input:1:11: `workers` is 0
+  Workers are the tasks that run at once: write a number from 1 to 64.\n";
+    assert!(rt; says(rt.alloc(), note, lines));
+}
+
+#[test]
+fn says_what_is_wrong_with_a_script(rt: HostRuntime) {
+    let text = b"slot,,,1,\n\nslot 3\nsubmit,9,count,3,\nslot,,,2,\n";
+    let note = script_note(rt.alloc(), "a.csv", text, 2);
+    let lines = "  a.csv:3:1: record 2 has 1 field, `slot 3`, and a record has five
+  Write it as slot,,,COUNT, and leave fields that aren't used empty, with their commas.\n";
+    assert!(rt; says(rt.alloc(), note, lines));
+    let note = record_note(rt.alloc(), "-", 3);
+    let lines = "  standard input: record 3 has no form of a record
+  A record has five fields, VERB,TASK,KIND,GOAL,DATA, as submit,0,count,5, or slot,,,3, with unused ones empty.\n";
+    assert!(rt; says(rt.alloc(), note, lines));
+    let note = refused_note(
+        rt.alloc(),
+        "a.csv",
+        b"slot,,,2,\nwithdraw,0,,,\n",
+        2,
+        b"33 NoJob task=0",
+        3,
+    );
+    let lines = "  a.csv:2:1: record 2 was refused: 33 NoJob task=0
+  Take away only what is there: pfx status says job=open or job=done of a task that has one.
+  2 more records were refused.\n";
+    assert!(rt; says(rt.alloc(), note, lines));
+}
+
+#[test]
+fn says_what_is_wrong_with_a_file(rt: HostRuntime) {
+    let note = store_note(rt.alloc(), "a\nb", None, Fault::NotEmpty);
+    let lines = "  store a?b: the file isn't empty
+  Name another file; or delete this one, if nothing in it is wanted.\n";
+    assert!(rt; says(rt.alloc(), note, lines));
+    let note = input_note(rt.alloc(), Named::Script, "a.csv", "no such file", true);
+    let lines = "  script a.csv: no such file
+  Name a file that can be read, or - for standard input.\n";
+    assert!(rt; says(rt.alloc(), note, lines));
+    let note = output_note(rt.alloc(), "no space is left");
+    let lines = "  standard output: no space is left
+  What was carried out stands: pfx status says how far a store has come.\n";
+    assert!(rt; says(rt.alloc(), note, lines));
+}
+
+#[test]
+fn warns_of_keys(rt: HostRuntime) {
+    let text = b"workers = 2\nseed = 4\n[[task]]\nname = \"a\"\nweigth = 3\n";
+    let note = passed_over_note(rt.alloc(), "a.toml", text);
+    let lines = "  a.toml:2:1: `seed` is no key of a set, and is passed over
+  A set has the keys workers and segment and tables [[task]]; a task has name, e and p.
+  One more key is passed over.\n";
+    assert!(rt; says(rt.alloc(), note, lines));
+    assert!(rt;
+        matches!(
+            passed_over_note(rt.alloc(), "a.toml", b"workers = 2\n"),
+            Ok(None)
+        )
+    );
+}
