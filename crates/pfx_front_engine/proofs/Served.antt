@@ -145,7 +145,7 @@ module _ (B : Plain AnyJob) (r : Register AnyJob) (disk : View) (began : ℕ) (b
 
       stopped : (most : ℕ) (f : Fault) → IfSome lines.left (λ all. all ≡ records) → Stopped (promise notes B) most (failed ≡ true) (course_from (lines.place + 1) (at_start B) records).steps x y was is f
           → ((printed tried rest : List Step) (s t : Plain AnyJob) → Halts (failed ≡ true) (λ u g. IsFrontFault g) s (text_of printed) tried t was is f
-            → EndsBehind printed (tried ++ rest) (course_from (lines.place + 1) (at_start B) records).ends_at failed was is (Err f))
+          → EndsBehind printed (tried ++ rest) (course_from (lines.place + 1) (at_start B) records).ends_at failed was is (Err f))
           → IsServedRun B lines failed was is disk (Err f)
       stopped most f known h ends =
           let split : (script.commands_of h.printed ++ script.commands_of h.tried) ++ script.commands_of h.rest ≡ script.commands_of (h.printed ++ (h.tried ++ h.rest)) =
