@@ -10,7 +10,7 @@ use Rattle.pfx_words.specs.Requests.{explain, asked, asked_in}
 use Rattle.pfx_words.proofs.Plain.{sub_built, with_word, on_from, plain_on, plain_passes, ends_well, and_true}
 
 abbrev explain_built : Shape
-explain_built = sub_built 7
+explain_built = sub_built 8
 
 abbrev after_fault : Text → Walk
 after_fault fault = with_word explain_built 1 nothing_held fault
