@@ -96,9 +96,9 @@ fn made_note(rt: &HostRuntime, alloc: Global, path: &str) -> Result<Option<Note>
     match trouble(rt, path, true) {
         Some(ErrorKind::NotFound) => {
             let why = "it can't be made, for its directory isn't there or may not be written";
-            input_note(alloc, Named::Store, path, why, false)
+            input_note(alloc, Named::NewStore, path, why, false)
         }
-        Some(kind) => input_note(alloc, Named::Store, path, why(kind), false),
+        Some(kind) => input_note(alloc, Named::NewStore, path, why(kind), false),
         None => Ok(None),
     }
 }

@@ -14,13 +14,15 @@ pub enum Named {
     Script,
     /// A store.
     Store,
+    /// A store that is to be made.
+    NewStore,
 }
 
 fn noun(named: Named) -> &'static str {
     match named {
         Named::Set => "set",
         Named::Script => "script",
-        Named::Store => "store",
+        Named::Store | Named::NewStore => "store",
     }
 }
 
@@ -44,6 +46,7 @@ pub fn input_note(
     }
     let change = match named {
         Named::Store => "Name a store that pfx init has made, and that may be read and written.",
+        Named::NewStore => "Name a file that may be written, in a directory that is there.",
         _ => "Name a file that can be read, or - for standard input.",
     };
     two_lines(alloc, what, change)

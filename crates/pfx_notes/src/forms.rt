@@ -15,7 +15,7 @@ const TASKS: &str =
     "Write each task as [[task]], with two brackets, and name, e and p in the lines below.";
 
 const WEIGHT: &str =
-    "A weight is e/p, two whole numbers: a half is e = 1 and p = 2, two thirds are e = 2 and p = 3.";
+    "A weight is e/p, two integers: a half is e = 1 and p = 2, two thirds are e = 2 and p = 3.";
 
 const NAME: &str = "Give each task a name of its own: 1 to 32 ASCII letters, digits, _ or -.";
 
@@ -68,7 +68,7 @@ fn bad_workers(
     value: &Value,
 ) -> Result<Option<Note>, AllocError> {
     let kind = kind_of(value);
-    let what = format!(in alloc; "`workers` is {kind}, and has to be a whole number")?;
+    let what = format!(in alloc; "`workers` is {kind}, and has to be an integer")?;
     said(alloc, set, set.top_place("workers"), what, WORKERS)
 }
 
@@ -78,7 +78,7 @@ fn bad_segment(
     value: &Value,
 ) -> Result<Option<Note>, AllocError> {
     let kind = kind_of(value);
-    let what = format!(in alloc; "`segment` is {kind}, and has to be a whole number")?;
+    let what = format!(in alloc; "`segment` is {kind}, and has to be an integer")?;
     said(alloc, set, set.top_place("segment"), what, SEGMENT)
 }
 
@@ -92,7 +92,7 @@ fn bad_tasks(
         Some(place) => Some(place),
         None => set.top_place("task"),
     };
-    let what = format!(in alloc; "`task` is {kind}, and has to be a list of tables")?;
+    let what = format!(in alloc; "`task` is {kind}, and has to be an array of tables")?;
     said(alloc, set, place, what, TASKS)
 }
 
@@ -111,9 +111,9 @@ fn bad_member(
         return said(alloc, set, set.task_place(task), what, TASKS);
     };
     let wanted = if key == "name" {
-        "a text"
+        "a string"
     } else {
-        "a whole number"
+        "an integer"
     };
     if let Some(value) = table.get(key) {
         let kind = kind_of(value);

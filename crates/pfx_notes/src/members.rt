@@ -75,12 +75,12 @@ impl<'a> SetSource<'a> {
 /// What a value is, as `a string`.
 pub(crate) fn kind_of(value: &Value) -> &'static str {
     match value {
-        Value::String(_) => "a text",
-        Value::Integer(_) => "a whole number",
-        Value::Float(_) => "a number with a point",
-        Value::Boolean(_) => "true or false",
-        Value::Datetime(_) => "a date or a time",
-        Value::Array(_) => "a list",
+        Value::String(_) => "a string",
+        Value::Integer(_) => "an integer",
+        Value::Float(_) => "a float",
+        Value::Boolean(_) => "a boolean",
+        Value::Datetime(_) => "a date or time",
+        Value::Array(_) => "an array",
         Value::Table(_) => "a table",
     }
 }

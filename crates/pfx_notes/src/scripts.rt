@@ -117,7 +117,7 @@ fn used_note(alloc: Global, found: &Found<'_>, form: &str) -> Result<Option<Note
 fn task_note(alloc: Global, found: &Found<'_>) -> Result<Option<Note>, AllocError> {
     let task = front(alloc, found.field(1))?;
     let task = task.as_str();
-    let what = format!(in alloc; "has the task `{task}`, and a task is a number")?;
+    let what = format!(in alloc; "has the task `{task}`, and a task is a number, 0 to 65535")?;
     found.note(alloc, what.as_str(), TASK)
 }
 
