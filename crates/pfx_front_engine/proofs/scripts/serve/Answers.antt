@@ -13,7 +13,7 @@ use Rattle.pfx_front_engine.proofs.scripts.serve.Goals as goal
 pub returns-in_default : goal.returns-in_default
 returns-in_default g c =
     let begins = c.requires.begins in
-    unserved g.B.Named.start (g.D.Disk.view c.args.store.file.disk) c.args.script.now c.args.script.failed (g.W.Write.contents c.args.output.now) NoMemory (inr refl) (λ honest image here. begins.images honest image here ∙ ap Ok begins.state)
+    unserved g.B.Named.start (g.D.Disk.view c.args.store.file.disk) c.args.script.now c.args.script.now.failed (g.W.Write.contents c.args.output.now) NoMemory (inr refl) (λ honest image here. begins.images honest image here ∙ ap Ok begins.state)
 
 pub returns-in-Ok-close : goal.returns-in-Ok-close
 returns-in-Ok-close g c =
@@ -33,5 +33,5 @@ returns-after-pass g c = absurd c.never.ensures
 pub returns-in-Err : goal.returns-in-Err
 returns-in-Err g c =
     let begins = c.requires.begins in
-    subst (λ store. IsServedRun g.B.Named.start c.args.script.now c.args.script.failed (g.W.Write.contents c.args.output.now) (g.W.Write.contents c.args.output.now) (g.D.Disk.view store.file.disk) (Err c.start_fault.result)) (sym c.in-Err.ensures.err)
-    (unserved g.B.Named.start (g.D.Disk.view c.args.store.file.disk) c.args.script.now c.args.script.failed (g.W.Write.contents c.args.output.now) c.start_fault.result c.start_fault.ensures (λ honest image here. begins.images honest image here ∙ ap Ok begins.state))
+    subst (λ store. IsServedRun g.B.Named.start c.args.script.now c.args.script.now.failed (g.W.Write.contents c.args.output.now) (g.W.Write.contents c.args.output.now) (g.D.Disk.view store.file.disk) (Err c.start_fault.result)) (sym c.in-Err.ensures.err)
+    (unserved g.B.Named.start (g.D.Disk.view c.args.store.file.disk) c.args.script.now c.args.script.now.failed (g.W.Write.contents c.args.output.now) c.start_fault.result c.start_fault.ensures (λ honest image here. begins.images honest image here ∙ ap Ok begins.state))
