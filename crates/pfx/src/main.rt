@@ -105,15 +105,12 @@ fn carried_out<R: Threads + Wait + Copy + Drop + Send + Sync + 'static>(
         } => {
             traces.be_strict(strict);
             run(rt, threads, alloc, file, script, workers, batch, traces)?;
-            if strict && traces.seen.get().refused > 0 {
-                return Ok(REFUSED);
-            }
+            return Ok(if traces.has_ended() { REFUSED } else { 0 });
         }
         Request::Status { file } => status(rt, alloc, file, traces)?,
         Request::Replay { file } => {
-            if !replay(rt, alloc, file, traces)? {
-                return Ok(DIFFERS);
-            }
+            let agrees = replay(rt, alloc, file, traces)?;
+            return Ok(if agrees { 0 } else { DIFFERS });
         }
         Request::Show { file, task } => show(rt, alloc, file, task, traces)?,
         Request::Draw { set, slots, at } => {

@@ -1,5 +1,7 @@
 //! What a command leaves for what is said behind it: the text of the set that it read, and what it printed.
 
+ghost use Rattle.std.specs.Prelude.{◌≤◌, length};
+
 use crate::files::Source;
 use std::alloc::Global;
 use std::cell::Cell;
@@ -98,6 +100,11 @@ impl Traces {
             set: Vec::new(alloc),
             seen: Cell::new(Seen::new()),
         }
+    }
+
+    /// Whether a strict script has ended behind a refusal.
+    pub(crate) fn has_ended(&self) -> bool {
+        self.seen.get().has_ended()
     }
 
     /// Makes a script end behind its first refusal, where it is strict.
@@ -204,7 +211,9 @@ fn line_len(bytes: &[u8]) -> usize {
 
 impl Lines<'_> {
     // Gives what fits of the line that begins in the room.
-    fn give(&mut self, bytes: &mut [u8]) -> usize {
+    fn give(&mut self, bytes: &mut [u8]) -> usize
+        ensures { result ≤ length bytes.new }
+    {
         let end = self.end.min(ROOM);
         let at = self.at.min(end);
         let count = line_len(&self.room[at..end]).min(end - at).min(bytes.len());

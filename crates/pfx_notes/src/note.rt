@@ -53,7 +53,8 @@ impl Note {
     /// The note's lines, each with two spaces in front and a line feed behind. Within a line there is none: bytes that aren't seen are
     /// shown as question marks. Fails only where memory runs out.
     pub fn text(&self, alloc: Global) -> Result<Vec<u8>, AllocError>
-        ensures { IfOk result (λ v. v.items ≡ note_text (string_bytes self.now.what) (option_map (λ s. string_bytes s) self.now.change) (option_map (λ s. string_bytes s) self.now.more)) }
+        ensures { IfOk result (λ v. v.items ≡ note_text (string_bytes self.now.what) (option_map (λ s. string_bytes s) self.now.change)
+            (option_map (λ s. string_bytes s) self.now.more)) }
     {
         let mut lines = Vec::new(alloc);
         put_line(alloc, &mut lines, self.what.as_str())?;
