@@ -13,6 +13,7 @@ mod check;
 mod draw;
 mod files;
 mod plan;
+mod progress;
 mod replay;
 mod run;
 mod store;

@@ -1,6 +1,7 @@
 //! `pfx plan SET SLOTS --at LEDGER`.
 
 use crate::files::{fault_of, input};
+use crate::progress::Told;
 use pfx_fault::Fault;
 use pfx_program::run_plan;
 use std::alloc::Global;
@@ -16,11 +17,13 @@ pub(crate) fn plan(
     slots: u32,
 ) -> Result<(), Fault> {
     let mut input = input(rt, set)?;
-    let Ok(mut output) = BufWriter::new(alloc, io::writer(rt)) else {
+    let Ok(output) = BufWriter::new(alloc, io::writer(rt)) else {
         return Err(Fault::NoMemory);
     };
+    let mut output = Told::new(rt, alloc, output, "slots", Some(slots));
     let planned = run_plan(alloc, &mut input, at, &mut output, u64::from(slots));
     let flushed = output.flush();
+    output.clear();
     planned?;
     match flushed {
         Ok(()) => Ok(()),
