@@ -17,6 +17,7 @@ mod explain;
 mod files;
 mod notes;
 mod plan;
+mod progress;
 mod replay;
 mod run;
 mod store;

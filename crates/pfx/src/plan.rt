@@ -1,6 +1,7 @@
 //! `pfx plan SET SLOTS --at LEDGER`.
 
 use crate::files::{fault_of, input};
+use crate::progress::Told;
 use crate::traces::{Traces, output_of, set_source};
 use pfx_fault::Fault;
 use pfx_program::run_plan;
@@ -17,11 +18,13 @@ pub(crate) fn plan(
     traces: &mut Traces,
 ) -> Result<(), Fault> {
     let mut input = set_source(input(rt, set)?, &mut traces.set);
-    let Ok(mut output) = BufWriter::new(alloc, output_of(rt, &traces.seen)) else {
+    let Ok(output) = BufWriter::new(alloc, output_of(rt, &traces.seen)) else {
         return Err(Fault::NoMemory);
     };
+    let mut output = Told::new(rt, alloc, output, "slots", Some(slots));
     let planned = run_plan(alloc, &mut input, at, &mut output, u64::from(slots));
     let flushed = output.flush();
+    output.clear();
     planned?;
     match flushed {
         Ok(()) => Ok(()),

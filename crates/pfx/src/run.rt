@@ -6,6 +6,7 @@ ghost use Rattle.pfx_front.specs.Starting.{Begins};
 ghost use Rattle.pfx_kinds.specs.AnyKind.{any_kind};
 
 use crate::files::{disk, input};
+use crate::progress::Told;
 use crate::store::{engine, opened};
 use crate::traces::{Lines, Traces, output_of, script_of};
 use pfx_crew::channel::ChannelDesk;
@@ -34,8 +35,10 @@ fn run_alone(
     requires { 0 < window }
 {
     let mut engine = engine(alloc, store)?;
-    let mut output = output_of(rt, &traces.seen);
-    run_durable(alloc, script, window, &mut output, &mut engine)
+    let mut output = Told::new(rt, alloc, output_of(rt, &traces.seen), "lines", None);
+    let done = run_durable(alloc, script, window, &mut output, &mut engine);
+    output.clear();
+    done
 }
 
 // Runs a script on a store by so many workers.
@@ -55,8 +58,8 @@ fn run_by<R: Threads + Wait + Copy + Drop + Send + Sync + 'static>(
     let Ok(desk) = ChannelDesk::<Quantum<AnyJob>, Done<AnyJob>>::new(alloc) else {
         return Err(Fault::NoMemory);
     };
-    let mut output = output_of(rt, &traces.seen);
-    run_served(
+    let mut output = Told::new(rt, alloc, output_of(rt, &traces.seen), "lines", None);
+    let served = run_served(
         threads,
         alloc,
         store,
@@ -65,8 +68,9 @@ fn run_by<R: Threads + Wait + Copy + Drop + Send + Sync + 'static>(
         script,
         window,
         &mut output,
-    )
-    .result
+    );
+    output.clear();
+    served.result
 }
 
 /// Runs a script on the store of a file by so many workers, as many as its set has where none are said, or for 0 by one thread. Up
