@@ -1,0 +1,125 @@
+//! The run of the trials, and what its commands lead to by a slow fold, one task after the other.
+
+use pfx_disk::MemoryDisk;
+use pfx_jobs::job::Job;
+use pfx_kinds::any::AnyJob;
+use pfx_machine::{Command, State};
+use pfx_replay::{PlainLedger, PlainState, plain_state};
+use pfx_weights::TaskSet;
+use std::alloc::Global;
+
+/// How many commands the run has: two Submits and sixty Slots.
+pub const COMMANDS: u64 = 62;
+
+/// The least length of a segment of two workers, so that the run turns twice.
+pub const SEGMENT: u32 = 4233;
+
+/// How many calls make the file.
+pub const MADE: u64 = 9;
+
+/// How many calls the run takes behind them, with its turns and their checkpoints, where each command has a frame of its own.
+pub const CALLS: u64 = 272;
+
+/// An empty disk with room for the run.
+pub fn empty(alloc: Global) -> Option<MemoryDisk> {
+    MemoryDisk::new(alloc, &[], 9363, 1000, 60_000).ok()
+}
+
+/// The set: three tasks of weight 2/3 on two workers.
+pub fn thirds(alloc: Global) -> Option<TaskSet> {
+    TaskSet::new(alloc, 2, &[(2, 3), (2, 3), (2, 3)]).ok()
+}
+
+/// The run's command of this number: jobs of a thousand steps for tasks 0 and 1, and then Slots.
+pub fn command(number: u64) -> Option<Command<AnyJob>> {
+    match number {
+        0 => None,
+        1..=2 => {
+            let job = AnyJob::start("count", 1000, b"").ok()?;
+            Some(Command::Submit {
+                task: (number - 1) as u16,
+                job,
+            })
+        }
+        _ => Some(Command::Slot),
+    }
+}
+
+/// What commands lead to, and what they and one Slot behind them do.
+#[derive(Drop)]
+pub struct Fold {
+    pub state: PlainState<AnyJob>,
+    pub behind_slot: PlainState<AnyJob>,
+}
+
+/// The folds of the first commands: of none of them, of one, and so on up to all.
+pub fn folds(alloc: Global) -> Option<Vec<Fold>> {
+    let start = State::new(alloc, &thirds(alloc)?).ok()?;
+    let mut commands = Vec::new(alloc);
+    let mut folds = Vec::new(alloc);
+    for number in 1..COMMANDS + 2 {
+        let state = plain_state(alloc, &start, &commands).ok()??;
+        commands.push(Command::Slot).ok()?;
+        let behind_slot = plain_state(alloc, &start, &commands).ok()??;
+        folds.push(Fold { state, behind_slot }).ok()?;
+        commands.pop()?;
+        commands.push(command(number)?).ok()?;
+    }
+    Some(folds)
+}
+
+/// Whether a task's lag, in parts of its period, is what it is due less what it got.
+fn is_lag(ledger: &PlainLedger, task: usize, lag: i32) -> Option<bool> {
+    let (e, p) = *ledger.weights.get(task)?;
+    let got = *ledger.allocations.get(task)?;
+    let due = u64::from(e).saturating_mul(ledger.slot);
+    let had = u64::from(p).saturating_mul(got);
+    let distance = u64::from(lag.unsigned_abs());
+    Some(if lag < 0 {
+        had == due.saturating_add(distance)
+    } else {
+        due == had.saturating_add(distance)
+    })
+}
+
+/// Whether both are none, or jobs of the same encoding.
+fn is_job(job: Option<&AnyJob>, other: Option<&AnyJob>) -> bool {
+    match (job, other) {
+        (None, None) => true,
+        (Some(one), Some(two)) => {
+            let mut first = [0; 128];
+            let mut second = [0; 128];
+            one.encode(&mut first);
+            two.encode(&mut second);
+            first == second
+        }
+        _ => false,
+    }
+}
+
+/// Whether a state has these numbers, these allocations and lags, and these states of jobs.
+pub fn is_state(state: &State<AnyJob>, fold: &PlainState<AnyJob>) -> bool {
+    let ledger = state.columns();
+    let total = ledger.total();
+    if state.number() != fold.number
+        || ledger.slot() != fold.ledger.slot
+        || fold.ledger.allocations.len() != total
+        || state.jobs().len() != fold.jobs.len()
+    {
+        return false;
+    }
+    for task in 0..total {
+        if fold.ledger.allocations.get(task) != Some(&ledger.alloc(task))
+            || is_lag(&fold.ledger, task, ledger.lag(task)) != Some(true)
+        {
+            return false;
+        }
+    }
+    for (task, job) in state.jobs().iter().enumerate() {
+        match fold.jobs.get(task) {
+            Some(other) if is_job(job.as_ref(), other.as_ref()) => {}
+            _ => return false,
+        }
+    }
+    true
+}

@@ -1,0 +1,23 @@
+//! Trials of stores under hostile use: stops twice, and one failing call. In a crate of their own, so that the tested crates
+//! are proved once, without them.
+//!
+//! | Module | Tests |
+//! |---|---|
+//! | `folds` | the run of the trials, and what its commands lead to by `pfx_replay`'s slow fold |
+//! | `stopped` | stops behind each call of a disk, and again behind each call of a Slot that goes on |
+//! | `twice` | a store on one thread is stopped twice |
+//! | `failing` | each call of a store's run fails in turn, and each call of its opening |
+//!
+//! A case is a plain `bool`; `check` and `check_at` name the one that doesn't hold.
+#![tactic(auto)]
+
+#[cfg(test)]
+mod check;
+#[cfg(test)]
+mod failing;
+#[cfg(test)]
+mod folds;
+#[cfg(test)]
+mod stopped;
+#[cfg(test)]
+mod twice;

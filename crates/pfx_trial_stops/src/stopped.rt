@@ -1,0 +1,141 @@
+//! Stops behind each call of a run's disk; what each leaves is opened, one Slot is appended, and that is stopped again.
+
+use crate::folds::{Fold, MADE, is_state};
+use pfx_disk::{Disk, Fate, MemoryDisk};
+use pfx_engine::DurableEngine;
+use pfx_journal::Store;
+use pfx_machine::Command;
+use std::alloc::Global;
+
+/// What becomes of what isn't synced.
+pub const FATES: [Fate; 5] = [
+    Fate::Kept,
+    Fate::Dropped,
+    Fate::Filled(0x00),
+    Fate::Filled(0xc3),
+    Fate::Filled(0x5a),
+];
+
+/// A run on a disk: what its commands lead to, and the clock from which on each is marked.
+#[derive(Drop)]
+pub struct Run<'a> {
+    pub folds: &'a [Fold],
+    pub marks: &'a [u64],
+}
+
+/// The number of the last command that was marked by so many calls.
+fn marked_by(marks: &[u64], calls: u64) -> u64 {
+    let mut number: u64 = 0;
+    for (before, mark) in marks.iter().enumerate() {
+        if *mark <= calls {
+            number = (before as u64).saturating_add(1);
+        }
+    }
+    number
+}
+
+/// The bytes that a stop behind so many calls leaves.
+fn bytes_left(alloc: Global, disk: &MemoryDisk, calls: u64, fates: &[Fate]) -> Option<Vec<u8>> {
+    if disk.clock() < calls {
+        return None;
+    }
+    let mut left = disk.stopped(alloc, calls as usize, fates).ok()?;
+    let n = left.len().ok()?;
+    let mut bytes = Vec::new(alloc);
+    bytes.resize(n, 0).ok()?;
+    left.read(0, &mut bytes).ok()?;
+    Some(bytes)
+}
+
+/// Whether behind each call there are two writes at the most that no sync has covered: what becomes of a third one changes
+/// nothing.
+pub fn are_two(alloc: Global, disk: &MemoryDisk) -> bool {
+    for calls in MADE..disk.clock().saturating_add(1) {
+        let kept = bytes_left(alloc, disk, calls, &[]);
+        for byte in [0x00, 0xff] {
+            let third = [Fate::Kept, Fate::Kept, Fate::Filled(byte)];
+            if kept.is_none() || bytes_left(alloc, disk, calls, &third) != kept {
+                return false;
+            }
+        }
+    }
+    true
+}
+
+/// The engine over what a stop behind so many calls leaves.
+fn left(
+    alloc: Global,
+    disk: &MemoryDisk,
+    calls: u64,
+    fates: &[Fate],
+) -> Option<DurableEngine<MemoryDisk>> {
+    if disk.clock() < calls {
+        return None;
+    }
+    let left = disk.stopped(alloc, calls as usize, fates).ok()?;
+    DurableEngine::new(alloc, Store::open(alloc, left).ok()?).ok()
+}
+
+/// Whether a stop leaves the state behind the Slot, or the one before it where it isn't marked yet.
+fn is_one(
+    alloc: Global,
+    disk: &MemoryDisk,
+    calls: u64,
+    fates: &[Fate],
+    fold: &Fold,
+    is_marked: bool,
+) -> bool {
+    let Some(engine) = left(alloc, disk, calls, fates) else {
+        return false;
+    };
+    let state = engine.store.state();
+    is_state(state, &fold.behind_slot) || (!is_marked && is_state(state, &fold.state))
+}
+
+/// How many stops an opening and the appending of one Slot go through, a stop at each of their calls with each fate; `None`
+/// where one of them leaves anything but the state before the Slot or the one behind it, or not the latter once it is marked.
+/// An opening's first call is a sync and the others read, so that a stop behind these leaves what one behind the sync does.
+fn goes_on(alloc: Global, engine: DurableEngine<MemoryDisk>, fold: &Fold) -> Option<u64> {
+    let mut engine = engine;
+    let opened = engine.store.disk().clock();
+    let (mark, _reply) = engine.carry_out(alloc, Command::Slot).ok()?;
+    let disk = engine.into_store().into_disk();
+    let mut stops: u64 = 0;
+    for calls in 0..disk.clock().saturating_add(1) {
+        if calls > 1 && calls < opened {
+            continue;
+        }
+        for fate in FATES {
+            for fates in [[fate, fate], [Fate::Kept, fate]] {
+                if !is_one(alloc, &disk, calls, &fates, fold, mark.clock <= calls) {
+                    return None;
+                }
+                stops = stops.saturating_add(1);
+            }
+        }
+    }
+    Some(stops)
+}
+
+/// How many stops a run goes through, and how many the Slots behind them do, where this becomes of what isn't synced: of all
+/// of it, and of the last write, the others kept. There are to be two at the most.
+///
+/// `None` where one leaves anything but the state behind a beginning of the commands with every marked one.
+pub fn stops(alloc: Global, disk: &MemoryDisk, run: &Run<'_>, fate: Fate) -> Option<(u64, u64)> {
+    let mut first: u64 = 0;
+    let mut second: u64 = 0;
+    for calls in MADE..disk.clock().saturating_add(1) {
+        let least = marked_by(run.marks, calls);
+        for fates in [[fate, fate], [Fate::Kept, fate]] {
+            let engine = left(alloc, disk, calls, &fates)?;
+            let number = engine.store.state().number();
+            let fold = run.folds.get(number as usize)?;
+            if number < least || !is_state(engine.store.state(), &fold.state) {
+                return None;
+            }
+            first = first.saturating_add(1);
+            second = second.saturating_add(goes_on(alloc, engine, fold)?);
+        }
+    }
+    Some((first, second))
+}

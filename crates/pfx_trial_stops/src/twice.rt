@@ -1,0 +1,82 @@
+//! A store on one thread, stopped twice.
+
+use crate::check::check;
+use crate::folds::{CALLS, COMMANDS, SEGMENT, command, empty, folds, thirds};
+use crate::stopped::{Run, are_two, stops};
+use pfx_disk::{Fate, MemoryDisk};
+use pfx_engine::DurableEngine;
+use pfx_journal::Store;
+use std::alloc::Global;
+
+/// The disk behind the run, and the clocks of the run's marks.
+fn run_on_disk(alloc: Global) -> Option<(MemoryDisk, Vec<u64>)> {
+    let store = Store::init(alloc, empty(alloc)?, &thirds(alloc)?, SEGMENT).ok()?;
+    let mut engine = DurableEngine::new(alloc, store).ok()?;
+    let mut marks = Vec::new(alloc);
+    for number in 1..COMMANDS + 1 {
+        let (mark, _reply) = engine.carry_out(alloc, command(number)?).ok()?;
+        marks.push(mark.clock).ok()?;
+    }
+    Some((engine.into_store().into_disk(), marks))
+}
+
+/// How many stops the run goes through, and the Slots behind them.
+fn stops_of(alloc: Global, fate: Fate) -> Option<(u64, u64)> {
+    let (disk, marks) = run_on_disk(alloc)?;
+    let folds = folds(alloc)?;
+    let run = Run {
+        folds: &folds,
+        marks: &marks,
+    };
+    stops(alloc, &disk, &run, fate)
+}
+
+/// How many stops the run goes through: behind each of its calls and before the first, in two ways.
+const STOPS: u64 = 2 * (CALLS + 1);
+
+/// How many stops a Slot behind one of these goes through at least: before the opening, behind its sync and its last call, and
+/// behind the four calls of an append, in ten ways each.
+const MORE: u64 = 70;
+
+/// Whether the run is stopped so often with this fate, and each stop leaves what it has to, now and one Slot later.
+fn is_kept(alloc: Global, fate: Fate) -> bool {
+    match stops_of(alloc, fate) {
+        Some((first, second)) => first == STOPS && second >= MORE * STOPS,
+        None => false,
+    }
+}
+
+#[test]
+fn no_sync_waits_for_three_writes(rt: HostRuntime) {
+    let alloc = rt.alloc();
+    let holds = match run_on_disk(alloc) {
+        Some((disk, _marks)) => are_two(alloc, &disk),
+        None => false,
+    };
+    check(&rt, holds, "two writes");
+}
+
+#[test]
+fn stopped_twice_where_writes_are_kept(rt: HostRuntime) {
+    check(&rt, is_kept(rt.alloc(), Fate::Kept), "kept");
+}
+
+#[test]
+fn stopped_twice_where_writes_are_dropped(rt: HostRuntime) {
+    check(&rt, is_kept(rt.alloc(), Fate::Dropped), "dropped");
+}
+
+#[test]
+fn stopped_twice_where_torn_writes_are_closed_gates(rt: HostRuntime) {
+    check(&rt, is_kept(rt.alloc(), Fate::Filled(0x00)), "0x00");
+}
+
+#[test]
+fn stopped_twice_where_torn_writes_are_open_gates(rt: HostRuntime) {
+    check(&rt, is_kept(rt.alloc(), Fate::Filled(0xc3)), "0xc3");
+}
+
+#[test]
+fn stopped_twice_where_torn_writes_are_other_bytes(rt: HostRuntime) {
+    check(&rt, is_kept(rt.alloc(), Fate::Filled(0x5a)), "0x5a");
+}
