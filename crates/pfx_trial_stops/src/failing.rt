@@ -14,7 +14,7 @@ use pfx_store::StoreFault;
 use std::alloc::Global;
 
 /// How many calls an opening of the disk behind the run takes.
-const OPENING: u64 = 63;
+const OPENING: u64 = 4;
 
 /// The engine on a disk whose call of this number fails, doing its work all the same or not.
 fn failing(alloc: Global, call: u64, works: bool) -> Option<DurableEngine<FaultDisk<MemoryDisk>>> {
