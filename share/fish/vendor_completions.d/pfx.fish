@@ -35,11 +35,13 @@ complete -c pfx -n __fish_use_subcommand -a replay -d "Run a store's commands ag
 complete -c pfx -n __fish_use_subcommand -a show -d 'Show what the jobs of a store have computed'
 complete -c pfx -n __fish_use_subcommand -a draw -d 'Draw the first slots of a plan as a picture'
 complete -c pfx -n __fish_use_subcommand -a check -d 'Say what a task set asks for, or all that is wrong with it'
+complete -c pfx -n __fish_use_subcommand -a explain -d 'Say what a fault means'
 complete -c pfx -n __fish_use_subcommand -a help -d 'Print this message or the help of the given subcommand(s)'
 
 complete -c pfx -n '__fish_seen_subcommand_from plan' -l at -x -d 'Begin with a ledger, T:A,A,..'
 complete -c pfx -n '__fish_seen_subcommand_from run' -l workers -x -d 'How many workers run the jobs, 0 to 64'
 complete -c pfx -n '__fish_seen_subcommand_from run' -l batch -x -d 'How many slots of a record are kept at once, 1 to 16'
+complete -c pfx -n '__fish_seen_subcommand_from run' -l strict -d 'End at the first refused record, with status 7'
 complete -c pfx -n '__fish_seen_subcommand_from draw' -l at -x -d 'Begin with a ledger, T:A,A,..'
 
 complete -c pfx -k -n '__pfx_at plan 1' -a '(__fish_complete_suffix .toml)'
@@ -52,4 +54,5 @@ complete -c pfx -n '__pfx_at replay 1' -F
 complete -c pfx -n '__pfx_at show 1' -F
 complete -c pfx -k -n '__pfx_at draw 1' -a '(__fish_complete_suffix .toml)'
 complete -c pfx -k -n '__pfx_at check 1' -a '(__fish_complete_suffix .toml)'
-complete -c pfx -n '__pfx_at help 1' -a 'plan init run status replay show draw check help'
+complete -c pfx -n '__pfx_at explain 1'
+complete -c pfx -n '__pfx_at help 1' -a 'plan init run status replay show draw check explain help'
