@@ -110,6 +110,17 @@ copy_tree() {
   done | xargs -0 cp --parents -p -t "$1") && git -C "$1" init -q .
 }
 
+# Says what the gate would refuse, but only once it has proved what lies below: files that the toolchain's formatter writes
+# otherwise, and wrong bodies whose text isn't there. It looks at a copy of the work tree in the folder $1.
+says_at_once() {
+  local name
+  copy_tree "$1" && git -C "$1" add -A || return
+  for name in $(all_crates); do
+    (cd "$1/crates/$name" && "$rt" fmt 2>&1 | sed -n "s/^rt: note: /$name: /p")
+  done
+  git -C "$1" diff --name-only | sed 's/$/: not as rt fmt writes it/'
+}
+
 # Takes from the copy $1 the tests of its crate $2: the crate itself where it is only tests, else the tests within.
 drop_tests() {
   case $2 in
