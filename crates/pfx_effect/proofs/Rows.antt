@@ -98,6 +98,5 @@ all_copied row i tasks front l m =
     let whole : length (tasks_of row) ≤ length row = omega (arith, length-map row (λ place. place.task)) in
     subst (λ n. take n tasks ≡ take n (tasks_of row)) same front ∙ take_all (length row) (tasks_of row) whole
 
-pub row_there : (o : Option (List ℕ)) (front tasks : List ℕ) → front ≡ tasks → length tasks ≤ 64 → IsTrue (rises_from 0 tasks) → MatchOption o (IsRow front → ⊥) (λ row. IsRow front × (row ≡ front)) → MatchOption o ⊥ (λ row. row ≡ tasks)
-row_there None front tasks is few rise h = h (subst IsRow (sym is) (few, strict 0 tasks rise))
-row_there (Some row) front tasks is few rise h = h.1 ∙ is
+pub row_is : (front tasks : List ℕ) → front ≡ tasks → length tasks ≤ 64 → IsTrue (rises_from 0 tasks) → IsRow front
+row_is front tasks is few rise = subst IsRow (sym is) (few, strict 0 tasks rise)

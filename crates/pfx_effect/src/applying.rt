@@ -1,5 +1,5 @@
 // Taking records over.
-ghost use Rattle.std.specs.Prelude.{◌≡◌, ◌≤◌, ◌<◌, ◌+◌, ◌^◌, ◌==◌, ◌&&◌, nat_lt, map, length, slice_get, IsTrue, IsFalse, MatchOption, Some, None};
+ghost use Rattle.std.specs.Prelude.{◌≡◌, ◌≤◌, ◌<◌, ◌+◌, ◌^◌, ◌==◌, ◌&&◌, nat_lt, map, length, slice_get, IsTrue, IsFalse, Some, None};
 ghost use Rattle.std.specs.List.{list_all};
 ghost use Rattle.std.specs.List.Sorted.{IsStrictlyIncreasing};
 ghost use Rattle.pfx_columns.specs.Ledgers.{total};
@@ -71,16 +71,18 @@ fn are_flagged<J: Job>(jobs: &[Option<J>], total: usize, row: &[Place<J>]) -> bo
 }
 
 // The tasks of a row.
-fn row_of<J>(row: &[Place<J>]) -> Option<Row>
+fn row_of<J>(row: &[Place<J>]) -> Row
     requires few { length row.now ≤ 64 }
     requires rises { IsTrue (rises_from 0 (tasks_of row.now)) }
-    ensures { MatchOption result ⊥ (λ tasks. tasks ≡ tasks_of row.now) }
+    ensures { result ≡ tasks_of row.now }
 {
     let mut tasks = [0; 64];
     for i in 0..row.len() {
         tasks[i] = row[i].task;
     }
-    Row::new(&tasks[..row.len()])
+    let mut made = Row::empty();
+    made.set(&tasks[..row.len()]);
+    made
 }
 
 // Puts the states of a row in the places of its tasks' jobs.
@@ -109,17 +111,13 @@ fn apply_row<J: Job>(state: &mut State<J>, row: &[Place<J>]) -> bool
     if !are_flagged(state.jobs(), total, row) {
         return false;
     }
-    match row_of(row) {
-        None => false,
-        Some(tasks) => {
-            if !state.pass_row(&tasks) {
-                return false;
-            }
-            put_states(state, row);
-            state.count();
-            true
-        }
+    let tasks = row_of(row);
+    if !state.pass_row(&tasks) {
+        return false;
     }
+    put_states(state, row);
+    state.count();
+    true
 }
 
 /// Takes over a record, if it is right at the state. Else nothing changes. It takes no memory.

@@ -1,24 +1,22 @@
 -- Where a frame leads, by what was read of it.
-use Rattle.std.specs.Prelude.{◌≡◌, ◌≢◌, ℕ, List, [], ◌∷◌, ◌++◌, length, Option, Some, None, IsTrue, refl}
-use Rattle.std.proofs.Common.{sym, ◌∙◌, ap, arith, append-nil, length-append, subst}
-use Rattle.std.proofs.lemmas.Option.{none-some}
+use Rattle.std.specs.Prelude.{◌≡◌, ◌≢◌, ℕ, List, [], ◌∷◌, ◌++◌, length, Option, Some, None, refl}
+use Rattle.std.proofs.Common.{sym, ◌∙◌, ap, arith, append-nil, length-append}
 use Rattle.pfx_effect.specs.Applying.{applied}
 use Rattle.pfx_jobs.specs.Kind.{Kind, Laws}
 use Rattle.pfx_machine.specs.Plain.{Plain}
-use Rattle.pfx_record.specs.Batches.{PlainBatch, batch_bytes, batch_fits}
-use Rattle.pfx_record.specs.Begins.{Begins}
+use Rattle.pfx_record.specs.Batches.{PlainBatch, batch_bytes}
 use Rattle.pfx_record.specs.Reading.{IsBatch, NoBatch}
 use Rattle.pfx_record.proofs.Bodies.{one_batch}
 use Rattle.pfx_format.specs.Batches.{batch_in, if_some}
 use Rattle.pfx_format.specs.Frames.{number_after, state_after}
-use Rattle.pfx_format.proofs.Batches.{batch_spelled, batch_there, if_some_is}
+use Rattle.pfx_format.proofs.Batches.{batch_spelled, batch_there}
 use Rattle.pfx_format.proofs.Nexts.{after_is}
 
 nothing : {A B : Type 0} (o : Option A) → if_some {B = B} o (λ a. None) ≡ None
 nothing None = refl
 nothing (Some a) = refl
 
-none_of : {A : Type 0} (o : Option A) → ((a : A) → o ≡ Some a → ⊥) → o ≡ None
+pub none_of : {A : Type 0} (o : Option A) → ((a : A) → o ≡ Some a → ⊥) → o ≡ None
 none_of None h = refl
 none_of (Some a) h = absurd (h a refl)
 
@@ -27,9 +25,18 @@ module _ {J : Type 0} (K : Kind J) (s : Plain J) (frame : List ℕ) where
   unfolding state_after
   no_number h = sym (ap (λ o. if_some o (λ last. if_some (batch_in K s.ledger.set.workers frame) (λ batch. applied K s batch.records))) h)
 
-  none_found : batch_in K s.ledger.set.workers frame ≡ None → None ≡ state_after K s frame
+  pub none_found : batch_in K s.ledger.set.workers frame ≡ None → None ≡ state_after K s frame
   unfolding state_after
   none_found h = sym (ap (λ o. if_some (number_after s.number frame) (λ last. if_some o (λ batch. applied K s batch.records))) h ∙ nothing (number_after s.number frame))
+
+  -- where no batch that is found leads on, the frame doesn't
+  pub leads_none : ((batch : PlainBatch J) → batch_in K s.ledger.set.workers frame ≡ Some batch → applied K s batch.records ≡ None) → None ≡ state_after K s frame
+  unfolding state_after
+  leads_none wrong = sym (ap (λ o. if_some (number_after s.number frame) (λ last. o)) (each (batch_in K s.ledger.set.workers frame) refl) ∙ nothing (number_after s.number frame))
+    where
+      each : (o : Option (PlainBatch J)) → batch_in K s.ledger.set.workers frame ≡ o → if_some o (λ batch. applied K s batch.records) ≡ None
+      each None found = refl
+      each (Some batch) found = wrong batch found
 
   module _ (L : Laws K) where
     pub no_batch : NoBatch K s.ledger.set.workers frame → None ≡ state_after K s frame

@@ -1,3 +1,5 @@
 pub mod Batches
 pub mod Format
 pub mod Frames
+pub mod Idle
+pub mod Taking

@@ -1,13 +1,15 @@
 // Frames, read and taken over.
-ghost use Rattle.std.specs.Prelude.{◌≡◌, ◌≤◌, ◌<◌, ◌+◌, ◌^◌, length, drop, IfOk};
+ghost use Rattle.std.specs.Prelude.{◌≡◌, ◌≤◌, ◌<◌, ◌+◌, ◌^◌, ℕ, length, drop, IfOk, IsTrue, IsFalse, Some, None};
 ghost use Rattle.byteorder.specs.Endian.{little_number};
 ghost use Rattle.pfx_format.specs.Frames.{number_after, state_after};
+ghost use Rattle.pfx_format.specs.Taking.{AreTaken, AreWrong};
 
+use crate::idle::{idle_len, pass_idle};
 use byteorder::{ByteOrder, LittleEndian};
-use pfx_effect::apply_all;
+use pfx_effect::apply_record;
 use pfx_jobs::job::Job;
 use pfx_machine::State;
-use pfx_record::{BatchFault, read_batch};
+use pfx_record::{read_head, read_next};
 use std::alloc::{AllocError, Global};
 
 /// The number of eight bytes, the lowest first.
@@ -39,33 +41,64 @@ pub fn number_after(last: u64, frame: &[u8]) -> Option<u64>
     if next >= 1 << 48 { None } else { Some(next) }
 }
 
-/// The state behind a frame, or `None` where its head isn't right behind the state's number, or a record of it isn't right
-/// where it comes. An error comes only where a growth of memory was refused.
-pub fn state_after<J: Job>(
+// Takes over so many records, which fill the body. Where one isn't right where it comes, or they don't fill it, the answer is
+// `false`, and the state is that behind those before.
+fn take_records<J: Job>(
     alloc: Global,
-    state: State<J>,
+    state: &mut State<J>,
+    workers: u32,
+    count: u16,
+    body: &[u8],
+) -> Result<bool, AllocError>
+    requires few { workers ≤ 64 }
+    ensures taken { IfOk result (λ right. IsTrue right → AreTaken J.kind workers body.now count state.old state.new) }
+    ensures wrong { IfOk result (λ right. IsFalse right → AreWrong J.kind workers body.now count state.old) }
+{
+    let mut at = 0;
+    for i in 0..count {
+        if pass_idle(state, workers, &body[at..]) {
+            at += idle_len(workers);
+            continue;
+        }
+        match read_next(alloc, workers, &body[at..])? {
+            None => return Ok(false),
+            Some((entry, taken)) => {
+                if !apply_record(state, &entry) {
+                    return Ok(false);
+                }
+                at += taken;
+            }
+        }
+    }
+    if at < body.len() {
+        return Ok(false);
+    }
+    Ok(true)
+}
+
+/// Takes over a frame. Where its head isn't right behind the state's number, or a record of it isn't right where it comes, the
+/// answer is `false`, and the state is that of the records before. An error comes only where a growth of memory was refused.
+pub fn apply_frame<J: Job>(
+    alloc: Global,
+    state: &mut State<J>,
     frame: &[u8],
-) -> Result<Option<State<J>>, AllocError>
-    ensures { IfOk result (λ next. next ≡ state_after J.kind state frame.now) }
+) -> Result<bool, AllocError>
+    ensures taken { IfOk result (λ right. IsTrue right → state_after J.kind state.old frame.now ≡ Some state.new) }
+    ensures wrong { IfOk result (λ right. IsFalse right → state_after J.kind state.old frame.now ≡ None) }
 {
     match number_after(state.number(), frame) {
-        None => return Ok(None),
+        None => return Ok(false),
         Some(_) => (),
     }
     let workers = state.columns().workers();
-    match read_batch(alloc, workers, frame) {
-        Err(BatchFault::NoMemory) => Err(AllocError),
-        Err(BatchFault::Damaged { .. }) => Ok(None),
-        Ok((batch, taken)) => {
-            if taken != frame.len() {
-                return Ok(None);
+    match read_head(workers, frame) {
+        None => Ok(false),
+        Some(head) => {
+            let end = 15 + head.len as usize;
+            if end != frame.len() {
+                return Ok(false);
             }
-            let mut next = state;
-            if apply_all(&mut next, &batch.records) {
-                Ok(Some(next))
-            } else {
-                Ok(None)
-            }
+            take_records(alloc, state, workers, head.count, &frame[15..end])
         }
     }
 }

@@ -7,10 +7,14 @@
 //! 2. its bytes are the spelling of a batch, all of them;
 //! 3. each record is right where it comes, as `pfx_effect` says, and is taken over as it stands.
 //!
+//! Records are read and taken over one by one, so that a batch isn't held, and a slot's record in which no task has a state
+//! without a list of places: it takes no memory.
+//!
 //! `laws` has that the codec keeps what recovery asks of one.
 #![tactic(auto)]
 
 mod frames;
+mod idle;
 pub mod laws;
 
-pub use frames::{number_after, number_of, state_after};
+pub use frames::{apply_frame, number_after, number_of};

@@ -4,7 +4,7 @@ ghost use Rattle.pfx_format.specs.Format.{format, IsSetOf};
 ghost use Rattle.pfx_header.specs.declared.sizes.TheConstants.{HEADER_MOST};
 
 use pfx_checkpoint::{CheckpointFault, freeze, read, state_len};
-use pfx_format::{number_after, number_of, state_after};
+use pfx_format::{apply_frame, number_after, number_of};
 use pfx_header::{HEADER_MOST, HeaderFault, header_len, read_header};
 use pfx_jobs::job::Job;
 use pfx_machine::State;
@@ -126,8 +126,8 @@ impl<J: Job> Format for FileFormat<J> {
         number_after(last, frame)
     }
 
-    fn apply(alloc: Global, state: State<J>, frame: &[u8]) -> Result<Option<State<J>>, AllocError> {
-        state_after(alloc, state, frame)
+    fn apply(alloc: Global, state: &mut State<J>, frame: &[u8]) -> Result<bool, AllocError> {
+        apply_frame(alloc, state, frame)
     }
 
     fn spell(_header: &FileHeader, state: &State<J>, out: &mut [u8]) {

@@ -26,6 +26,16 @@ gives_handed {T = T} {U = U} P Q r there f whole e (Err x) stage is gives same =
     subst (λ y. Gives {T = U} Q whole (Err y)) (sym same)
     (subst (λ y. Gives {T = U} Q y (Err e)) (sym stage) (gives_err P Q r f e (subst (λ y. Gives {T = T} P y (Err e)) (sym is) gives)))
 
+-- a fault of a call within, of what is read as that
+pub gives_other : {T U A : Type 0} (P : T → Result A means.Refusal → Type 0) (Q : U → Result A means.Refusal → Type 0) (read : Result A means.Refusal) (e : OpenFault) (result : Result U OpenFault) → Gives P read (Err e) → IsErrAnd result (λ x. x ≡ e) → Gives Q read result
+gives_other P Q read e (Ok u) is same = absurd same
+gives_other {T = T} {U = U} P Q read e (Err x) is same = subst (λ y. Gives {T = U} Q read (Err y)) (sym same) (by e is)
+  where
+    by : (e : OpenFault) → Gives {T = T} P read (Err e) → Gives {T = U} Q read (Err e)
+    by (fault.Refused r) is = is
+    by fault.Device is = tt
+    by fault.NoMemory is = tt
+
 -- the answer of the last stage
 pub gives_as : {T A : Type 0} (P : T → Result A means.Refusal → Type 0) (read whole : Result A means.Refusal) (result : Result T OpenFault) → whole ≡ read → Gives P read result → Gives P whole result
 gives_as P read whole result same gives = subst (λ y. Gives P y result) (sym same) gives

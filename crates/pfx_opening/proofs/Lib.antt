@@ -2,5 +2,5 @@ pub mod Looking
 pub mod Numbers
 pub mod Giving
 pub mod Walking
+pub mod Replaying
 pub mod Stages
-pub mod InMemory

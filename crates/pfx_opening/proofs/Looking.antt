@@ -2,7 +2,7 @@
 use Rattle.std.proofs.Common.{inl, inr, ⊎_elim, ℕ, List, length, ◌∙◌, ap, arith, Result}
 use Rattle.pfx_disk.specs.Disk.{View, IsHonest, Leaves, Same, HasFailed, Ticks}
 use Rattle.pfx_disk.specs.declared.device.DeviceFailed.{DeviceFailed}
-use Rattle.pfx_disk.proofs.Steps.{leaves_then}
+use Rattle.pfx_disk.proofs.Steps.{leaves_then, leaves_none}
 use Rattle.pfx_opening.specs.Looking.{IsKept, Looks, Reaches}
 
 pub looks_then : (a b c : View) → Looks a b → Looks b c → Looks a c
@@ -11,6 +11,14 @@ looks_then a b c first second = record {
   honest = λ h. first.honest (second.honest h);
   later = omega (arith, first.later, second.later);
   no_fewer = omega (arith, first.no_fewer, second.no_fewer);
+}
+
+pub looks_none : (a : View) → Looks a a
+looks_none a = record {
+  leaves = λ h. leaves_none a h;
+  honest = λ h. h;
+  later = omega arith;
+  no_fewer = omega arith;
 }
 
 pub kept_after : (bytes : List ℕ) (a b : View) → Looks a b → IsKept bytes a → IsKept bytes b

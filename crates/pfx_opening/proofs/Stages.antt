@@ -1,7 +1,7 @@
 -- Each stage of opening, where the stages within it are answered.
-use Rattle.std.proofs.Common.{◌≡◌, ◌≢◌, ℕ, ◌+◌, List, length, refl, sym, ◌∙◌, ap, subst, cond, Bool, true, false, not, nat_lt, ◌==◌, Option, Some, None, Result, Ok, Err, Vec}
+use Rattle.std.proofs.Common.{◌≡◌, ◌≢◌, ℕ, ◌+◌, List, length, refl, sym, ◌∙◌, ap, subst, cond, Bool, true, false, not, nat_lt, ◌==◌, Option, Some, None, Result, Ok, Err, Vec, arith, length-take}
 use Rattle.std.specs.declared.alloc.Global.{Global}
-use Rattle.pfx_segment.specs.Reading.{views}
+use Rattle.pfx_segment.specs.Frames.{size}
 use Rattle.pfx_recovery.specs.Codec.{Codec}
 use Rattle.pfx_recovery.specs.Layout.{slot_at, segment_at, first_gate, segment_end, is_open, IsOpenAt, file_len, body_at}
 use Rattle.pfx_recovery.specs.Recovery.{Found, found_of, on_ok, on_some, walk, replay, slot_taken, segment_begun, walk_segment, follows, is_passed, from_one, from_two, from_frames, from_segment, from_state, from_slot, from_head, found, recovered}
@@ -15,11 +15,12 @@ use Rattle.pfx_store.specs.declared.places.Places.{Places}
 use Rattle.pfx_opening.specs.Answers.{Gives, IsRefusal, refusal_of}
 use Rattle.pfx_opening.specs.Choosing.{IsSlot, IsSegment, slot_state}
 use Rattle.pfx_opening.specs.Finding.{IsFound}
-use Rattle.pfx_opening.specs.Walking.{StandIn, AreInUse}
+use Rattle.pfx_opening.specs.Walking.{StandIn, AreInUse, Fill, frames_of}
 use Rattle.pfx_opening.specs.declared.choosing.Choice.{Choice}
 use Rattle.pfx_opening.specs.declared.faults.OpenFault.{OpenFault}
 use Rattle.pfx_opening.specs.declared.faults.OpenFault.TheVariants as fault
-use Rattle.pfx_opening.specs.declared.frames.Walked.{Walked}
+use Rattle.pfx_opening.specs.declared.walked.Walked.{Walked}
+use Rattle.pfx_opening.proofs.Walking.{fill_size}
 
 module _ {H S : Type 0} (K : Codec H S) (h : H) (bytes : List ℕ) where
   pub gate_is : (is : Bool) (at : ℕ) → is ≡ is_open at bytes → IsGate is at bytes
@@ -38,8 +39,8 @@ module _ {H S : Type 0} (K : Codec H S) (h : H) (bytes : List ℕ) where
   pub follows_as : (segment : Choice) (read : Result Bool means.Refusal) (last : ℕ) → IsSegment K h bytes segment read → follows K h bytes last (not segment.second) ≡ cond segment.other_open (segment.other_number == last + 1) false
   follows_as segment read last is = follows_same segment.other_open _ segment.other_number _ last is.other is.number
 
-  pub replay_same : (b : Bool) (s : S) (at : ℕ) (held frames : List (Vec ℕ Global)) → at ≡ segment_at (K.layout h) b → held ≡ frames → replay K (first_gate (K.layout h) b) s (views frames) ≡ replay K (at + 9) s (views held)
-  replay_same b s at held frames place same = ap (λ (k : ℕ). replay K (k + 9) s (views frames)) (sym place) ∙ ap (λ (l : List (Vec ℕ Global)). replay K (at + 9) s (views l)) (sym same)
+  pub replay_same : (b : Bool) (s : S) (at : ℕ) (frames : List (List ℕ)) → at ≡ segment_at (K.layout h) b → replay K (first_gate (K.layout h) b) s frames ≡ replay K (at + 9) s frames
+  replay_same b s at frames place = ap (λ (k : ℕ). replay K (k + 9) s frames) (sym place)
 
   -- each stage by the first one within it
   pub one_is : (c : Bool) (s : S) (b : Bool) (frames : List (List ℕ)) (last : ℕ) → from_one K h bytes c s b frames last
@@ -96,20 +97,24 @@ module _ {H S : Type 0} (K : Codec H S) (h : H) (bytes : List ℕ) where
       ap (λ (k : ℕ). walk K (1 + file_len (K.layout h)) (k + 9) (segment_end (K.layout h) b) last bytes) (sym place)
       ∙ ap (λ (k : ℕ). walk K (1 + file_len (K.layout h)) (at + 9) k last bytes) (sym same)
 
-  pub single_found : (slot segment : Choice) (taken begun : Result Bool means.Refusal) (s t : S) (walked : Walked) (places : Places) → IsSlot K h bytes slot taken → IsSegment K h bytes segment begun → StandIn (K.layout h) segment.second walked
-      → AreInUse (K.layout h) slot.second slot.other_open false segment.second segment.other_open walked.gate places
-      → replay K (first_gate (K.layout h) segment.second) s (views walked.frames.items) ≡ Ok t → is_passed K h bytes walked.last (not segment.second) ≡ true
-      → IsFound K h bytes places t None (from_one K h bytes slot.second s segment.second (views walked.frames.items) walked.last)
-  single_found slot segment taken begun s t walked places in_slot in_segment stand used run past = record {
-    parts = single slot.second s segment.second (views walked.frames.items);
-    found = from_one_as K h bytes slot.second s segment.second (views walked.frames.items) walked.last t run past;
+  -- the gate behind the frames that were read
+  gate_at : (b : Bool) (frames : List (List ℕ)) (walked : Walked) → StandIn (K.layout h) b walked → Fill frames (frames_of walked) → walked.gate ≡ first_gate (K.layout h) b + size frames
+  gate_at b frames walked stand fill = omega (arith, stand.gate, fill_size frames (frames_of walked) fill, length-take walked.len walked.bytes.items, walked.inside)
+
+  pub single_found : (slot segment : Choice) (taken begun : Result Bool means.Refusal) (s t : S) (walked : Walked) (frames : List (List ℕ)) (places : Places) → IsSlot K h bytes slot taken → IsSegment K h bytes segment begun → StandIn (K.layout h) segment.second walked
+      → Fill frames (frames_of walked) → AreInUse (K.layout h) slot.second slot.other_open false segment.second segment.other_open walked.gate places
+      → replay K (first_gate (K.layout h) segment.second) s frames ≡ Ok t → is_passed K h bytes walked.last (not segment.second) ≡ true
+      → IsFound K h bytes places t None (from_one K h bytes slot.second s segment.second frames walked.last)
+  single_found slot segment taken begun s t walked frames places in_slot in_segment stand fill used run past = record {
+    parts = single slot.second s segment.second frames;
+    found = from_one_as K h bytes slot.second s segment.second frames walked.last t run past;
     file = record {
       are = record {
         fits = used.fits;
         slot = used.slot;
         segment = used.segment;
         turned = used.turned;
-        gate = used.gate ∙ stand.gate;
+        gate = used.gate ∙ gate_at segment.second frames walked stand fill;
         end = used.end;
       };
       slot_open = used.slot_open ∙ in_slot.other;
@@ -120,21 +125,21 @@ module _ {H S : Type 0} (K : Codec H S) (h : H) (bytes : List ℕ) where
     between = refl;
   }
 
-  pub double_found : (slot : Choice) (b : Bool) (taken : Result Bool means.Refusal) (s m t : S) (before walked : Walked) (places : Places) (spelled : Vec ℕ Global) → IsSlot K h bytes slot taken → IsOpenAt (segment_at (K.layout h) b) bytes → StandIn (K.layout h) (not b) walked
-      → AreInUse (K.layout h) slot.second slot.other_open true (not b) true walked.gate places
-      → replay K (first_gate (K.layout h) b) s (views before.frames.items) ≡ Ok m → replay K (first_gate (K.layout h) (not b)) m (views walked.frames.items) ≡ Ok t
+  pub double_found : (slot : Choice) (b : Bool) (taken : Result Bool means.Refusal) (s m t : S) (walked : Walked) (before frames : List (List ℕ)) (places : Places) (spelled : Vec ℕ Global) → IsSlot K h bytes slot taken → IsOpenAt (segment_at (K.layout h) b) bytes
+      → StandIn (K.layout h) (not b) walked → Fill frames (frames_of walked) → AreInUse (K.layout h) slot.second slot.other_open true (not b) true walked.gate places
+      → replay K (first_gate (K.layout h) b) s before ≡ Ok m → replay K (first_gate (K.layout h) (not b)) m frames ≡ Ok t
       → length spelled.items ≡ (K.layout h).body → K.read_state h spelled.items ≡ Some m
-      → IsFound K h bytes places t (Some spelled) (from_two K h bytes slot.second s b (views before.frames.items) (views walked.frames.items))
-  double_found slot b taken s m t before walked places spelled in_slot gate stand used first second long read = record {
-    parts = double slot.second s b (views before.frames.items) m (views walked.frames.items);
-    found = from_two_as K h bytes slot.second s b (views before.frames.items) (views walked.frames.items) m t first second;
+      → IsFound K h bytes places t (Some spelled) (from_two K h bytes slot.second s b before frames)
+  double_found slot b taken s m t walked before frames places spelled in_slot gate stand fill used first second long read = record {
+    parts = double slot.second s b before m frames;
+    found = from_two_as K h bytes slot.second s b before frames m t first second;
     file = record {
       are = record {
         fits = used.fits;
         slot = used.slot;
         segment = used.segment;
         turned = used.turned;
-        gate = used.gate ∙ stand.gate;
+        gate = used.gate ∙ gate_at (not b) frames walked stand fill;
         end = used.end;
       };
       slot_open = used.slot_open ∙ in_slot.other;

@@ -6,4 +6,3 @@ pub mod Looking
 pub mod Walking
 pub mod ToyCodec
 pub mod ToyLaws
-pub mod InMemory

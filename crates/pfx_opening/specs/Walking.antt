@@ -1,20 +1,29 @@
 -- The frames of a segment, as they were read, and the places of a file that was read.
-use Rattle.std.specs.Prelude.{◌≡◌, ◌<◌, ◌+◌, ℕ, List, Bool, false, Result, Ok}
+use Rattle.std.specs.Prelude.{◌≡◌, ◌<◌, ◌+◌, ℕ, List, Bool, false, All, length, take, Result, Ok}
+use Rattle.std.specs.List.{concat}
 use Rattle.pfx_recovery.specs.Layout.{Layout, first_gate, segment_end}
 use Rattle.pfx_recovery.specs.Refusals as means
-use Rattle.pfx_segment.specs.Frames.{size}
-use Rattle.pfx_segment.specs.Reading.{views}
+use Rattle.pfx_segment.specs.Frames.{frame_len}
 use Rattle.pfx_store.specs.Fitting.{Fits}
 use Rattle.pfx_store.specs.declared.places.Places.{Places}
-use Rattle.pfx_opening.specs.declared.frames.Walked.{Walked}
+use Rattle.pfx_opening.specs.declared.walked.Walked.{Walked}
 
--- these frames were read, and this is the last one's number
-abbrev pub IsWalk : Walked → Result (List (List ℕ) × ℕ) means.Refusal → Type 0
-IsWalk walked read = read ≡ Ok (views walked.frames.items, walked.last)
+-- these frames, each as long as its head says, fill the bytes, one behind the other
+pub record Fill (frames : List (List ℕ)) (bytes : List ℕ) : Type 0 where
+  pub whole : All (λ frame. length frame ≡ frame_len 0 frame) frames
+  pub joined : concat frames ≡ bytes
+
+-- the frames that fill these bytes were read, and this is the last one's number
+abbrev pub IsWalk : List ℕ → ℕ → Result (List (List ℕ) × ℕ) means.Refusal → Type 0
+IsWalk bytes last read = (frames : List (List ℕ)) × Fill frames bytes × (read ≡ Ok (frames, last))
+
+-- the bytes of the frames
+abbrev pub frames_of : Walked → List ℕ
+frames_of walked = take walked.len walked.bytes.items
 
 -- they stand in this segment, with the gate behind them
 pub record StandIn (L : Layout) (second : Bool) (walked : Walked) : Type 0 where
-  pub gate : walked.gate ≡ first_gate L second + size (views walked.frames.items)
+  pub gate : walked.gate ≡ first_gate L second + walked.len
   pub inside : walked.gate < segment_end L second
 
 -- These are the slot and the segment in use, how the gates of the others stand, and the next frame's gate; and no

@@ -1,5 +1,5 @@
 // How the bytes of a store's file are read.
-ghost use Rattle.std.specs.Prelude.{◌≡◌, ◌≤◌, ◌<◌, ◌^◌, ℕ, length, Some, IfOk};
+ghost use Rattle.std.specs.Prelude.{◌≡◌, ◌≤◌, ◌<◌, ◌^◌, ℕ, length, Some, None, IfOk, IsTrue, IsFalse};
 
 use crate::faults::HeadFault;
 use crate::sizes::Sizes;
@@ -65,13 +65,11 @@ pub trait Format {
         requires { last < 2 ^ 48 }
         ensures { result ≡ codec.after last frame.now };
 
-    /// The state behind the frame's records, or `None` where they aren't right at this state.
-    fn apply(
-        alloc: Global,
-        state: Self::State,
-        frame: &[u8],
-    ) -> Result<Option<Self::State>, AllocError>
-        ensures { IfOk result (λ next. next ≡ codec.apply state frame.now) };
+    /// Takes over the frame's records. Where they aren't right at this state, the answer is `false`, and the state is no
+    /// longer of use.
+    fn apply(alloc: Global, state: &mut Self::State, frame: &[u8]) -> Result<bool, AllocError>
+        ensures taken { IfOk result (λ right. IsTrue right → codec.apply state.old frame.now ≡ Some state.new) }
+        ensures wrong { IfOk result (λ right. IsFalse right → codec.apply state.old frame.now ≡ None) };
 
     /// Writes the body of a slot that holds the state. It takes no memory.
     fn spell(header: &Self::Header, state: &Self::State, out: &mut [u8])

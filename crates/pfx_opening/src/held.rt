@@ -1,112 +1,80 @@
-// The bytes of a file in memory, so that its parts are read without calls of its disk.
-ghost use Rattle.std.specs.Prelude.{◌≡◌, ◌<◌, ◌+◌, ◌^◌, List, ℕ, length, IsTrue, false};
-ghost use Rattle.pfx_disk.specs.Disk.{IsHonest};
-ghost use Rattle.pfx_opening.specs.Looking.{IsKept};
+// Bytes of a file that were read at once, and the frames in them.
+ghost use Rattle.std.specs.Prelude.{◌≡◌, ◌≤◌, ◌<◌, ◌+◌, ◌^◌, ◌⊎◌, ℕ, List, None, Some, length, take, drop, IfOk, IfSome, IfNone, IsErr};
+ghost use Rattle.pfx_disk.specs.Disk.{HasFailed};
+ghost use Rattle.pfx_segment.specs.Frames.{frame_len, number_4};
+ghost use Rattle.pfx_opening.specs.Looking.{IsKept, Looks, Reaches};
 
+use crate::format::Format;
 use pfx_disk::{DeviceFailed, Disk};
+use std::alloc::Global;
 
-// The greatest clock and the greatest count of failures.
-const LIMIT: u64 = (1 << 63) - 1;
-
-/// The bytes of a file. A disk that is read alone: what writes fails, and changes nothing.
-#[derive(Drop)]
-pub(crate) struct Held {
-    bytes: Vec<u8>,
-    clock: u64,
-    failures: u64,
-    ghost clock_limit: { clock < 2 ^ 63 },
-    ghost failures_limit: { failures < 2 ^ 63 },
+/// So many bytes of a file from this place on, read by one call, or `None` if there is no memory for them.
+pub(crate) fn hold<D: Disk>(
+    alloc: Global,
+    disk: &mut D,
+    at: usize,
+    len: usize,
+) -> Result<Option<Vec<u8>>, DeviceFailed>
+    requires inside { Reaches (at + len) (D.view disk.old) }
+    ensures looks { Looks (D.view disk.old) (D.view disk.new) }
+    ensures device { IsErr result → HasFailed (D.view disk.old) (D.view disk.new) }
+    ensures long { IfOk result (λ found. IfSome found (λ held. length held.items ≡ len)) }
+    ensures kept { (bytes : List ℕ) → IsKept bytes (D.view disk.old)
+        → IfOk result (λ found. IfSome found (λ held. held.items ≡ take len (drop at bytes))) }
+{
+    let Ok(mut bytes) = vec![in alloc; 0; len] else {
+        return Ok(None);
+    };
+    disk.read(at, &mut bytes)?;
+    Ok(Some(bytes))
 }
 
-impl Held {
-    ghost use Rattle.pfx_disk.specs.Disk.{IsLive, IsSpent};
-    ghost use Rattle.pfx_opening.specs.InMemory.{held_view};
-
-    /// These bytes, of which no call was made.
-    #[tactic(auto, using(crate::proofs::InMemory::held_kept))]
-    pub(crate) fn new(bytes: Vec<u8>) -> Held
-        ensures { IsKept bytes.items (held_view result) }
-    {
-        Held {
-            bytes,
-            clock: 0,
-            failures: 0,
-        }
-    }
-
-    // Whether a call can be made.
-    fn is_live(&self) -> bool
-        ensures live { IsTrue result → IsLive (held_view self.now) }
-        ensures spent { result ≡ false → IsSpent (held_view self.now) }
-    {
-        self.clock < LIMIT && self.failures < LIMIT
-    }
-
-    // Counts a failure.
-    fn fail(&mut self) -> DeviceFailed
-        requires { self.old.failures + 1 < 2 ^ 63 }
-        ensures bytes { self.new.bytes ≡ self.old.bytes }
-        ensures clock { self.new.clock ≡ self.old.clock }
-        ensures failures { self.new.failures ≡ self.old.failures + 1 }
-    {
-        self.failures += 1;
-        DeviceFailed
-    }
+// The number that four bytes spell from this place on, the lowest first.
+fn number_at(bytes: &[u8], at: usize) -> usize
+    requires { at + 4 ≤ length bytes.now }
+    ensures bound { result < 2 ^ 32 }
+    ensures value { result ≡ number_4 at bytes.now }
+{
+    bytes[at] as usize
+        + 256
+            * (bytes[at + 1] as usize
+                + 256 * (bytes[at + 2] as usize + 256 * bytes[at + 3] as usize))
 }
 
-impl Disk for Held {
-    ghost use Rattle.pfx_opening.specs.InMemory.{held_view};
-
-    ghost view = { held_view };
-
-    ghost only_now = { λ m image left. left };
-
-    fn clock(&self) -> u64 {
-        self.clock
+/// How long the frame at this place is, as its head says, or how many bytes there are from it on, if these are fewer.
+pub(crate) fn len_at(bytes: &[u8], at: usize) -> usize
+    requires { at < length bytes.now }
+    ensures some { 0 < result }
+    ensures inside { at + result ≤ length bytes.now }
+    ensures whole { at + frame_len at bytes.now ≤ length bytes.now → result ≡ frame_len at bytes.now }
+{
+    let left = bytes.len() - at;
+    if left < 15 {
+        return left;
     }
+    left.min(15 + number_at(bytes, at + 1))
+}
 
-    fn failures(&self) -> u64 {
-        self.failures
+/// How long the frame at this open gate is, and its last number, or `None` where it doesn't end before the bytes do, or
+/// its head isn't right behind the command of this number.
+pub(crate) fn head_at<F: Format>(bytes: &[u8], at: usize, last: u64) -> Option<(usize, u64)>
+    requires inside { at < length bytes.now }
+    requires last { last < 2 ^ 48 }
+    ensures fits { IfSome result (λ head. at + head.0 < length bytes.now) }
+    ensures len { IfSome result (λ head. head.0 ≡ frame_len at bytes.now) }
+    ensures after { IfSome result (λ head. F.codec.after last (take head.0 (drop at bytes.now)) ≡ Some head.1) }
+    ensures none { IfNone result ((length bytes.now ≤ at + frame_len at bytes.now)
+        ⊎ ((at + frame_len at bytes.now < length bytes.now)
+        × (F.codec.after last (take (frame_len at bytes.now) (drop at bytes.now)) ≡ None))) }
+{
+    let left = bytes.len() - at;
+    if left <= 15 {
+        return None;
     }
-
-    #[tactic(auto, using(crate::proofs::InMemory::held_same, crate::proofs::InMemory::held_honest))]
-    fn len(&mut self) -> Result<usize, DeviceFailed> {
-        if !self.is_live() {
-            return Err(DeviceFailed);
-        }
-        self.clock += 1;
-        Ok(self.bytes.len())
+    let len = 15 + number_at(bytes, at + 1);
+    if len >= left {
+        return None;
     }
-
-    #[tactic(auto, using(crate::proofs::InMemory::held_same, crate::proofs::InMemory::held_honest))]
-    fn read(&mut self, at: usize, out: &mut [u8]) -> Result<(), DeviceFailed> {
-        if !self.is_live() {
-            return Err(DeviceFailed);
-        }
-        self.clock += 1;
-        let len = out.len();
-        if self.bytes.len() < at || self.bytes.len() - at < len {
-            return Err(self.fail());
-        }
-        out.copy_from_slice(&self.bytes[at..at + len]);
-        Ok(())
-    }
-
-    #[tactic(auto, using(crate::proofs::InMemory::held_torn, crate::proofs::InMemory::held_honest))]
-    fn write_at(&mut self, _at: usize, _bytes: &[u8]) -> Result<(), DeviceFailed> {
-        if !self.is_live() {
-            return Err(DeviceFailed);
-        }
-        self.clock += 1;
-        Err(self.fail())
-    }
-
-    #[tactic(auto, using(crate::proofs::InMemory::held_same, crate::proofs::InMemory::held_honest))]
-    fn sync(&mut self) -> Result<(), DeviceFailed> {
-        if !self.is_live() {
-            return Err(DeviceFailed);
-        }
-        self.clock += 1;
-        Ok(())
-    }
+    let next = F::after(last, &bytes[at..at + len])?;
+    Some((len, next))
 }

@@ -1,8 +1,9 @@
 //! Opening a store's file: the code that reads a disk, and answers what `pfx_recovery` says that its bytes mean.
 //!
 //! What stands in a header, a slot and a frame is left to a `Format`, which has the codec of the file's bytes and reads
-//! them. `open` begins with a sync, so that what it reads is what a stop leaves, and then only reads: the header, and then
-//! the file at once, or its parts one by one if there is no memory for the whole. Its tests come in one order over the file:
+//! them. `open` begins with a sync, so that what it reads is what a stop leaves, and then only reads: the header, the slots
+//! and the segments' gates, and then each segment at once, or its frames one by one if there is no memory for the whole. Its
+//! tests come in one order over the file:
 //! 1. the header, and the file's length;
 //! 2. the slots' gates and numbers, and the state in the slot that is taken;
 //! 3. the segments' gates and first numbers;
@@ -27,6 +28,7 @@ mod records;
 mod segments;
 mod sizes;
 mod slots;
+mod walked;
 
 pub use faults::{HeadFault, OpenFault, Part, Refusal};
 pub use format::Format;

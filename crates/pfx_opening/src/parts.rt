@@ -1,6 +1,5 @@
 // The records of one segment or of two, where the heads of all frames are right.
 ghost use Rattle.std.specs.Prelude.{◌≡◌, ◌≤◌, ◌<◌, ◌+◌, ◌^◌, ℕ, List, false, not, IfOk, IsErrOf};
-ghost use Rattle.pfx_segment.specs.Reading.{views};
 ghost use Rattle.pfx_recovery.specs.Layout.{segment_at, segment_end, IsOpenAt};
 ghost use Rattle.pfx_recovery.specs.Recovery.{slot_taken, segment_begun, from_one, from_two};
 ghost use Rattle.pfx_store.specs.Fitting.{Fits};
@@ -8,14 +7,14 @@ ghost use Rattle.pfx_opening.specs.Answers.{Gives};
 ghost use Rattle.pfx_opening.specs.Choosing.{IsSlot, IsSegment};
 ghost use Rattle.pfx_opening.specs.Finding.{IsFound};
 ghost use Rattle.pfx_opening.specs.Formats.{total_len};
-ghost use Rattle.pfx_opening.specs.Walking.{StandIn, AreInUse};
+ghost use Rattle.pfx_opening.specs.Walking.{StandIn, AreInUse, Fill, frames_of};
 
 use crate::choosing::Choice;
 use crate::faults::{OpenFault, Part, Refusal};
 use crate::format::Format;
-use crate::frames::Walked;
 use crate::outline::Outline;
 use crate::records::replay_frames;
+use crate::walked::Walked;
 use pfx_store::Places;
 use std::alloc::Global;
 
@@ -83,12 +82,12 @@ pub(crate) fn read_single<F: Format>(
         → IsSlot F.codec file.now.header bytes slot (slot_taken F.codec file.now.header bytes)
         → (n : ℕ)
         → IsSegment F.codec file.now.header bytes segment (segment_begun F.codec file.now.header bytes n)
+        → (frames : List (List ℕ)) → Fill frames (frames_of walked)
         → Gives (λ c. IsFound F.codec file.now.header bytes c.places c.state c.middle)
-        (from_one F.codec file.now.header bytes slot.second state segment.second
-        (views walked.frames.items) walked.last) result }
+        (from_one F.codec file.now.header bytes slot.second state segment.second frames walked.last) result }
 {
     let first = file.sizes.segment_at(segment.second) + 9;
-    let reached = replay_frames::<F>(alloc, first, state, &walked.frames)?;
+    let reached = replay_frames::<F>(alloc, first, state, walked.frames())?;
     if !segment.is_passed(walked.last) {
         return Err(OpenFault::Refused(Refusal::Damaged {
             at: file.sizes.segment_at(!segment.second),
@@ -130,16 +129,16 @@ pub(crate) fn read_double<F: Format>(
     ensures exact { (bytes : List ℕ)
         → IsSlot F.codec file.now.header bytes slot (slot_taken F.codec file.now.header bytes)
         → IsOpenAt (segment_at (F.codec.layout file.now.header) second) bytes
+        → (first next : List (List ℕ)) → Fill first (frames_of before) → Fill next (frames_of walked)
         → Gives (λ c. IsFound F.codec file.now.header bytes c.places c.state c.middle)
-        (from_two F.codec file.now.header bytes slot.second state second
-        (views before.frames.items) (views walked.frames.items)) result }
+        (from_two F.codec file.now.header bytes slot.second state second first next) result }
 {
     let first = file.sizes.segment_at(second) + 9;
     let next = file.sizes.segment_at(!second) + 9;
-    let between = replay_frames::<F>(alloc, first, state, &before.frames)?;
+    let between = replay_frames::<F>(alloc, first, state, before.frames())?;
     let mut middle = vec![in alloc; 0; file.sizes.body]?;
     F::spell(&file.header, &between, &mut middle);
-    let reached = replay_frames::<F>(alloc, next, between, &walked.frames)?;
+    let reached = replay_frames::<F>(alloc, next, between, walked.frames())?;
     Ok(Contents {
         places: places_of(file, slot, true, !second, true, walked.gate),
         state: reached,

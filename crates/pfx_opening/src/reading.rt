@@ -1,27 +1,25 @@
 // A synced disk, read in the order of the tests.
-ghost use Rattle.std.specs.Prelude.{◌≡◌, ◌≤◌, ◌<◌, ◌+◌, ◌^◌, ℕ, List, false, length, IfOk, IfSome, OnOk, IsErr, IsErrOf};
+ghost use Rattle.std.specs.Prelude.{◌≡◌, ◌≤◌, ◌<◌, ◌+◌, ◌^◌, ℕ, List, false, length, IfOk, OnOk, IsErrOf};
 ghost use Rattle.pfx_disk.specs.Disk.{IsHonest, HasFailed};
-ghost use Rattle.pfx_segment.specs.Reading.{views};
 ghost use Rattle.pfx_recovery.specs.Recovery.{slot_taken, segment_begun, from_frames, from_state, from_slot, found, on_ok};
 ghost use Rattle.pfx_store.specs.Fitting.{Fits};
 ghost use Rattle.pfx_opening.specs.Answers.{Gives, IsRead};
 ghost use Rattle.pfx_opening.specs.Choosing.{IsSlot, IsSegment};
 ghost use Rattle.pfx_opening.specs.Finding.{IsFound};
 ghost use Rattle.pfx_opening.specs.Formats.{total_len};
-ghost use Rattle.pfx_opening.specs.InMemory.{held_view};
 ghost use Rattle.pfx_opening.specs.Looking.{IsKept, Looks, Reaches};
-ghost use Rattle.pfx_opening.specs.Walking.{StandIn};
+ghost use Rattle.pfx_opening.specs.Walking.{StandIn, Fill, frames_of};
 
 use crate::choosing::Choice;
 use crate::faults::{OpenFault, Part, Refusal};
 use crate::format::Format;
-use crate::frames::{Walked, read_frames};
-use crate::held::Held;
+use crate::frames::read_frames;
 use crate::outline::Outline;
 use crate::parts::{Contents, read_double, read_single};
 use crate::segments::find_segment;
 use crate::slots::{read_slot, take_slot};
-use pfx_disk::{DeviceFailed, Disk};
+use crate::walked::Walked;
+use pfx_disk::Disk;
 use std::alloc::Global;
 
 // The heads of the other segment, if it goes on behind the first, and all records.
@@ -48,9 +46,9 @@ fn read_on<F: Format, D: Disk>(
         → IsSlot F.codec file.now.header bytes slot (slot_taken F.codec file.now.header bytes)
         → (n : ℕ)
         → IsSegment F.codec file.now.header bytes segment (segment_begun F.codec file.now.header bytes n)
+        → (frames : List (List ℕ)) → Fill frames (frames_of walked)
         → Gives (λ c. IsFound F.codec file.now.header bytes c.places c.state c.middle)
-        (from_frames F.codec file.now.header bytes slot.second state segment.second
-        (views walked.frames.items) walked.last) result }
+        (from_frames F.codec file.now.header bytes slot.second state segment.second frames walked.last) result }
 {
     if !segment.goes_on(walked.last) {
         return read_single(alloc, file, slot, segment, state, walked);
@@ -113,55 +111,6 @@ fn read_contents<F: Format, D: Disk>(
     read_segments(alloc, disk, file, slot, state)
 }
 
-// The bytes of a file of this length, read at once, or `None` if there is no memory for them.
-fn hold<D: Disk>(alloc: Global, disk: &mut D, len: usize) -> Result<Option<Held>, DeviceFailed>
-    requires inside { Reaches len (D.view disk.old) }
-    ensures looks { Looks (D.view disk.old) (D.view disk.new) }
-    ensures device { IsErr result → HasFailed (D.view disk.old) (D.view disk.new) }
-    ensures long { IfOk result (λ found. IfSome found (λ held. length (held_view held).contents ≡ len)) }
-    ensures kept { (bytes : List ℕ) → IsKept bytes (D.view disk.old) → len ≡ length bytes
-        → IfOk result (λ found. IfSome found (λ held. IsKept bytes (held_view held))) }
-{
-    let Ok(mut bytes) = vec![in alloc; 0; len] else {
-        return Ok(None);
-    };
-    disk.read(0, &mut bytes)?;
-    Ok(Some(Held::new(bytes)))
-}
-
-// Whether a disk failed. One in memory does where its calls are spent.
-fn has_failed<T>(read: &Result<T, OpenFault>) -> bool
-    ensures { result ≡ false → ¬ IsErrOf read.now OpenFault.Device }
-{
-    matches!(read, Err(OpenFault::Device))
-}
-
-// What a file holds, read from memory, or part by part if there is no memory for the whole.
-fn read_whole<F: Format, D: Disk>(
-    alloc: Global,
-    disk: &mut D,
-    file: &Outline<F>,
-) -> Result<Contents<F>, OpenFault>
-    requires inside { Reaches (total_len file.now.sizes) (D.view disk.old) }
-    ensures looks { Looks (D.view disk.old) (D.view disk.new) }
-    ensures device { IsErrOf result OpenFault.Device → HasFailed (D.view disk.old) (D.view disk.new) }
-    ensures fits { IfOk result (λ c. F.fits file.now.header c.state) }
-    ensures len { IfOk result (λ c. c.places.len ≡ total_len file.now.sizes) }
-    ensures sized { IfOk result (λ c. Fits (F.codec.layout file.now.header) c.places) }
-    ensures unbegun { IfOk result (λ c. c.places.begun ≡ false) }
-    ensures exact { (bytes : List ℕ) → IsKept bytes (D.view disk.old) → total_len file.now.sizes ≡ length bytes
-        → Gives (λ c. IsFound F.codec file.now.header bytes c.places c.state c.middle)
-        (on_ok (slot_taken F.codec file.now.header bytes) (from_slot F.codec file.now.header bytes)) result }
-{
-    if let Some(mut held) = hold(alloc, disk, file.sizes.file_len())? {
-        let read = read_contents::<F, Held>(alloc, &mut held, file);
-        if !has_failed(&read) {
-            return read;
-        }
-    }
-    read_contents(alloc, disk, file)
-}
-
 // The header, of a file of this length.
 fn read_header<F: Format, D: Disk>(
     alloc: Global,
@@ -204,7 +153,7 @@ fn read_synced<F: Format, D: Disk>(
         }));
     }
     let file = Outline { header, sizes };
-    let contents = read_whole(alloc, disk, &file)?;
+    let contents = read_contents(alloc, disk, &file)?;
     Ok((file, contents))
 }
 

@@ -187,7 +187,7 @@ module _ {J : Type 0} (K : Kind J) (L : Laws K) (workers : ℕ) where
     no_head none other fits b = none _ _ _ (head_of other fits b)
 
     module _ (len first count : ℕ) (head : IsHead workers bytes len first count) where
-      same_as : (batch : PlainBatch J) → IsTrue (batch_fits workers batch) → Begins bytes (batch_bytes K batch) → (length (records_bytes K batch.records) ≡ len) × (batch.first ≡ first) × (length batch.records ≡ count)
+      pub same_as : (batch : PlainBatch J) → IsTrue (batch_fits workers batch) → Begins bytes (batch_bytes K batch) → (length (records_bytes K batch.records) ≡ len) × (batch.first ≡ first) × (length batch.records ≡ count)
       same_as batch fits b =
           let parts = parts_of bytes len first count head.begins in
           let counts = counts_of workers first count head.counts in
@@ -197,7 +197,8 @@ module _ {J : Type 0} (K : Kind J) (L : Laws K) (workers : ℕ) where
       body_is : (batch : PlainBatch J) → IsTrue (batch_fits workers batch) → Begins bytes (batch_bytes K batch) → body_of len bytes ≡ records_bytes K batch.records
       body_is batch fits b = ap (λ (k : ℕ). take k (drop 15 bytes)) (sym (same_as batch fits b).0) ∙ begins_take (drop 15 bytes) (records_bytes K batch.records) (body_behind batch b)
 
-      goes : (read : List (Plain J)) (batch : PlainBatch J) → IsTrue (batch_fits workers batch) → Begins bytes (batch_bytes K batch) → IsTrue (all_fit workers read) → Begins (body_of len bytes) (records_bytes K read) → length read ≤ count
+      -- records at the front of the body are those of the batch
+      pub goes : (read : List (Plain J)) (batch : PlainBatch J) → IsTrue (batch_fits workers batch) → Begins bytes (batch_bytes K batch) → IsTrue (all_fit workers read) → Begins (body_of len bytes) (records_bytes K read) → length read ≤ count
           → (zs : List (Plain J)) × (batch.records ≡ read ++ zs) × Begins (drop (length (records_bytes K read)) (body_of len bytes)) (records_bytes K zs)
       goes read batch fits b fit begins long =
           let parts = both (counts_fit workers batch.first (length batch.records)) (all_fit workers batch.records) fits in

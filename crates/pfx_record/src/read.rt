@@ -2,7 +2,7 @@
 ghost use Rattle.std.specs.Prelude.{◌≡◌, ◌≤◌, ◌<◌, ◌+◌, ◌^◌, ℕ, length, drop, map, IfOk, IfErr, IfSome, IfNone, IsTrue};
 ghost use Rattle.pfx_record.specs.Batches.{batch_of};
 ghost use Rattle.pfx_record.specs.Records.{plain};
-ghost use Rattle.pfx_record.specs.Reading.{AreRecords, IsBatch, IsDamaged, IsHead, NoBatch, OnDamage, StopAt};
+ghost use Rattle.pfx_record.specs.Reading.{AreRecords, IsBatch, IsDamaged, IsHead, IsRecord, NoBatch, NoRecord, OnDamage, StopAt};
 
 use crate::batch::{Batch, counts_fit};
 use crate::faults::{BatchFault, Part};
@@ -10,18 +10,21 @@ use crate::numbers::{OPEN, u16_at, u32_at, u64_at};
 use crate::read_record::read_record;
 use crate::record::Record;
 use pfx_jobs::job::Job;
-use std::alloc::Global;
+use std::alloc::{AllocError, Global};
 
-// The head of a frame: how long its records are, the number of its first command, and how many it has.
+/// The head of a frame.
 #[derive(Drop)]
-struct Head {
-    len: u32,
-    first: u64,
-    count: u16,
+pub struct Head {
+    /// How long its records are.
+    pub len: u32,
+    /// The number of its first command.
+    pub first: u64,
+    /// How many commands it has.
+    pub count: u16,
 }
 
-// The head that bytes begin with, if they are as long as the frame.
-fn read_head(workers: u32, bytes: &[u8]) -> Option<Head>
+/// The head that bytes begin with, if they are as long as the frame.
+pub fn read_head(workers: u32, bytes: &[u8]) -> Option<Head>
     ensures found { IfSome result (λ head. IsHead workers bytes.now head.len head.first head.count) }
     ensures none { IfNone result ((len first count : ℕ) → IsHead workers bytes.now len first count → ⊥) }
 {
@@ -41,6 +44,19 @@ fn read_head(workers: u32, bytes: &[u8]) -> Option<Head>
         return None;
     }
     Some(Head { len, first, count })
+}
+
+/// The record that bytes begin with, where rows have so many tasks, and how many bytes it takes.
+pub fn read_next<J: Job>(
+    alloc: Global,
+    workers: u32,
+    bytes: &[u8],
+) -> Result<Option<(Record<J>, usize)>, AllocError>
+    requires { workers ≤ 64 }
+    ensures found { IfOk result (λ read. IfSome read (λ f. IsRecord J.kind workers bytes.now (plain f.0) f.1)) }
+    ensures none { IfOk result (λ read. IfNone read (NoRecord J.kind workers bytes.now)) }
+{
+    read_record(alloc, workers, bytes)
 }
 
 // So many records, which fill the body.

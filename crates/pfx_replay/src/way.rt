@@ -23,9 +23,8 @@ fn lead<F: Format>(
 {
     let mut reached = state;
     for frame in frames {
-        match F::apply(alloc, reached, frame)? {
-            Some(next) => reached = next,
-            None => return Ok(None),
+        if !F::apply(alloc, &mut reached, frame)? {
+            return Ok(None);
         }
     }
     Ok(Some(reached))

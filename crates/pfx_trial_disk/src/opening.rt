@@ -105,7 +105,7 @@ fn a_new_file_has_no_frame(rt: HostRuntime) {
     check(&rt, stand_open(&opened.file, false, false), "other gates");
     check(&rt, opened.middle.is_none(), "middle");
     check(&rt, !opened.file.broken, "broken");
-    check(&rt, opened.file.disk.clock() == 4, "calls");
+    check(&rt, opened.file.disk.clock() == 9, "calls");
 }
 
 // Behind a closed gate no frame is read.
@@ -156,7 +156,7 @@ fn two_segments_are_read(rt: HostRuntime) {
     check(&rt, is_in(&opened.file, false, true, true), "in use");
     check(&rt, ends_at(&opened.file, 87, LEN), "gate and end");
     check(&rt, stand_open(&opened.file, false, true), "other gates");
-    check(&rt, opened.file.disk.clock() == 4, "calls");
+    check(&rt, opened.file.disk.clock() == 10, "calls");
     check(&rt, has_middle(&opened), "middle");
 }
 

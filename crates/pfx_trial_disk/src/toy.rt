@@ -116,12 +116,18 @@ impl Format for Toy {
         Some(last + 1)
     }
 
-    fn apply(_alloc: Global, state: Tally, frame: &[u8]) -> Result<Option<Tally>, AllocError> {
+    fn apply(_alloc: Global, state: &mut Tally, frame: &[u8]) -> Result<bool, AllocError> {
         let added = byte(frame, 15);
         if byte(frame, 5) != state.number + 1 || added == 0 {
-            return Ok(None);
+            return Ok(false);
         }
-        Ok(state_of(state.number + 1, state.sum + added))
+        match state_of(state.number + 1, state.sum + added) {
+            Some(next) => {
+                *state = next;
+                Ok(true)
+            }
+            None => Ok(false),
+        }
     }
 
     fn spell(_header: &u8, state: &Tally, out: &mut [u8]) {

@@ -2,7 +2,7 @@
 
 use crate::check::{check, check_at};
 use crate::thirds::new_state;
-use pfx_format::{laws, number_after, number_of, state_after};
+use pfx_format::{apply_frame, laws, number_after, number_of};
 use pfx_kinds::any::AnyJob;
 use pfx_machine::State;
 use std::alloc::Global;
@@ -46,7 +46,9 @@ fn heads_of_frames(rt: HostRuntime) {
 fn behind(alloc: Global, frames: &[[u8; 22]]) -> Option<State<AnyJob>> {
     let mut state = new_state(alloc)?;
     for frame in frames {
-        state = state_after(alloc, state, frame).ok()??;
+        if !apply_frame(alloc, &mut state, frame).ok()? {
+            return None;
+        }
     }
     Some(state)
 }
@@ -62,11 +64,11 @@ fn lead_on(alloc: Global, frames: &[[u8; 22]]) -> bool {
 
 /// Whether memory suffices, and the frame leads nowhere.
 fn leads_nowhere(alloc: Global, state: Option<State<AnyJob>>, frame: &[u8]) -> bool {
-    let Some(state) = state else {
+    let Some(mut state) = state else {
         return false;
     };
-    match state_after(alloc, state, frame) {
-        Ok(after) => after.is_none(),
+    match apply_frame(alloc, &mut state, frame) {
+        Ok(right) => !right,
         Err(_) => false,
     }
 }

@@ -5,7 +5,8 @@ use pfx_jobs::job::{Job, are_same};
 use pfx_kinds::any::AnyJob;
 use pfx_record::laws::one_spelling;
 use pfx_record::{
-    Batch, BatchFault, Part, Place, Record, batch_len, fits, read_batch, write_batch,
+    Batch, BatchFault, Part, Place, Record, batch_len, fits, read_batch, read_head, read_next,
+    write_batch,
 };
 use std::alloc::Global;
 
@@ -174,6 +175,28 @@ fn three_records(rt: HostRuntime) {
     check(&rt, has_three_records(&bytes), "written");
     check(&rt, bytes.push(0).is_ok(), "a byte behind them");
     check(&rt, are_read_as_three(alloc, &bytes), "read");
+}
+
+/// Whether the bytes begin with a row of two tasks, which takes 7 of them.
+fn is_row_of_two(alloc: Global, bytes: &[u8]) -> bool {
+    match read_next::<AnyJob>(alloc, 2, bytes) {
+        Ok(Some((Record::Slot { row }, 7))) => row.len() == 2,
+        _ => false,
+    }
+}
+
+// The head and the record of a frame, each read by itself.
+#[test]
+fn a_head_and_a_record(rt: HostRuntime) {
+    let alloc = rt.alloc();
+    let is_head = match read_head(2, &ONE_SLOT) {
+        Some(head) => head.len == 7 && head.first == 1 && head.count == 1,
+        None => false,
+    };
+    check(&rt, is_head, "head");
+    check(&rt, read_head(2, &ONE_SLOT[..21]).is_none(), "21 bytes");
+    check(&rt, is_row_of_two(alloc, &ONE_SLOT[15..]), "record");
+    check(&rt, !is_row_of_two(alloc, &ONE_SLOT[16..]), "no tag");
 }
 
 /// The fault of the bytes, with the place.

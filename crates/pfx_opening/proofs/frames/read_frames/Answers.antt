@@ -1,78 +1,31 @@
-use Rattle.std.proofs.Common.{◌≡◌, ◌≢◌, ◌≤◌, ◌<◌, ◌+◌, ◌++◌, ◌∷◌, [], ℕ, List, length, get_or, take, drop, subst, sym, ap, ◌∙◌, rules, arith, length-take, length-drop, Some}
-use Rattle.std.proofs.lemmas.List.{length_push}
-use Rattle.pfx_disk.specs.declared.gates.TheConstants.{GATE_OPEN}
-use Rattle.pfx_segment.specs.Frames.{frame_len, size}
-use Rattle.pfx_segment.specs.Reading.{IsDamage, views}
-use Rattle.pfx_opening.specs.Looking.{Looks}
-use Rattle.pfx_opening.specs.Walking.{IsWalk}
-use Rattle.pfx_opening.proofs.Giving.{gives_made}
-use Rattle.pfx_opening.proofs.Looking.{looks_then, kept_after}
-use Rattle.pfx_opening.proofs.Walking.{gives_shut, gives_fault, gives_wrong, walks_pushed, views_push, size_push}
+use Rattle.std.proofs.Common.{◌≡◌, ◌+◌, ◌∙◌, List, ℕ, length, take, drop, sym, ap, subst, arith, Err}
+use Rattle.pfx_recovery.specs.Recovery.{walk}
+use Rattle.pfx_opening.specs.Answers.{Gives}
+use Rattle.pfx_opening.specs.Walking.{IsWalk, frames_of}
+use Rattle.pfx_opening.proofs.Giving.{gives_other}
+use Rattle.pfx_opening.proofs.Looking.{kept_after}
 use Rattle.pfx_opening.proofs.frames.read_frames.Goals as goal
 
--- the frame that was read, as the bytes have it
-module _ (gate end : ℕ) where
-  abbrev HasFrame : List ℕ → List ℕ → Type 0
-  HasFrame frame bytes = (get_or bytes gate 0 ≡ GATE_OPEN) × (gate + frame_len gate bytes < end) × (frame ≡ take (frame_len gate bytes) (drop gate bytes))
-
-few : (n end gate first count : ℕ) → count + first ≤ gate → gate < end → end ≤ n → count ≤ n
-few n end gate first count below inside long = omega arith
-
-pub returns-in_err-frame-clause-exact : goal.returns-in_err-frame-clause-exact
-returns-in_err-frame-clause-exact g c bytes kept n long =
-    let K = g.F.Format.codec in
-    let inv = c.walk.invariant in
-    let now = kept_after bytes (g.D.Disk.view c.args.disk.now) (g.D.Disk.view c.walk.disk) inv.looks kept in
-    let damage = subst (λ (l : List ℕ). IsDamage c.in_err-frame.field-0.0 (λ at. (at ≡ c.walk.gate) × (get_or l c.walk.gate 0 ≡ GATE_OPEN) × (c.args.end ≤ c.walk.gate + frame_len c.walk.gate l))) now.contents (c.in_err-frame.ensures.damaged now.honest) in
-    gives_made IsWalk _ _ c.from_residual.result
-    (gives_fault K c.args.first c.args.end c.args.number c.walk.gate c.walk.last c.walk.frames.items bytes (inv.read bytes kept) n (few n c.args.end c.walk.gate c.args.first (length c.walk.frames.items) inv.count inv.order long) c.in_err-frame.field-0.0 damage)
-    c.from_residual.ensures.1
-
 pub returns-in_default-clause-exact : goal.returns-in_default-clause-exact
-returns-in_default-clause-exact g c bytes kept n long =
-    let inv = c.walk.invariant in
-    let now = kept_after bytes (g.D.Disk.view c.args.disk.now) (g.D.Disk.view c.walk.disk) inv.looks kept in
-    let shut_now = rw c.in_default.is at (c.in_ok-frame.ensures.shut now.honest) in
-    let shut = subst (λ (l : List ℕ). get_or l c.walk.gate 0 ≢ GATE_OPEN) now.contents shut_now in
-    gives_shut g.F.Format.codec c.args.first c.args.end c.args.number c.walk.gate c.walk.last c.walk.frames.items bytes (inv.read bytes kept) n (few n c.args.end c.walk.gate c.args.first (length c.walk.frames.items) inv.count inv.order long) shut
+returns-in_default-clause-exact g c bytes kept n long = c.read_singly.ensures.exact bytes (kept_after bytes _ _ c.hold.ensures.looks kept) n long
 
-pub returns-in_default-after-clause-exact : goal.returns-in_default-after-clause-exact
-returns-in_default-after-clause-exact g c bytes kept n long =
-    let K = g.F.Format.codec in
-    let inv = c.walk.invariant in
-    let now = kept_after bytes (g.D.Disk.view c.args.disk.now) (g.D.Disk.view c.walk.disk) inv.looks kept in
-    let found_now = rw c.in-Some.is at (c.in_ok-frame.ensures.found now.honest) in
-    let found = subst (λ (l : List ℕ). HasFrame c.walk.gate c.args.end c.in-Some.frame.items l) now.contents found_now in
-    let wrong = ap (λ (l : List ℕ). K.after c.walk.last l) (sym c.deref.ensures.value) ∙ sym c.after.ensures ∙ c.in_default-after.is in
-    gives_wrong K c.args.first c.args.end c.args.number c.walk.gate c.walk.last c.walk.frames.items bytes (inv.read bytes kept) n (few n c.args.end c.walk.gate c.args.first (length c.walk.frames.items) inv.count inv.order long)
-    c.in-Some.frame.items found.0 found.1 found.2 wrong
+pub returns-in_err-len-clause-exact : goal.returns-in_err-len-clause-exact
+returns-in_err-len-clause-exact g c bytes kept n long =
+    let many = rw c.in-Some.is at c.in_ok-bytes.ensures.long in
+    let is_held = rw c.in-Some.is at (c.in_ok-bytes.ensures.kept bytes kept) in
+    let is = c.deref.ensures.value ∙ is_held ∙ ap (λ (k : ℕ). take k (drop c.args.first bytes)) (sym (ap length c.deref.ensures.value ∙ many)) in
+    let end : c.args.first + length c.deref.result.now ≡ c.args.end = omega (arith, ap length c.deref.ensures.value, many, c.requires.order) in
+    let gives = c.in_err-len.ensures.exact bytes is n (omega (arith, end, long)) in
+    gives_other (λ (w : ℕ × ℕ). IsWalk (take w.0 c.deref.result.now) w.1) (λ w. IsWalk (frames_of w) w.last) (walk g.F.Format.codec (1 + n) c.args.first c.args.end c.args.number bytes) c.in_err-len.field-0.0 c.from_residual-in_err-len.result
+    (subst (λ (k : ℕ). Gives (λ (w : ℕ × ℕ). IsWalk (take w.0 c.deref.result.now) w.1) (walk g.F.Format.codec (1 + n) c.args.first k c.args.number bytes) (Err c.in_err-len.field-0.0)) end gives)
+    c.from_residual-in_err-len.ensures.1
 
-pub walk-preserved : goal.walk-preserved
-walk-preserved g c =
-    let K = g.F.Format.codec in
-    let inv = c.walk.invariant in
-    let old = g.D.Disk.view c.args.disk.now in
-    let size_is = rw c.in-Some.is at c.in_ok-frame.ensures.size in
-    let pushed : c.push.new.self.items ≡ c.walk.frames.items ++ c.in-Some.frame ∷ [] = search rules in
-    let len : c.len-gate.result ≡ length c.in-Some.frame.items = search rules in
-    let after : K.after c.walk.last c.in-Some.frame.items ≡ Some c.in-Some-after.next = ap (λ (l : List ℕ). K.after c.walk.last l) (sym c.deref.ensures.value) ∙ sym c.after.ensures ∙ c.in-Some-after.is in
-    let read : Looks (g.D.Disk.view c.walk.disk) (g.D.Disk.view c.read_one.new.disk) = record {
-      leaves = c.read_one.ensures.leaves;
-      honest = c.read_one.ensures.honest;
-      later = c.read_one.ensures.later;
-      no_fewer = c.read_one.ensures.no_fewer;
-    } in
-    record {
-      order = omega (arith, size_is.1, len);
-      last = g.met.F.Format.bounds.after c.walk.last c.in-Some.frame.items c.in-Some-after.next after;
-      looks = looks_then old (g.D.Disk.view c.walk.disk) (g.D.Disk.view c.read_one.new.disk) inv.looks read;
-      place = omega (arith, inv.place, len, ap (λ (l : List _). size (views l)) pushed, ap size (views_push c.walk.frames.items c.in-Some.frame), size_push (views c.walk.frames.items) c.in-Some.frame.items);
-      count = omega (arith, inv.count, size_is.0, len, ap length pushed, length_push c.walk.frames.items c.in-Some.frame);
-      read = λ bytes kept n.
-          let now = kept_after bytes old (g.D.Disk.view c.walk.disk) inv.looks kept in
-          let found_now = rw c.in-Some.is at (c.in_ok-frame.ensures.found now.honest) in
-          let found = subst (λ (l : List ℕ). HasFrame c.walk.gate c.args.end c.in-Some.frame.items l) now.contents found_now in
-          let inside : c.args.end ≤ length bytes = omega (arith, c.requires.inside kept.honest, ap length kept.contents) in
-          let long : length c.in-Some.frame.items ≡ frame_len c.walk.gate bytes = omega (arith, ap length found.2, length-take (frame_len c.walk.gate bytes) (drop c.walk.gate bytes), length-drop c.walk.gate bytes, found.1, inside) in
-          walks_pushed K c.args.first c.args.end c.args.number c.walk.gate c.walk.last c.walk.frames.items bytes (inv.read bytes kept) c.in-Some.frame c.push.new.self.items c.len-gate.result c.in-Some-after.next len pushed found.0 found.1 found.2 long after n;
-    }
+pub returns-clause-exact : goal.returns-clause-exact
+returns-clause-exact g c bytes kept n long =
+    let many = rw c.in-Some.is at c.in_ok-bytes.ensures.long in
+    let is_held = rw c.in-Some.is at (c.in_ok-bytes.ensures.kept bytes kept) in
+    let is = c.deref.ensures.value ∙ is_held ∙ ap (λ (k : ℕ). take k (drop c.args.first bytes)) (sym (ap length c.deref.ensures.value ∙ many)) in
+    let end : c.args.first + length c.deref.result.now ≡ c.args.end = omega (arith, ap length c.deref.ensures.value, many, c.requires.order) in
+    let gives = c.in_ok-len.ensures.exact bytes is n (omega (arith, end, long)) in
+    subst (λ (l : List ℕ). IsWalk (take c.in_ok-len.len l) c.in_ok-len.last (walk g.F.Format.codec (1 + n) c.args.first c.args.end c.args.number bytes)) c.deref.ensures.value
+    (subst (λ (k : ℕ). IsWalk (take c.in_ok-len.len c.deref.result.now) c.in_ok-len.last (walk g.F.Format.codec (1 + n) c.args.first k c.args.number bytes)) end gives)

@@ -4,7 +4,7 @@ use Rattle.pfx_recovery.specs.Recovery.{segment_begun, walk_segment}
 use Rattle.pfx_recovery.proofs.Stages.{from_state_as, from_segment_as}
 use Rattle.pfx_opening.specs.Choosing.{IsSegment}
 use Rattle.pfx_opening.specs.Finding.{IsFound}
-use Rattle.pfx_opening.specs.Walking.{IsWalk}
+use Rattle.pfx_opening.specs.Walking.{IsWalk, frames_of}
 use Rattle.pfx_opening.proofs.Giving.{gives_handed, gives_as}
 use Rattle.pfx_opening.proofs.Looking.{kept_after}
 use Rattle.pfx_opening.proofs.Stages.{state_is, segment_is, walk_same}
@@ -29,7 +29,7 @@ returns-in_err-walked-clause-exact g c bytes kept in_slot =
     let at = c.segment_at-at.ensures.at _ file.sized in
     let end : c.segment_at-at.result + file.sizes.segment ≡ segment_end (K.layout file.header) b = omega (arith, at, file.sized.segment) in
     let long : c.segment_at-at.result + file.sizes.segment ≤ file_len (K.layout file.header) = omega (arith, c.segment_at-at.ensures.inside, file.sized.head, file.sized.body, file.sized.segment) in
-    gives_handed IsWalk (λ r. IsFound K file.header bytes r.places r.state r.middle) _ _ _ _ c.in_err-walked.field-0.0 c.from_residual-in_err-walked.result
+    gives_handed (λ w. IsWalk (frames_of w) w.last) (λ r. IsFound K file.header bytes r.places r.state r.middle) _ _ _ _ c.in_err-walked.field-0.0 c.from_residual-in_err-walked.result
     (from_state_as K file.header bytes c.args.slot.second c.args.state b begun ∙ segment_is K file.header bytes c.args.slot.second c.args.state b)
     (ap (λ (k : ℕ). walk_segment K file.header bytes k b) (sym c.number-number.ensures) ∙ walk_same K file.header bytes b _ _ _ at end)
     (c.in_err-walked.ensures.exact bytes (kept_after bytes _ _ c.find_segment.ensures.looks kept) _ long) c.from_residual-in_err-walked.ensures.1
@@ -45,7 +45,8 @@ returns-clause-exact g c bytes kept in_slot =
     let end : c.segment_at-at.result + file.sizes.segment ≡ segment_end (K.layout file.header) b = omega (arith, at, file.sized.segment) in
     let long : c.segment_at-at.result + file.sizes.segment ≤ file_len (K.layout file.header) = omega (arith, c.segment_at-at.ensures.inside, file.sized.head, file.sized.body, file.sized.segment) in
     let then = kept_after bytes _ _ c.find_segment.ensures.looks kept in
-    let walk = ap (λ (k : ℕ). walk_segment K file.header bytes k b) (sym c.number-number.ensures) ∙ walk_same K file.header bytes b _ _ _ at end ∙ c.in_ok-walked.ensures.exact bytes then _ long in
+    let walked = c.in_ok-walked.ensures.exact bytes then _ long in
+    let walk = ap (λ (k : ℕ). walk_segment K file.header bytes k b) (sym c.number-number.ensures) ∙ walk_same K file.header bytes b _ _ _ at end ∙ walked.2 in
     gives_as (λ r. IsFound K file.header bytes r.places r.state r.middle) _ _ c.read_on.result
     (from_state_as K file.header bytes c.args.slot.second c.args.state b begun ∙ from_segment_as K file.header bytes c.args.slot.second c.args.state b _ _ walk)
-    (c.read_on.ensures.exact bytes (kept_after bytes _ _ c.read_frames.ensures.looks then) in_slot _ in_segment)
+    (c.read_on.ensures.exact bytes (kept_after bytes _ _ c.read_frames.ensures.looks then) in_slot _ in_segment walked.0 walked.1)
