@@ -217,6 +217,13 @@ impl<J: Job, B: Named<J>> Book<J, B> {
         self.state.board(self.alloc)
     }
 
+    /// A copy of the state behind all that was accepted. `AllocError` where memory is refused.
+    pub fn state(&self) -> Result<State<J>, AllocError>
+        ensures { IfOk result (λ copy. copy ≡ self.now.session.state) }
+    {
+        self.state.copy_of(self.alloc)
+    }
+
     /// How many passes are out.
     pub fn passes(&self) -> u8
         ensures { result ≡ self.now.passes }

@@ -109,9 +109,9 @@ fn seal_in<J: Job, B: Since<J>, R: Wait>(
     };
     give_all(book, back);
     let sealed = book.seal(pass)?;
+    let enough = monitor.notes(sealed.0);
     drop(guard);
-    monitor.work.notify_one();
-    monitor.free.notify_one();
+    monitor.wake(enough);
     Some(sealed)
 }
 
@@ -202,6 +202,17 @@ fn ask_of<J: Job, B: Since<J>>(
     }
 }
 
+/// Whether the flusher has what it waits for behind this answer.
+fn is_enough<J: Job, B: Since<J>>(
+    monitor: &Monitor<J, B>,
+    answer: &Result<(u64, Reply), CallFault>,
+) -> bool {
+    match answer {
+        Ok(reply) => monitor.notes(reply.0),
+        Err(_) => false,
+    }
+}
+
 /// Waits until a command may be asked, and asks it.
 fn ask_in<J: Job, B: Since<J>, R: Wait>(
     rt: &R,
@@ -225,9 +236,9 @@ fn ask_in<J: Job, B: Since<J>, R: Wait>(
         }
         if is_ready(book) {
             let answer = ask_of(book, pass, command);
+            let enough = is_enough(monitor, &answer);
             drop(guard);
-            monitor.work.notify_one();
-            monitor.free.notify_one();
+            monitor.wake(enough);
             return answer;
         }
     }

@@ -9,6 +9,7 @@ ghost use Rattle.pfx_front.specs.Keeping.{InStep, Behind};
 ghost use Rattle.pfx_front.specs.Showing.{AreShown, IsShown, IsShownBefore};
 ghost use Rattle.pfx_front.specs.Working.{Gives, IsTaken};
 
+use crate::gathering::{Pace, gathered};
 use crate::monitor::Monitor;
 use crate::name::Since;
 use left_right::Absorb;
@@ -23,6 +24,7 @@ use pfx_record::{Batch, Record};
 use std::alloc::Global;
 use std::marker::Model;
 use std::sync::Wait;
+use std::time::Clock;
 
 /// What the flusher's thread owns: its share of the book, the store, the board's writer, and room for the records of a batch.
 /// Contracts see it as the share's notes, the store and what is published, which are in step.
@@ -102,12 +104,13 @@ pub enum Work<J> {
 }
 
 /// Waits until there is something to do, and takes a batch if there is one. `busy` says that a checkpoint is in progress.
-fn next_work<J: Job, B: Since<J>, R: Wait>(
+fn next_work<J: Job, B: Since<J>, R: Wait + Clock>(
     rt: &R,
     monitor: &Monitor<J, B>,
     share: &mut Share<J, B>,
     room: Vec<Record<J>>,
     busy: bool,
+    pace: Pace,
 ) -> Work<J>
     requires empty { room.items ≡ [] }
     requires room { 16 ≤ vec_capacity room }
@@ -115,7 +118,7 @@ fn next_work<J: Job, B: Since<J>, R: Wait>(
 {
     let mut guard = monitor
         .work
-        .wait_while(rt, monitor.book.lock(rt), |b| match b {
+        .wait_while(rt, gathered(rt, monitor, pace), |b| match b {
             Some(book) => !busy && !book.has_pending() && !book.is_closed(),
             None => false,
         });
@@ -294,7 +297,7 @@ fn home<J: Job, B: Since<J>, D: Disk, R: Wait + Drop>(
 
 /// Keeps the book's commands in the store, batch by batch, until no more is accepted or the store has failed. Behind each batch
 /// it takes one step of the checkpoint in progress.
-pub(crate) fn flush<J: Job, B: Since<J>, D: Disk, R: Wait + Drop, W: Wait>(
+pub(crate) fn flush<J: Job, B: Since<J>, D: Disk, R: Wait + Drop, W: Wait + Clock>(
     rt: &W,
     alloc: Global,
     monitor: &Monitor<J, B>,
@@ -306,11 +309,17 @@ pub(crate) fn flush<J: Job, B: Since<J>, D: Disk, R: Wait + Drop, W: Wait>(
         mut publisher,
         mut room,
     } = flusher;
+    let mut pace = Pace::new();
     for _ in rt.forever() {
-        match next_work(rt, monitor, &mut share, room, store.places().turned) {
+        let busy = store.places().turned;
+        match next_work(rt, monitor, &mut share, room, busy, pace) {
             Work::End => return home(share, store, publisher),
-            Work::Tend(back) => room = back,
+            Work::Tend(back) => {
+                pace = Pace::new();
+                room = back;
+            }
             Work::Append(batch) => {
+                pace = Pace::of(rt, &batch);
                 match keep(
                     rt,
                     alloc,

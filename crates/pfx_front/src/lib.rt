@@ -10,9 +10,10 @@
 //! - `faults`: why calls fail.
 //! - `monitor`: the book's lock, and what threads wait for.
 //! - `flusher`: takes batches, appends, publishes and marks them; between batches, and while nothing waits, it works on the checkpoint.
+//! - `gathering`: how long the flusher waits for those whom it has just woken.
 //! - `calls`: `Front` with `pass`, `call` and `settled`.
 //! - `start`: a front with its threads.
-//! - `sole`: what a client knows that is the only one: its answers are the machine's, and the board of their state.
+//! - `sole`: what a client knows that is the only one: its answers are the machine's, and the board and a copy of their state.
 //! - `closing`: the end: all threads joined, and what session and store have come to.
 //!
 //! What tokens carry: clients know what happened to their pass, and the flusher what happened to its share. The lists that they
@@ -24,6 +25,7 @@ pub mod calls;
 pub mod closing;
 pub mod faults;
 pub mod flusher;
+mod gathering;
 pub mod monitor;
 pub mod name;
 pub mod sole;

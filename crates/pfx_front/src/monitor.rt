@@ -6,11 +6,12 @@ use crate::name::Since;
 use pfx_board::word::Word;
 use pfx_book::book::Book;
 use pfx_jobs::job::Job;
+use std::sync::atomic::{AtomicU64, Ordering};
 use std::sync::{Condvar, Mutex};
 
 /// A book under a lock, with what threads wait for: the flusher for work, clients for marks, and clients for a book that may be
 /// asked. `close` takes the book out. Under a lock of its own lies the word of the last publication, which is put there before
-/// its commands are marked.
+/// its commands are marked. Two numbers are touched under the book's lock alone.
 #[derive(Drop)]
 pub struct Monitor<J: Job, B: Since<J>> {
     pub(crate) book: Mutex<Option<Book<J, B>>>,
@@ -18,6 +19,10 @@ pub struct Monitor<J: Job, B: Since<J>> {
     pub(crate) work: Condvar,
     pub(crate) marked: Condvar,
     pub(crate) free: Condvar,
+    // The number of the command that was accepted last, or 0.
+    pub(crate) last: AtomicU64,
+    // The number that the flusher waits for, or 0 where any command will do.
+    pub(crate) wanted: AtomicU64,
 }
 
 impl<J: Job, B: Since<J>> Monitor<J, B> {
@@ -29,7 +34,28 @@ impl<J: Job, B: Since<J>> Monitor<J, B> {
             work: Condvar::new(),
             marked: Condvar::new(),
             free: Condvar::new(),
+            last: AtomicU64::new(0),
+            wanted: AtomicU64::new(0),
         }
+    }
+
+    /// The number of the command that was accepted last, or 0.
+    pub(crate) fn asked(&self) -> u64 {
+        self.last.load(Ordering::Relaxed)
+    }
+
+    /// Notes that the command of this number was accepted: whether the flusher has what it waits for.
+    pub(crate) fn notes(&self, number: u64) -> bool {
+        self.last.store(number, Ordering::Relaxed);
+        self.wanted.load(Ordering::Relaxed) <= number
+    }
+
+    /// Wakes the flusher, if it has what it waits for, and a client that waits for the book.
+    pub(crate) fn wake(&self, enough: bool) {
+        if enough {
+            self.work.notify_one();
+        }
+        self.free.notify_one();
     }
 }
 

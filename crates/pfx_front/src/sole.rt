@@ -8,7 +8,7 @@ use pfx_book::book::{Book, Pass};
 use pfx_crew::desk::Desk;
 use pfx_jobs::job::Job;
 use pfx_jobs::quantum::{Done, Quantum};
-use pfx_machine::Board;
+use pfx_machine::{Board, State};
 use std::alloc::AllocError;
 use std::sync::Wait;
 
@@ -22,21 +22,21 @@ fn is_sole_in<J: Job, B: Since<J>>(book: &mut Book<J, B>, pass: &mut Pass<J, B>)
     book.is_sole(pass)
 }
 
-/// The board of the book's state, if this is the only pass that is out.
-fn board_in<J: Job, B: Since<J>>(
-    book: &mut Book<J, B>,
+/// The book, if this is the only pass that is out; then its state is the one behind the pass's commands.
+fn sole_book<'b, J: Job, B: Since<J>>(
+    held: &'b mut Option<Book<J, B>>,
     pass: &mut Pass<J, B>,
-) -> Result<Option<Board>, AllocError>
+) -> Option<&'b Book<J, B>>
     ensures same { pass.new ≡ pass.old }
-    ensures shows { IfOk result (λ o. IfSome o (IsShownBy J.kind (state_of J.kind B.start pass.old.1))) }
+    ensures state { IfSome result (λ book. book.now.session.state ≡ state_of J.kind B.start pass.old.1) }
 {
+    let Some(book) = held else {
+        return None;
+    };
     if !is_sole_in(book, pass) {
-        return Ok(None);
+        return None;
     }
-    match book.board() {
-        Ok(board) => Ok(Some(board)),
-        Err(fault) => Err(fault),
-    }
+    Some(book)
 }
 
 impl<J: Job, B: Since<J>, K: Desk<Quantum<J>, Done<J>> + Drop> Front<J, B, K>
@@ -61,9 +61,27 @@ where
         ensures same { pass.new ≡ pass.old }
         ensures shows { IfOk result (λ o. IfSome o (IsShownBy J.kind (state_of J.kind B.start pass.old.1))) }
     {
-        match &mut *self.shared.monitor.book.lock(rt) {
-            Some(book) => board_in(book, pass),
-            None => Ok(None),
-        }
+        let mut held = self.shared.monitor.book.lock(rt);
+        let Some(book) = sole_book(&mut held, pass) else {
+            return Ok(None);
+        };
+        Ok(Some(book.board()?))
+    }
+
+    /// A copy of the state behind this pass's commands, durable or not; `None` where other passes are out. While it is made the
+    /// lock is held, as for the board. `AllocError` where memory is refused.
+    pub fn state<R: Wait>(
+        &self,
+        rt: &R,
+        pass: &mut Pass<J, B>,
+    ) -> Result<Option<State<J>>, AllocError>
+        ensures same { pass.new ≡ pass.old }
+        ensures copies { IfOk result (λ o. IfSome o (λ copy. copy ≡ state_of J.kind B.start pass.old.1)) }
+    {
+        let mut held = self.shared.monitor.book.lock(rt);
+        let Some(book) = sole_book(&mut held, pass) else {
+            return Ok(None);
+        };
+        Ok(Some(book.state()?))
     }
 }

@@ -27,6 +27,7 @@ use pfx_token::tokens::Opened;
 use std::alloc::{AllocError, Global};
 use std::sync::{Arc, Condvar, Mutex, Wait};
 use std::thread::{self, JoinHandle, Threads};
+use std::time::Clock;
 
 /// The threads of a front. `Front::close` joins them.
 pub type Crew<J, B, D, K, R> = Hands<J, B, D, K, Shown<J, B>, R>;
@@ -61,6 +62,16 @@ struct Mailbox<
     here: Condvar,
 }
 
+/// A mailbox that two share.
+type Post<J, B, D, R> = Arc<Mailbox<J, B, D, Shown<J, B>, R>, Global>;
+
+/// The mailbox, the flusher's thread and the workers'.
+type Manned<J, B, D, K, R> = (
+    Post<J, B, D, R>,
+    JoinHandle<Flushed<J, B, D, Shown<J, B>, R>>,
+    Vec<JoinHandle<<K as Desk<Quantum<J>, Done<J>>>::Seat>>,
+);
+
 /// Waits for what is put into the mailbox.
 fn fetch<J: Job, B: Since<J>, D: Disk + Drop, R: Wait + Drop, W: Wait>(
     rt: &W,
@@ -77,13 +88,23 @@ fn fetch<J: Job, B: Since<J>, D: Disk + Drop, R: Wait + Drop, W: Wait>(
     unreachable!()
 }
 
+/// Puts the flusher into the mailbox.
+fn post<J: Job, B: Since<J>, D: Disk + Drop, R: Wait + Drop, W: Wait>(
+    rt: &W,
+    mailbox: &Mailbox<J, B, D, Shown<J, B>, R>,
+    flusher: Flusher<J, B, D, Shown<J, B>, R>,
+) {
+    *mailbox.flusher.lock(rt) = Some(flusher);
+    mailbox.here.notify_one();
+}
+
 /// The flusher's thread.
 fn flush_there<
     J: Job,
     B: Since<J>,
     D: Disk + Drop,
     K: Desk<Quantum<J>, Done<J>> + Drop,
-    R: Wait + Drop,
+    R: Wait + Clock + Drop,
 >(
     rt: R,
     alloc: Global,
@@ -220,6 +241,57 @@ where
     Ok(())
 }
 
+/// An empty mailbox, for the one who puts in and for the one who takes out.
+fn mailboxes<J: Job, B: Since<J>, D: Disk + Drop, R: Wait + Drop>(
+    alloc: Global,
+) -> Result<(Post<J, B, D, R>, Post<J, B, D, R>), AllocError> {
+    let mailbox = Arc::new(
+        alloc,
+        Mailbox {
+            flusher: Mutex::new(None),
+            here: Condvar::new(),
+        },
+    )?;
+    let other = Arc::try_clone(&mailbox)?;
+    Ok((mailbox, other))
+}
+
+/// Starts the workers and the flusher's thread, which waits at the mailbox. With a fault all that had been started are joined.
+fn man<
+    J: Job + Drop + Send + Sync + 'static,
+    B: Since<J> + Send + Sync + 'static,
+    D: Disk + Drop + Send + 'static,
+    K: Desk<Quantum<J>, Done<J>> + Drop + Send + Sync + 'static,
+    R: Threads + Wait + Clock + Copy + Drop + Send + Sync + 'static,
+>(
+    rt: R,
+    alloc: Global,
+    shared: &Arc<Shared<J, B, K>, Global>,
+    workers: u32,
+) -> Result<Manned<J, B, D, K, R>, StartFault>
+where
+    K::Seat: Drop + Send + 'static,
+{
+    let Ok((mailbox, letters)) = mailboxes::<J, B, D, R>(alloc) else {
+        return Err(StartFault::NoMemory);
+    };
+    let Ok(theirs) = Arc::try_clone(shared) else {
+        return Err(StartFault::NoMemory);
+    };
+    let mut hired = Vec::new(alloc);
+    if let Err(fault) = hire::<J, B, K, R>(rt, shared, &mut hired, workers) {
+        dismiss(&rt, &**shared, hired);
+        return Err(fault);
+    }
+    match thread::spawn(&rt, move || flush_there(rt, alloc, theirs, letters)) {
+        Ok(flusher) => Ok((mailbox, flusher, hired)),
+        Err(_) => {
+            dismiss(&rt, &**shared, hired);
+            Err(StartFault::NoThread)
+        }
+    }
+}
+
 impl<
     J: Job + Drop + Send + Sync + 'static,
     B: Since<J> + Send + Sync + 'static,
@@ -234,7 +306,7 @@ where
     /// `NoThread` and `NoMemory` give the store back as it was, with all threads joined that had been started.
     pub fn start<
         D: Disk + Drop + Send + 'static,
-        R: Threads + Wait + Copy + Drop + Send + Sync + 'static,
+        R: Threads + Wait + Clock + Copy + Drop + Send + Sync + 'static,
     >(
         rt: R,
         alloc: Global,
@@ -262,46 +334,22 @@ where
         ) else {
             return Err((StartFault::NoMemory, store));
         };
-        let Ok(mailbox) = Arc::new(
-            alloc,
-            Mailbox {
-                flusher: Mutex::new(None),
-                here: Condvar::new(),
-            },
-        ) else {
-            return Err((StartFault::NoMemory, store));
+        let (mailbox, flusher, workers) = match man::<J, B, D, K, R>(rt, alloc, &shared, workers) {
+            Ok(manned) => manned,
+            Err(fault) => return Err((fault, store)),
         };
-        let Ok(theirs) = Arc::try_clone(&shared) else {
-            return Err((StartFault::NoMemory, store));
+        let owned = Flusher {
+            share,
+            store,
+            publisher,
+            room,
         };
-        let Ok(letters) = Arc::try_clone(&mailbox) else {
-            return Err((StartFault::NoMemory, store));
+        post(&rt, &*mailbox, owned);
+        let crew = Hands {
+            flusher,
+            workers,
+            looked,
         };
-        let mut hired = Vec::new(alloc);
-        if let Err(fault) = hire::<J, B, K, R>(rt, &shared, &mut hired, workers) {
-            dismiss(&rt, &*shared, hired);
-            return Err((fault, store));
-        }
-        match thread::spawn(&rt, move || flush_there(rt, alloc, theirs, letters)) {
-            Err(_) => {
-                dismiss(&rt, &*shared, hired);
-                Err((StartFault::NoThread, store))
-            }
-            Ok(flusher) => {
-                *mailbox.flusher.lock(&rt) = Some(Flusher {
-                    share,
-                    store,
-                    publisher,
-                    room,
-                });
-                mailbox.here.notify_one();
-                let crew = Hands {
-                    flusher,
-                    workers: hired,
-                    looked,
-                };
-                Ok((Front { shared }, crew, given))
-            }
-        }
+        Ok((Front { shared }, crew, given))
     }
 }

@@ -1,4 +1,4 @@
-//! What `bench/front` measures and `bench/front_kills` stops: many clients at one store.
+//! What `bench/front` measures, `bench/front_kills` stops and `bench/refused_front` refuses memory: clients at one store.
 //!
 //! `pfx_front_bench FILE CLIENTS WORKERS COMMANDS [print]` makes a store of three tasks of 2/3 on two workers in an empty or
 //! missing file, gives each task a rule of 512 cells, and starts a front with that many workers, 65,535 at the most. Up to 63
@@ -7,21 +7,26 @@
 //! closed, and the store's last number and how many receipts there were are printed. `pfx_front_bench resume FILE ..` does the
 //! same with the store that is in the file.
 //!
-//! What the slots took, in nanoseconds, is printed on standard error. The status is 1 where a call fails, and where the store or
-//! the receipts aren't what the clients asked for; 2 where the words are wrong.
+//! `pfx_front_bench session FILE` makes one session with every kind of call in an empty or missing file, and writes what each
+//! was answered: `bench/refused_front` refuses memory to it.
+//!
+//! What the slots took, in nanoseconds, is printed on standard error. The status is 1 where a call fails, where the store or
+//! the receipts aren't what the clients asked for, and where a session doesn't come to its end; 2 where the words are wrong.
 #![tactic(auto)]
 
 mod clients;
 mod failures;
 mod files;
 mod serve;
+mod session;
 mod stores;
 mod words;
 
 use crate::files::locked;
 use crate::serve::{Outcome, serve_file};
+use crate::session::session;
 use crate::stores::{JobDesk, made, opened};
-use crate::words::{Words, read_words};
+use crate::words::{Words, read_words, session_file};
 use pfx_crew::channel::ChannelDesk;
 use pfx_disk::FileDisk;
 use pfx_front::name::Names;
@@ -57,8 +62,14 @@ fn work<R: Threads + Wait + Clock + Print + Copy + Drop + Send + Sync + 'static>
 fn main(rt: HostRuntime) -> Result<ExitCode, Fail> {
     let alloc = rt.alloc();
     let given = env::args(&rt)?.collect::<Vec<String>>(alloc)?;
+    if let Some(file) = session_file(given.as_slice()) {
+        let is_ended = session(rt, alloc, locked(&rt, file)?);
+        return Ok(ExitCode::from(if is_ended { 0 } else { 1 }));
+    }
     let Some(words) = read_words(given.as_slice()) else {
-        eprintln!(&rt; "usage: pfx_front_bench [resume] FILE CLIENTS WORKERS COMMANDS [print]")?;
+        eprintln!(&rt;
+            "usage: pfx_front_bench [resume] FILE CLIENTS WORKERS COMMANDS [print], or session FILE"
+        )?;
         return Ok(ExitCode::from(USAGE));
     };
     let disk = locked(&rt, words.file)?;

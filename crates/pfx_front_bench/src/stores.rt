@@ -17,16 +17,21 @@ use std::alloc::Global;
 pub const TASKS: u16 = 3;
 
 /// How long a segment is, in bytes, as it is where a set file doesn't say.
-const SEGMENT: u32 = 1_048_576;
+pub const SEGMENT: u32 = 1_048_576;
 
 /// The desk of the front.
 pub type JobDesk = ChannelDesk<Quantum<AnyJob>, Done<AnyJob>>;
 
-/// A new store of three tasks of 2/3 on two workers.
+/// Three tasks of 2/3 on two workers.
+pub fn thirds(alloc: Global) -> Option<TaskSet> {
+    TaskSet::new(alloc, 2, &[(2, 3), (2, 3), (2, 3)]).ok()
+}
+
+/// A new store of these.
 pub fn made<D: Disk + Drop>(alloc: Global, disk: D) -> Result<Store<D, AnyJob>, Failure>
     ensures { IfOk result (λ s. Begins any_kind s.state (D.view s.file.disk).failures (D.view s.file.disk).clock s.file.broken s.state (D.view s.file.disk)) }
 {
-    let Ok(set) = TaskSet::new(alloc, 2, &[(2, 3), (2, 3), (2, 3)]) else {
+    let Some(set) = thirds(alloc) else {
         return Err(Failure::NoStore);
     };
     match Store::init(alloc, disk, &set, SEGMENT) {

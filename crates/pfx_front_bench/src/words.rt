@@ -46,6 +46,15 @@ fn plan_of(words: &[String]) -> Option<Plan> {
     })
 }
 
+/// The file of a session with every kind of call, where the words ask for one.
+pub fn session_file(words: &[String]) -> Option<&str> {
+    if words.len() == 3 && words[1].as_str() == "session" {
+        Some(words[2].as_str())
+    } else {
+        None
+    }
+}
+
 /// Reads the words, of which the first is the program's own name. `None` where they have no form.
 pub fn read_words(words: &[String]) -> Option<Words<'_>> {
     let resumed = words.get(1)?.as_str() == "resume";

@@ -10,6 +10,7 @@ use pfx_book::book::{Book, Pass};
 use pfx_book::name::Named;
 use pfx_book::note::Note;
 use pfx_fault::Cause;
+use pfx_jobs::job::Job;
 use pfx_kinds::any::AnyJob;
 use pfx_machine::State;
 use pfx_token::tokens::Opened;
@@ -61,6 +62,20 @@ fn marks<B: Named<AnyJob>>(
     Some(taken && marked && given.number == 4 && given.clock == 9)
 }
 
+/// How many steps a task's job has left. `None` where the task has no job.
+fn left(state: &State<AnyJob>, task: usize) -> Option<u32> {
+    Some(state.jobs().get(task)?.as_ref()?.left())
+}
+
+/// Whether the copy of the state has just task 0's job, one step on.
+fn is_copied<B: Named<AnyJob>>(book: &Book<AnyJob, B>) -> bool {
+    let Ok(copy) = book.state() else {
+        return false;
+    };
+    let alone = left(&copy, 1).is_none() && left(&copy, 2).is_none();
+    alone && left(&copy, 0) == Some(4) && copy.number() == 4
+}
+
 /// Whether the book is closed, and the client told why.
 fn ends<B: Named<AnyJob>>(
     book: &mut Book<AnyJob, B>,
@@ -79,7 +94,7 @@ fn live<B: Named<AnyJob>>(
     alloc: Global,
     tokens: Opened<Note<AnyJob>>,
     state: &State<AnyJob>,
-) -> Option<[bool; 7]>
+) -> Option<[bool; 8]>
     requires table { tokens.table.shared.table_id ≡ B.table }
     requires start { state.now ≡ B.start }
 {
@@ -90,15 +105,16 @@ fn live<B: Named<AnyJob>>(
     let asked = asks(&mut book, &mut pass);
     let ran = runs(&mut book, &mut pass) == Some(true);
     let marked = marks(alloc, &mut book, &mut flusher, &mut pass) == Some(true);
+    let copied = is_copied(&book);
     let ended = ends(&mut book, &mut flusher, &mut pass);
     let mut passes = Vec::new(alloc);
     passes.push(pass).ok()?;
     let gathered = book.gathered(&mut passes);
-    Some([new, first, asked, ran, marked, ended, gathered])
+    Some([new, first, asked, ran, marked, copied, ended, gathered])
 }
 
 /// Whether each part of a book's life is as it should be.
-fn book_lives(alloc: Global) -> Option<[bool; 7]> {
+fn book_lives(alloc: Global) -> Option<[bool; 8]> {
     let state = later(alloc)?;
     let tokens = Opened::new(alloc).ok()?;
     live::<Brand>(alloc, tokens, &state)
@@ -106,5 +122,5 @@ fn book_lives(alloc: Global) -> Option<[bool; 7]> {
 
 #[test]
 fn a_book_lives(rt: HostRuntime) {
-    assert!(rt; book_lives(rt.alloc()) == Some([true; 7]));
+    assert!(rt; book_lives(rt.alloc()) == Some([true; 8]));
 }

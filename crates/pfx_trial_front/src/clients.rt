@@ -22,6 +22,7 @@ use std::marker::Brand;
 use std::sync::Wait;
 use std::thread;
 use std::thread::Threads;
+use std::time::Clock;
 
 /// How many slots each client runs.
 const SLOTS: u32 = 40;
@@ -78,7 +79,7 @@ fn serve<
     B: Since<AnyJob> + Send + Sync + 'static,
     K: Desk<Quantum<AnyJob>, Done<AnyJob>> + Drop + Send + Sync + 'static,
     D: Disk + Drop + Send + 'static,
-    R: Threads + Wait + Copy + Drop + Send + Sync + 'static,
+    R: Threads + Wait + Clock + Copy + Drop + Send + Sync + 'static,
 >(rt: R, alloc: Global, names: Names<AnyJob>, store: Store<D, AnyJob>, desk: K) -> Option<bool>
 where
     K::Seat: Drop + Send + 'static,
@@ -101,7 +102,7 @@ where
 }
 
 /// The same by a name of its own.
-fn serve_named<R: Threads + Wait + Copy + Drop + Send + Sync + 'static>(
+fn serve_named<R: Threads + Wait + Clock + Copy + Drop + Send + Sync + 'static>(
     rt: R,
     alloc: Global,
     names: Names<AnyJob>,
@@ -114,7 +115,7 @@ fn serve_named<R: Threads + Wait + Copy + Drop + Send + Sync + 'static>(
 }
 
 /// Whether two clients are served.
-fn are_served<R: Threads + Wait + Copy + Drop + Send + Sync + 'static>(
+fn are_served<R: Threads + Wait + Clock + Copy + Drop + Send + Sync + 'static>(
     rt: R,
     alloc: Global,
 ) -> Option<bool> {

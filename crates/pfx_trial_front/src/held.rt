@@ -22,6 +22,7 @@ use std::alloc::Global;
 use std::marker::Brand;
 use std::sync::Wait;
 use std::thread::Threads;
+use std::time::Clock;
 
 /// How many calls make the file, and one more: the call behind them is the first sync of an append.
 const FIRST_SYNC: u64 = 12;
@@ -48,7 +49,7 @@ fn serve<
     B: Since<AnyJob> + Send + Sync + 'static,
     K: Desk<Quantum<AnyJob>, Done<AnyJob>> + Drop + Send + Sync + 'static,
     D: Disk + Drop + Send + 'static,
-    R: Threads + Wait + Copy + Drop + Send + Sync + 'static,
+    R: Threads + Wait + Clock + Copy + Drop + Send + Sync + 'static,
 >(
     rt: R,
     alloc: Global,
@@ -77,7 +78,7 @@ where
 }
 
 /// The same by a name of its own.
-fn serve_named<R: Threads + Wait + Copy + Drop + Send + Sync + 'static>(
+fn serve_named<R: Threads + Wait + Clock + Copy + Drop + Send + Sync + 'static>(
     rt: R,
     alloc: Global,
     names: Names<AnyJob>,
@@ -92,7 +93,7 @@ fn serve_named<R: Threads + Wait + Copy + Drop + Send + Sync + 'static>(
 }
 
 /// Whether calls are answered while the flusher is held.
-fn is_answered<R: Threads + Wait + Copy + Drop + Send + Sync + 'static>(
+fn is_answered<R: Threads + Wait + Clock + Copy + Drop + Send + Sync + 'static>(
     rt: R,
     alloc: Global,
 ) -> Option<bool> {

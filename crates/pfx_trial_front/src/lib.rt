@@ -6,6 +6,7 @@
 //! | `served` | a client's calls by no worker, one and two, a receipt, a pass that is out, and the store opened again |
 //! | `fronts` | how the modules below start a front and end it |
 //! | `passes` | all passes that there are |
+//! | `sole` | a client that is the only one has a copy of its state, until there is a second client |
 //! | `many` | sixteen clients and two workers: all is settled, and in the store |
 //! | `late`, `missed` | a desk at which a result is late: the front makes it again |
 //! | `pieces` | a checkpoint's piece that is held, and one that fails |
@@ -34,5 +35,7 @@ mod passes;
 mod pieces;
 #[cfg(test)]
 mod served;
+#[cfg(test)]
+mod sole;
 #[cfg(test)]
 mod stores;

@@ -24,6 +24,7 @@ use std::alloc::Global;
 use std::marker::Brand;
 use std::sync::Wait;
 use std::thread::Threads;
+use std::time::Clock;
 
 /// The first sync of the first append, behind the calls that make the file.
 const FIRST_SYNC: u64 = 12;
@@ -61,7 +62,7 @@ fn serve<
     B: Since<AnyJob> + Send + Sync + 'static,
     K: Desk<Quantum<AnyJob>, Done<AnyJob>> + Drop + Send + Sync + 'static,
     D: Disk + Drop + Send + 'static,
-    R: Threads + Wait + Copy + Drop + Send + Sync + 'static,
+    R: Threads + Wait + Clock + Copy + Drop + Send + Sync + 'static,
 >(rt: R, alloc: Global, names: Names<AnyJob>, store: Store<D, AnyJob>, desk: K) -> Option<bool>
 where
     K::Seat: Drop + Send + 'static,
@@ -79,7 +80,7 @@ where
 }
 
 /// The same by a name of its own.
-fn serve_named<R: Threads + Wait + Copy + Drop + Send + Sync + 'static>(
+fn serve_named<R: Threads + Wait + Clock + Copy + Drop + Send + Sync + 'static>(
     rt: R,
     alloc: Global,
     names: Names<AnyJob>,
@@ -93,7 +94,7 @@ fn serve_named<R: Threads + Wait + Copy + Drop + Send + Sync + 'static>(
 }
 
 /// Whether a client of a store whose device fails is told.
-fn is_lost<R: Threads + Wait + Copy + Drop + Send + Sync + 'static>(
+fn is_lost<R: Threads + Wait + Clock + Copy + Drop + Send + Sync + 'static>(
     rt: R,
     alloc: Global,
 ) -> Option<bool> {

@@ -20,6 +20,7 @@ use std::alloc::Global;
 use std::marker::Brand;
 use std::sync::Wait;
 use std::thread::Threads;
+use std::time::Clock;
 
 /// How many commands are called: two Submits, and slots behind them.
 const LAST: u64 = 6;
@@ -49,7 +50,7 @@ fn serve<
     B: Since<AnyJob> + Send + Sync + 'static,
     K: Desk<Quantum<AnyJob>, Done<AnyJob>> + Drop + Send + Sync + 'static,
     D: Disk + Drop + Send + 'static,
-    R: Threads + Wait + Copy + Drop + Send + Sync + 'static,
+    R: Threads + Wait + Clock + Copy + Drop + Send + Sync + 'static,
 >(rt: R, alloc: Global, names: Names<AnyJob>, store: Store<D, AnyJob>, desk: K) -> Option<bool>
 where
     K::Seat: Drop + Send + 'static,
@@ -66,7 +67,7 @@ where
 }
 
 /// The same by a name of its own.
-fn serve_named<R: Threads + Wait + Copy + Drop + Send + Sync + 'static>(
+fn serve_named<R: Threads + Wait + Clock + Copy + Drop + Send + Sync + 'static>(
     rt: R,
     alloc: Global,
     names: Names<AnyJob>,
@@ -79,7 +80,7 @@ fn serve_named<R: Threads + Wait + Copy + Drop + Send + Sync + 'static>(
 }
 
 /// Whether slots are answered though a result is late, and the desk had held it until the next slot.
-fn is_made_again<R: Threads + Wait + Copy + Drop + Send + Sync + 'static>(
+fn is_made_again<R: Threads + Wait + Clock + Copy + Drop + Send + Sync + 'static>(
     rt: R,
     alloc: Global,
 ) -> Option<bool> {

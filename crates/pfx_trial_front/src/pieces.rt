@@ -23,6 +23,7 @@ use std::alloc::Global;
 use std::marker::Brand;
 use std::sync::Wait;
 use std::thread::Threads;
+use std::time::Clock;
 
 /// The least length of a segment of two workers.
 const SEGMENT: u32 = 4233;
@@ -76,7 +77,7 @@ fn serve<
     B: Since<AnyJob> + Send + Sync + 'static,
     K: Desk<Quantum<AnyJob>, Done<AnyJob>> + Drop + Send + Sync + 'static,
     D: Disk + Drop + Send + 'static,
-    R: Threads + Wait + Copy + Drop + Send + Sync + 'static,
+    R: Threads + Wait + Clock + Copy + Drop + Send + Sync + 'static,
 >(
     rt: R,
     alloc: Global,
@@ -110,7 +111,7 @@ where
 }
 
 /// With a disk that is held, by a name of its own.
-fn serve_held<R: Threads + Wait + Copy + Drop + Send + Sync + 'static>(
+fn serve_held<R: Threads + Wait + Clock + Copy + Drop + Send + Sync + 'static>(
     rt: R,
     alloc: Global,
     names: Names<AnyJob>,
@@ -125,7 +126,7 @@ fn serve_held<R: Threads + Wait + Copy + Drop + Send + Sync + 'static>(
 }
 
 /// With a disk that fails, by a name of its own.
-fn serve_failing<R: Threads + Wait + Copy + Drop + Send + Sync + 'static>(
+fn serve_failing<R: Threads + Wait + Clock + Copy + Drop + Send + Sync + 'static>(
     rt: R,
     alloc: Global,
     names: Names<AnyJob>,
@@ -139,7 +140,7 @@ fn serve_failing<R: Threads + Wait + Copy + Drop + Send + Sync + 'static>(
 }
 
 /// Whether a slot is answered while a checkpoint's piece is held.
-fn is_held<R: Threads + Wait + Copy + Drop + Send + Sync + 'static>(
+fn is_held<R: Threads + Wait + Clock + Copy + Drop + Send + Sync + 'static>(
     rt: R,
     alloc: Global,
 ) -> Option<bool> {
@@ -156,7 +157,7 @@ fn is_held<R: Threads + Wait + Copy + Drop + Send + Sync + 'static>(
 }
 
 /// Whether a piece that fails leaves all that was marked, so that the call held above is a checkpoint's and no append's.
-fn is_left<R: Threads + Wait + Copy + Drop + Send + Sync + 'static>(
+fn is_left<R: Threads + Wait + Clock + Copy + Drop + Send + Sync + 'static>(
     rt: R,
     alloc: Global,
 ) -> Option<bool> {

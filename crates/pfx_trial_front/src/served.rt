@@ -26,6 +26,7 @@ use std::alloc::Global;
 use std::marker::Brand;
 use std::sync::Wait;
 use std::thread::Threads;
+use std::time::Clock;
 
 /// A front, and its threads, which are to be joined.
 type Served<B, D, K, R> = (Front<AnyJob, B, K>, Crew<AnyJob, B, D, K, R>);
@@ -109,7 +110,7 @@ fn serve<
     B: Since<AnyJob> + Send + Sync + 'static,
     K: Desk<Quantum<AnyJob>, Done<AnyJob>> + Drop + Send + Sync + 'static,
     D: Disk + Drop + Send + 'static,
-    R: Threads + Wait + Copy + Drop + Send + Sync + 'static,
+    R: Threads + Wait + Clock + Copy + Drop + Send + Sync + 'static,
 >(
     rt: R,
     alloc: Global,
@@ -136,7 +137,7 @@ where
 }
 
 /// The same by a name of its own.
-fn serve_named<R: Threads + Wait + Copy + Drop + Send + Sync + 'static>(
+fn serve_named<R: Threads + Wait + Clock + Copy + Drop + Send + Sync + 'static>(
     rt: R,
     alloc: Global,
     names: Names<AnyJob>,
@@ -150,7 +151,7 @@ fn serve_named<R: Threads + Wait + Copy + Drop + Send + Sync + 'static>(
 }
 
 /// Whether a client is served with so many workers.
-fn is_served<R: Threads + Wait + Copy + Drop + Send + Sync + 'static>(
+fn is_served<R: Threads + Wait + Clock + Copy + Drop + Send + Sync + 'static>(
     rt: R,
     alloc: Global,
     workers: u32,

@@ -14,7 +14,7 @@ use pfx_store::StoreFault;
 use std::alloc::Global;
 
 /// How many calls an opening of the disk behind the run takes.
-const OPENING: u64 = 4;
+const OPENING: u64 = 9;
 
 /// The engine on a disk whose call of this number fails, doing its work all the same or not.
 fn failing(alloc: Global, call: u64, works: bool) -> Option<DurableEngine<FaultDisk<MemoryDisk>>> {
@@ -52,15 +52,15 @@ fn stays_broken(store: &mut Store<FaultDisk<MemoryDisk>, AnyJob>, clock: u64) ->
         && store.disk().clock() == clock
 }
 
-/// Whether the disk opens to the state behind so many commands, or behind one more.
-fn holds(alloc: Global, disk: MemoryDisk, done: u64, folds: &[Fold]) -> bool {
+/// Whether the disk opens to the state behind so many commands, or behind some more, which are so many at the most.
+pub fn holds(alloc: Global, disk: MemoryDisk, done: u64, most: u64, folds: &[Fold]) -> bool {
     let Ok(store) = Store::<MemoryDisk, AnyJob>::open(alloc, disk) else {
         return false;
     };
     let number = store.state().number();
     match folds.get(number as usize) {
         Some(fold) => {
-            done <= number && number - done <= 1 && is_state(store.state(), &fold.state)
+            done <= number && number - done <= most && is_state(store.state(), &fold.state)
         }
         None => false,
     }
@@ -80,7 +80,7 @@ fn is_ended(alloc: Global, call: u64, works: bool, folds: &[Fold]) -> Option<boo
     let mut store = engine.into_store();
     let is_broken = stays_broken(&mut store, clock);
     let disk = store.into_disk().into_inner();
-    Some(is_told && is_broken && holds(alloc, disk, done, folds))
+    Some(is_told && is_broken && holds(alloc, disk, done, 1, folds))
 }
 
 /// Whether the run goes through where the call that is to fail comes behind its last one.
@@ -125,7 +125,7 @@ fn opening_calls(alloc: Global, disk: &MemoryDisk, folds: &[Fold]) -> Option<u64
             Err((fault, left)) => {
                 if fault != OpenFault::Device
                     || left.clock() != call + 1
-                    || !holds(alloc, left.into_inner(), COMMANDS, folds)
+                    || !holds(alloc, left.into_inner(), COMMANDS, 1, folds)
                 {
                     return None;
                 }

@@ -20,9 +20,15 @@ pub const MADE: u64 = 9;
 /// How many calls the run takes behind them, with its turns and their checkpoints, where each command has a frame of its own.
 pub const CALLS: u64 = 272;
 
+/// How long the file is.
+pub const LONGEST: usize = 9363;
+
+/// How many bytes the run and what comes behind it write at most.
+pub const WRITTEN: usize = 60_000;
+
 /// An empty disk with room for the run.
 pub fn empty(alloc: Global) -> Option<MemoryDisk> {
-    MemoryDisk::new(alloc, &[], 9363, 1000, 60_000).ok()
+    MemoryDisk::new(alloc, &[], LONGEST, 1000, WRITTEN).ok()
 }
 
 /// The set: three tasks of weight 2/3 on two workers.

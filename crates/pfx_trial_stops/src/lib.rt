@@ -7,6 +7,8 @@
 //! | `stopped` | stops behind each call of a disk, and again behind each call of a Slot that goes on |
 //! | `twice` | a store on one thread is stopped twice |
 //! | `failing` | each call of a store's run fails in turn, and each call of its opening |
+//! | `fronts` | the run through a front, asked by two clients |
+//! | `through` | the same two trials through the front |
 //!
 //! A case is a plain `bool`; `check` and `check_at` name the one that doesn't hold.
 #![tactic(auto)]
@@ -18,6 +20,10 @@ mod failing;
 #[cfg(test)]
 mod folds;
 #[cfg(test)]
+mod fronts;
+#[cfg(test)]
 mod stopped;
+#[cfg(test)]
+mod through;
 #[cfg(test)]
 mod twice;

@@ -32,11 +32,11 @@ fn stops_of(alloc: Global, fate: Fate) -> Option<(u64, u64)> {
 }
 
 /// How many stops the run goes through: behind each of its calls and before the first, in two ways.
-const STOPS: u64 = 2 * (CALLS + 1);
+pub const STOPS: u64 = 2 * (CALLS + 1);
 
 /// How many stops a Slot behind one of these goes through at least: before the opening, behind its sync and its last call, and
 /// behind the four calls of an append, in ten ways each.
-const MORE: u64 = 70;
+pub const MORE: u64 = 70;
 
 /// Whether the run is stopped so often with this fate, and each stop leaves what it has to, now and one Slot later.
 fn is_kept(alloc: Global, fate: Fate) -> bool {

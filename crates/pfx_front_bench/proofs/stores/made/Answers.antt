@@ -1,11 +1,11 @@
 use Rattle.std.proofs.Common.{refl}
 use Rattle.pfx_front_bench.proofs.stores.made.Goals as goal
 
-pub returns-in-Ok-init : goal.returns-in-Ok-init
-returns-in-Ok-init g c = record {
-  whole = c.in-Ok-init.ensures.whole;
+pub returns-in-Ok : goal.returns-in-Ok
+returns-in-Ok g c = record {
+  whole = c.in-Ok.ensures.whole;
   state = refl;
   failures = refl;
   clock = refl;
-  images = λ honest. c.in-Ok-init.ensures.begins (c.in-Ok-init.ensures.honest.1 honest);
+  images = λ honest. c.in-Ok.ensures.begins (c.in-Ok.ensures.honest.1 honest);
 }

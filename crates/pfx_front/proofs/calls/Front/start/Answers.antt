@@ -5,8 +5,8 @@ use Rattle.pfx_book.specs.Notes.{records_in}
 use Rattle.pfx_front.proofs.Steps.{begins_in_step}
 use Rattle.pfx_front.proofs.calls.Front.start.Goals as goal
 
-pub invariant_of-t-94 : goal.invariant_of-t-94
-invariant_of-t-94 g c = (
+pub invariant_of-owned : goal.invariant_of-owned
+invariant_of-owned g c = (
   begins_in_step g.J.Job.kind g.B.Named.start g.B.Since.failures g.B.Since.clock c.in-Ok-furnish.share c.args.store.file.broken c.args.store.state (g.D.Disk.view c.args.store.file.disk)
       c.requires.begins c.in-Ok-furnish.ensures.share,
   ap (λ (p : Published g.row.J.Denot). records_of p.batches) c.in-Ok.ensures.publisher ∙ sym (ap records_in c.in-Ok-furnish.ensures.share),

@@ -1,0 +1,137 @@
+//! A client that is the only one: the board and a copy of the state behind its commands.
+ghost use Rattle.std.specs.Prelude.{◌≡◌};
+ghost use Rattle.pfx_disk.specs.Memory.{memory_view};
+ghost use Rattle.pfx_kinds.specs.AnyKind.{any_kind};
+ghost use Rattle.pfx_front.specs.Starting.{Begins};
+
+use crate::fronts::{begin, end, is_kept};
+use crate::stores::{JobDesk, desk, memory, submit, thirds};
+use pfx_book::book::Pass;
+use pfx_crew::desk::Desk;
+use pfx_disk::{Disk, MemoryDisk};
+use pfx_front::calls::Front;
+use pfx_front::name::{Names, Since};
+use pfx_jobs::job::Job;
+use pfx_jobs::quantum::{Done, Quantum};
+use pfx_journal::Store;
+use pfx_kinds::any::AnyJob;
+use pfx_machine::{Command, JobStatus, State};
+use std::alloc::Global;
+use std::marker::Brand;
+use std::sync::Wait;
+use std::thread::Threads;
+use std::time::Clock;
+
+/// Whether two Submits and a slot are accepted. None of them is waited for.
+fn are_accepted<B: Since<AnyJob>, K: Desk<Quantum<AnyJob>, Done<AnyJob>> + Drop, R: Wait>(
+    rt: &R,
+    front: &Front<AnyJob, B, K>,
+    pass: &mut Pass<AnyJob, B>,
+) -> Option<bool>
+where
+    K::Seat: Drop,
+{
+    let first = front.call(rt, pass, submit(0)?).is_ok();
+    let second = front.call(rt, pass, submit(2)?).is_ok();
+    let slot = front.call(rt, pass, Command::Slot).is_ok();
+    Some(first && second && slot)
+}
+
+/// How many steps a task's job has left. `None` where the task has no job.
+fn left(state: &State<AnyJob>, task: usize) -> Option<u32> {
+    Some(state.jobs().get(task)?.as_ref()?.left())
+}
+
+/// Whether the state is behind three commands, with the job of task 0 a step on, and that of task 2 as it began.
+fn is_behind(state: &State<AnyJob>) -> bool {
+    let stepped = left(state, 0) == Some(4) && left(state, 1).is_none();
+    stepped && left(state, 2) == Some(5) && state.number() == 3
+}
+
+/// Whether the client is given that state, and the board of it.
+fn is_copied<B: Since<AnyJob>, K: Desk<Quantum<AnyJob>, Done<AnyJob>> + Drop, R: Wait>(
+    rt: &R,
+    front: &Front<AnyJob, B, K>,
+    pass: &mut Pass<AnyJob, B>,
+) -> bool
+where
+    K::Seat: Drop,
+{
+    match (front.state(rt, pass), front.board(rt, pass)) {
+        (Ok(Some(copy)), Ok(Some(board))) => {
+            let open = board
+                .lines
+                .iter()
+                .filter(|line| matches!(line.job, JobStatus::Open));
+            is_behind(&copy) && board.number == 3 && open.count() == 2
+        }
+        _ => false,
+    }
+}
+
+/// Whether the client is given neither.
+fn is_told_nothing<B: Since<AnyJob>, K: Desk<Quantum<AnyJob>, Done<AnyJob>> + Drop, R: Wait>(
+    rt: &R,
+    front: &Front<AnyJob, B, K>,
+    pass: &mut Pass<AnyJob, B>,
+) -> bool
+where
+    K::Seat: Drop,
+{
+    let given = (front.state(rt, pass), front.board(rt, pass));
+    matches!(given, (Ok(None), Ok(None))) && !front.is_sole(rt, pass)
+}
+
+/// Whether a client is given a copy of its state, until there is a second client.
+fn serve<
+    B: Since<AnyJob> + Send + Sync + 'static,
+    K: Desk<Quantum<AnyJob>, Done<AnyJob>> + Drop + Send + Sync + 'static,
+    D: Disk + Drop + Send + 'static,
+    R: Threads + Wait + Clock + Copy + Drop + Send + Sync + 'static,
+>(rt: R, alloc: Global, names: Names<AnyJob>, store: Store<D, AnyJob>, desk: K) -> Option<bool>
+where
+    K::Seat: Drop + Send + 'static,
+    requires named { (names.tokens.table.shared.table_id ≡ B.table) × (names.list.seen.book ≡ B.book) × (B.origin ≡ B.start) }
+    requires begins { Begins any_kind B.start B.failures B.clock store.file.broken store.state (D.view store.file.disk) }
+{
+    let served = begin::<B, K, D, R>(rt, alloc, names, store, desk, 1)?;
+    let front = &served.0;
+    let mut first = front.pass(&rt)?;
+    let sole = front.is_sole(&rt, &mut first);
+    let accepted = are_accepted(&rt, front, &mut first)?;
+    let copied = is_copied(&rt, front, &mut first);
+    let second = front.pass(&rt)?;
+    let refused = is_told_nothing(&rt, front, &mut first);
+    let mut passes = Vec::new(alloc);
+    passes.push(first).ok()?;
+    passes.push(second).ok()?;
+    let closed = end(&rt, served, passes)?;
+    Some(sole && accepted && copied && refused && is_kept(&closed, 3))
+}
+
+/// The same by a name of its own.
+fn serve_named<R: Threads + Wait + Clock + Copy + Drop + Send + Sync + 'static>(
+    rt: R,
+    alloc: Global,
+    names: Names<AnyJob>,
+    store: Store<MemoryDisk, AnyJob>,
+    desk: JobDesk,
+) -> Option<bool>
+    requires { Begins any_kind store.state (memory_view store.file.disk).failures (memory_view store.file.disk).clock store.file.broken store.state (memory_view store.file.disk) }
+{
+    serve::<Brand, JobDesk, MemoryDisk, R>(rt, alloc, names, store, desk)
+}
+
+/// Whether the only client is given a copy of its state, and one of two clients none.
+fn is_served<R: Threads + Wait + Clock + Copy + Drop + Send + Sync + 'static>(
+    rt: R,
+    alloc: Global,
+) -> Option<bool> {
+    let store = thirds(alloc, memory(alloc)?)?;
+    serve_named(rt, alloc, Names::new(alloc).ok()?, store, desk(alloc)?)
+}
+
+#[test]
+fn the_only_client_has_a_copy_of_its_state(rt: HostRuntime) {
+    assert!(rt; is_served(rt, rt.alloc()) == Some(true));
+}

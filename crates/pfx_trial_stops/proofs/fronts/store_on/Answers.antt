@@ -1,0 +1,11 @@
+use Rattle.std.proofs.Common.{refl}
+use Rattle.pfx_trial_stops.proofs.fronts.store_on.Goals as goal
+
+pub returns-in-Ok : goal.returns-in-Ok
+returns-in-Ok g c = record {
+  whole = c.in-Ok.ensures.whole;
+  state = refl;
+  failures = refl;
+  clock = refl;
+  images = λ honest. c.in-Ok.ensures.begins (c.in-Ok.ensures.honest.1 honest);
+}
