@@ -1,13 +1,9 @@
 //! The files that the program works on, and what goes wrong with them.
 
 ghost use Rattle.std.specs.Prelude.{◌≡◌, ◌⊎◌, IfErr};
-ghost use Rattle.pfx.specs.Faults.{fault_of_init, fault_of_open, fault_of_size, part_of};
 
 use pfx_disk::FileDisk;
-use pfx_fault::{Fault, Part};
-use pfx_header::SegmentSizeFault;
-use pfx_journal::InitFault;
-use pfx_opening::{OpenFault, Part as FilePart, Refusal};
+use pfx_fault::Fault;
 use std::fs::{File, OpenOptions, TryLockError};
 use std::io::{Read, Stdin};
 use std::path::Path;
@@ -127,56 +123,4 @@ pub(crate) fn shared_disk(rt: &HostRuntime, path: &str) -> Result<FileDisk, Faul
         }
     }
     Err(Fault::Busy)
-}
-
-/// A fault of a segment's length.
-pub(crate) fn size_fault(fault: SegmentSizeFault) -> Fault
-    ensures { result ≡ fault_of_size fault }
-{
-    match fault {
-        SegmentSizeFault::SegmentTooSmall { least } => Fault::SegmentTooSmall { least },
-        SegmentSizeFault::SegmentTooLarge => Fault::SegmentTooLarge,
-    }
-}
-
-/// A fault of making a store.
-pub(crate) fn init_fault(fault: InitFault) -> Fault
-    ensures { result ≡ fault_of_init fault }
-{
-    match fault {
-        InitFault::SegmentTooSmall { least } => Fault::SegmentTooSmall { least },
-        InitFault::SegmentTooLarge => Fault::SegmentTooLarge,
-        InitFault::NotEmpty => Fault::NotEmpty,
-        InitFault::Device => Fault::Device,
-        InitFault::NoMemory => Fault::NoMemory,
-    }
-}
-
-fn part(part: FilePart) -> Part
-    ensures { result ≡ part_of part }
-{
-    match part {
-        FilePart::Header => Part::Header,
-        FilePart::Length => Part::Length,
-        FilePart::Checkpoint => Part::Checkpoint,
-        FilePart::Segment => Part::Segment,
-        FilePart::Frame => Part::Frame,
-        FilePart::Record => Part::Record,
-    }
-}
-
-/// A fault of opening a store.
-pub(crate) fn open_fault(fault: OpenFault) -> Fault
-    ensures { result ≡ fault_of_open fault }
-{
-    match fault {
-        OpenFault::Refused(Refusal::NotAStore) => Fault::NotAStore,
-        OpenFault::Refused(Refusal::WrongVersion { version }) => Fault::WrongVersion { version },
-        OpenFault::Refused(Refusal::Damaged { at, what }) => Fault::Damaged {
-            at: at as u64,
-            what: part(what),
-        },
-        OpenFault::Device => Fault::Device,
-        OpenFault::NoMemory => Fault::NoMemory,
-    }
 }

@@ -36,11 +36,13 @@ use crate::traces::Traces;
 use clap::Error;
 use clap::error::ErrorKind;
 use pfx_fault::{Fault, put_fault};
+use pfx_program::Form;
 use pfx_words::{Request, read_words};
 use std::alloc::Global;
 use std::process::ExitCode;
 use std::sync::Wait;
 use std::thread::Threads;
+use std::time::Clock;
 use std::{env, io};
 
 /// The exit status of words that the program doesn't take.
@@ -86,8 +88,13 @@ fn answered(rt: &HostRuntime, error: &Error) -> u8 {
     error.exit_code() as u8
 }
 
+// How what is printed is written.
+fn form_of(json: bool) -> Form {
+    if json { Form::Json } else { Form::Text }
+}
+
 // Does what is asked for, and answers the exit status where nothing fails.
-fn carried_out<R: Threads + Wait + Copy + Drop + Send + Sync + 'static>(
+fn carried_out<R: Threads + Wait + Clock + Copy + Drop + Send + Sync + 'static>(
     rt: &HostRuntime,
     threads: R,
     alloc: Global,
@@ -95,7 +102,12 @@ fn carried_out<R: Threads + Wait + Copy + Drop + Send + Sync + 'static>(
     traces: &mut Traces,
 ) -> Result<u8, Fault> {
     match request {
-        Request::Plan { set, slots, at } => plan(rt, alloc, set, at, slots, traces)?,
+        Request::Plan {
+            set,
+            slots,
+            at,
+            json,
+        } => plan(rt, alloc, set, at, slots, form_of(json), traces)?,
         Request::Init { set, file } => init(rt, alloc, set, file, traces)?,
         Request::Run {
             file,
@@ -103,17 +115,21 @@ fn carried_out<R: Threads + Wait + Copy + Drop + Send + Sync + 'static>(
             workers,
             batch,
             strict,
+            json,
         } => {
+            let form = form_of(json);
             traces.be_strict(strict);
-            run(rt, threads, alloc, file, script, workers, batch, traces)?;
+            run(
+                rt, threads, alloc, file, script, workers, batch, form, traces,
+            )?;
             return Ok(if traces.has_ended() { REFUSED } else { 0 });
         }
-        Request::Status { file } => status(rt, alloc, file, traces)?,
+        Request::Status { file, json } => status(rt, alloc, file, form_of(json), traces)?,
         Request::Replay { file } => {
             let agrees = replay(rt, alloc, file, traces)?;
             return Ok(if agrees { 0 } else { DIFFERS });
         }
-        Request::Show { file, task } => show(rt, alloc, file, task, traces)?,
+        Request::Show { file, task, json } => show(rt, alloc, file, task, form_of(json), traces)?,
         Request::Draw { set, slots, at } => {
             if !draw(rt, alloc, set, at, slots, traces)? {
                 return Ok(refused(rt, TOO_LARGE));
@@ -133,7 +149,7 @@ fn carried_out<R: Threads + Wait + Copy + Drop + Send + Sync + 'static>(
     Ok(0)
 }
 
-fn done<R: Threads + Wait + Copy + Drop + Send + Sync + 'static>(
+fn done<R: Threads + Wait + Clock + Copy + Drop + Send + Sync + 'static>(
     rt: &HostRuntime,
     threads: R,
     alloc: Global,

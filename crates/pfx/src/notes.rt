@@ -123,7 +123,7 @@ fn input_failed(
             let note = first_of(note, word_note(rt, alloc, Named::Store, file))?;
             first_of(note, unread_note(alloc, Named::Script, script))
         }
-        Request::Status { file } | Request::Replay { file } | Request::Show { file, .. } => {
+        Request::Status { file, .. } | Request::Replay { file } | Request::Show { file, .. } => {
             word_note(rt, alloc, Named::Store, file)
         }
         Request::Explain { .. } => Ok(None),
@@ -201,7 +201,7 @@ fn note_of(
             None => store_note(alloc, file, None, fault),
         },
         Request::Run { file, script, .. } => run_note(rt, alloc, file, script, fault),
-        Request::Status { file } | Request::Replay { file } | Request::Show { file, .. } => {
+        Request::Status { file, .. } | Request::Replay { file } | Request::Show { file, .. } => {
             store_note(alloc, file, None, fault)
         }
         Request::Explain { .. } => Ok(None),

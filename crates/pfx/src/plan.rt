@@ -1,10 +1,10 @@
-//! `pfx plan SET SLOTS --at LEDGER`.
+//! `pfx plan SET SLOTS --at LEDGER --json`.
 
 use crate::files::{fault_of, input};
 use crate::progress::Told;
 use crate::traces::{Traces, output_of, set_source};
 use pfx_fault::Fault;
-use pfx_program::run_plan;
+use pfx_program::{Form, run_plan};
 use std::alloc::Global;
 use std::io::{BufWriter, Write};
 
@@ -15,6 +15,7 @@ pub(crate) fn plan(
     set: &str,
     at: Option<&str>,
     slots: u32,
+    form: Form,
     traces: &mut Traces,
 ) -> Result<(), Fault> {
     let mut input = set_source(input(rt, set)?, &mut traces.set);
@@ -22,7 +23,7 @@ pub(crate) fn plan(
         return Err(Fault::NoMemory);
     };
     let mut output = Told::new(rt, alloc, output, "slots", Some(slots));
-    let planned = run_plan(alloc, &mut input, at, &mut output, u64::from(slots));
+    let planned = run_plan(alloc, &mut input, at, form, &mut output, u64::from(slots));
     let flushed = output.flush();
     output.clear();
     planned?;

@@ -1,8 +1,9 @@
 //! `pfx replay FILE`.
 
-use crate::files::{fault_of, open_fault, shared_disk};
+use crate::files::{fault_of, shared_disk};
 use crate::traces::{Traces, output_of};
 use pfx_disk::FileDisk;
+use pfx_engine::faults::open_fault;
 use pfx_fault::Fault;
 use pfx_kinds::any::AnyJob;
 use pfx_replay::{Verdict, put_verdict};

@@ -18,10 +18,12 @@ use pfx_front_engine::scripts::run_served;
 use pfx_jobs::quantum::{Done, Quantum};
 use pfx_journal::Store;
 use pfx_kinds::any::AnyJob;
+use pfx_program::Form;
 use pfx_script::Script;
 use std::alloc::Global;
 use std::sync::Wait;
 use std::thread::Threads;
+use std::time::Clock;
 
 // Runs a script on a store by one thread.
 fn run_alone(
@@ -30,19 +32,20 @@ fn run_alone(
     store: Store<FileDisk, AnyJob>,
     script: &mut Script<Lines<'_>>,
     window: u32,
+    form: Form,
     traces: &Traces,
 ) -> Result<(), Fault>
     requires { 0 < window }
 {
     let mut engine = engine(alloc, store)?;
     let mut output = Told::new(rt, alloc, output_of(rt, &traces.seen), "lines", None);
-    let done = run_durable(alloc, script, window, &mut output, &mut engine);
+    let done = run_durable(alloc, script, window, form, &mut output, &mut engine);
     output.clear();
     done
 }
 
 // Runs a script on a store by so many workers.
-fn run_by<R: Threads + Wait + Copy + Drop + Send + Sync + 'static>(
+fn run_by<R: Threads + Wait + Clock + Copy + Drop + Send + Sync + 'static>(
     rt: &HostRuntime,
     threads: R,
     alloc: Global,
@@ -50,6 +53,7 @@ fn run_by<R: Threads + Wait + Copy + Drop + Send + Sync + 'static>(
     workers: u32,
     script: &mut Script<Lines<'_>>,
     window: u32,
+    form: Form,
     traces: &Traces,
 ) -> Result<(), Fault>
     requires some { 0 < window }
@@ -67,6 +71,7 @@ fn run_by<R: Threads + Wait + Copy + Drop + Send + Sync + 'static>(
         workers,
         script,
         window,
+        form,
         &mut output,
     );
     output.clear();
@@ -75,7 +80,7 @@ fn run_by<R: Threads + Wait + Copy + Drop + Send + Sync + 'static>(
 
 /// Runs a script on the store of a file by so many workers, as many as its set has where none are said, or for 0 by one thread. Up
 /// to `window` slots of a record are kept at once; where that isn't said, it is 1, or 64 with workers. Lines are printed as they come.
-pub(crate) fn run<R: Threads + Wait + Copy + Drop + Send + Sync + 'static>(
+pub(crate) fn run<R: Threads + Wait + Clock + Copy + Drop + Send + Sync + 'static>(
     rt: &HostRuntime,
     threads: R,
     alloc: Global,
@@ -83,6 +88,7 @@ pub(crate) fn run<R: Threads + Wait + Copy + Drop + Send + Sync + 'static>(
     script: &str,
     workers: Option<u32>,
     window: Option<u32>,
+    form: Form,
     traces: &Traces,
 ) -> Result<(), Fault> {
     let mut script = Script::new(alloc, script_of(input(rt, script)?, &traces.seen));
@@ -90,7 +96,7 @@ pub(crate) fn run<R: Threads + Wait + Copy + Drop + Send + Sync + 'static>(
     let workers = workers.unwrap_or(store.state().columns().workers());
     if workers == 0 {
         let window = window.unwrap_or(1).max(1);
-        run_alone(rt, alloc, store, &mut script, window, traces)
+        run_alone(rt, alloc, store, &mut script, window, form, traces)
     } else {
         let window = window.unwrap_or(WINDOW).max(1);
         run_by(
@@ -101,6 +107,7 @@ pub(crate) fn run<R: Threads + Wait + Copy + Drop + Send + Sync + 'static>(
             workers,
             &mut script,
             window,
+            form,
             traces,
         )
     }

@@ -5,17 +5,16 @@ ghost use Rattle.pfx_disk.specs.File.{file_view};
 ghost use Rattle.pfx_front.specs.Starting.{Begins};
 ghost use Rattle.pfx_kinds.specs.AnyKind.{any_kind};
 
-use crate::files::{
-    disk, fault_of, init_fault, input, open_fault, shared_disk, size_fault, sync_directory,
-};
+use crate::files::{disk, fault_of, input, shared_disk, sync_directory};
 use crate::traces::{Traces, output_of, set_source};
 use pfx_disk::FileDisk;
 use pfx_engine::DurableEngine;
+use pfx_engine::faults::{init_fault, open_fault, size_fault};
 use pfx_fault::Fault;
 use pfx_header::check_segment;
 use pfx_journal::Store;
 use pfx_kinds::any::AnyJob;
-use pfx_program::{created_line, read_task_set, run_show, run_status};
+use pfx_program::{Form, created_line, read_task_set, run_show, run_status};
 use std::alloc::Global;
 use std::io::{BufWriter, Write};
 
@@ -73,13 +72,14 @@ pub(crate) fn status(
     rt: &HostRuntime,
     alloc: Global,
     file: &str,
+    form: Form,
     traces: &Traces,
 ) -> Result<(), Fault> {
     let mut engine = engine(alloc, opened(alloc, shared_disk(rt, file)?)?)?;
     let Ok(mut output) = BufWriter::new(alloc, output_of(rt, &traces.seen)) else {
         return Err(Fault::NoMemory);
     };
-    let shown = run_status(alloc, &mut output, &mut engine);
+    let shown = run_status(alloc, form, &mut output, &mut engine);
     let flushed = output.flush();
     shown?;
     match flushed {
@@ -99,6 +99,7 @@ pub(crate) fn show(
     alloc: Global,
     file: &str,
     task: Option<u32>,
+    form: Form,
     traces: &Traces,
 ) -> Result<(), Fault> {
     let store = opened(alloc, shared_disk(rt, file)?)?;
@@ -106,5 +107,11 @@ pub(crate) fn show(
         Some(task) => Some(task_of(task)),
         None => None,
     };
-    run_show(alloc, &mut output_of(rt, &traces.seen), store.state(), task)
+    run_show(
+        alloc,
+        form,
+        &mut output_of(rt, &traces.seen),
+        store.state(),
+        task,
+    )
 }

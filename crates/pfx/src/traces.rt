@@ -9,10 +9,19 @@ use std::io;
 use std::io::{Error, ErrorKind, Printer, Read, Write};
 
 /// How many bytes of a refusal are kept.
-const KEPT: usize = 64;
+const KEPT: usize = 96;
 
 /// How many bytes of a script are read at once, where each line of it is given alone.
 const ROOM: usize = 4096;
+
+// What a refusal says: the words behind its first one, or its object.
+fn refusal_of(bytes: &[u8]) -> Option<&[u8]> {
+    if let Some(words) = bytes.strip_prefix(b"refused ") {
+        return Some(words);
+    }
+    let object = bytes.strip_prefix(b"{\"refused\":")?;
+    Some(object.strip_suffix(b"}\n").unwrap_or(object))
+}
 
 /// What was seen of the output.
 #[derive(Clone, Copy)]
@@ -23,7 +32,7 @@ pub(crate) struct Seen {
     pub(crate) answers: u64,
     /// How many answers are refusals.
     pub(crate) refused: u64,
-    /// What the first refusal says behind its first word, and how many bytes of it.
+    /// What the first refusal says behind its first word, or its object, and how many bytes of it.
     pub(crate) refusal: [u8; KEPT],
     pub(crate) len: usize,
     /// Whether a script ends behind its first refusal.
@@ -70,7 +79,7 @@ impl Seen {
             return;
         };
         if self.fresh {
-            match bytes.strip_prefix(b"refused ") {
+            match refusal_of(bytes) {
                 Some(words) => {
                     if self.refused == 0 {
                         self.keep(words);

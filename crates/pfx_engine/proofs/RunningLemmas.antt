@@ -10,6 +10,7 @@ use Rattle.pfx_machine.specs.Plain.{Plain}
 use Rattle.pfx_machine.specs.Outcome.{outcome}
 use Rattle.pfx_machine.specs.declared.command.Command.{Command}
 use Rattle.pfx_script.specs.Records.{Fields, Records}
+use Rattle.pfx_program.specs.declared.form.Form.{Form}
 use Rattle.pfx_program.specs.Script.{Step, at_start, commands_of, course_from, text_of}
 use Rattle.pfx_program.specs.Running.{Carried, Halts, Stopped, Ends, Runs}
 use Rattle.pfx_program.proofs.StepLemmas.{commands_append}
@@ -19,7 +20,7 @@ use Rattle.pfx_engine.specs.Surviving.{Survives}
 use Rattle.pfx_engine.proofs.Keeps.{survives_more}
 use Rattle.pfx_engine.proofs.Promising.{promise}
 
-module _ {E : Type 0} (view : E → View) (broken : E → Bool) (kept : E → Plain AnyJob) where
+module _ {E : Type 0} (view : E → View) (broken : E → Bool) (kept : E → Plain AnyJob) (form : Form) where
   -- what was printed at a halt
   part_of : (reading : Type 0) (faults : Plain AnyJob → Fault → Type 0) (s : Plain AnyJob) (text : List ℕ) (tried : List Step) (t : Plain AnyJob) (was is : Option (List ℕ)) (f : Fault) → Halts reading faults s text tried t was is f
       → (part : List ℕ) × Appends was is (text ++ part)
@@ -30,9 +31,9 @@ module _ {E : Type 0} (view : E → View) (broken : E → Bool) (kept : E → Pl
   part_of reading faults s text tried t was is other h = ([], subst (Appends was is) (sym (append-nil text)) h.2)
 
   carried_kept : (script : Records) (records : List Fields) (a b : E) (was is : Option (List ℕ)) → broken a ≡ false → IsHonest (view a) → Anchors (view a) (kept a)
-      → Carried (promise view broken kept) (course_from (script.place + 1) (at_start (kept a)) records).steps a b was is → IsKeptAsPrinted (kept a) script records was is (view b)
+      → Carried (promise view broken kept) (course_from (script.place + 1) (at_start form (kept a)) records).steps a b was is → IsKeptAsPrinted form (kept a) script records was is (view b)
   carried_kept script records a b was is whole honest anchors h =
-      let steps : List Step = (course_from (script.place + 1) (at_start (kept a)) records).steps in
+      let steps : List Step = (course_from (script.place + 1) (at_start form (kept a)) records).steps in
       let all : steps ≡ steps ++ [] = sym (append-nil steps) in
       record {
         printed = steps;
@@ -44,7 +45,7 @@ module _ {E : Type 0} (view : E → View) (broken : E → Bool) (kept : E → Pl
       }
 
   stopped_kept : (most : ℕ) (reading : Type 0) (script : Records) (records : List Fields) (a b : E) (was is : Option (List ℕ)) (f : Fault) → broken a ≡ false → IsHonest (view a) → Anchors (view a) (kept a)
-      → Stopped (promise view broken kept) most reading (course_from (script.place + 1) (at_start (kept a)) records).steps a b was is f → IsKeptAsPrinted (kept a) script records was is (view b)
+      → Stopped (promise view broken kept) most reading (course_from (script.place + 1) (at_start form (kept a)) records).steps a b was is f → IsKeptAsPrinted form (kept a) script records was is (view b)
   stopped_kept most reading script records a b was is f whole honest anchors h =
       let part = part_of reading (λ s g. (promise view broken kept).faults s g) (outcome any_kind (kept a) (commands_of h.printed)) (text_of h.printed) h.tried (kept b) was is f h.why in
       let split : (commands_of h.printed ++ commands_of h.tried) ++ commands_of h.rest ≡ commands_of (h.printed ++ (h.tried ++ h.rest)) =
@@ -61,11 +62,11 @@ module _ {E : Type 0} (view : E → View) (broken : E → Bool) (kept : E → Pl
       }
 
   ended : (most : ℕ) (reading : Type 0) (script : Records) (records : List Fields) (a b : E) (was is : Option (List ℕ)) (result : Result (Unit {0}) Fault) → broken a ≡ false → IsHonest (view a) → Anchors (view a) (kept a)
-      → Ends (promise view broken kept) most reading (course_from (script.place + 1) (at_start (kept a)) records) a b was is result → IsKeptAsPrinted (kept a) script records was is (view b)
+      → Ends (promise view broken kept) most reading (course_from (script.place + 1) (at_start form (kept a)) records) a b was is result → IsKeptAsPrinted form (kept a) script records was is (view b)
   ended most reading script records a b was is (Ok x) whole honest anchors h = carried_kept script records a b was is whole honest anchors h.1
   ended most reading script records a b was is (Err (fault.BadScript at)) whole honest anchors h = carried_kept script records a b was is whole honest anchors h.1
   ended most reading script records a b was is (Err other) whole honest anchors h = stopped_kept most reading script records a b was is other whole honest anchors h
 
-  pub kept_as_printed : (most : ℕ) (script : Records) (failed : Bool) (a b : E) (was is : Option (List ℕ)) (result : Result (Unit {0}) Fault) → Runs (promise view broken kept) most script failed a b was is result
-      → broken a ≡ false → IsHonest (view a) → Anchors (view a) (kept a) → (records : List Fields) × IfSome script.left (λ all. all ≡ records) × IsKeptAsPrinted (kept a) script records was is (view b)
+  pub kept_as_printed : (most : ℕ) (script : Records) (failed : Bool) (a b : E) (was is : Option (List ℕ)) (result : Result (Unit {0}) Fault) → Runs (promise view broken kept) form most script failed a b was is result
+      → broken a ≡ false → IsHonest (view a) → Anchors (view a) (kept a) → (records : List Fields) × IfSome script.left (λ all. all ≡ records) × IsKeptAsPrinted form (kept a) script records was is (view b)
   kept_as_printed most script failed a b was is result h whole honest anchors = (h.records, h.known, ended most (failed ≡ true) script h.records a b was is result whole honest anchors h.ends)

@@ -1,4 +1,5 @@
 pub mod Failing
+pub mod Faults
 pub mod Keeping
 pub mod KeepingLaws
 pub mod Running

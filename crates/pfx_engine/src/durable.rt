@@ -278,5 +278,21 @@ impl<D: Disk> Engine for DurableEngine<D> {
         }
     }
 
+    fn state(&mut self, alloc: Global) -> Result<State<AnyJob>, Fault>
+        ensures copies { IfOk result (λ copy. copy ≡ self.old.store.state) }
+        ensures settled { OnOk result (self.new.store.file.broken ≡ false) }
+        ensures same { IsSame ⟦<DurableEngine<D> as Engine>⟧.promise self.old self.new }
+        ensures fails { IfErr result (IsEngineFault ⟦<DurableEngine<D> as Engine>⟧.promise.faults self.old.store.state) }
+        ensures broken { self.old.store.file.broken ≡ true → result ≡ Err (stopped_at self.old.store.state.number) }
+        ensures whole { self.old.store.file.broken ≡ false → IfErr result (λ fault. fault ≡ Fault.NoMemory) }
+        ensures stays { self.new ≡ self.old }
+    {
+        let _number = self.last_kept()?;
+        match self.store.state().copy_of(alloc) {
+            Ok(copy) => Ok(copy),
+            Err(_) => Err(Fault::NoMemory),
+        }
+    }
+
     ghost laws = { record { none = λ e. keeps_none _ _ _; more = λ a b c H G n settled one two. keeps_more _ _ _ _ _ _ _ _ H G n settled one two; fewer = λ a b H n m le one. keeps_fewer _ _ _ H n m _ _ le one } };
 }

@@ -15,10 +15,13 @@
 //! A step of the checkpoint in progress, if there is one, is taken before each frame that is kept, so that an append which
 //! turns seldom has a checkpoint to end.
 //!
+//! `faults` has the program's fault for each way in which a store isn't made or opened.
+//!
 //! It is an `Engine`, so what a script's run prints over it is what `pfx_program` says, and `settled` waits for nothing.
 #![tactic(auto)]
 
 mod durable;
+pub mod faults;
 mod keeping;
 pub mod laws;
 mod scripts;

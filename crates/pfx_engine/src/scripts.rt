@@ -10,14 +10,14 @@ ghost use Rattle.pfx_script.specs.Records.{Fields};
 use crate::durable::DurableEngine;
 use pfx_disk::Disk;
 use pfx_fault::Fault;
-use pfx_program::{Engine, run_script};
+use pfx_program::{Engine, Form, run_script};
 use pfx_script::Script;
 use std::alloc::Global;
 use std::io::{Read, Write};
 
 /// Runs the records of a script that are left on an engine's store, as `run_script` does over any engine.
 ///
-/// Of the slots of a record up to `window` share a frame, 1 or more, and 16 at the most.
+/// Of the slots of a record up to `window` share a frame, 1 or more, and 16 at the most. By `form` lines are text or JSON.
 ///
 /// A printed line is a receipt: whatever the run answers, each image that a stop may leave behind it is recovered to the
 /// outcome of a beginning of the script's accepted commands which holds every command whose line was printed. It takes an
@@ -26,14 +26,15 @@ pub fn run_durable<R: Read + Drop, W: Write, D: Disk>(
     alloc: Global,
     script: &mut Script<R>,
     window: u32,
+    form: Form,
     output: &mut W,
     engine: &mut DurableEngine<D>,
 ) -> Result<(), Fault>
     requires some { 0 < window }
-    ensures runs { Runs ⟦<DurableEngine<D> as Engine>⟧.promise window script.old script.new.failed engine.old engine.new (W.contents output.old) (W.contents output.new) result }
+    ensures runs { Runs ⟦<DurableEngine<D> as Engine>⟧.promise form window script.old script.new.failed engine.old engine.new (W.contents output.old) (W.contents output.new) result }
     ensures kept { engine.old.store.file.broken ≡ false → IsHonest (D.view engine.old.store.file.disk) → Anchors (D.view engine.old.store.file.disk) engine.old.store.state
         → (records : List Fields) × IfSome script.old.left (λ all. all ≡ records)
-        × IsKeptAsPrinted engine.old.store.state script.old records (W.contents output.old) (W.contents output.new) (D.view engine.new.store.file.disk) }
+        × IsKeptAsPrinted form engine.old.store.state script.old records (W.contents output.old) (W.contents output.new) (D.view engine.new.store.file.disk) }
 {
-    run_script(alloc, script, window, output, engine)
+    run_script(alloc, script, window, form, output, engine)
 }

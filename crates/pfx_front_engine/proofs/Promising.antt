@@ -66,6 +66,10 @@ module _ {E : Type 0} (notes : E → List (Note AnyJob)) (B : Plain AnyJob) wher
     pub shown : KeepsBy B.number (notes old) [] 0 (notes new) → (board : Board) → IsShownBy any_kind (state_of any_kind B (notes new)) board → Shows (state_of any_kind B (notes old)) board
     shown h board b = subst (λ (s : Plain AnyJob). Shows s board) (same h).state (record { number = b.number; slot = b.slot; lines = b.lines })
 
+    -- a copy of that state
+    pub copied : KeepsBy B.number (notes old) [] 0 (notes new) → (copy : Plain AnyJob) → copy ≡ state_of any_kind B (notes new) → copy ≡ state_of any_kind B (notes old)
+    copied h copy b = b ∙ (same h).state
+
     module _ (mid : List (Note AnyJob)) (stays : KeepsBy B.number mid [] 0 (notes new)) where
       -- a command that was answered, and then waited for
       asked : (c : Command AnyJob) (n : ℕ) (said : Reply) → IsAnswered B (notes old) c n said mid → KeepsBy B.number (notes old) (c ∷ []) 0 (notes new)

@@ -27,6 +27,7 @@ use Rattle.pfx_machine.specs.Outcome.{outcome}
 use Rattle.pfx_machine.specs.Plain.{Plain}
 use Rattle.pfx_machine.specs.declared.command.Command.{Command}
 use Rattle.pfx_program.proofs.StepLemmas.{commands_append}
+use Rattle.pfx_program.specs.declared.form.Form.{Form}
 use Rattle.pfx_program.specs.Running.{Carried, Ends, Halts, Runs, Stopped, first_text}
 use Rattle.pfx_program.specs.Script.{Step, at_start, course_from, text_of}
 use Rattle.pfx_program.specs.Script as script
@@ -85,7 +86,7 @@ begun [] rest [] back h = (first_text rest, refl)
 begun [] rest (c ∷ front) back h = cc
 begun (x ∷ tried) rest front back h = (back, h)
 
-module _ (B : Plain AnyJob) (r : Register AnyJob) (disk : View) (began : ℕ) (b : List (Note AnyJob)) (session : r.history ≡ alone b) (accepted : r.session.accepted ≡ commands_of r.history) where
+module _ (form : Form) (B : Plain AnyJob) (r : Register AnyJob) (disk : View) (began : ℕ) (b : List (Note AnyJob)) (session : r.history ≡ alone b) (accepted : r.session.accepted ≡ commands_of r.history) where
   as_engine : (H : List (Command AnyJob)) (n m : ℕ) (image : List ℕ) → r.session.accepted ≡ H → B.number + n ≤ m → Survives any_kind B r.session.accepted m image → engine.Survives B H n image
   as_engine H n m image are le v =
       let most = v.at_most in
@@ -123,30 +124,30 @@ module _ (B : Plain AnyJob) (r : Register AnyJob) (disk : View) (began : ℕ) (b
       mine : (H : List (Command AnyJob)) (n : ℕ) → KeepsBy B.number (notes x) H n (notes y) → IsHonest disk → (image : List ℕ) → disk.now image → engine.Survives B H n image
       mine H n kept honest image here = survives (notes x) H n none (subst (KeepsBy B.number (notes x) H n) end kept) honest (held honest) image here
 
-      carried_kept : Carried (promise notes B) (course_from (lines.place + 1) (at_start B) records).steps x y was is → IsHonest disk → (image : List ℕ) → disk.now image
-          → engine.Survives B (script.commands_of ((course_from (lines.place + 1) (at_start B) records).steps ++ [])) (length (script.commands_of (course_from (lines.place + 1) (at_start B) records).steps)) image
+      carried_kept : Carried (promise notes B) (course_from (lines.place + 1) (at_start form B) records).steps x y was is → IsHonest disk → (image : List ℕ) → disk.now image
+          → engine.Survives B (script.commands_of ((course_from (lines.place + 1) (at_start form B) records).steps ++ [])) (length (script.commands_of (course_from (lines.place + 1) (at_start form B) records).steps)) image
       carried_kept h honest image here =
-          let steps : List Step = (course_from (lines.place + 1) (at_start B) records).steps in
+          let steps : List Step = (course_from (lines.place + 1) (at_start form B) records).steps in
           subst (λ (l : List Step). engine.Survives B (script.commands_of l) (length (script.commands_of steps)) image) (sym (append-nil steps))
           (mine (script.commands_of steps) (length (script.commands_of steps)) h.keeps honest image here)
 
       -- a run that went through its whole course
-      whole : (result : Result (Unit {0}) Fault) → EndsBehind (course_from (lines.place + 1) (at_start B) records).steps [] (course_from (lines.place + 1) (at_start B) records).ends_at failed was is result
-          → IfSome lines.left (λ all. all ≡ records) → Carried (promise notes B) (course_from (lines.place + 1) (at_start B) records).steps x y was is → IsServedRun B lines failed was is disk result
+      whole : (result : Result (Unit {0}) Fault) → EndsBehind (course_from (lines.place + 1) (at_start form B) records).steps [] (course_from (lines.place + 1) (at_start form B) records).ends_at failed was is result
+          → IfSome lines.left (λ all. all ≡ records) → Carried (promise notes B) (course_from (lines.place + 1) (at_start form B) records).steps x y was is → IsServedRun form B lines failed was is disk result
       whole result ends known h = record {
         records = records;
         known = known;
-        printed = (course_from (lines.place + 1) (at_start B) records).steps;
+        printed = (course_from (lines.place + 1) (at_start form B) records).steps;
         rest = [];
-        course = sym (append-nil (course_from (lines.place + 1) (at_start B) records).steps);
+        course = sym (append-nil (course_from (lines.place + 1) (at_start form B) records).steps);
         ends = ends;
         kept = carried_kept h;
       }
 
-      stopped : (most : ℕ) (f : Fault) → IfSome lines.left (λ all. all ≡ records) → Stopped (promise notes B) most (failed ≡ true) (course_from (lines.place + 1) (at_start B) records).steps x y was is f
+      stopped : (most : ℕ) (f : Fault) → IfSome lines.left (λ all. all ≡ records) → Stopped (promise notes B) most (failed ≡ true) (course_from (lines.place + 1) (at_start form B) records).steps x y was is f
           → ((printed tried rest : List Step) (s t : Plain AnyJob) → Halts (failed ≡ true) (λ u g. IsFrontFault g) s (text_of printed) tried t was is f
-          → EndsBehind printed (tried ++ rest) (course_from (lines.place + 1) (at_start B) records).ends_at failed was is (Err f))
-          → IsServedRun B lines failed was is disk (Err f)
+          → EndsBehind printed (tried ++ rest) (course_from (lines.place + 1) (at_start form B) records).ends_at failed was is (Err f))
+          → IsServedRun form B lines failed was is disk (Err f)
       stopped most f known h ends =
           let split : (script.commands_of h.printed ++ script.commands_of h.tried) ++ script.commands_of h.rest ≡ script.commands_of (h.printed ++ (h.tried ++ h.rest)) =
           append_assoc (script.commands_of h.printed) (script.commands_of h.tried) (script.commands_of h.rest)
@@ -163,8 +164,8 @@ module _ (B : Plain AnyJob) (r : Register AnyJob) (disk : View) (began : ℕ) (b
                 (mine (script.commands_of h.printed ++ script.commands_of h.tried) (length (script.commands_of h.printed)) h.keeps honest image here));
           }
 
-      by_end : (most : ℕ) (result : Result (Unit {0}) Fault) → IfSome lines.left (λ all. all ≡ records) → Ends (promise notes B) most (failed ≡ true) (course_from (lines.place + 1) (at_start B) records) x y was is result
-          → IsServedRun B lines failed was is disk result
+      by_end : (most : ℕ) (result : Result (Unit {0}) Fault) → IfSome lines.left (λ all. all ≡ records) → Ends (promise notes B) most (failed ≡ true) (course_from (lines.place + 1) (at_start form B) records) x y was is result
+          → IsServedRun form B lines failed was is disk result
       by_end most (Ok u) known h = whole (Ok u) (h.0, refl, h.1.text) known h.1
       by_end most (Err (fault.BadScript at)) known h = whole (Err (fault.BadScript at)) (h.0, refl, h.1.text) known h.1
       by_end most (Err fault.OutputFailed) known h = stopped most fault.OutputFailed known h (λ printed tried rest s t why. (why.1, (begun tried rest why.1 why.2 why.3).0, (begun tried rest why.1 why.2 why.3).1, why.4))
@@ -175,10 +176,10 @@ module _ (B : Plain AnyJob) (r : Register AnyJob) (disk : View) (began : ℕ) (b
 
     -- a run, and the end of its front
     pub served : (most : ℕ) (x y : E) → notes x ≡ [] → notes y ≡ b → (IsHonest disk → IsHeld any_kind B began r disk) → (lines : Records) (failed : Bool) (was is : Option (List ℕ)) (result : Result (Unit {0}) Fault)
-        → Runs (promise notes B) most lines failed x y was is result → IsServedRun B lines failed was is disk result
+        → Runs (promise notes B) form most lines failed x y was is result → IsServedRun form B lines failed was is disk result
     served most x y none end held lines failed was is result h =
         let at : state_of any_kind B (notes x) ≡ B = ap (state_of any_kind B) none ∙ outcome-none any_kind B in
-        let ends = subst (λ (s : Plain AnyJob). Ends (promise notes B) most (failed ≡ true) (course_from (lines.place + 1) (at_start s) h.records) x y was is result) at h.ends in
+        let ends = subst (λ (s : Plain AnyJob). Ends (promise notes B) most (failed ≡ true) (course_from (lines.place + 1) (at_start form s) h.records) x y was is result) at h.ends in
         by_end x y none end held lines h.records failed was is most result h.known ends
 
 nothing_more : (was : Option (List ℕ)) → Appends was was []
@@ -190,13 +191,13 @@ known_rest None = ([], tt)
 known_rest (Some all) = (all, refl)
 
 -- a run whose front didn't start
-pub unserved : (B : Plain AnyJob) (disk : View) (lines : Records) (failed : Bool) (was : Option (List ℕ)) (f : Fault) → (f ≡ fault.NoThread) ⊎ (f ≡ fault.NoMemory)
-    → (IsHonest disk → (image : List ℕ) → disk.since disk.clock image → recovered (format any_kind) image ≡ Ok B) → IsServedRun B lines failed was was disk (Err f)
-unserved B disk lines failed was f why images = record {
+pub unserved : (form : Form) (B : Plain AnyJob) (disk : View) (lines : Records) (failed : Bool) (was : Option (List ℕ)) (f : Fault) → (f ≡ fault.NoThread) ⊎ (f ≡ fault.NoMemory)
+    → (IsHonest disk → (image : List ℕ) → disk.since disk.clock image → recovered (format any_kind) image ≡ Ok B) → IsServedRun form B lines failed was was disk (Err f)
+unserved form B disk lines failed was f why images = record {
   records = rest.0;
   known = rest.1;
   printed = [];
-  rest = (course_from (lines.place + 1) (at_start B) rest.0).steps;
+  rest = (course_from (lines.place + 1) (at_start form B) rest.0).steps;
   course = refl;
   ends = by why;
   kept = λ honest image here. record {
@@ -211,7 +212,7 @@ unserved B disk lines failed was f why images = record {
     rest = known_rest lines.left
 
     Ends_so : Fault → Type 0
-    Ends_so g = EndsBehind [] (course_from (lines.place + 1) (at_start B) rest.0).steps (course_from (lines.place + 1) (at_start B) rest.0).ends_at failed was was (Err g)
+    Ends_so g = EndsBehind [] (course_from (lines.place + 1) (at_start form B) rest.0).steps (course_from (lines.place + 1) (at_start form B) rest.0).ends_at failed was was (Err g)
 
     by : (f ≡ fault.NoThread) ⊎ (f ≡ fault.NoMemory) → Ends_so f
     by (inl is) = subst Ends_so (sym is) (refl, nothing_more was)

@@ -7,6 +7,7 @@ use Rattle.pfx_fault.specs.declared.refusals.Fault.{Fault}
 use Rattle.pfx_fault.specs.declared.refusals.Fault.TheVariants as fault
 use Rattle.pfx_kinds.specs.declared.any.AnyJob.{AnyJob}
 use Rattle.pfx_machine.specs.Plain.{Plain}
+use Rattle.pfx_program.specs.declared.form.Form.{Form}
 use Rattle.pfx_program.specs.Running.{first_text}
 use Rattle.pfx_program.specs.Script.{Step, at_start, commands_of, course_from, text_of}
 use Rattle.pfx_script.specs.Records.{Fields, Records}
@@ -27,12 +28,12 @@ EndsBehind printed rest ends_at failed was is (Err other) = IsFrontFault other �
 -- The records are the script's, as far as it is known. Of their course from the state on some first steps were printed, whole, and
 -- the run ended so behind them. Each image that a stop now may leave is recovered to the outcome of a beginning of the course's
 -- commands which holds each one that was printed, if the disk is honest.
-pub record IsServedRun (s : Plain AnyJob) (script : Records) (failed : Bool) (was is : Option (List ℕ)) (disk : View)
+pub record IsServedRun (form : Form) (s : Plain AnyJob) (script : Records) (failed : Bool) (was is : Option (List ℕ)) (disk : View)
     (result : Result (Unit {0}) Fault) : Type 0 where
   pub records : List Fields
   pub known : IfSome script.left (λ all. all ≡ records)
   pub printed : List Step
   pub rest : List Step
-  pub course : (course_from (script.place + 1) (at_start s) records).steps ≡ printed ++ rest
-  pub ends : EndsBehind printed rest (course_from (script.place + 1) (at_start s) records).ends_at failed was is result
+  pub course : (course_from (script.place + 1) (at_start form s) records).steps ≡ printed ++ rest
+  pub ends : EndsBehind printed rest (course_from (script.place + 1) (at_start form s) records).ends_at failed was is result
   pub kept : IsHonest disk → (image : List ℕ) → disk.now image → Survives s (commands_of (printed ++ rest)) (length (commands_of printed)) image

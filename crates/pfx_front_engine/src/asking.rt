@@ -16,7 +16,7 @@ use pfx_front::faults::CallFault as FrontFault;
 use pfx_front::name::Since;
 use pfx_jobs::quantum::{Done, Quantum};
 use pfx_kinds::any::AnyJob;
-use pfx_machine::{Board, Command, MachineFault, Reply};
+use pfx_machine::{Board, Command, MachineFault, Reply, State};
 use pfx_program::CallFault;
 use std::alloc::{AllocError, Global};
 use std::sync::Wait;
@@ -157,6 +157,26 @@ where
 {
     match front.board(rt, &mut client.pass) {
         Ok(Some(board)) => return Ok(board),
+        Ok(None) => {}
+        Err(fault) => return Err(fault),
+    }
+    for _ in rt.forever() {}
+    unreachable!()
+}
+
+/// A copy of the state behind the client's commands.
+pub(crate) fn state<B: Since<AnyJob>, K: Desk<Quantum<AnyJob>, Done<AnyJob>> + Drop, R: Wait>(
+    rt: &R,
+    front: &Front<AnyJob, B, K>,
+    client: &mut Client<B>,
+) -> Result<State<AnyJob>, AllocError>
+where
+    K::Seat: Drop,
+    ensures same { client.new ≡ client.old }
+    ensures copies { IfOk result (λ copy. copy ≡ state_of any_kind B.start client.old) }
+{
+    match front.state(rt, &mut client.pass) {
+        Ok(Some(copy)) => return Ok(copy),
         Ok(None) => {}
         Err(fault) => return Err(fault),
     }

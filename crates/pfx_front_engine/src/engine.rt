@@ -7,7 +7,7 @@ ghost use Rattle.pfx_front_engine.specs.Asking.{AreAsked, IsAnswered, IsUnanswer
 ghost use Rattle.pfx_front_engine.specs.Keeping.{IsSettled, KeepsBy};
 ghost use Rattle.pfx_front_engine.specs.KeepingLaws.{keeps_none, keeps_more, keeps_fewer};
 
-use crate::asking::{ask, ask_slots, board, settle};
+use crate::asking::{ask, ask_slots, board, settle, state};
 use crate::client::Client;
 use pfx_crew::desk::Desk;
 use pfx_fault::Fault;
@@ -15,7 +15,7 @@ use pfx_front::calls::Front;
 use pfx_front::name::Since;
 use pfx_jobs::quantum::{Done, Quantum};
 use pfx_kinds::any::AnyJob;
-use pfx_machine::{Board, Command, Reply};
+use pfx_machine::{Board, Command, Reply, State};
 use pfx_program::{CallFault, Engine};
 use std::alloc::Global;
 use std::sync::Wait;
@@ -92,6 +92,16 @@ where
         match board(&self.rt, &self.front, &mut self.client) {
             Ok(board) => Ok(board),
             Err(_) => Err(Fault::NoMemory),
+        }
+    }
+
+    fn state(&mut self, _alloc: Global) -> Result<State<AnyJob>, Fault> {
+        match settle(&self.rt, &self.front, &mut self.client) {
+            Err(fault) => Err(fault),
+            Ok(_number) => match state(&self.rt, &self.front, &mut self.client) {
+                Ok(copy) => Ok(copy),
+                Err(_) => Err(Fault::NoMemory),
+            },
         }
     }
 

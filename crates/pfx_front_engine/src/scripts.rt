@@ -16,13 +16,14 @@ use pfx_front::name::{Names, Since};
 use pfx_jobs::quantum::{Done, Quantum};
 use pfx_journal::Store;
 use pfx_kinds::any::AnyJob;
-use pfx_program::run_script;
+use pfx_program::{Form, run_script};
 use pfx_script::Script;
 use std::alloc::Global;
 use std::io::{Read, Write};
 use std::marker::Brand;
 use std::sync::Wait;
 use std::thread::Threads;
+use std::time::Clock;
 
 /// What a run over a front leaves.
 #[derive(Drop)]
@@ -58,7 +59,7 @@ fn serve<
     D: Disk + Drop + Send + 'static,
     B: Since<AnyJob> + Send + Sync + 'static,
     K: Desk<Quantum<AnyJob>, Done<AnyJob>> + Drop + Send + Sync + 'static,
-    R: Threads + Wait + Copy + Drop + Send + Sync + 'static,
+    R: Threads + Wait + Clock + Copy + Drop + Send + Sync + 'static,
 >(
     rt: R,
     alloc: Global,
@@ -68,6 +69,7 @@ fn serve<
     workers: u32,
     script: &mut Script<I>,
     window: u32,
+    form: Form,
     output: &mut W,
 ) -> Served<D>
 where
@@ -75,7 +77,7 @@ where
     requires some { 0 < window }
     requires named { (names.tokens.table.shared.table_id ≡ B.table) × (names.list.seen.book ≡ B.book) × (B.origin ≡ B.start) }
     requires begins { Begins any_kind B.start B.failures B.clock store.file.broken store.state (D.view store.file.disk) }
-    ensures { IsServedRun B.start script.old script.new.failed (W.contents output.old) (W.contents output.new) (D.view result.store.file.disk) result.result }
+    ensures { IsServedRun form B.start script.old script.new.failed (W.contents output.old) (W.contents output.new) (D.view result.store.file.disk) result.result }
 {
     let number = store.state().number();
     let Ok(mut passes) = Vec::with_capacity(alloc, 1) else {
@@ -93,7 +95,7 @@ where
             if let Some(pass) = front.pass(&rt) {
                 let client = Client::new(pass, number);
                 let mut engine = FrontEngine { rt, front, client };
-                let result = run_script(alloc, script, window, output, &mut engine);
+                let result = run_script(alloc, script, window, form, output, &mut engine);
                 let FrontEngine { front, client, .. } = engine;
                 passes.push_reserved(client.into_pass());
                 if let Ok(closed) = front.close(&rt, crew, Given { passes, readers }) {
@@ -116,7 +118,7 @@ fn serve_named<
     W: Write,
     D: Disk + Drop + Send + 'static,
     K: Desk<Quantum<AnyJob>, Done<AnyJob>> + Drop + Send + Sync + 'static,
-    R: Threads + Wait + Copy + Drop + Send + Sync + 'static,
+    R: Threads + Wait + Clock + Copy + Drop + Send + Sync + 'static,
 >(
     rt: R,
     alloc: Global,
@@ -126,16 +128,17 @@ fn serve_named<
     workers: u32,
     script: &mut Script<I>,
     window: u32,
+    form: Form,
     output: &mut W,
 ) -> Served<D>
 where
     K::Seat: Drop + Send + 'static,
     requires some { 0 < window }
     requires begins { Begins any_kind store.state (D.view store.file.disk).failures (D.view store.file.disk).clock store.file.broken store.state (D.view store.file.disk) }
-    ensures { IsServedRun store.state script.old script.new.failed (W.contents output.old) (W.contents output.new) (D.view result.store.file.disk) result.result }
+    ensures { IsServedRun form store.state script.old script.new.failed (W.contents output.old) (W.contents output.new) (D.view result.store.file.disk) result.result }
 {
     serve::<I, W, D, Brand, K, R>(
-        rt, alloc, names, store, desk, workers, script, window, output,
+        rt, alloc, names, store, desk, workers, script, window, form, output,
     )
 }
 
@@ -145,15 +148,16 @@ where
 ///
 /// Of the slots of a record up to `window` are asked for before the last of them is waited for, 1 or more, and 64 at the most.
 ///
-/// What is printed is the same for any number of workers and any window. A printed line is a receipt: whatever the run answers, each
-/// image that a stop may leave behind it is recovered to the outcome of a beginning of the script's accepted commands which holds
+/// What is printed is the same for any number of workers and any window, and by `form` text or JSON. A printed line is a
+/// receipt: whatever the run answers, each image that a stop may leave behind it is recovered to the outcome of a beginning of
+/// the script's accepted commands which holds
 /// every command whose line was printed. `NoThread` says that the system gives no thread; then nothing was done.
 pub fn run_served<
     I: Read + Drop,
     W: Write,
     D: Disk + Drop + Send + 'static,
     K: Desk<Quantum<AnyJob>, Done<AnyJob>> + Drop + Send + Sync + 'static,
-    R: Threads + Wait + Copy + Drop + Send + Sync + 'static,
+    R: Threads + Wait + Clock + Copy + Drop + Send + Sync + 'static,
 >(
     rt: R,
     alloc: Global,
@@ -162,17 +166,18 @@ pub fn run_served<
     workers: u32,
     script: &mut Script<I>,
     window: u32,
+    form: Form,
     output: &mut W,
 ) -> Served<D>
 where
     K::Seat: Drop + Send + 'static,
     requires some { 0 < window }
     requires begins { Begins any_kind store.state (D.view store.file.disk).failures (D.view store.file.disk).clock store.file.broken store.state (D.view store.file.disk) }
-    ensures { IsServedRun store.state script.old script.new.failed (W.contents output.old) (W.contents output.new) (D.view result.store.file.disk) result.result }
+    ensures { IsServedRun form store.state script.old script.new.failed (W.contents output.old) (W.contents output.new) (D.view result.store.file.disk) result.result }
 {
     match Names::new(alloc) {
         Ok(names) => serve_named(
-            rt, alloc, names, store, desk, workers, script, window, output,
+            rt, alloc, names, store, desk, workers, script, window, form, output,
         ),
         Err(_) => Served {
             store,

@@ -23,7 +23,21 @@ fn line_of(text: &[u8], row: &ByteRecord) -> Option<Place> {
     Some(line_behind(text, byte))
 }
 
-// The place and the line of the record that has the answer behind so many ones.
+// Whether a record shows the jobs of all tasks: it has no answer where there are none, and is never refused.
+fn shows_all(row: &ByteRecord) -> bool {
+    row.get(0) == Some(b"show") && row.get(1) == Some(b"")
+}
+
+// Whether a task has a job behind an accepted record, as far as this is known; `has` says so of the records before it.
+fn has_job(row: &ByteRecord, has: bool) -> bool {
+    match row.get(0) {
+        Some(b"submit") => true,
+        Some(b"withdraw") => false,
+        _ => has,
+    }
+}
+
+// The place and the line of the record that has the answer behind so many ones; none where two records may have it.
 fn record_behind(alloc: Global, text: &[u8], answers: u64) -> Option<(u64, Option<Place>)> {
     let mut reader = ReaderBuilder::new()
         .has_headers(false)
@@ -31,18 +45,33 @@ fn record_behind(alloc: Global, text: &[u8], answers: u64) -> Option<(u64, Optio
         .from_reader(alloc, text);
     let mut row = ByteRecord::new(alloc);
     let mut left = answers;
+    // So many of the records before had no answer, or one.
+    let mut unsure: u64 = 0;
+    let mut has = false;
+    let mut found = None;
     for place in 0..u64::MAX {
         match reader.read_byte_record(&mut row) {
             Ok(true) => {}
-            _ => return None,
+            _ => return found,
         }
+        let is_all = shows_all(&row);
         let most = answers_of(&row);
-        if left < most {
-            return Some((place.saturating_add(1), line_of(text, &row)));
+        if !is_all && left < most.saturating_add(unsure) {
+            if found.is_some() {
+                return None;
+            }
+            found = Some((place.saturating_add(1), line_of(text, &row)));
         }
-        left = left.saturating_sub(most);
+        if is_all && !has {
+            unsure = unsure.saturating_add(1);
+        } else if left < most {
+            return found;
+        } else {
+            left -= most;
+        }
+        has = has_job(&row, has);
     }
-    None
+    found
 }
 
 // What to do about a refusal of this name.
@@ -52,7 +81,7 @@ fn change_of(refusal: &str) -> &'static str {
     } else if refusal.contains("TaskBusy") {
         "Run more slots until its job is done, or take the job away first: withdraw,TASK,,,"
     } else if refusal.contains("NoJob") {
-        "Take away only what is there: pfx status says job=open or job=done of a task that has one."
+        "Take away or show only what is there: pfx status says job=open or job=done of a task that has one."
     } else if refusal.contains("BadKind") {
         "The kinds are count, rule and scan."
     } else if refusal.contains("BadGoal") {
@@ -68,7 +97,7 @@ fn change_of(refusal: &str) -> &'static str {
 
 /// The note of the first refused record of a script: where it stands, how it was refused, what to change, and how many more records were.
 /// `answers` are the answers that were printed before it, `refusal` is what its line says behind `refused`, `refused` how many records
-/// were refused in all. Fails only where memory runs out.
+/// were refused in all. `None` where it isn't known which record it is. Fails only where memory runs out.
 pub fn refused_note(
     alloc: Global,
     file: &str,

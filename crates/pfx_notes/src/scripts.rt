@@ -8,7 +8,7 @@ use std::alloc::{AllocError, Global};
 use std::str::from_utf8;
 
 const VERBS: &str =
-    "A record begins with submit, slot, withdraw, settle or status, and no header line stands above them.";
+    "A record begins with submit, slot, withdraw, settle, status or show, and no header line stands above them.";
 
 const RECORD: &str =
     "A record has five fields, VERB,TASK,KIND,GOAL,DATA, as submit,0,count,5, or slot,,,3, with unused ones empty.";
@@ -59,6 +59,7 @@ fn form_of(verb: &str) -> &'static str {
         "withdraw" => "withdraw,TASK,,,",
         "settle" => "settle,,,,",
         "status" => "status,,,,",
+        "show" => "show,TASK,,,",
         _ => "",
     }
 }
@@ -167,8 +168,8 @@ fn verb_note(alloc: Global, found: &Found<'_>) -> Result<Option<Note>, AllocErro
         "submit" => goal_note(alloc, found),
         "slot" if !are_empty(found, false, true) => used_note(alloc, found, form),
         "slot" => count_note(alloc, found),
-        "withdraw" if !are_empty(found, true, false) => used_note(alloc, found, form),
-        "withdraw" => task_note(alloc, found),
+        "withdraw" | "show" if !are_empty(found, true, false) => used_note(alloc, found, form),
+        "withdraw" | "show" => task_note(alloc, found),
         "settle" | "status" => used_note(alloc, found, form),
         _ => {
             let verb = front(alloc, verb)?;

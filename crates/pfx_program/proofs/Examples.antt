@@ -7,6 +7,7 @@ use Rattle.csv.specs.Writing.{fields_text, is_blank}
 use Rattle.pfx_symbols.specs.Symbols.{substring_at}
 use Rattle.pfx_set_text.specs.SetFile.{FileTask}
 use Rattle.pfx_numerals.specs.Numerals.{number_in}
+use Rattle.pfx_program.specs.declared.form.Form.TheVariants.{Text}
 use Rattle.pfx_program.specs.Ledger.{numbers_in, ledger_of, given}
 use Rattle.pfx_program.specs.Lines.{plan_lines}
 
@@ -17,7 +18,7 @@ halves_and_thirds = record { name = codes "x"; e = 1; p = 2 } ∷ record { name 
 abbrev set : FilledSet
 set = filled 1 ((1, 2) ∷ (1, 3) ∷ []) 6
 
-pub first_lines : plan_lines halves_and_thirds (start set) 2 ≡ record { text = codes "0,x\n1,y\n"; stop = None }
+pub first_lines : plan_lines Text halves_and_thirds (start set) 2 ≡ record { text = codes "0,x\n1,y\n"; stop = None }
 unfolding plan_lines digits fields_text is_blank substring_at
 first_lines = refl
 
@@ -64,6 +65,6 @@ pub of_the_set : given set (codes "6:3,2,1") ≡ Some (ledger_at set 6 (3 ∷ 2 
 unfolding ledger_of numbers_in number_in
 of_the_set = refl
 
-pub goes_on : plan_lines halves_and_thirds (ledger_at set 6 (3 ∷ 2 ∷ 1 ∷ [])) 1 ≡ record { text = codes "6,x\n"; stop = None }
+pub goes_on : plan_lines Text halves_and_thirds (ledger_at set 6 (3 ∷ 2 ∷ 1 ∷ [])) 1 ≡ record { text = codes "6,x\n"; stop = None }
 unfolding plan_lines digits fields_text is_blank substring_at
 goes_on = refl

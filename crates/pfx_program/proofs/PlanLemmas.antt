@@ -15,6 +15,7 @@ use Rattle.pfx_choice.specs.declared.faults.ChoiceFault.TheVariants as choicefau
 use Rattle.pfx_fault.specs.declared.refusals.Fault.{Fault}
 use Rattle.pfx_fault.specs.declared.refusals.Fault.TheVariants as fault
 use Rattle.pfx_set_text.specs.SetFile.{SetFile, FileTask, weights_of, set_of_bytes}
+use Rattle.pfx_program.specs.declared.form.Form.{Form}
 use Rattle.pfx_program.specs.Faults.{fault_of_set, fault_of_ledger, fault_of_choice}
 use Rattle.pfx_program.specs.Ledger.{Begins, RefusesGiven, given}
 use Rattle.pfx_program.specs.Lines.{Lines, no_lines, before, slot_line, plan_lines}
@@ -32,19 +33,19 @@ abbrev stopped : ChoiceFault → Lines
 stopped why = record { text = []; stop = Some why }
 
 -- a slot that has a row: its line comes first
-row_lines : (tasks : List FileTask) (g : Ledger) (row : List ℕ) (m : ℕ) → chosen g ≡ Ok row
-    → plan_lines tasks g (suc m) ≡ before (slot_line tasks g.slot row) (plan_lines tasks (after g (is_in row)) m)
+row_lines : (form : Form) (tasks : List FileTask) (g : Ledger) (row : List ℕ) (m : ℕ) → chosen g ≡ Ok row
+    → plan_lines form tasks g (suc m) ≡ before (slot_line form tasks g.slot row) (plan_lines form tasks (after g (is_in row)) m)
 unfolding plan_lines
-row_lines tasks g row m is = rw is refl
+row_lines form tasks g row m is = rw is refl
 
 -- a slot that has none: there are no lines
-stop_lines : (tasks : List FileTask) (g : Ledger) (why : ChoiceFault) (m : ℕ) → chosen g ≡ Err why → plan_lines tasks g (suc m) ≡ stopped why
+stop_lines : (form : Form) (tasks : List FileTask) (g : Ledger) (why : ChoiceFault) (m : ℕ) → chosen g ≡ Err why → plan_lines form tasks g (suc m) ≡ stopped why
 unfolding plan_lines
-stop_lines tasks g why m is = rw is refl
+stop_lines form tasks g why m is = rw is refl
 
-zero_lines : (tasks : List FileTask) (g : Ledger) → plan_lines tasks g 0 ≡ no_lines
+zero_lines : (form : Form) (tasks : List FileTask) (g : Ledger) → plan_lines form tasks g 0 ≡ no_lines
 unfolding plan_lines
-zero_lines tasks g = refl
+zero_lines form tasks g = refl
 
 before-before : (a b : List ℕ) (x : Lines) → before a (before b x) ≡ before (a ++ b) x
 before-before a b x = rw (append_assoc a b x.text) refl
@@ -55,44 +56,44 @@ before-no_lines a = rw append-nil refl
 -- ---- how far a plan has come
 
 -- the lines of the slots before this one were written, and the others are those of the ledger now
-pub record Progress (tasks : List FileTask) (g now : Ledger) (slots slot : ℕ) (old new : Option (List ℕ)) : Type 0 where
+pub record Progress (form : Form) (tasks : List FileTask) (g now : Ledger) (slots slot : ℕ) (old new : Option (List ℕ)) : Type 0 where
   pub within : slot ≤ slots
   pub front : List ℕ
-  pub goes : (m : ℕ) → plan_lines tasks g (slot + m) ≡ before front (plan_lines tasks now m)
+  pub goes : (m : ℕ) → plan_lines form tasks g (slot + m) ≡ before front (plan_lines form tasks now m)
   pub written : Appends old new front
 
-pub starts : (tasks : List FileTask) (g : Ledger) (slots : ℕ) (old : Option (List ℕ)) → Progress tasks g g slots 0 old old
-starts tasks g slots old = record {
+pub starts : (form : Form) (tasks : List FileTask) (g : Ledger) (slots : ℕ) (old : Option (List ℕ)) → Progress form tasks g g slots 0 old old
+starts form tasks g slots old = record {
   within = omega arith;
   front = [];
   goes = λ m. let here : 0 + m ≡ m = omega arith in rw here refl;
   written = appends-nothing old;
 }
 
-pub goes_on : (tasks : List FileTask) (g now after_now : Ledger) (slots slot : ℕ) (old new newer : Option (List ℕ)) (row : List ℕ) → slot < slots → Progress tasks g now slots slot old new
-    → chosen now ≡ Ok row → after_now ≡ after now (is_in row) → Appends new newer (slot_line tasks now.slot row) → Progress tasks g after_now slots (slot + 1) old newer
-goes_on tasks g now after_now slots slot old new newer row below h is next wrote =
-    let line = slot_line tasks now.slot row in
+pub goes_on : (form : Form) (tasks : List FileTask) (g now after_now : Ledger) (slots slot : ℕ) (old new newer : Option (List ℕ)) (row : List ℕ) → slot < slots → Progress form tasks g now slots slot old new
+    → chosen now ≡ Ok row → after_now ≡ after now (is_in row) → Appends new newer (slot_line form tasks now.slot row) → Progress form tasks g after_now slots (slot + 1) old newer
+goes_on form tasks g now after_now slots slot old new newer row below h is next wrote =
+    let line = slot_line form tasks now.slot row in
     record {
       within = omega arith;
       front = h.front ++ line;
       goes = λ m.
           let place : (slot + 1) + m ≡ slot + suc m = omega arith in
-          rw (place, next) (h.goes (suc m) ∙ ap (before h.front) (row_lines tasks now row m is) ∙ before-before h.front line (plan_lines tasks (after now (is_in row)) m));
+          rw (place, next) (h.goes (suc m) ∙ ap (before h.front) (row_lines form tasks now row m is) ∙ before-before h.front line (plan_lines form tasks (after now (is_in row)) m));
       written = appends-more old new newer h.front line h.written wrote;
     }
 
 -- the lines so far are those of the first slots
-so_far : (tasks : List FileTask) (g now : Ledger) (slots slot : ℕ) (old new : Option (List ℕ)) (h : Progress tasks g now slots slot old new)
-    → plan_lines tasks g slot ≡ whole_lines h.front
-so_far tasks g now slots slot old new h =
+so_far : (form : Form) (tasks : List FileTask) (g now : Ledger) (slots slot : ℕ) (old new : Option (List ℕ)) (h : Progress form tasks g now slots slot old new)
+    → plan_lines form tasks g slot ≡ whole_lines h.front
+so_far form tasks g now slots slot old new h =
     let place : slot + 0 ≡ slot = omega arith in
-    rw place at (h.goes 0) ∙ ap (before h.front) (zero_lines tasks now) ∙ before-no_lines h.front
+    rw place at (h.goes 0) ∙ ap (before h.front) (zero_lines form tasks now) ∙ before-no_lines h.front
 
 -- all lines are those so far and those of the slots that are left
-all_lines : (tasks : List FileTask) (g now : Ledger) (slots slot : ℕ) (old new : Option (List ℕ)) → slot < slots → (h : Progress tasks g now slots slot old new)
-    → plan_lines tasks g slots ≡ before h.front (plan_lines tasks now (suc (slots - slot - 1)))
-all_lines tasks g now slots slot old new below h =
+all_lines : (form : Form) (tasks : List FileTask) (g now : Ledger) (slots slot : ℕ) (old new : Option (List ℕ)) → slot < slots → (h : Progress form tasks g now slots slot old new)
+    → plan_lines form tasks g slots ≡ before h.front (plan_lines form tasks now (suc (slots - slot - 1)))
+all_lines form tasks g now slots slot old new below h =
     let place : slot + suc (slots - slot - 1) ≡ slots = omega arith in
     rw place at (h.goes (suc (slots - slot - 1)))
 
@@ -105,9 +106,9 @@ pub record HasSet (bytes : List ℕ) (at : Option (List ℕ)) (file : SetFile) (
   pub accepted : Accepts file.workers (weights_of file) set
   pub begins : Begins set at first
 
-plan_is : (bytes : List ℕ) (at : Option (List ℕ)) (file : SetFile) (first : Ledger) (slots : ℕ) (lines : Lines) (text : List ℕ) (end : Option Fault) → HasSet bytes at file first
-    → plan_lines file.tasks first slots ≡ lines → text ≡ lines.text → end ≡ option_map fault_of_choice lines.stop → IsPlanText bytes at slots text end
-plan_is bytes at file first slots lines text end h is same stop = rw h.read (inl (record {
+plan_is : (form : Form) (bytes : List ℕ) (at : Option (List ℕ)) (file : SetFile) (first : Ledger) (slots : ℕ) (lines : Lines) (text : List ℕ) (end : Option Fault) → HasSet bytes at file first
+    → plan_lines form file.tasks first slots ≡ lines → text ≡ lines.text → end ≡ option_map fault_of_choice lines.stop → IsPlanText form bytes at slots text end
+plan_is form bytes at file first slots lines text end h is same stop = rw h.read (inl (record {
   set = h.set;
   accepted = h.accepted;
   first = first;
@@ -118,10 +119,10 @@ plan_is bytes at file first slots lines text end h is same stop = rw h.read (inl
 
 -- ---- ends
 
-pub ends : (bytes : List ℕ) (at : Option (List ℕ)) (file : SetFile) (first : Ledger) (now : Ledger) (slots slot : ℕ) (old new : Option (List ℕ)) → HasSet bytes at file first → slot ≡ slots
-    → Progress file.tasks first now slots slot old new → Prints bytes at slots old new None
-ends bytes at file first now slots slot old new has last h =
-    (h.front, plan_is bytes at file first slots (whole_lines h.front) h.front None has (rw (← last) (so_far file.tasks first now slots slot old new h)) refl refl, h.written)
+pub ends : (form : Form) (bytes : List ℕ) (at : Option (List ℕ)) (file : SetFile) (first : Ledger) (now : Ledger) (slots slot : ℕ) (old new : Option (List ℕ)) → HasSet bytes at file first → slot ≡ slots
+    → Progress form file.tasks first now slots slot old new → Prints form bytes at slots old new None
+ends form bytes at file first now slots slot old new has last h =
+    (h.front, plan_is form bytes at file first slots (whole_lines h.front) h.front None has (rw (← last) (so_far form file.tasks first now slots slot old new h)) refl refl, h.written)
 
 never_input : (why : ChoiceFault) → fault.InputFailed ≡ fault_of_choice why → ⊥
 never_input choicefault.SlotLimit e = cc
@@ -130,29 +131,29 @@ never_input (choicefault.TooFewEligible eligible m) e = cc
 never_input choicefault.NoMemory e = cc
 
 -- a slot whose line wasn't written ends the plan
-pub fails : (bytes : List ℕ) (at : Option (List ℕ)) (file : SetFile) (first : Ledger) (now : Ledger) (slots slot : ℕ) (old new newer : Option (List ℕ)) (e : Fault) → HasSet bytes at file first → slot < slots
-    → Progress file.tasks first now slots slot old new → SlotFails file.tasks now new newer e → Leaves bytes at slots old newer (Err e)
-fails bytes at file first now slots slot old new newer fault.NoMemory has below h failed =
-    inl (slot, h.within, (h.front, plan_is bytes at file first slot (whole_lines h.front) h.front None has (so_far file.tasks first now slots slot old new h) refl refl, appends-kept old new newer h.front h.written failed))
-fails bytes at file first now slots slot old new newer fault.OutputFailed has below h failed =
+pub fails : (form : Form) (bytes : List ℕ) (at : Option (List ℕ)) (file : SetFile) (first : Ledger) (now : Ledger) (slots slot : ℕ) (old new newer : Option (List ℕ)) (e : Fault) → HasSet bytes at file first → slot < slots
+    → Progress form file.tasks first now slots slot old new → SlotFails form file.tasks now new newer e → Leaves form bytes at slots old newer (Err e)
+fails form bytes at file first now slots slot old new newer fault.NoMemory has below h failed =
+    inl (slot, h.within, (h.front, plan_is form bytes at file first slot (whole_lines h.front) h.front None has (so_far form file.tasks first now slots slot old new h) refl refl, appends-kept old new newer h.front h.written failed))
+fails form bytes at file first now slots slot old new newer fault.OutputFailed has below h failed =
     let (row, is, cut) = failed in
     let (front, rest, same, wrote) = cut in
-    let line = slot_line file.tasks now.slot row in
-    let left = plan_lines file.tasks (after now (is_in row)) (slots - slot - 1) in
-    let all = all_lines file.tasks first now slots slot old new below h ∙ ap (before h.front) (row_lines file.tasks now row (slots - slot - 1) is) in
+    let line = slot_line form file.tasks now.slot row in
+    let left = plan_lines form file.tasks (after now (is_in row)) (slots - slot - 1) in
+    let all = all_lines form file.tasks first now slots slot old new below h ∙ ap (before h.front) (row_lines form file.tasks now row (slots - slot - 1) is) in
     let text : (h.front ++ front) ++ (rest ++ left.text) ≡ h.front ++ (line ++ left.text) = rw (same, append_assoc h.front front (rest ++ left.text), append_assoc front rest left.text) refl in (
       h.front ++ front,
       rest ++ left.text,
       option_map fault_of_choice left.stop,
-      plan_is bytes at file first slots (before h.front (before line left)) ((h.front ++ front) ++ (rest ++ left.text)) (option_map fault_of_choice left.stop) has all text refl,
+      plan_is form bytes at file first slots (before h.front (before line left)) ((h.front ++ front) ++ (rest ++ left.text)) (option_map fault_of_choice left.stop) has all text refl,
       appends-more old new newer h.front front h.written wrote,
     )
-fails bytes at file first now slots slot old new newer fault.InputFailed has below h failed = absurd (never_input failed.0 failed.2)
-fails bytes at file first now slots slot old new newer other has below h failed =
+fails form bytes at file first now slots slot old new newer fault.InputFailed has below h failed = absurd (never_input failed.0 failed.2)
+fails form bytes at file first now slots slot old new newer other has below h failed =
     let (why, is, same, kept) = failed in
-    let all = all_lines file.tasks first now slots slot old new below h ∙ ap (before h.front) (stop_lines file.tasks now why (slots - slot - 1) is) in (
+    let all = all_lines form file.tasks first now slots slot old new below h ∙ ap (before h.front) (stop_lines form file.tasks now why (slots - slot - 1) is) in (
       h.front,
-      plan_is bytes at file first slots (before h.front (stopped why)) h.front (Some other) has all (sym (append-nil h.front)) (ap Some same),
+      plan_is form bytes at file first slots (before h.front (stopped why)) h.front (Some other) has all (sym (append-nil h.front)) (ap Some same),
       appends-kept old new newer h.front h.written kept,
     )
 
@@ -162,16 +163,16 @@ pub if_some : {A : Type 0} (o : Option A) (P Q : A → Type 0) → IfSome o P �
 if_some None P Q h f = tt
 if_some (Some x) P Q h f = f x h
 
-pub no_input : (input at : Option (List ℕ)) (slots : ℕ) (old : Option (List ℕ)) (e : Fault) → IsInputFault e → IfSome input (λ bytes. Leaves bytes at slots old old (Err e))
-no_input None at slots old e h = tt
-no_input (Some bytes) at slots old fault.InputFailed h = keeps-same old
-no_input (Some bytes) at slots old fault.NoMemory h = inr (keeps-same old)
-no_input (Some bytes) at slots old other h = absurd h
+pub no_input : (form : Form) (input at : Option (List ℕ)) (slots : ℕ) (old : Option (List ℕ)) (e : Fault) → IsInputFault e → IfSome input (λ bytes. Leaves form bytes at slots old old (Err e))
+no_input form None at slots old e h = tt
+no_input form (Some bytes) at slots old fault.InputFailed h = keeps-same old
+no_input form (Some bytes) at slots old fault.NoMemory h = inr (keeps-same old)
+no_input form (Some bytes) at slots old other h = absurd h
 
-pub no_set : (bytes : List ℕ) (at : Option (List ℕ)) (slots : ℕ) (old : Option (List ℕ)) (e : Fault) → ReadFails bytes e → Leaves bytes at slots old old (Err e)
-no_set bytes at slots old fault.BadSet h = ([], rw h (refl, refl), appends-nothing old)
-no_set bytes at slots old fault.NoMemory h = inr (keeps-same old)
-no_set bytes at slots old other h = absurd h
+pub no_set : (form : Form) (bytes : List ℕ) (at : Option (List ℕ)) (slots : ℕ) (old : Option (List ℕ)) (e : Fault) → ReadFails bytes e → Leaves form bytes at slots old old (Err e)
+no_set form bytes at slots old fault.BadSet h = ([], rw h (refl, refl), appends-nothing old)
+no_set form bytes at slots old fault.NoMemory h = inr (keeps-same old)
+no_set form bytes at slots old other h = absurd h
 
 never_outside : (why : SetFault) → (fault.InputFailed ≡ fault_of_set why → ⊥) × (fault.OutputFailed ≡ fault_of_set why → ⊥)
 never_outside setfault.NoTasks = (λ e. cc, λ e. cc)
@@ -192,28 +193,28 @@ never_given (Some g) = (λ h. (never_ledger h.0).0 h.3, λ h. (never_ledger h.0)
     never_ledger ledgerfault.NoMemory = (λ e. cc, λ e. cc)
 
 -- a set or a ledger that is refused has no line
-refused_text : (file : SetFile) (at : Option (List ℕ)) (slots : ℕ) (f : Fault) → SetFails file f ⊎ LedgerFails file at f
-    → IsPlanned file at slots [] (Some f) ⊎ (IsSetRefused file [] (Some f) ⊎ IsLedgerRefused file at [] (Some f))
-refused_text file at slots f (inl h) =
+refused_text : (form : Form) (file : SetFile) (at : Option (List ℕ)) (slots : ℕ) (f : Fault) → SetFails file f ⊎ LedgerFails file at f
+    → IsPlanned form file at slots [] (Some f) ⊎ (IsSetRefused file [] (Some f) ⊎ IsLedgerRefused file at [] (Some f))
+refused_text form file at slots f (inl h) =
     let (why, refused, not_memory, same) = h in
     inr (inl (record { why = why; refused = refused; not_memory = not_memory; no_line = refl; stop = ap Some same }))
-refused_text file at slots f (inr h) =
+refused_text form file at slots f (inr h) =
     let (set, accepted, refused) = h in
     inr (inr (record { set = set; accepted = accepted; why = f; refused = refused; no_line = refl; stop = refl }))
 
-pub no_start : (bytes : List ℕ) (at : Option (List ℕ)) (file : SetFile) (slots : ℕ) (old : Option (List ℕ)) (e : Fault) → set_of_bytes bytes ≡ Some file → StartFails file at e
-    → Leaves bytes at slots old old (Err e)
-no_start bytes at file slots old fault.NoMemory read h = inr (keeps-same old)
-no_start bytes at file slots old fault.InputFailed read (inl h) = absurd ((never_outside h.0).0 h.3)
-no_start bytes at file slots old fault.InputFailed read (inr h) = absurd ((never_given (given h.0 h.2.text)).0 h.2.refused)
-no_start bytes at file slots old fault.OutputFailed read (inl h) = absurd ((never_outside h.0).1 h.3)
-no_start bytes at file slots old fault.OutputFailed read (inr h) = absurd ((never_given (given h.0 h.2.text)).1 h.2.refused)
-no_start bytes at file slots old other read h = ([], rw read (refused_text file at slots other h), appends-nothing old)
+pub no_start : (form : Form) (bytes : List ℕ) (at : Option (List ℕ)) (file : SetFile) (slots : ℕ) (old : Option (List ℕ)) (e : Fault) → set_of_bytes bytes ≡ Some file → StartFails file at e
+    → Leaves form bytes at slots old old (Err e)
+no_start form bytes at file slots old fault.NoMemory read h = inr (keeps-same old)
+no_start form bytes at file slots old fault.InputFailed read (inl h) = absurd ((never_outside h.0).0 h.3)
+no_start form bytes at file slots old fault.InputFailed read (inr h) = absurd ((never_given (given h.0 h.2.text)).0 h.2.refused)
+no_start form bytes at file slots old fault.OutputFailed read (inl h) = absurd ((never_outside h.0).1 h.3)
+no_start form bytes at file slots old fault.OutputFailed read (inr h) = absurd ((never_given (given h.0 h.2.text)).1 h.2.refused)
+no_start form bytes at file slots old other read h = ([], rw read (refused_text form file at slots other h), appends-nothing old)
 
 -- ---- a slot that has no row
 
-pub slot_refused : (tasks : List FileTask) (g : Ledger) (old : Option (List ℕ)) (why : ChoiceFault) → AnswersFunction (chosen g) (Err why) → SlotFails tasks g old old (fault_of_choice why)
-slot_refused tasks g old choicefault.SlotLimit h = (choicefault.SlotLimit, h (λ e. cc), refl, keeps-same old)
-slot_refused tasks g old (choicefault.TooManyUrgent urgent m) h = (choicefault.TooManyUrgent urgent m, h (λ e. cc), refl, keeps-same old)
-slot_refused tasks g old (choicefault.TooFewEligible eligible m) h = (choicefault.TooFewEligible eligible m, h (λ e. cc), refl, keeps-same old)
-slot_refused tasks g old choicefault.NoMemory h = keeps-same old
+pub slot_refused : (form : Form) (tasks : List FileTask) (g : Ledger) (old : Option (List ℕ)) (why : ChoiceFault) → AnswersFunction (chosen g) (Err why) → SlotFails form tasks g old old (fault_of_choice why)
+slot_refused form tasks g old choicefault.SlotLimit h = (choicefault.SlotLimit, h (λ e. cc), refl, keeps-same old)
+slot_refused form tasks g old (choicefault.TooManyUrgent urgent m) h = (choicefault.TooManyUrgent urgent m, h (λ e. cc), refl, keeps-same old)
+slot_refused form tasks g old (choicefault.TooFewEligible eligible m) h = (choicefault.TooFewEligible eligible m, h (λ e. cc), refl, keeps-same old)
+slot_refused form tasks g old choicefault.NoMemory h = keeps-same old

@@ -14,6 +14,7 @@ use Rattle.pfx_choice.proofs.PfFunction.{pf_function}
 use Rattle.pfx_choice.proofs.Planning.{past_none, past_push, plan_push}
 use Rattle.pfx_choice.proofs.Schedules.{doomed_at}
 use Rattle.pfx_set_text.specs.SetFile.{FileTask}
+use Rattle.pfx_program.specs.declared.form.Form.{Form}
 use Rattle.pfx_program.specs.Lines.{Lines, before, lines_by, slot_line, plan_lines}
 use Rattle.pfx_program.specs.PlanLaws.{rows_text, AreOfPlan}
 
@@ -31,16 +32,16 @@ never_memory g cause is e =
     (members (total g) (pf_set g)) (is ∙ ap Err e)
 
 -- behind the rows in front, the lines are those of further rows of the plan
-record Goes (tasks : List FileTask) (g : Ledger) (h : ℕ) (front : Schedule) (lines : Lines) : Type 0 where
+record Goes (form : Form) (tasks : List FileTask) (g : Ledger) (h : ℕ) (front : Schedule) (lines : Lines) : Type 0 where
   rows : Schedule
   plan : IsPlan g (front ++ rows)
-  text : lines.text ≡ rows_text tasks (g.slot + length front) rows
+  text : lines.text ≡ rows_text form tasks (g.slot + length front) rows
   end : MatchOption lines.stop (length (front ++ rows) ≡ h) (λ cause. IsDoomed g h (g.slot + length (front ++ rows)) cause (front ++ rows))
 
-goes_on : (tasks : List FileTask) (g : Ledger) (h n : ℕ) (front : Schedule) (now : Ledger) → IsLedger g → IsPlan g front → now ≡ past g front → now.slot < 2 ^ 40 → length front + n ≡ h
-    → Goes tasks g h front (plan_lines tasks now n)
+goes_on : (form : Form) (tasks : List FileTask) (g : Ledger) (h n : ℕ) (front : Schedule) (now : Ledger) → IsLedger g → IsPlan g front → now ≡ past g front → now.slot < 2 ^ 40 → length front + n ≡ h
+    → Goes form tasks g h front (plan_lines form tasks now n)
 unfolding plan_lines
-goes_on tasks g h zero front now ledger plan is within all =
+goes_on form tasks g h zero front now ledger plan is within all =
     let same : front ++ [] ≡ front = append-nil front in
     record {
       rows = [];
@@ -48,8 +49,8 @@ goes_on tasks g h zero front now ledger plan is within all =
       text = refl;
       end = ap length same ∙ omega (arith, all);
     }
-goes_on tasks g h (suc n) front now ledger plan is within all =
-    by (chosen now) refl (λ row e. goes_on tasks g h n (front ++ row ∷ []) (after now (is_in row)) ledger (goes row e) (next_is row) (here row e).slot (longer row))
+goes_on form tasks g h (suc n) front now ledger plan is within all =
+    by (chosen now) refl (λ row e. goes_on form tasks g h n (front ++ row ∷ []) (after now (is_in row)) ledger (goes row e) (next_is row) (here row e).slot (longer row))
   where
     here : (row : List ℕ) → chosen now ≡ Ok row → IsChosen now row
     here row e = ((pf_function now).chosen_rows row).1 e
@@ -63,8 +64,8 @@ goes_on tasks g h (suc n) front now ledger plan is within all =
     longer : (row : List ℕ) → length (front ++ row ∷ []) + n ≡ h
     longer row = let long : length (front ++ row ∷ []) ≡ length front + 1 = length_push front row in omega (arith, long, all)
 
-    by : (o : Result (List ℕ) ChoiceFault) → chosen now ≡ o → ((row : List ℕ) → chosen now ≡ Ok row → Goes tasks g h (front ++ row ∷ []) (plan_lines tasks (after now (is_in row)) n))
-        → Goes tasks g h front (lines_by (λ row. before (slot_line tasks now.slot row) (plan_lines tasks (after now (is_in row)) n)) o)
+    by : (o : Result (List ℕ) ChoiceFault) → chosen now ≡ o → ((row : List ℕ) → chosen now ≡ Ok row → Goes form tasks g h (front ++ row ∷ []) (plan_lines form tasks (after now (is_in row)) n))
+        → Goes form tasks g h front (lines_by (λ row. before (slot_line form tasks now.slot row) (plan_lines form tasks (after now (is_in row)) n)) o)
     by (Ok row) e rest =
         let r = rest row e in
         let same : (front ++ row ∷ []) ++ r.rows ≡ front ++ (row ∷ r.rows) = append_assoc front (row ∷ []) r.rows in
@@ -73,8 +74,8 @@ goes_on tasks g h (suc n) front now ledger plan is within all =
         record {
           rows = row ∷ r.rows;
           plan = subst (IsPlan g) same r.plan;
-          text = ap (λ t. slot_line tasks now.slot row ++ t) (r.text ∙ ap (λ k. rows_text tasks k r.rows) slot) ∙ ap (λ k. slot_line tasks k row ++ rows_text tasks (g.slot + length front + 1) r.rows) at;
-          end = subst (λ (all : Schedule). MatchOption (plan_lines tasks (after now (is_in row)) n).stop (length all ≡ h) (λ cause. IsDoomed g h (g.slot + length all) cause all)) same r.end;
+          text = ap (λ t. slot_line form tasks now.slot row ++ t) (r.text ∙ ap (λ k. rows_text form tasks k r.rows) slot) ∙ ap (λ k. slot_line form tasks k row ++ rows_text form tasks (g.slot + length front + 1) r.rows) at;
+          end = subst (λ (all : Schedule). MatchOption (plan_lines form tasks (after now (is_in row)) n).stop (length all ≡ h) (λ cause. IsDoomed g h (g.slot + length all) cause all)) same r.end;
         }
     by (Err cause) e rest =
         let same : front ++ [] ≡ front = append-nil front in
@@ -89,8 +90,8 @@ goes_on tasks g h (suc n) front now ledger plan is within all =
           end = subst (λ (all : Schedule). IsDoomed g h (g.slot + length all) cause all) (sym same) (subst (λ k. IsDoomed g h k cause front) at doomed);
         }
 
-pub lines_are : (tasks : List FileTask) (g : Ledger) (n : ℕ) → IsLedger g → AreOfPlan tasks g n (plan_lines tasks g n)
-lines_are tasks g n ledger =
-    let r = goes_on tasks g n n [] g ledger (λ i l. absurd (omega arith)) (sym (past_none g)) ledger.slot (omega arith) in
+pub lines_are : (form : Form) (tasks : List FileTask) (g : Ledger) (n : ℕ) → IsLedger g → AreOfPlan form tasks g n (plan_lines form tasks g n)
+lines_are form tasks g n ledger =
+    let r = goes_on form tasks g n n [] g ledger (λ i l. absurd (omega arith)) (sym (past_none g)) ledger.slot (omega arith) in
     let slot : g.slot + 0 ≡ g.slot = omega arith in
-    record { rows = r.rows; plan = r.plan; text = r.text ∙ ap (λ k. rows_text tasks k r.rows) slot; end = r.end }
+    record { rows = r.rows; plan = r.plan; text = r.text ∙ ap (λ k. rows_text form tasks k r.rows) slot; end = r.end }

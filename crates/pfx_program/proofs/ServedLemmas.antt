@@ -12,6 +12,7 @@ use Rattle.pfx_endless.proofs.Rows.{GoesOn, start_goes_on, row_goes_on, no_row_a
 use Rattle.pfx_fault.specs.declared.refusals.Fault.{Fault}
 use Rattle.pfx_fault.specs.declared.refusals.Fault.TheVariants as fault
 use Rattle.pfx_set_text.specs.SetFile.{SetFile, FileTask, weights_of}
+use Rattle.pfx_program.specs.declared.form.Form.{Form}
 use Rattle.pfx_program.specs.Faults.{fault_of_set, fault_of_choice}
 use Rattle.pfx_program.specs.Plan.{LacksNoRow, IsInputFault, IsStart, StartFails, SlotFails}
 use Rattle.pfx_set_text.specs.Reading.{ReadFails}
@@ -42,10 +43,10 @@ next_served g next slot row h is next_is = record {
   at = ap (λ (k : Ledger). k.slot) next_is ∙ ap (λ n. n + 1) h.at;
 }
 
-pub slot_served : (tasks : List FileTask) (g : Ledger) (slots slot : ℕ) (old new : Option (List ℕ)) (f : Fault) → Served g slot → slot < slots → SlotFails tasks g old new f → LacksNoRow slots f
-slot_served tasks g slots slot old new fault.NoMemory h below failed = tt
-slot_served tasks g slots slot old new fault.OutputFailed h below failed = tt
-slot_served tasks g slots slot old new other h below (why, is, same, kept) =
+pub slot_served : (form : Form) (tasks : List FileTask) (g : Ledger) (slots slot : ℕ) (old new : Option (List ℕ)) (f : Fault) → Served g slot → slot < slots → SlotFails form tasks g old new f → LacksNoRow slots f
+slot_served form tasks g slots slot old new fault.NoMemory h below failed = tt
+slot_served form tasks g slots slot old new fault.OutputFailed h below failed = tt
+slot_served form tasks g slots slot old new other h below (why, is, same, kept) =
     let (last, late) = no_row_at_limit g why h.goes is in
     let at = h.at in
     let past : 2 ^ 40 ≤ slots = omega (arith, late, at, below) in

@@ -13,11 +13,17 @@ use Rattle.pfx_machine.specs.declared.command.Reply.{Reply}
 use Rattle.pfx_machine.proofs.Compose.{outcome-none, outcome-outcome}
 use Rattle.pfx_fault.specs.declared.refusals.Fault.{Fault}
 use Rattle.pfx_fault.specs.declared.refusals.Fault.TheVariants as fault
+use Rattle.pfx_program.specs.declared.form.Form.{Form}
 use Rattle.pfx_program.specs.Answers.{reply_line}
 use Rattle.pfx_program.specs.Promises.{Promise, Laws, IsSame, IsDone, IsInDoubt, IsLeftBy, IsEngineFault}
-use Rattle.pfx_program.specs.Script.{Step, text_of, commands_of, with_command, shown}
+use Rattle.pfx_program.specs.Script.{Step, text_of, commands_of, with_command, shown, jobs_step}
 use Rattle.pfx_program.specs.Running.{LineFails, Carried, Halts, Stopped}
 use Rattle.pfx_program.proofs.Appends.{appends-nothing, appends-kept, keeps-same}
+
+-- jobs are shown by no command
+pub jobs_commands : (form : Form) (o : Result (List ℕ) Fault) → commands_of (jobs_step form o ∷ []) ≡ []
+jobs_commands form (Ok text) = refl
+jobs_commands form (Err f) = refl
 
 pub text_append : (a b : List Step) → text_of (a ++ b) ≡ text_of a ++ text_of b
 text_append [] b = refl
@@ -243,11 +249,11 @@ module _ {E : Type 0} (P : Promise E) (L : Laws P) where
   pub same : (e : E) → IsSame P e e
   same e = record { state = refl; keeps = L.none e }
 
-  pub done_stopped : (c : Command AnyJob) (number : ℕ) (reply : Reply) (a b : E) (u v : Option (List ℕ)) (f : Fault) → IsDone P c number reply a b → LineFails (reply_line number reply) u v f
-      → Stopped P 1 ⊥ (record { text = reply_line ((P.state a).number + 1) reply; command = Some c } ∷ []) a b u v f
-  done_stopped c number reply a b u v f h fails =
-      one_stopped (record { text = reply_line ((P.state a).number + 1) reply; command = Some c }) a b u v f (L.fewer a b (c ∷ []) 1 0 (omega arith) h.keeps)
-      (subst (λ (n : ℕ). LineFails (reply_line n reply) u v f) h.next fails) h.state
+  pub done_stopped : (form : Form) (c : Command AnyJob) (number : ℕ) (reply : Reply) (a b : E) (u v : Option (List ℕ)) (f : Fault) → IsDone P c number reply a b → LineFails (reply_line form number reply) u v f
+      → Stopped P 1 ⊥ (record { text = reply_line form ((P.state a).number + 1) reply; command = Some c } ∷ []) a b u v f
+  done_stopped form c number reply a b u v f h fails =
+      one_stopped (record { text = reply_line form ((P.state a).number + 1) reply; command = Some c }) a b u v f (L.fewer a b (c ∷ []) 1 0 (omega arith) h.keeps)
+      (subst (λ (n : ℕ). LineFails (reply_line form n reply) u v f) h.next fails) h.state
 
   -- the engine failed
   pub doubt_stopped : (x : Reply → Step) (s : Step) (c : Command AnyJob) (a b : E) (u : Option (List ℕ)) (f : Fault) → ((reply : Reply) → answer any_kind (P.state a) c ≡ Ok reply → (s ≡ x reply) × ((x reply).command ≡ Some c))

@@ -3,11 +3,12 @@ use Rattle.std.specs.Prelude.{codes, ◌++◌, ℕ, ◌+◌, List, [], ◌∷◌
 use Rattle.std.specs.Fmt.{decimal, signed_decimal}
 use Rattle.pfx_fault.specs.Line.{refused_text}
 use Rattle.pfx_fault.specs.declared.refusals.Fault.{Fault}
-use Rattle.pfx_machine.specs.declared.board.JobStatus.{JobStatus}
-use Rattle.pfx_machine.specs.declared.board.JobStatus.TheVariants as job_status
 use Rattle.pfx_machine.specs.declared.board.TaskLine.{TaskLine}
 use Rattle.pfx_machine.specs.declared.command.Reply.{Reply}
 use Rattle.pfx_machine.specs.declared.command.Reply.TheVariants as reply
+use Rattle.pfx_program.specs.declared.form.Form.{Form}
+use Rattle.pfx_program.specs.declared.form.Form.TheVariants.{Text, Json}
+use Rattle.pfx_program.specs.Objects.{object_line, reply_object, refused_object, settled_object, closed_object, job_name, board_object}
 
 -- the tasks of a row, each behind a space
 abbrev pub row_text : List ℕ → List ℕ
@@ -23,26 +24,28 @@ abbrev pub ran_answer : ℕ → ℕ → List ℕ → List ℕ
 ran_answer n slot tasks = decimal n ++ codes " ran " ++ decimal slot ++ codes ":" ++ tasks ++ codes "\n"
 
 -- an accepted command: its number, what it did, and the task, or the slot with its row
-abbrev pub reply_line : ℕ → Reply → List ℕ
-reply_line n (reply.Submitted task) = task_answer n (codes "submitted") task
-reply_line n (reply.Ran slot row) = ran_answer n slot (row_text row)
-reply_line n (reply.Withdrawn task) = task_answer n (codes "withdrawn") task
+abbrev pub reply_text : ℕ → Reply → List ℕ
+reply_text n (reply.Submitted task) = task_answer n (codes "submitted") task
+reply_text n (reply.Ran slot row) = ran_answer n slot (row_text row)
+reply_text n (reply.Withdrawn task) = task_answer n (codes "withdrawn") task
+
+abbrev pub reply_line : Form → ℕ → Reply → List ℕ
+reply_line Text n said = reply_text n said
+reply_line Json n said = object_line (reply_object n said)
 
 -- a refused command
-abbrev pub refused_line : Fault → List ℕ
-refused_line f = refused_text f ++ codes "\n"
+abbrev pub refused_line : Form → Fault → List ℕ
+refused_line Text f = refused_text f ++ codes "\n"
+refused_line Json f = object_line (refused_object f)
 
 -- `settled 4`, `closed 4`
-abbrev pub settled_line : ℕ → List ℕ
-settled_line n = codes "settled " ++ decimal n ++ codes "\n"
+abbrev pub settled_line : Form → ℕ → List ℕ
+settled_line Text n = codes "settled " ++ decimal n ++ codes "\n"
+settled_line Json n = object_line (settled_object n)
 
-abbrev pub closed_line : ℕ → List ℕ
-closed_line n = codes "closed " ++ decimal n ++ codes "\n"
-
-abbrev pub job_name : JobStatus → List ℕ
-job_name job_status.None = codes "none"
-job_name job_status.Open = codes "open"
-job_name job_status.Done = codes "done"
+abbrev pub closed_line : Form → ℕ → List ℕ
+closed_line Text n = codes "closed " ++ decimal n ++ codes "\n"
+closed_line Json n = object_line (closed_object n)
 
 -- a lag over its period, as `-1/3`
 abbrev pub lag_text : TaskLine → List ℕ
@@ -66,3 +69,8 @@ board_line number slot = codes "board " ++ decimal number ++ codes " slot " ++ d
 
 abbrev pub board_text : ℕ → ℕ → List TaskLine → List ℕ
 board_text number slot lines = board_line number slot ++ task_lines 0 lines
+
+-- a board, in lines or as one object
+abbrev pub board_shown : Form → ℕ → ℕ → List TaskLine → List ℕ
+board_shown Text number slot lines = board_text number slot lines
+board_shown Json number slot lines = object_line (board_object number slot lines)

@@ -1,8 +1,7 @@
 -- The lines of what jobs have computed.
-use Rattle.std.specs.Prelude.{◌≡◌, ◌⊎◌, codes, ◌++◌, ◌+◌, ℕ, zero, suc, List, [], ◌∷◌, Option, Some, None, Result, Ok, Err, slice_get}
+use Rattle.std.specs.Prelude.{◌≡◌, ◌⊎◌, codes, ◌++◌, ◌+◌, ℕ, List, [], ◌∷◌, Option, Some, None, Result, Ok, Err, slice_get}
 use Rattle.std.specs.Fmt.{decimal}
 use Rattle.std.specs.Io.KnownBytes.{Keeps}
-use Rattle.pfx_kinds.specs.Cells.{cell_at}
 use Rattle.pfx_kinds.specs.ScanKind.{needle_of}
 use Rattle.pfx_kinds.specs.declared.any.AnyJob.{AnyJob}
 use Rattle.pfx_kinds.specs.declared.any.AnyJob.TheVariants.{Count, Rule, Scan}
@@ -11,12 +10,11 @@ use Rattle.pfx_kinds.specs.declared.rule.Rule as rule_type
 use Rattle.pfx_kinds.specs.declared.scan.Scan as scan_type
 use Rattle.pfx_fault.specs.declared.refusals.Fault.{Fault}
 use Rattle.pfx_fault.specs.declared.refusals.Fault.TheVariants as fault
+use Rattle.pfx_program.specs.declared.form.Form.{Form}
+use Rattle.pfx_program.specs.declared.form.Form.TheVariants.{Text, Json}
+use Rattle.pfx_program.specs.Cells.{cells_text}
+use Rattle.pfx_program.specs.Objects.{object_line, job_object}
 use Rattle.pfx_program.specs.Output.{AppendsFront}
-
--- so many cells from a place on, each as the digit 0 or 1
-unfoldable pub cells_text : List ℕ → ℕ → ℕ → List ℕ
-cells_text cells at zero = []
-cells_text cells at (suc n) = (48 + cell_at cells at) ∷ cells_text cells (at + 1) n
 
 -- the jobs of each kind, as `count left=98 value=12`, `rule left=0 rule=110 cells=00001101`, `scan left=0 found=2 of=ab`
 abbrev pub count_text : count_type.Count → List ℕ
@@ -34,29 +32,30 @@ job_text (Count c) = count_text c
 job_text (Rule r) = rule_text r
 job_text (Scan s) = scan_text s
 
--- its line, behind the number of its task; a task without a job has none
-abbrev pub job_line : ℕ → AnyJob → List ℕ
-job_line x job = (decimal x ++ codes " ") ++ job_text job ++ codes "\n"
+-- its line, with the number of its task; a task without a job has none
+abbrev pub job_line : Form → ℕ → AnyJob → List ℕ
+job_line Text x job = (decimal x ++ codes " ") ++ job_text job ++ codes "\n"
+job_line Json x job = object_line (job_object x job)
 
-abbrev pub place_line : ℕ → Option AnyJob → List ℕ
-place_line x None = []
-place_line x (Some job) = job_line x job
+abbrev pub place_line : Form → ℕ → Option AnyJob → List ℕ
+place_line form x None = []
+place_line form x (Some job) = job_line form x job
 
 -- the lines of the jobs of tasks, the first of which has the number x
-abbrev pub job_lines : ℕ → List (Option AnyJob) → List ℕ
-job_lines x [] = []
-job_lines x (place ∷ jobs) = place_line x place ++ job_lines (x + 1) jobs
+abbrev pub job_lines : Form → ℕ → List (Option AnyJob) → List ℕ
+job_lines form x [] = []
+job_lines form x (place ∷ jobs) = place_line form x place ++ job_lines form (x + 1) jobs
 
 -- the line of a task's job, by what stands at its place
-abbrev pub line_at : ℕ → Option (Option AnyJob) → Result (List ℕ) Fault
-line_at x None = Err (fault.NoSuchTask x)
-line_at x (Some None) = Err (fault.NoJob x)
-line_at x (Some (Some job)) = Ok (job_line x job)
+abbrev pub line_at : Form → ℕ → Option (Option AnyJob) → Result (List ℕ) Fault
+line_at form x None = Err (fault.NoSuchTask x)
+line_at form x (Some None) = Err (fault.NoJob x)
+line_at form x (Some (Some job)) = Ok (job_line form x job)
 
 -- what is shown of the jobs of all real tasks, or of the job of one
-abbrev pub shown_jobs : List (Option AnyJob) → Option ℕ → Result (List ℕ) Fault
-shown_jobs jobs None = Ok (job_lines 0 jobs)
-shown_jobs jobs (Some x) = line_at x (slice_get jobs x)
+abbrev pub shown_jobs : Form → List (Option AnyJob) → Option ℕ → Result (List ℕ) Fault
+shown_jobs form jobs None = Ok (job_lines form 0 jobs)
+shown_jobs form jobs (Some x) = line_at form x (slice_get jobs x)
 
 -- there is none to show, or memory was refused
 abbrev pub IsNotShown : Result (List ℕ) Fault → Fault → Type 0

@@ -7,6 +7,9 @@ use Rattle.pfx_columns.specs.Ledgers.{Ledger, after}
 use Rattle.pfx_choice.specs.PfRows.{chosen}
 use Rattle.pfx_choice.specs.declared.faults.ChoiceFault.{ChoiceFault}
 use Rattle.pfx_set_text.specs.SetFile.{FileTask}
+use Rattle.pfx_program.specs.declared.form.Form.{Form}
+use Rattle.pfx_program.specs.declared.form.Form.TheVariants.{Text, Json}
+use Rattle.pfx_program.specs.Objects.{object_line, slot_object}
 
 -- the name of a task: a task of the file has its own, and idle task j is `*j`
 abbrev pub name_of : List FileTask → ℕ → List ℕ
@@ -16,9 +19,10 @@ name_of tasks x = unwrap_or (option_map (λ t. t.name) (slice_get tasks x)) (cod
 abbrev pub slot_fields : List FileTask → ℕ → List ℕ → List (List ℕ)
 slot_fields tasks slot row = decimal slot ∷ map (name_of tasks) row
 
--- the line of a slot and its row: a record of CSV
-abbrev pub slot_line : List FileTask → ℕ → List ℕ → List ℕ
-slot_line tasks slot row = row_text default_writer (slot_fields tasks slot row)
+-- the line of a slot and its row: a record of CSV, or an object of JSON
+abbrev pub slot_line : Form → List FileTask → ℕ → List ℕ → List ℕ
+slot_line Text tasks slot row = row_text default_writer (slot_fields tasks slot row)
+slot_line Json tasks slot row = object_line (slot_object slot (map (name_of tasks) row))
 
 -- lines, and what stopped them, if a slot had no row
 pub record Lines : Type 0 where
@@ -38,6 +42,6 @@ lines_by next (Ok row) = next row
 lines_by next (Err why) = record { text = []; stop = Some why }
 
 -- the lines of so many slots from a ledger on: each row is the PF row of the ledger that the rows before it leave
-unfoldable pub plan_lines : List FileTask → Ledger → ℕ → Lines
-plan_lines tasks g zero = no_lines
-plan_lines tasks g (suc n) = lines_by (λ row. before (slot_line tasks g.slot row) (plan_lines tasks (after g (is_in row)) n)) (chosen g)
+unfoldable pub plan_lines : Form → List FileTask → Ledger → ℕ → Lines
+plan_lines form tasks g zero = no_lines
+plan_lines form tasks g (suc n) = lines_by (λ row. before (slot_line form tasks g.slot row) (plan_lines form tasks (after g (is_in row)) n)) (chosen g)

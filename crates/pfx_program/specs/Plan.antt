@@ -11,19 +11,20 @@ use Rattle.pfx_choice.specs.declared.faults.ChoiceFault.{ChoiceFault}
 use Rattle.pfx_fault.specs.declared.refusals.Fault.{Fault}
 use Rattle.pfx_fault.specs.declared.refusals.Fault.TheVariants as fault
 use Rattle.pfx_set_text.specs.SetFile.{SetFile, FileTask, weights_of, set_of_bytes}
+use Rattle.pfx_program.specs.declared.form.Form.{Form}
 use Rattle.pfx_program.specs.Faults.{fault_of_set, fault_of_choice}
 use Rattle.pfx_program.specs.Ledger.{Begins, RefusesBegin}
 use Rattle.pfx_program.specs.Lines.{slot_line, plan_lines}
 use Rattle.pfx_program.specs.Output.{AppendsFront}
 
 -- a file whose set is accepted: the lines of the slots from the ledger on with which the plan begins
-pub record IsPlanned (file : SetFile) (at : Option (List ℕ)) (slots : ℕ) (text : List ℕ) (end : Option Fault) : Type 0 where
+pub record IsPlanned (form : Form) (file : SetFile) (at : Option (List ℕ)) (slots : ℕ) (text : List ℕ) (end : Option Fault) : Type 0 where
   pub set : FilledSet
   pub accepted : Accepts file.workers (weights_of file) set
   pub first : Ledger
   pub begins : Begins set at first
-  pub lines : text ≡ (plan_lines file.tasks first slots).text
-  pub stop : end ≡ option_map fault_of_choice (plan_lines file.tasks first slots).stop
+  pub lines : text ≡ (plan_lines form file.tasks first slots).text
+  pub stop : end ≡ option_map fault_of_choice (plan_lines form file.tasks first slots).stop
 
 -- a file whose set is refused: no line, and the first fault that applies
 pub record IsSetRefused (file : SetFile) (text : List ℕ) (end : Option Fault) : Type 0 where
@@ -43,29 +44,29 @@ pub record IsLedgerRefused (file : SetFile) (at : Option (List ℕ)) (text : Lis
   pub stop : end ≡ Some why
 
 -- the plan of so many slots for the bytes of a file, from the ledger on that a text gives, if there is one: its text, and the fault at its end
-abbrev pub IsPlanText : List ℕ → Option (List ℕ) → ℕ → List ℕ → Option Fault → Type 0
-IsPlanText bytes at slots text end =
-    MatchOption (set_of_bytes bytes) ((text ≡ []) × (end ≡ Some fault.BadSet)) (λ file. IsPlanned file at slots text end ⊎ (IsSetRefused file text end ⊎ IsLedgerRefused file at text end))
+abbrev pub IsPlanText : Form → List ℕ → Option (List ℕ) → ℕ → List ℕ → Option Fault → Type 0
+IsPlanText form bytes at slots text end =
+    MatchOption (set_of_bytes bytes) ((text ≡ []) × (end ≡ Some fault.BadSet)) (λ file. IsPlanned form file at slots text end ⊎ (IsSetRefused file text end ⊎ IsLedgerRefused file at text end))
 
 -- the plan with this end was written, and nothing else
-abbrev pub Prints : List ℕ → Option (List ℕ) → ℕ → Option (List ℕ) → Option (List ℕ) → Option Fault → Type 0
-Prints bytes at slots old new end = (text : List ℕ) × IsPlanText bytes at slots text end × Appends old new text
+abbrev pub Prints : Form → List ℕ → Option (List ℕ) → ℕ → Option (List ℕ) → Option (List ℕ) → Option Fault → Type 0
+Prints form bytes at slots old new end = (text : List ℕ) × IsPlanText form bytes at slots text end × Appends old new text
 
 -- a beginning of the plan was written, and nothing else
-abbrev pub PrintsFront : List ℕ → Option (List ℕ) → ℕ → Option (List ℕ) → Option (List ℕ) → Type 0
-PrintsFront bytes at slots old new = (front rest : List ℕ) × (end : Option Fault) × IsPlanText bytes at slots (front ++ rest) end × Appends old new front
+abbrev pub PrintsFront : Form → List ℕ → Option (List ℕ) → ℕ → Option (List ℕ) → Option (List ℕ) → Type 0
+PrintsFront form bytes at slots old new = (front rest : List ℕ) × (end : Option Fault) × IsPlanText form bytes at slots (front ++ rest) end × Appends old new front
 
 -- the lines of some first slots were written, or nothing was
-abbrev pub PrintsSome : List ℕ → Option (List ℕ) → ℕ → Option (List ℕ) → Option (List ℕ) → Type 0
-PrintsSome bytes at slots old new = ((k : ℕ) × (k ≤ slots) × Prints bytes at k old new None) ⊎ Keeps old new
+abbrev pub PrintsSome : Form → List ℕ → Option (List ℕ) → ℕ → Option (List ℕ) → Option (List ℕ) → Type 0
+PrintsSome form bytes at slots old new = ((k : ℕ) × (k ≤ slots) × Prints form bytes at k old new None) ⊎ Keeps old new
 
 -- what a run leaves written, by its answer
-abbrev pub Leaves : List ℕ → Option (List ℕ) → ℕ → Option (List ℕ) → Option (List ℕ) → Result (Unit {0}) Fault → Type 0
-Leaves bytes at slots old new (Ok x) = Prints bytes at slots old new None
-Leaves bytes at slots old new (Err fault.InputFailed) = Keeps old new
-Leaves bytes at slots old new (Err fault.OutputFailed) = PrintsFront bytes at slots old new
-Leaves bytes at slots old new (Err fault.NoMemory) = PrintsSome bytes at slots old new
-Leaves bytes at slots old new (Err other) = Prints bytes at slots old new (Some other)
+abbrev pub Leaves : Form → List ℕ → Option (List ℕ) → ℕ → Option (List ℕ) → Option (List ℕ) → Result (Unit {0}) Fault → Type 0
+Leaves form bytes at slots old new (Ok x) = Prints form bytes at slots old new None
+Leaves form bytes at slots old new (Err fault.InputFailed) = Keeps old new
+Leaves form bytes at slots old new (Err fault.OutputFailed) = PrintsFront form bytes at slots old new
+Leaves form bytes at slots old new (Err fault.NoMemory) = PrintsSome form bytes at slots old new
+Leaves form bytes at slots old new (Err other) = Prints form bytes at slots old new (Some other)
 
 -- the fault doesn't tell of a slot without a row, or only of one past the last of all
 abbrev pub LacksNoRow : ℕ → Fault → Type 0
@@ -96,11 +97,11 @@ StartFails file at fault.NoMemory = ⊤
 StartFails file at other = SetFails file other ⊎ LedgerFails file at other
 
 -- the line of a slot was written, and the ledger is the next one
-abbrev pub SlotPrinted : List FileTask → Ledger → Ledger → Option (List ℕ) → Option (List ℕ) → Type 0
-SlotPrinted tasks g next old new = (row : List ℕ) × (chosen g ≡ Ok row) × (next ≡ after g (is_in row)) × Appends old new (slot_line tasks g.slot row)
+abbrev pub SlotPrinted : Form → List FileTask → Ledger → Ledger → Option (List ℕ) → Option (List ℕ) → Type 0
+SlotPrinted form tasks g next old new = (row : List ℕ) × (chosen g ≡ Ok row) × (next ≡ after g (is_in row)) × Appends old new (slot_line form tasks g.slot row)
 
 -- why a slot's line wasn't written, and what was
-abbrev pub SlotFails : List FileTask → Ledger → Option (List ℕ) → Option (List ℕ) → Fault → Type 0
-SlotFails tasks g old new fault.NoMemory = Keeps old new
-SlotFails tasks g old new fault.OutputFailed = (row : List ℕ) × (chosen g ≡ Ok row) × AppendsFront old new (slot_line tasks g.slot row)
-SlotFails tasks g old new other = (why : ChoiceFault) × (chosen g ≡ Err why) × (other ≡ fault_of_choice why) × Keeps old new
+abbrev pub SlotFails : Form → List FileTask → Ledger → Option (List ℕ) → Option (List ℕ) → Fault → Type 0
+SlotFails form tasks g old new fault.NoMemory = Keeps old new
+SlotFails form tasks g old new fault.OutputFailed = (row : List ℕ) × (chosen g ≡ Ok row) × AppendsFront old new (slot_line form tasks g.slot row)
+SlotFails form tasks g old new other = (why : ChoiceFault) × (chosen g ≡ Err why) × (other ≡ fault_of_choice why) × Keeps old new

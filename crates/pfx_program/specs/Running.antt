@@ -10,14 +10,15 @@ use Rattle.pfx_machine.specs.declared.command.Reply.{Reply}
 use Rattle.pfx_fault.specs.declared.refusals.Fault.{Fault}
 use Rattle.pfx_fault.specs.declared.refusals.Fault.TheVariants as fault
 use Rattle.pfx_script.specs.Records.{Fields, Records}
+use Rattle.pfx_program.specs.declared.form.Form.{Form}
 use Rattle.pfx_program.specs.Answers.{reply_line}
 use Rattle.pfx_program.specs.Output.{AppendsFront}
 use Rattle.pfx_program.specs.Promises.{Promise}
 use Rattle.pfx_program.specs.Script.{Run, Step, Course, at_start, commands_of, course_from, slot_steps, text_of}
 
 -- how far a run has come over an engine
-abbrev pub run_of : {E : Type 0} → Promise E → E → ℕ → Run
-run_of P engine accepted = record { state = P.state engine; accepted = accepted }
+abbrev pub run_of : {E : Type 0} → Promise E → Form → E → ℕ → Run
+run_of P form engine accepted = record { form = form; state = P.state engine; accepted = accepted }
 
 -- a line wasn't written: the writer failed, and a beginning of it was written, or memory was refused
 abbrev pub LineFails : List ℕ → Option (List ℕ) → Option (List ℕ) → Fault → Type 0
@@ -26,21 +27,21 @@ LineFails text old new fault.NoMemory = Keeps old new
 LineFails text old new other = ⊥
 
 -- the steps of Slots that were carried out
-abbrev pub ran_step : ℕ × Reply → Step
-ran_step x = record { text = reply_line x.0 x.1; command = Some Slot }
+abbrev pub ran_step : Form → ℕ × Reply → Step
+ran_step form x = record { text = reply_line form x.0 x.1; command = Some Slot }
 
-abbrev pub ran_steps : List (ℕ × Reply) → List Step
-ran_steps said = map ran_step said
+abbrev pub ran_steps : Form → List (ℕ × Reply) → List Step
+ran_steps form said = map (ran_step form) said
 
 -- some first lines of these Slots were written, whole, and the next one wasn't
-pub record LinesFail (said : List (ℕ × Reply)) (old new : Option (List ℕ)) (f : Fault) : Type 0 where
+pub record LinesFail (form : Form) (said : List (ℕ × Reply)) (old new : Option (List ℕ)) (f : Fault) : Type 0 where
   pub printed : List (ℕ × Reply)
   pub next : ℕ × Reply
   pub rest : List (ℕ × Reply)
   pub split : said ≡ printed ++ next ∷ rest
   pub behind : Option (List ℕ)
-  pub written : Appends old behind (text_of (ran_steps printed))
-  pub fails : LineFails (reply_line next.0 next.1) behind new f
+  pub written : Appends old behind (text_of (ran_steps form printed))
+  pub fails : LineFails (reply_line form next.0 next.1) behind new f
 
 -- the steps were carried out and printed, and their commands are kept
 pub record Carried {E : Type 0} (P : Promise E) (steps : List Step) (old new : E) (was is : Option (List ℕ)) : Type 0 where
@@ -76,12 +77,12 @@ pub record Stopped {E : Type 0} (P : Promise E) (most : ℕ) (reading : Type 0) 
 
 -- Of the Slots that were left so many were carried out and printed, and those behind them are left; where there are none, the
 -- first one was refused, and printed so.
-pub record Slotted {E : Type 0} (P : Promise E) (left ran accepted : ℕ) (old new : E) (was is : Option (List ℕ)) : Type 0 where
+pub record Slotted {E : Type 0} (P : Promise E) (form : Form) (left ran accepted : ℕ) (old new : E) (was is : Option (List ℕ)) : Type 0 where
   pub steps : List Step
   pub carried : Carried P steps old new was is
   pub counts : length (commands_of steps) ≡ ran
   pub few : ran ≤ left
-  pub all : slot_steps (run_of P old accepted) left ≡ steps ++ (if nat_lt 0 ran then slot_steps (run_of P new (accepted + ran)) (left - ran) else [])
+  pub all : slot_steps (run_of P form old accepted) left ≡ steps ++ (if nat_lt 0 ran then slot_steps (run_of P form new (accepted + ran)) (left - ran) else [])
 
 -- the whole course was run, and everything is kept; that up to a record without form; or the run stopped
 abbrev pub Ends : {E : Type 0} → Promise E → ℕ → Type 0 → Course → E → E → Option (List ℕ) → Option (List ℕ) → Result (Unit {0}) Fault → Type 0
@@ -91,7 +92,7 @@ Ends P most reading course old new was is (Err other) = Stopped P most reading c
 
 -- The records are the script's, as far as it is known, and the run ended so on their course, with so many steps at the most
 -- tried at once.
-pub record Runs {E : Type 0} (P : Promise E) (most : ℕ) (script : Records) (failed : Bool) (old new : E) (was is : Option (List ℕ)) (result : Result (Unit {0}) Fault) : Type 0 where
+pub record Runs {E : Type 0} (P : Promise E) (form : Form) (most : ℕ) (script : Records) (failed : Bool) (old new : E) (was is : Option (List ℕ)) (result : Result (Unit {0}) Fault) : Type 0 where
   pub records : List Fields
   pub known : IfSome script.left (λ all. all ≡ records)
-  pub ends : Ends P most (failed ≡ true) (course_from (script.place + 1) (at_start (P.state old)) records) old new was is result
+  pub ends : Ends P most (failed ≡ true) (course_from (script.place + 1) (at_start form (P.state old)) records) old new was is result

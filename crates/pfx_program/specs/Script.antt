@@ -15,15 +15,18 @@ use Rattle.pfx_machine.specs.declared.command.Command.{Command}
 use Rattle.pfx_machine.specs.declared.command.Command.TheVariants.{Submit, Slot, Withdraw}
 use Rattle.pfx_machine.specs.declared.command.Reply.{Reply}
 use Rattle.pfx_machine.specs.declared.faults.MachineFault.{MachineFault}
-use Rattle.pfx_script.specs.Verbs.{Said, submit, slot, withdraw, settle, status, verb_of}
+use Rattle.pfx_script.specs.Verbs.{Said, submit, slot, withdraw, settle, status, show, verb_of}
 use Rattle.pfx_script.specs.Records.{Fields, script_records}
 use Rattle.pfx_fault.specs.declared.refusals.Fault.{Fault}
 use Rattle.pfx_fault.specs.declared.refusals.Fault.TheVariants as fault
-use Rattle.pfx_program.specs.Answers.{reply_line, refused_line, settled_line, closed_line, board_text}
+use Rattle.pfx_program.specs.declared.form.Form.{Form}
+use Rattle.pfx_program.specs.Answers.{reply_line, refused_line, settled_line, closed_line, board_shown}
+use Rattle.pfx_program.specs.Jobs.{shown_jobs}
 use Rattle.pfx_program.specs.Faults.{fault_of_start, fault_of_machine}
 
--- how far a run has come: the state, and how many commands were accepted
+-- how a run's lines are written, and how far it has come: the state, and how many commands were accepted
 pub record Run : Type 0 where
+  pub form : Form
   pub state : Plain AnyJob
   pub accepted : ℕ
 
@@ -48,23 +51,23 @@ commands_of (x ∷ steps) = with_command x.command (commands_of steps)
 
 -- how far a run has come with these commands
 abbrev pub moved : Run → List (Command AnyJob) → Run
-moved r H = record { state = outcome any_kind r.state H; accepted = r.accepted + length H }
+moved r H = record { form = r.form; state = outcome any_kind r.state H; accepted = r.accepted + length H }
 
 -- lines alone
 abbrev pub shown : List ℕ → Step
 shown text = record { text = text; command = None }
 
 -- a refused command changes nothing
-abbrev pub refused : Fault → Step
-refused f = shown (refused_line f)
+abbrev pub refused : Form → Fault → Step
+refused form f = shown (refused_line form f)
 
 abbrev pub answered : Run → Command AnyJob → Result Reply MachineFault → Step
-answered r c (Ok reply) = record { text = reply_line (r.state.number + 1) reply; command = Some c }
-answered r c (Err f) = refused (fault_of_machine f)
+answered r c (Ok reply) = record { text = reply_line r.form (r.state.number + 1) reply; command = Some c }
+answered r c (Err f) = refused r.form (fault_of_machine f)
 
 -- a command: one run accepts 1,048,576 of them
 abbrev pub command_step : Run → Command AnyJob → Step
-command_step r c = if nat_lt r.accepted 1048576 then answered r c (answer any_kind r.state c) else refused fault.SessionFull
+command_step r c = if nat_lt r.accepted 1048576 then answered r c (answer any_kind r.state c) else refused r.form fault.SessionFull
 
 -- whether a step carries a command out
 abbrev pub is_carried : Step → Bool
@@ -93,18 +96,24 @@ job_by (Err f) = Err f
 -- a job of a kind, a goal and a text, for a task
 abbrev pub submitted : Run → ℕ → Result AnyJob StartFault → Step
 submitted r task (Ok job) = command_step r (Submit task job)
-submitted r task (Err f) = refused (fault_of_start f)
+submitted r task (Err f) = refused r.form (fault_of_start f)
 
 -- the board of a state
-abbrev pub board_of : Plain AnyJob → List ℕ
-board_of s = board_text s.number s.ledger.slot (all_lines any_kind s)
+abbrev pub board_of : Form → Plain AnyJob → List ℕ
+board_of form s = board_shown form s.number s.ledger.slot (all_lines any_kind s)
+
+-- the lines of jobs, or why there is none
+abbrev pub jobs_step : Form → Result (List ℕ) Fault → Step
+jobs_step form (Ok text) = shown text
+jobs_step form (Err f) = refused form f
 
 abbrev pub verb_steps : Run → Said → List Step
 verb_steps r (submit task kind goal text) = submitted r task (job_by (any_start kind goal text)) ∷ []
 verb_steps r (slot n) = slot_steps r n
 verb_steps r (withdraw task) = command_step r (Withdraw task) ∷ []
-verb_steps r settle = shown (settled_line r.state.number) ∷ []
-verb_steps r status = shown (board_of r.state) ∷ []
+verb_steps r settle = shown (settled_line r.form r.state.number) ∷ []
+verb_steps r status = shown (board_of r.form r.state) ∷ []
+verb_steps r (show task) = jobs_step r.form (shown_jobs r.form r.state.jobs task) ∷ []
 
 -- the steps of a script, and the place, counted from 1, of the record without form that ends them
 pub record Course : Type 0 where
@@ -121,13 +130,13 @@ course_by more at r (Some verb) = after (verb_steps r verb) (more (moved r (comm
 
 -- the course of records, of which the first has the place `at`; at the end the last number is printed
 unfoldable pub course_from : ℕ → Run → List Fields → Course
-course_from at r [] = record { steps = shown (closed_line r.state.number) ∷ []; ends_at = None }
+course_from at r [] = record { steps = shown (closed_line r.form r.state.number) ∷ []; ends_at = None }
 course_from at r (row ∷ rows) = course_by (λ next. course_from (at + 1) next rows) at r (verb_of row)
 
 -- how far a run has come that begins with a state
-abbrev pub at_start : Plain AnyJob → Run
-at_start s = record { state = s; accepted = 0 }
+abbrev pub at_start : Form → Plain AnyJob → Run
+at_start form s = record { form = form; state = s; accepted = 0 }
 
 -- the course of a script's bytes, from a state on
-abbrev pub script_course : Plain AnyJob → List ℕ → Course
-script_course s bytes = course_from 1 (at_start s) (script_records bytes)
+abbrev pub script_course : Form → Plain AnyJob → List ℕ → Course
+script_course form s bytes = course_from 1 (at_start form s) (script_records bytes)

@@ -1,8 +1,10 @@
 //! The lines that a script's run prints.
 
 ghost use Rattle.std.specs.Prelude.{◌≡◌, Some, IfOk, string_bytes};
-ghost use Rattle.pfx_program.specs.Answers.{row_text, task_answer, ran_answer, reply_line, refused_line, settled_line, closed_line, job_name, lag_text, has_text, task_line, task_lines, board_line, board_text};
+ghost use Rattle.pfx_program.specs.Objects.{job_name};
+ghost use Rattle.pfx_program.specs.Answers.{row_text, task_answer, ran_answer, reply_text, reply_line, refused_line, settled_line, closed_line, lag_text, has_text, task_line, task_lines, board_line, board_text, board_shown};
 
+use crate::{Form, said};
 use pfx_fault::{Fault, Refused};
 use pfx_machine::{Board, JobStatus, Reply, TaskLine};
 use pfx_weights::Row;
@@ -72,8 +74,8 @@ fn ran_line(alloc: Global, number: u64, slot: u64, row: &Row) -> Result<String, 
     answer.to_string(alloc)
 }
 
-pub(crate) fn reply_line(alloc: Global, number: u64, said: &Reply) -> Result<String, AllocError>
-    ensures { IfOk result (λ s. string_bytes s ≡ reply_line number said.now) }
+fn reply_text(alloc: Global, number: u64, said: &Reply) -> Result<String, AllocError>
+    ensures { IfOk result (λ s. string_bytes s ≡ reply_text number said.now) }
 {
     match said {
         Reply::Submitted { task } => task_answer(alloc, number, "submitted", *task),
@@ -82,26 +84,51 @@ pub(crate) fn reply_line(alloc: Global, number: u64, said: &Reply) -> Result<Str
     }
 }
 
-pub(crate) fn refused_line(alloc: Global, fault: Fault) -> Result<String, AllocError>
-    ensures { IfOk result (λ s. string_bytes s ≡ refused_line fault) }
+pub(crate) fn reply_line(
+    alloc: Global,
+    form: Form,
+    number: u64,
+    said: &Reply,
+) -> Result<String, AllocError>
+    ensures { IfOk result (λ s. string_bytes s ≡ reply_line form number said.now) }
 {
-    let refused = Refused(fault);
-    format!(in alloc; "{refused}\n")
+    match form {
+        Form::Text => reply_text(alloc, number, said),
+        Form::Json => said::reply_line(alloc, number, said),
+    }
 }
 
-pub(crate) fn settled_line(alloc: Global, number: u64) -> Result<String, AllocError>
-    ensures { IfOk result (λ s. string_bytes s ≡ settled_line number) }
+pub(crate) fn refused_line(alloc: Global, form: Form, fault: Fault) -> Result<String, AllocError>
+    ensures { IfOk result (λ s. string_bytes s ≡ refused_line form fault) }
 {
-    format!(in alloc; "settled {number}\n")
+    match form {
+        Form::Text => {
+            let refused = Refused(fault);
+            format!(in alloc; "{refused}\n")
+        }
+        Form::Json => said::refused_line(alloc, fault),
+    }
 }
 
-pub(crate) fn closed_line(alloc: Global, number: u64) -> Result<String, AllocError>
-    ensures { IfOk result (λ s. string_bytes s ≡ closed_line number) }
+pub(crate) fn settled_line(alloc: Global, form: Form, number: u64) -> Result<String, AllocError>
+    ensures { IfOk result (λ s. string_bytes s ≡ settled_line form number) }
 {
-    format!(in alloc; "closed {number}\n")
+    match form {
+        Form::Text => format!(in alloc; "settled {number}\n"),
+        Form::Json => said::settled_line(alloc, number),
+    }
 }
 
-fn job_name(job: JobStatus) -> &'static str
+pub(crate) fn closed_line(alloc: Global, form: Form, number: u64) -> Result<String, AllocError>
+    ensures { IfOk result (λ s. string_bytes s ≡ closed_line form number) }
+{
+    match form {
+        Form::Text => format!(in alloc; "closed {number}\n"),
+        Form::Json => said::closed_line(alloc, number),
+    }
+}
+
+pub(crate) fn job_name(job: JobStatus) -> &'static str
     ensures { result.now ≡ job_name job }
 {
     match job {
@@ -189,7 +216,7 @@ impl Display for BoardHead {
     }
 }
 
-pub(crate) fn board_text(alloc: Global, board: &Board) -> Result<String, AllocError>
+fn board_text(alloc: Global, board: &Board) -> Result<String, AllocError>
     ensures { IfOk result (λ s. string_bytes s ≡ board_text board.now.number board.now.slot board.now.lines.items) }
 {
     let tasks = task_lines(alloc, board.lines.as_slice())?;
@@ -198,4 +225,13 @@ pub(crate) fn board_text(alloc: Global, board: &Board) -> Result<String, AllocEr
         slot: board.slot,
     };
     format!(in alloc; "{head}{tasks}")
+}
+
+pub(crate) fn board_shown(alloc: Global, form: Form, board: &Board) -> Result<String, AllocError>
+    ensures { IfOk result (λ s. string_bytes s ≡ board_shown form board.now.number board.now.slot board.now.lines.items) }
+{
+    match form {
+        Form::Text => board_text(alloc, board),
+        Form::Json => said::board_line(alloc, board),
+    }
 }

@@ -5,7 +5,7 @@ ghost use Rattle.pfx_program.specs.Promises.{Promise, Laws, AreDone, AreNotDone,
 
 use pfx_fault::Fault;
 use pfx_kinds::any::AnyJob;
-use pfx_machine::{Board, Command, MachineFault, Reply};
+use pfx_machine::{Board, Command, MachineFault, Reply, State};
 use std::alloc::Global;
 
 /// Why a command wasn't accepted.
@@ -51,6 +51,13 @@ pub trait Engine {
     /// The board, once every accepted command is kept. The state stays.
     fn status(&mut self, alloc: Global) -> Result<Board, Fault>
         ensures shows { IfOk result (Shows (promise.state self.old)) }
+        ensures settled { OnOk result (promise.settled self.new) }
+        ensures same { IsSame promise self.old self.new }
+        ensures fails { IfErr result (IsEngineFault promise.faults (promise.state self.old)) };
+
+    /// A copy of the state behind all accepted commands, once every one of them is kept. The state stays.
+    fn state(&mut self, alloc: Global) -> Result<State<AnyJob>, Fault>
+        ensures copies { IfOk result (λ copy. copy ≡ promise.state self.old) }
         ensures settled { OnOk result (promise.settled self.new) }
         ensures same { IsSame promise self.old self.new }
         ensures fails { IfErr result (IsEngineFault promise.faults (promise.state self.old)) };

@@ -1,4 +1,4 @@
-//! The line of a slot, as a record of CSV.
+//! The line of a slot: a record of CSV, or an object of JSON.
 
 ghost use Rattle.std.specs.Prelude.{◌≡◌, ◌++◌, ◌∷◌, [], IfOk, OnOk, map};
 ghost use Rattle.csv.specs.Records.{fields_of, partial_of};
@@ -6,6 +6,7 @@ ghost use Rattle.csv.specs.Writing.{default_writer, row_text};
 ghost use Rattle.pfx_set_text.specs.Views.{task_view};
 ghost use Rattle.pfx_program.specs.Lines.{name_of, slot_fields, slot_line};
 
+use crate::{Form, objects};
 use csv::{ByteRecord, WriterBuilder};
 use pfx_set_text::NamedTask;
 use pfx_weights::Row;
@@ -63,12 +64,21 @@ fn record_line(alloc: Global, fields: &ByteRecord) -> Result<Vec<u8>, AllocError
 
 pub(crate) fn line_of(
     alloc: Global,
+    form: Form,
     tasks: &[NamedTask],
     slot: u64,
     row: &Row,
 ) -> Result<Vec<u8>, AllocError>
-    ensures { IfOk result (λ v. v.items ≡ slot_line (map task_view tasks.now) slot row.now) }
+    ensures { IfOk result (λ v. v.items ≡ slot_line form (map task_view tasks.now) slot row.now) }
 {
-    let fields = slot_record(alloc, tasks, slot, row.as_slice())?;
-    record_line(alloc, &fields)
+    match form {
+        Form::Text => {
+            let fields = slot_record(alloc, tasks, slot, row.as_slice())?;
+            record_line(alloc, &fields)
+        }
+        Form::Json => {
+            let line = objects::slot_line(alloc, tasks, slot, row.as_slice())?;
+            Ok(line.into_bytes())
+        }
+    }
 }

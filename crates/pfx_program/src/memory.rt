@@ -53,4 +53,11 @@ impl Engine for State<AnyJob> {
             Err(_) => Err(Fault::NoMemory),
         }
     }
+
+    fn state(&mut self, alloc: Global) -> Result<State<AnyJob>, Fault> {
+        match self.copy_of(alloc) {
+            Ok(copy) => Ok(copy),
+            Err(_) => Err(Fault::NoMemory),
+        }
+    }
 }

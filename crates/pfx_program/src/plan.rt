@@ -5,6 +5,7 @@ ghost use Rattle.pfx_set_text.specs.SetFile.{set_of_bytes};
 ghost use Rattle.pfx_set_text.specs.Views.{task_view, set_view};
 ghost use Rattle.pfx_program.specs.Plan.{Leaves, LacksNoRow, IsInputFault, IsStart, StartFails, SlotPrinted, SlotFails};
 
+use crate::Form;
 use crate::faults::{choice_fault, set_fault};
 use crate::ledger::begin;
 use crate::lines::line_of;
@@ -50,20 +51,21 @@ fn put_slot<W: Write>(
     alloc: Global,
     chooser: &mut Chooser,
     row: &mut Row,
+    form: Form,
     tasks: &[NamedTask],
     columns: &mut Columns,
     output: &mut W,
 ) -> Result<(), Fault>
-    ensures ok { OnOk result (SlotPrinted (map task_view tasks.now) columns.old columns.new
+    ensures ok { OnOk result (SlotPrinted form (map task_view tasks.now) columns.old columns.new
         (W.contents output.old) (W.contents output.new)) }
-    ensures err { IfErr result (SlotFails (map task_view tasks.now) columns.old
+    ensures err { IfErr result (SlotFails form (map task_view tasks.now) columns.old
         (W.contents output.old) (W.contents output.new)) }
 {
     match chooser.choose_into(columns, row) {
         Ok(()) => {}
         Err(fault) => return Err(choice_fault(fault)),
     }
-    let Ok(line) = line_of(alloc, tasks, columns.slot(), row) else {
+    let Ok(line) = line_of(alloc, form, tasks, columns.slot(), row) else {
         return Err(Fault::NoMemory);
     };
     give(columns, row);
@@ -73,8 +75,8 @@ fn put_slot<W: Write>(
     }
 }
 
-/// Writes the plan of `slots` slots of the set that the reader gives: for each slot a line of CSV, its number and the
-/// names of the tasks of its row, where idle task `j` is `*j`.
+/// Writes the plan of `slots` slots of the set that the reader gives: for each slot a line, its number and the names of
+/// the tasks of its row, where idle task `j` is `*j`: a record of CSV, or an object as `{"run":["a","b"],"slot":0}`.
 ///
 /// The plan begins at slot 0, or with the ledger that `at` gives as `T:A,A,..`: at slot T, a number below 2^40, with
 /// the allocation A of each task, idle ones too, each in 1 to 13 decimal digits. Another text is refused as
@@ -88,10 +90,11 @@ pub fn run_plan<R: Read, W: Write>(
     alloc: Global,
     input: &mut R,
     at: Option<&str>,
+    form: Form,
     output: &mut W,
     slots: u64,
 ) -> Result<(), Fault>
-    ensures leaves { IfSome (R.remaining input.old) (λ bytes. Leaves bytes (option_map (λ s. s.now) at.entry) slots
+    ensures leaves { IfSome (R.remaining input.old) (λ bytes. Leaves form bytes (option_map (λ s. s.now) at.entry) slots
         (W.contents output.old) (W.contents output.new) result) }
     ensures served { option_map (λ s. s.now) at.entry ≡ None → IfErr result (LacksNoRow slots) }
 {
@@ -105,6 +108,7 @@ pub fn run_plan<R: Read, W: Write>(
             alloc,
             &mut chooser,
             &mut row,
+            form,
             file.tasks.as_slice(),
             &mut columns,
             output,

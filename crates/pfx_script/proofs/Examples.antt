@@ -5,7 +5,7 @@ use Rattle.std.specs.Str.{is_utf8, chars}
 use Rattle.csv.specs.Records.{field_at}
 use Rattle.csv.proofs.OnLiterals.{csv_on_literals}
 use Rattle.pfx_numerals.specs.Numerals.{number_in}
-use Rattle.pfx_script.specs.Verbs.{submit, slot, withdraw, settle, status, verb_of}
+use Rattle.pfx_script.specs.Verbs.{submit, slot, withdraw, settle, status, show, verb_of}
 use Rattle.pfx_script.specs.Records.{script_records}
 
 pub two_records : script_records (codes "settle,,,,\n\nslot,,\"\",3,\n") ≡ (codes "settle" ∷ [] ∷ [] ∷ [] ∷ [] ∷ []) ∷ (codes "slot" ∷ [] ∷ [] ∷ codes "3" ∷ [] ∷ []) ∷ []
@@ -43,6 +43,18 @@ settles = refl
 pub shows : verb_of (codes "status" ∷ [] ∷ [] ∷ [] ∷ [] ∷ []) ≡ Some status
 unfolding verb_of number_in field_at is_utf8 chars encode_utf8
 shows = refl
+
+pub shows_all_jobs : verb_of (codes "show" ∷ [] ∷ [] ∷ [] ∷ [] ∷ []) ≡ Some (show None)
+unfolding verb_of number_in field_at is_utf8 chars encode_utf8
+shows_all_jobs = refl
+
+pub shows_a_job : verb_of (codes "show" ∷ codes "00" ∷ [] ∷ [] ∷ [] ∷ []) ≡ Some (show (Some 0))
+unfolding verb_of number_in field_at is_utf8 chars encode_utf8
+shows_a_job = refl
+
+pub shows_no_such_number : verb_of (codes "show" ∷ codes "65536" ∷ [] ∷ [] ∷ [] ∷ []) ≡ None
+unfolding verb_of number_in field_at is_utf8 chars encode_utf8
+shows_no_such_number = refl
 
 pub four_fields : verb_of (codes "settle" ∷ [] ∷ [] ∷ [] ∷ []) ≡ None
 unfolding verb_of number_in field_at is_utf8 chars encode_utf8

@@ -14,6 +14,7 @@ pub data Said : Type 0 where
   withdraw : ℕ → Said
   settle : Said
   status : Said
+  show : Option ℕ → Said
 
 -- the verb that a value of the code is
 abbrev pub said_by : Verb → Said
@@ -22,6 +23,7 @@ said_by (verb.Slot count) = slot count
 said_by (verb.Withdraw task) = withdraw task
 said_by verb.Settle = settle
 said_by verb.Status = status
+said_by (verb.Show task) = show task
 
 -- the field at a place
 abbrev pub field : List (List ℕ) → ℕ → List ℕ
@@ -58,6 +60,13 @@ slot_by task kind count text = if is_empty task && (is_empty kind && is_empty te
 abbrev pub withdraw_by : List ℕ → List ℕ → List ℕ → List ℕ → Option Said
 withdraw_by task kind goal text = if is_empty kind && (is_empty goal && is_empty text) then option_map withdraw (task_in task) else None
 
+-- what jobs have computed: that of a task, or of each where the field is empty
+abbrev pub show_by : List ℕ → List ℕ → List ℕ → List ℕ → Option Said
+show_by task kind goal text =
+    if is_empty kind && (is_empty goal && is_empty text)
+    then (if is_empty task then Some (show None) else option_map (λ t. show (Some t)) (task_in task))
+    else None
+
 abbrev pub are_empty : List ℕ → List ℕ → List ℕ → List ℕ → Bool
 are_empty task kind goal text = is_empty task && (is_empty kind && (is_empty goal && is_empty text))
 
@@ -69,7 +78,8 @@ verb_by word task kind goal text =
     else (if bytes_eq word (codes "withdraw") then withdraw_by task kind goal text
     else (if bytes_eq word (codes "settle") && are_empty task kind goal text then Some settle
     else (if bytes_eq word (codes "status") && are_empty task kind goal text then Some status
-    else None))))
+    else (if bytes_eq word (codes "show") then show_by task kind goal text
+    else None)))))
 
 -- the verb of a record: five fields, each of them text
 unfoldable pub verb_of : List (List ℕ) → Option Said

@@ -2,7 +2,7 @@
 
 ghost use Rattle.std.specs.Prelude.{◌≡◌, option_map};
 ghost use Rattle.csv.specs.Records.{fields_of, AllText};
-ghost use Rattle.pfx_script.specs.Verbs.{field, are_empty, said_by, submit_by, slot_by, withdraw_by, verb_by, verb_of};
+ghost use Rattle.pfx_script.specs.Verbs.{field, are_empty, said_by, submit_by, slot_by, withdraw_by, show_by, verb_by, verb_of};
 
 use crate::fields::{count_in, goal_in, task_in};
 use csv::StringRecord;
@@ -30,6 +30,10 @@ pub enum Verb<'a> {
     Settle,
     /// Settle, and show the board.
     Status,
+    /// Settle, and show what the task's job has computed, or all jobs where no task is named.
+    Show {
+        task: Option<u16>,
+    },
 }
 
 fn submit<'a>(task: &str, kind: &'a str, goal: &str, text: &'a str) -> Option<Verb<'a>>
@@ -65,6 +69,19 @@ fn withdraw<'a>(task: &str, kind: &str, goal: &str, text: &str) -> Option<Verb<'
     Some(Verb::Withdraw { task })
 }
 
+fn show<'a>(task: &str, kind: &str, goal: &str, text: &str) -> Option<Verb<'a>>
+    ensures { option_map said_by result ≡ show_by task.now kind.now goal.now text.now }
+{
+    if !kind.is_empty() || !goal.is_empty() || !text.is_empty() {
+        return None;
+    }
+    if task.is_empty() {
+        return Some(Verb::Show { task: None });
+    }
+    let task = task_in(task)?;
+    Some(Verb::Show { task: Some(task) })
+}
+
 fn are_empty(task: &str, kind: &str, goal: &str, text: &str) -> bool
     ensures { result ≡ are_empty task.now kind.now goal.now text.now }
 {
@@ -80,6 +97,7 @@ fn verb_by<'a>(verb: &str, task: &str, kind: &'a str, goal: &str, text: &'a str)
         "withdraw" => withdraw(task, kind, goal, text),
         "settle" if are_empty(task, kind, goal, text) => Some(Verb::Settle),
         "status" if are_empty(task, kind, goal, text) => Some(Verb::Status),
+        "show" => show(task, kind, goal, text),
         _ => None,
     }
 }
@@ -94,8 +112,8 @@ fn field_text(row: &StringRecord, i: usize) -> &str
 }
 
 /// What a record asks for; `None` where it has no form of a record: five fields, of which those that its verb doesn't
-/// use are empty. A task is 1 to 5 decimal digits, at most 65,535; a goal 1 to 10 digits, or empty for 0; a count of
-/// slots is a goal of 1 to 1,048,576, or empty for 1.
+/// use are empty. A task is 1 to 5 decimal digits, at most 65,535, or empty where all jobs are shown; a goal 1 to 10
+/// digits, or empty for 0; a count of slots is a goal of 1 to 1,048,576, or empty for 1.
 pub fn read_verb(row: &StringRecord) -> Option<Verb<'_>>
     requires { AllText (fields_of row.now) }
     ensures { option_map said_by result ≡ verb_of (fields_of row.now) }

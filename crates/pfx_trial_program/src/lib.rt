@@ -10,6 +10,7 @@
 //! - `program`: plans of whole set files.
 //! - `scripts`: scripts over a state in memory.
 //! - `shown`: what is printed of a new store, of a state as its board, and of its jobs.
+//! - `jobs`: scripts that show what jobs have computed.
 //! - `long`: long scripts and plans, a slow writer, and the reading of a store's set.
 //! - `windows`: scripts whose slots are run several at once, up to a refusal or a writer that fails.
 //! - `torn`: a reader that fails, for the others.
@@ -17,6 +18,8 @@
 
 #[cfg(test)]
 mod fault;
+#[cfg(test)]
+mod jobs;
 #[cfg(test)]
 mod long;
 #[cfg(test)]

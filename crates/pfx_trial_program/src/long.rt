@@ -3,7 +3,7 @@
 use crate::scripts::thirds;
 use crate::torn::Torn;
 use pfx_fault::Fault;
-use pfx_program::{read_task_set, run_plan, run_script};
+use pfx_program::{Form, read_task_set, run_plan, run_script};
 use pfx_script::Script;
 use std::alloc::Global;
 use std::io;
@@ -33,6 +33,7 @@ fn runs_slots(alloc: Global, script: &[u8], slots: u32) -> bool {
         alloc,
         &mut Script::new(alloc, script),
         1,
+        Form::Text,
         &mut written,
         &mut state,
     );
@@ -95,6 +96,7 @@ fn is_written_slowly(alloc: Global) -> bool {
         alloc,
         &mut Script::new(alloc, script),
         1,
+        Form::Text,
         &mut output,
         &mut state,
     );
@@ -122,7 +124,14 @@ fn plans_five_thousand(alloc: Global) -> bool {
         }
     }
     let mut written = Vec::new(alloc);
-    let end = run_plan(alloc, &mut THIRDS.as_bytes(), None, &mut written, 5000);
+    let end = run_plan(
+        alloc,
+        &mut THIRDS.as_bytes(),
+        None,
+        Form::Text,
+        &mut written,
+        5000,
+    );
     end.is_ok() && written.as_slice() == want.as_slice()
 }
 
@@ -152,7 +161,7 @@ fn answers_worked(alloc: Global) -> bool {
     };
     let mut written = Vec::new(alloc);
     let mut script = Script::new(alloc, WORKED.as_bytes());
-    let end = run_script(alloc, &mut script, 1, &mut written, &mut state);
+    let end = run_script(alloc, &mut script, 1, Form::Text, &mut written, &mut state);
     end.is_ok() && written.as_slice() == ANSWERS.as_bytes()
 }
 

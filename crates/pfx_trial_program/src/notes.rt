@@ -107,9 +107,55 @@ fn says_what_is_wrong_with_a_script(rt: HostRuntime) {
         3,
     );
     let lines = "  a.csv:2:1: record 2 was refused: 33 NoJob task=0
-  Take away only what is there: pfx status says job=open or job=done of a task that has one.
+  Take away or show only what is there: pfx status says job=open or job=done of a task that has one.
   2 more records were refused.\n";
     assert!(rt; says(rt.alloc(), note, lines));
+}
+
+/// Whether this is said of a script's record.
+fn says_of(alloc: Global, text: &[u8], place: u64, lines: &str) -> bool {
+    says(alloc, script_note(alloc, "a.csv", text, place), lines)
+}
+
+#[test]
+fn says_how_jobs_are_shown(rt: HostRuntime) {
+    let lines = "  a.csv:1:1: record 1 has 1 field, `show 2`, and a record has five
+  Write it as show,TASK,,, and leave fields that aren't used empty, with their commas.\n";
+    assert!(rt; says_of(rt.alloc(), b"show 2\n", 1, lines));
+    let lines = "  a.csv:1:1: record 1 has the task `a`, and a task is a number, 0 to 65535
+  A task is its number, 0 for the set's first one: pfx status has it in front of each line.\n";
+    assert!(rt; says_of(rt.alloc(), b"show,a,,,\n", 1, lines));
+    let lines = "  a.csv:2:1: record 2 has a field that its verb doesn't use
+  Write it as show,TASK,,, with the fields between the commas empty.\n";
+    assert!(rt; says_of(rt.alloc(), b"show,,,,\nshow,0,,1,\n", 2, lines));
+}
+
+/// Whether this record of a script is said to be refused behind so many answers.
+fn tells_refused(alloc: Global, text: &[u8], answers: u64, place: u64) -> bool {
+    let note = refused_note(alloc, "a.csv", text, answers, b"33 NoJob task=2", 1);
+    let lines = format!(in alloc;
+        "  a.csv:{place}:1: record {place} was refused: 33 NoJob task=2
+  Take away or show only what is there: pfx status says job=open or job=done of a task that has one.\n"
+    );
+    match lines {
+        Ok(lines) => says(alloc, note, lines.as_str()),
+        Err(_) => false,
+    }
+}
+
+#[test]
+fn finds_a_refused_record_behind_jobs_that_were_shown(rt: HostRuntime) {
+    // Jobs that are shown are an answer where there are some, and none else.
+    let first = b"show,,,,\nshow,2,,,\n";
+    assert!(rt; tells_refused(rt.alloc(), first, 0, 2), "none were shown");
+    assert!(rt; tells_refused(rt.alloc(), first, 1, 2), "some were shown");
+    let given = b"submit,0,count,9,\nshow,,,,\nslot,,,2,\nshow,2,,,\nslot,,,,\n";
+    assert!(rt; tells_refused(rt.alloc(), given, 4, 4), "a job was given");
+    let unsure = b"show,,,,\nwithdraw,1,,,\nwithdraw,2,,,\n";
+    assert!(rt; tells_refused(rt.alloc(), unsure, 0, 2), "the first");
+    assert!(rt; tells_refused(rt.alloc(), unsure, 2, 3), "the second");
+    let note = refused_note(rt.alloc(), "a.csv", unsure, 1, b"33 NoJob task=2", 1);
+    assert!(rt; matches!(note, Ok(None)), "either");
 }
 
 #[test]

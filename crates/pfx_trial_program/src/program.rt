@@ -2,7 +2,7 @@
 
 use crate::torn::Torn;
 use pfx_fault::Fault;
-use pfx_program::run_plan;
+use pfx_program::{Form, run_plan};
 use std::alloc::Global;
 use std::io;
 use std::io::{ErrorKind, Write};
@@ -52,8 +52,44 @@ fn plans(
     end: Result<(), Fault>,
 ) -> bool {
     let mut written = Vec::new(alloc);
-    let got = run_plan(alloc, &mut set.as_bytes(), at, &mut written, slots);
+    let got = run_plan(
+        alloc,
+        &mut set.as_bytes(),
+        at,
+        Form::Text,
+        &mut written,
+        slots,
+    );
     got == end && written.as_slice() == want.as_bytes()
+}
+
+/// Whether a plan writes just these objects.
+fn plans_objects(alloc: Global, set: &str, slots: u64, want: &str) -> bool {
+    let mut written = Vec::new(alloc);
+    let mut input = set.as_bytes();
+    let end = run_plan(alloc, &mut input, None, Form::Json, &mut written, slots);
+    end.is_ok() && written.as_slice() == want.as_bytes()
+}
+
+const THIRDS_OBJECTS: &str = "{\"run\":[\"a\",\"b\"],\"slot\":0}
+{\"run\":[\"a\",\"c\"],\"slot\":1}
+";
+
+const IDLE_OBJECTS: &str = "{\"run\":[\"x\",\"*0\"],\"slot\":0}
+{\"run\":[\"*1\",\"*2\"],\"slot\":1}
+";
+
+#[test]
+fn prints_the_rows_as_objects(rt: HostRuntime) {
+    assert!(rt;
+        plans_objects(rt.alloc(), THIRDS, 2, THIRDS_OBJECTS),
+        "thirds"
+    );
+    assert!(rt;
+        plans_objects(rt.alloc(), HALF_ON_TWO, 2, IDLE_OBJECTS),
+        "idle tasks"
+    );
+    assert!(rt; plans_objects(rt.alloc(), THIRDS, 0, ""), "none");
 }
 
 #[test]
@@ -205,7 +241,7 @@ fn reads_no_part(alloc: Global) -> bool {
         left: THIRDS.as_bytes(),
     };
     let mut written = Vec::new(alloc);
-    let end = run_plan(alloc, &mut input, None, &mut written, 4);
+    let end = run_plan(alloc, &mut input, None, Form::Text, &mut written, 4);
     end == Err(Fault::InputFailed) && written.is_empty()
 }
 
@@ -248,7 +284,14 @@ fn writes_the_beginning(alloc: Global) -> bool {
         len: 0,
         interrupts: false,
     };
-    let end = run_plan(alloc, &mut THIRDS.as_bytes(), None, &mut output, 4);
+    let end = run_plan(
+        alloc,
+        &mut THIRDS.as_bytes(),
+        None,
+        Form::Text,
+        &mut output,
+        4,
+    );
     end == Err(Fault::OutputFailed) && output.held == *b"0,a,b\n1,"
 }
 

@@ -56,6 +56,8 @@ slot,,,,
 settle,,,,
 submit,00001,\"a,b\",9999999999,\"say \"\"so\"\"\"
 slot,,,0001048576,
+show,,,,
+show,00007,,,
 status,,,,";
 
 /// Whether the script of all verbs is read.
@@ -80,6 +82,8 @@ fn reads_each_verb(alloc: Global) -> bool {
         Verb::Settle,
         second,
         Verb::Slot { count: 1_048_576 },
+        Verb::Show { task: None },
+        Verb::Show { task: Some(7) },
         Verb::Status,
     ];
     reads(alloc, EACH.as_bytes(), &verbs, Ok(()))
@@ -122,7 +126,7 @@ fn stops_at(alloc: Global, record: &[u8]) -> bool {
 
 #[test]
 fn stops_at_a_record_without_form(rt: HostRuntime) {
-    let records: [&[u8]; 24] = [
+    let records: [&[u8]; 31] = [
         b"status",
         b"status,,,",
         b"status,,,,,",
@@ -142,6 +146,13 @@ fn stops_at_a_record_without_form(rt: HostRuntime) {
         b"withdraw,,,,",
         b"withdraw,65536,,,",
         b"withdraw,000001,,,",
+        b"show",
+        b"show,,,",
+        b"show,a,,,",
+        b"show,65536,,,",
+        b"show,,count,,",
+        b"show,0,,1,",
+        b"show,0,,,x",
         b"submit,,rule,3,110:000",
         b"submit,+1,rule,3,110:000",
         b"submit,1,rule,12345678901,110:000",

@@ -5,7 +5,7 @@ use csv::StringRecord;
 use pfx_fault::Fault;
 use pfx_kinds::any::AnyJob;
 use pfx_machine::State;
-use pfx_program::{run_record, run_script};
+use pfx_program::{Form, run_record, run_script};
 use pfx_script::Script;
 use pfx_weights::TaskSet;
 use std::alloc::Global;
@@ -24,8 +24,9 @@ pub fn thirds(alloc: Global) -> Option<State<AnyJob>> {
 }
 
 /// Whether a script prints just this and ends so.
-fn prints(
+pub fn prints_as(
     alloc: Global,
+    form: Form,
     state: &mut State<AnyJob>,
     script: &str,
     want: &str,
@@ -36,10 +37,63 @@ fn prints(
         alloc,
         &mut Script::new(alloc, script.as_bytes()),
         1,
+        form,
         &mut written,
         state,
     );
     got == end && written.as_slice() == want.as_bytes()
+}
+
+fn prints(
+    alloc: Global,
+    state: &mut State<AnyJob>,
+    script: &str,
+    want: &str,
+    end: Result<(), Fault>,
+) -> bool {
+    prints_as(alloc, Form::Text, state, script, want, end)
+}
+
+const DAY: &str = "submit,0,count,9,
+submit,0,count,9,
+submit,1,bowl,9,
+slot,,,1,
+withdraw,0,,,
+withdraw,9,,,
+settle,,,,
+status,,,,
+";
+
+const DAY_OBJECTS: &str = "{\"did\":\"submitted\",\"number\":1,\"task\":0}
+{\"refused\":{\"fields\":{\"task\":0},\"name\":\"TaskBusy\",\"number\":32}}
+{\"refused\":{\"fields\":{},\"name\":\"BadKind\",\"number\":41}}
+{\"did\":\"ran\",\"number\":2,\"slot\":0,\"tasks\":[0,1]}
+{\"did\":\"withdrawn\",\"number\":3,\"task\":0}
+{\"refused\":{\"fields\":{\"task\":9},\"name\":\"NoSuchTask\",\"number\":31}}
+{\"settled\":3}
+";
+
+const DAY_BOARD: &str = "{\"number\":3,\"slot\":1,\"tasks\":[\
+{\"alloc\":1,\"job\":\"none\",\"lag\":-1,\"period\":3,\"task\":0},\
+{\"alloc\":1,\"job\":\"none\",\"lag\":-1,\"period\":3,\"task\":1},\
+{\"alloc\":0,\"job\":\"none\",\"lag\":2,\"period\":3,\"task\":2}]}
+{\"closed\":3}
+";
+
+/// Whether a script of all verbs prints objects.
+fn prints_objects(alloc: Global) -> bool {
+    let Some(mut state) = thirds(alloc) else {
+        return false;
+    };
+    let Ok(want) = format!(in alloc; "{DAY_OBJECTS}{DAY_BOARD}") else {
+        return false;
+    };
+    prints_as(alloc, Form::Json, &mut state, DAY, want.as_str(), Ok(()))
+}
+
+#[test]
+fn runs_a_script_as_objects(rt: HostRuntime) {
+    assert!(rt; prints_objects(rt.alloc()));
 }
 
 const WEEK: &str = "submit,0,rule,3,110:00000001
@@ -209,6 +263,7 @@ fn runs_up_to_the_tear(alloc: Global, state: &mut State<AnyJob>) -> bool {
         alloc,
         &mut Script::new(alloc, input),
         1,
+        Form::Text,
         &mut written,
         state,
     );
@@ -230,6 +285,7 @@ fn answers_before_it_asks(alloc: Global, state: &mut State<AnyJob>) -> bool {
         &mut row,
         1,
         &mut accepted,
+        Form::Text,
         &mut written,
         state,
     );
@@ -240,6 +296,7 @@ fn answers_before_it_asks(alloc: Global, state: &mut State<AnyJob>) -> bool {
         &mut row,
         1,
         &mut accepted,
+        Form::Text,
         &mut written,
         state,
     );
@@ -260,6 +317,7 @@ fn answers_one_by_one(alloc: Global, state: &mut State<AnyJob>) -> bool {
             &mut row,
             16,
             &mut accepted,
+            Form::Text,
             &mut written,
             state,
         );
@@ -296,6 +354,7 @@ fn writes_the_beginning(alloc: Global, state: &mut State<AnyJob>) -> bool {
         alloc,
         &mut Script::new(alloc, WEEK.as_bytes()),
         1,
+        Form::Text,
         &mut output,
         state,
     );

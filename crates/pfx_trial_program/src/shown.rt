@@ -4,7 +4,7 @@ use crate::scripts::thirds;
 use pfx_fault::Fault;
 use pfx_kinds::any::AnyJob;
 use pfx_machine::{Command, State};
-use pfx_program::{created_line, run_script, run_show, run_status};
+use pfx_program::{Form, created_line, run_script, run_show, run_status};
 use pfx_script::Script;
 use pfx_weights::TaskSet;
 use std::alloc::Global;
@@ -46,7 +46,8 @@ fn shows_first_slot(alloc: Global) -> bool {
         return false;
     }
     let mut written = Vec::new(alloc);
-    run_status(alloc, &mut written, &mut state).is_ok() && written.as_slice() == BOARD.as_bytes()
+    run_status(alloc, Form::Text, &mut written, &mut state).is_ok()
+        && written.as_slice() == BOARD.as_bytes()
 }
 
 #[test]
@@ -65,16 +66,59 @@ const JOBS: &str = "0 count left=98 value=12
 ";
 
 /// Whether this is shown of all jobs of a state, or of one.
-fn has_jobs(alloc: Global, state: &State<AnyJob>, task: Option<u16>, text: &str) -> bool {
+fn has_shown(
+    alloc: Global,
+    form: Form,
+    state: &State<AnyJob>,
+    task: Option<u16>,
+    text: &str,
+) -> bool {
     let mut written = Vec::new(alloc);
-    run_show(alloc, &mut written, state, task).is_ok() && written.as_slice() == text.as_bytes()
+    let end = run_show(alloc, form, &mut written, state, task);
+    end.is_ok() && written.as_slice() == text.as_bytes()
+}
+
+fn has_jobs(alloc: Global, state: &State<AnyJob>, task: Option<u16>, text: &str) -> bool {
+    has_shown(alloc, Form::Text, state, task, text)
 }
 
 /// Whether nothing is shown of a task, for this reason.
 fn has_none(alloc: Global, state: &State<AnyJob>, task: u16, fault: Fault) -> bool {
     let mut written = Vec::new(alloc);
-    let end = run_show(alloc, &mut written, state, Some(task));
+    let end = run_show(alloc, Form::Text, &mut written, state, Some(task));
     end == Err(fault) && written.is_empty()
+}
+
+const WHOLE_WEEK: &str = "submit,0,count,100,10
+submit,1,rule,3,110:00000001
+submit,2,scan,,a\"b:xa\"ba
+slot,,,3,
+";
+
+const OBJECTS: &str = "{\"job\":\"count\",\"left\":98,\"task\":0,\"value\":12}
+{\"cells\":\"00000111\",\"job\":\"rule\",\"left\":1,\"rule\":110,\"task\":1}
+{\"found\":1,\"job\":\"scan\",\"left\":1,\"of\":\"a\\\"b\",\"task\":2}
+";
+
+const COUNT_OBJECT: &str = "{\"job\":\"count\",\"left\":98,\"task\":0,\"value\":12}\n";
+
+/// Whether what a job of each kind has computed is shown as an object.
+fn shows_objects(alloc: Global) -> bool {
+    let Some(mut state) = thirds(alloc) else {
+        return false;
+    };
+    let mut script = Script::new(alloc, WHOLE_WEEK.as_bytes());
+    let mut lines = Vec::new(alloc);
+    if run_script(alloc, &mut script, 1, Form::Text, &mut lines, &mut state).is_err() {
+        return false;
+    }
+    has_shown(alloc, Form::Json, &state, None, OBJECTS)
+        && has_shown(alloc, Form::Json, &state, Some(0), COUNT_OBJECT)
+}
+
+#[test]
+fn shows_jobs_as_objects(rt: HostRuntime) {
+    assert!(rt; shows_objects(rt.alloc()));
 }
 
 /// Whether what two jobs have computed is shown, and what a task without a job has isn't.
@@ -84,7 +128,7 @@ fn shows_two_jobs(alloc: Global) -> bool {
     };
     let mut script = Script::new(alloc, WEEK.as_bytes());
     let mut lines = Vec::new(alloc);
-    if run_script(alloc, &mut script, 1, &mut lines, &mut state).is_err() {
+    if run_script(alloc, &mut script, 1, Form::Text, &mut lines, &mut state).is_err() {
         return false;
     }
     has_jobs(alloc, &state, None, JOBS)

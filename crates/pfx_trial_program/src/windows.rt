@@ -5,7 +5,7 @@ use pfx_columns::Columns;
 use pfx_fault::Fault;
 use pfx_kinds::any::AnyJob;
 use pfx_machine::State;
-use pfx_program::run_script;
+use pfx_program::{Form, run_script};
 use pfx_script::Script;
 use pfx_weights::TaskSet;
 use std::alloc::Global;
@@ -85,6 +85,7 @@ fn prints(alloc: Global, room: u64, window: u32) -> bool {
         alloc,
         &mut Script::new(alloc, SCRIPT.as_bytes()),
         window.max(1),
+        Form::Text,
         &mut written,
         &mut state,
     );
@@ -140,6 +141,7 @@ fn takes_the_first(alloc: Global, all: &[u8], room: usize, window: u32) -> bool 
         alloc,
         &mut Script::new(alloc, SCRIPT.as_bytes()),
         window.max(1),
+        Form::Text,
         &mut output,
         &mut state,
     );

@@ -31,6 +31,7 @@ fn reads_a_plan(rt: HostRuntime) {
             set,
             slots,
             at: None,
+            json: false,
         };
         assert!(rt; asks(rt.alloc(), words, want), "{set} {slots}");
     }
@@ -60,6 +61,7 @@ fn passes_a_ledger_on(rt: HostRuntime) {
             set: "a.toml",
             slots: 4,
             at: Some(at),
+            json: false,
         };
         assert!(rt;
             asks(rt.alloc(), words, want),
@@ -133,6 +135,7 @@ fn reads_a_run(rt: HostRuntime) {
             workers,
             batch,
             strict: false,
+            json: false,
         };
         assert!(rt;
             asks(rt.alloc(), words, want),
@@ -154,8 +157,53 @@ fn reads_a_strict_run(rt: HostRuntime) {
             workers: None,
             batch: None,
             strict: true,
+            json: false,
         };
         assert!(rt; asks(rt.alloc(), words.as_slice(), want), "{}", words[2]);
+    }
+}
+
+/// The words of each command that prints JSON, and what they ask for.
+fn requests_for_json() -> [(&'static [&'static str], Request<'static>); 5] {
+    let (file, script) = ("a.pfx", "a.csv");
+    let plan = Request::Plan {
+        set: "a.toml",
+        slots: 4,
+        at: Some("0:0"),
+        json: true,
+    };
+    let run = Request::Run {
+        file,
+        script,
+        workers: None,
+        batch: None,
+        strict: true,
+        json: true,
+    };
+    let status = Request::Status { file, json: true };
+    let all = Request::Show {
+        file,
+        task: None,
+        json: true,
+    };
+    let one = Request::Show {
+        file,
+        task: Some(2),
+        json: true,
+    };
+    [
+        (&["pfx", "plan", "--json", "a.toml", "4", "--at=0:0"], plan),
+        (&["pfx", "run", "a.pfx", "--json", "--strict", "a.csv"], run),
+        (&["pfx", "status", "a.pfx", "--json"], status),
+        (&["pfx", "show", "--json", "a.pfx"], all),
+        (&["pfx", "show", "a.pfx", "2", "--json"], one),
+    ]
+}
+
+#[test]
+fn reads_a_wish_for_json(rt: HostRuntime) {
+    for (place, (words, want)) in requests_for_json().into_iter().enumerate() {
+        assert!(rt; asks(rt.alloc(), words, want), "request {place}");
     }
 }
 
@@ -181,6 +229,7 @@ fn reads_a_show(rt: HostRuntime) {
         let want = Request::Show {
             file: "a.pfx",
             task,
+            json: false,
         };
         assert!(rt; asks(rt.alloc(), words, want), "{task:?}");
     }
@@ -194,7 +243,8 @@ fn reads_a_status(rt: HostRuntime) {
         (["pfx", "status", "--", "--help"].as_slice(), "--help"),
     ];
     for (words, file) in rows {
-        assert!(rt; asks(rt.alloc(), words, Request::Status { file }), "{file}");
+        let want = Request::Status { file, json: false };
+        assert!(rt; asks(rt.alloc(), words, want), "{file}");
     }
 }
 
@@ -440,9 +490,18 @@ fn has_a_help_page_for_each(rt: HostRuntime) {
         ("run", "0 to 64; as many as the set has if it isn't given\n"),
         ("run", "  submit,TASK,KIND,GOAL,DATA "),
         ("run", "  pfx run thirds.pfx examples/thirds.csv "),
-        ("status", "Usage: pfx status <FILE>\n"),
+        ("status", "Usage: pfx status [OPTIONS] <FILE>\n"),
         ("status", "  0 alloc=1 lag=-1/3 job=none\n"),
         ("status", "  pfx status thirds.pfx "),
+        (
+            "status",
+            "{\"alloc\":1,\"job\":\"none\",\"lag\":-1,\"period\":3,\"task\":0}",
+        ),
+        ("run", "  {\"settled\":3}\n"),
+        (
+            "show",
+            "  {\"found\":2,\"job\":\"scan\",\"left\":0,\"of\":\"ab\",\"task\":2}",
+        ),
         ("replay", "Usage: pfx replay <FILE>\n"),
         ("replay", "  differs 10 Checkpoint "),
         ("replay", "  pfx replay thirds.pfx "),

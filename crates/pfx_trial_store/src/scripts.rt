@@ -6,7 +6,7 @@ use pfx_disk::{Disk, FaultDisk, FileDisk, MemoryDisk};
 use pfx_engine::{DurableEngine, laws};
 use pfx_fault::{Cause, Fault};
 use pfx_machine::{Command, Reply};
-use pfx_program::{CallFault, Engine, run_script};
+use pfx_program::{CallFault, Engine, Form, run_script};
 use pfx_script::Script;
 use std::alloc::Global;
 use std::fs::{File, OpenOptions};
@@ -26,6 +26,7 @@ fn prints<D: Disk>(
         alloc,
         &mut Script::new(alloc, script.as_bytes()),
         1,
+        Form::Text,
         &mut written,
         engine,
     );
@@ -85,6 +86,44 @@ fn a_run_goes_on_after_the_store_is_opened_again(rt: HostRuntime) {
         return check(&rt, false, "opened again");
     };
     check(&rt, prints(alloc, WEEK, &mut again, SECOND, None), "second");
+}
+
+const SHOW: &str = "submit,0,rule,3,110:00000001
+slot,,,3,
+show,,,,
+show,1,,,
+show,3,,,
+";
+
+const SHOWN: &str = "1 submitted 0
+2 ran 0: 0 1
+3 ran 1: 0 2
+4 ran 2: 1 2
+0 rule left=1 rule=110 cells=00000111
+refused 33 NoJob task=1
+refused 31 NoSuchTask task=3
+closed 4
+";
+
+const SHOWN_AGAIN: &str = "0 rule left=1 rule=110 cells=00000111
+closed 4
+";
+
+#[test]
+fn jobs_are_shown_and_again_after_the_store_is_opened(rt: HostRuntime) {
+    let alloc = rt.alloc();
+    let Some(mut engine) = in_memory(alloc, 300) else {
+        return check(&rt, false, "an engine");
+    };
+    check(&rt, prints(alloc, SHOW, &mut engine, SHOWN, None), "first");
+    let Some(mut again) = opened(alloc, engine.into_store().into_disk()) else {
+        return check(&rt, false, "opened again");
+    };
+    check(
+        &rt,
+        prints(alloc, "show,0,,,\n", &mut again, SHOWN_AGAIN, None),
+        "second",
+    );
 }
 
 /// The file at this path, to be read and written.
@@ -153,6 +192,7 @@ fn segments_are_turned(rt: HostRuntime) {
         alloc,
         &mut Script::new(alloc, b"slot,,,800,\n".as_slice()),
         1,
+        Form::Text,
         &mut written,
         &mut engine,
     );
@@ -214,9 +254,10 @@ fn stays_failed(
 ) -> bool {
     let is_settled = engine.settled(alloc) == Err(fault);
     let has_status = engine.status(alloc).err() == Some(fault);
+    let has_state = engine.state(alloc).err() == Some(fault);
     match engine.call(alloc, Command::Withdraw { task: 2 }) {
         Ok(_) => false,
-        Err(why) => is_settled && has_status && why == CallFault::Failed(fault),
+        Err(why) => is_settled && has_status && has_state && why == CallFault::Failed(fault),
     }
 }
 

@@ -6,6 +6,7 @@ use crate::stops::{kept_by, survivors};
 use pfx_disk::{Disk, Fate, FaultDisk, MemoryDisk};
 use pfx_engine::{DurableEngine, run_durable};
 use pfx_fault::{Cause, Fault};
+use pfx_program::Form;
 use pfx_script::Script;
 use std::alloc::Global;
 use std::io::Write;
@@ -22,6 +23,7 @@ fn run<D: Disk>(
         alloc,
         &mut Script::new(alloc, script.as_bytes()),
         window.max(1),
+        Form::Text,
         &mut written,
         engine,
     );

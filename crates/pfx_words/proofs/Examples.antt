@@ -15,7 +15,7 @@ pfx words = codes "pfx" ∷ words
 abbrev first_four : List Text
 first_four = pfx (codes "plan" ∷ codes "a.toml" ∷ codes "4" ∷ [])
 
-pub asks_for_a_plan : asked first_four ≡ Some (plan (codes "a.toml") 4 None)
+pub asks_for_a_plan : asked first_four ≡ Some (plan (codes "a.toml") 4 None false)
 unfolding clap_on_literals asked
 asks_for_a_plan = refl
 
@@ -23,7 +23,7 @@ pub takes_a_plan : takes pfx_app first_four ≡ true
 unfolding clap_on_literals
 takes_a_plan = refl
 
-pub asks_for_most_slots : asked (pfx (codes "plan" ∷ codes "--" ∷ codes "-a" ∷ codes "1048576" ∷ [])) ≡ Some (plan (codes "-a") 1048576 None)
+pub asks_for_most_slots : asked (pfx (codes "plan" ∷ codes "--" ∷ codes "-a" ∷ codes "1048576" ∷ [])) ≡ Some (plan (codes "-a") 1048576 None false)
 unfolding clap_on_literals asked
 asks_for_most_slots = refl
 
@@ -33,7 +33,7 @@ asks_for_most_slots = refl
 abbrev from_two : List Text
 from_two = pfx (codes "plan" ∷ codes "a.toml" ∷ codes "4" ∷ codes "--at" ∷ codes "2:2,1,1" ∷ [])
 
-pub asks_for_a_ledger : asked from_two ≡ Some (plan (codes "a.toml") 4 (Some (codes "2:2,1,1")))
+pub asks_for_a_ledger : asked from_two ≡ Some (plan (codes "a.toml") 4 (Some (codes "2:2,1,1")) false)
 unfolding clap_on_literals asked
 asks_for_a_ledger = refl
 
@@ -42,7 +42,7 @@ unfolding clap_on_literals
 takes_a_ledger = refl
 
 -- its text is passed on as it is, of any form
-pub passes_any_text : asked (pfx (codes "plan" ∷ codes "--at=,:x" ∷ codes "a.toml" ∷ codes "4" ∷ [])) ≡ Some (plan (codes "a.toml") 4 (Some (codes ",:x")))
+pub passes_any_text : asked (pfx (codes "plan" ∷ codes "--at=,:x" ∷ codes "a.toml" ∷ codes "4" ∷ [])) ≡ Some (plan (codes "a.toml") 4 (Some (codes ",:x")) false)
 unfolding clap_on_literals asked
 passes_any_text = refl
 
@@ -70,7 +70,7 @@ takes_a_store = refl
 abbrev run_script : List Text
 run_script = pfx (codes "run" ∷ codes "a.pfx" ∷ codes "a.csv" ∷ [])
 
-pub asks_for_a_run : asked run_script ≡ Some (run (codes "a.pfx") (codes "a.csv") None None false)
+pub asks_for_a_run : asked run_script ≡ Some (run (codes "a.pfx") (codes "a.csv") None None false false)
 unfolding clap_on_literals asked
 asks_for_a_run = refl
 
@@ -82,7 +82,7 @@ takes_a_run = refl
 abbrev run_by_none : List Text
 run_by_none = pfx (codes "run" ∷ codes "a.pfx" ∷ codes "a.csv" ∷ codes "--workers" ∷ codes "0" ∷ [])
 
-pub asks_for_no_workers : asked run_by_none ≡ Some (run (codes "a.pfx") (codes "a.csv") (Some 0) None false)
+pub asks_for_no_workers : asked run_by_none ≡ Some (run (codes "a.pfx") (codes "a.csv") (Some 0) None false false)
 unfolding clap_on_literals asked
 asks_for_no_workers = refl
 
@@ -90,7 +90,7 @@ pub takes_no_workers : takes pfx_app run_by_none ≡ true
 unfolding clap_on_literals
 takes_no_workers = refl
 
-pub asks_for_most_workers : asked (pfx (codes "run" ∷ codes "--workers=64" ∷ codes "a.pfx" ∷ codes "a.csv" ∷ [])) ≡ Some (run (codes "a.pfx") (codes "a.csv") (Some 64) None false)
+pub asks_for_most_workers : asked (pfx (codes "run" ∷ codes "--workers=64" ∷ codes "a.pfx" ∷ codes "a.csv" ∷ [])) ≡ Some (run (codes "a.pfx") (codes "a.csv") (Some 64) None false false)
 unfolding clap_on_literals asked
 asks_for_most_workers = refl
 
@@ -98,7 +98,7 @@ asks_for_most_workers = refl
 abbrev run_in_batches : List Text
 run_in_batches = pfx (codes "run" ∷ codes "a.pfx" ∷ codes "a.csv" ∷ codes "--workers" ∷ codes "0" ∷ codes "--batch" ∷ codes "16" ∷ [])
 
-pub asks_for_batches : asked run_in_batches ≡ Some (run (codes "a.pfx") (codes "a.csv") (Some 0) (Some 16) false)
+pub asks_for_batches : asked run_in_batches ≡ Some (run (codes "a.pfx") (codes "a.csv") (Some 0) (Some 16) false false)
 unfolding clap_on_literals asked
 asks_for_batches = refl
 
@@ -106,18 +106,18 @@ pub takes_batches : takes pfx_app run_in_batches ≡ true
 unfolding clap_on_literals
 takes_batches = refl
 
-pub asks_for_a_strict_run : asked (pfx (codes "run" ∷ codes "--strict" ∷ codes "a.pfx" ∷ codes "a.csv" ∷ codes "--batch=1" ∷ [])) ≡ Some (run (codes "a.pfx") (codes "a.csv") None (Some 1) true)
+pub asks_for_a_strict_run : asked (pfx (codes "run" ∷ codes "--strict" ∷ codes "a.pfx" ∷ codes "a.csv" ∷ codes "--batch=1" ∷ [])) ≡ Some (run (codes "a.pfx") (codes "a.csv") None (Some 1) true false)
 unfolding clap_on_literals asked
 asks_for_a_strict_run = refl
 
-pub asks_for_least_batch : asked (pfx (codes "run" ∷ codes "--batch=1" ∷ codes "a.pfx" ∷ codes "a.csv" ∷ [])) ≡ Some (run (codes "a.pfx") (codes "a.csv") None (Some 1) false)
+pub asks_for_least_batch : asked (pfx (codes "run" ∷ codes "--batch=1" ∷ codes "a.pfx" ∷ codes "a.csv" ∷ [])) ≡ Some (run (codes "a.pfx") (codes "a.csv") None (Some 1) false false)
 unfolding clap_on_literals asked
 asks_for_least_batch = refl
 
 abbrev show_store : List Text
 show_store = pfx (codes "status" ∷ codes "a.pfx" ∷ [])
 
-pub asks_for_a_board : asked show_store ≡ Some (status (codes "a.pfx"))
+pub asks_for_a_board : asked show_store ≡ Some (status (codes "a.pfx") false)
 unfolding clap_on_literals asked
 asks_for_a_board = refl
 
@@ -140,7 +140,7 @@ takes_a_replay = refl
 abbrev show_jobs : List Text
 show_jobs = pfx (codes "show" ∷ codes "a.pfx" ∷ [])
 
-pub asks_for_the_jobs : asked show_jobs ≡ Some (show (codes "a.pfx") None)
+pub asks_for_the_jobs : asked show_jobs ≡ Some (show (codes "a.pfx") None false)
 unfolding clap_on_literals asked
 asks_for_the_jobs = refl
 
@@ -148,7 +148,7 @@ pub takes_the_jobs : takes pfx_app show_jobs ≡ true
 unfolding clap_on_literals
 takes_the_jobs = refl
 
-pub asks_for_one_job : asked (pfx (codes "show" ∷ codes "a.pfx" ∷ codes "2" ∷ [])) ≡ Some (show (codes "a.pfx") (Some 2))
+pub asks_for_one_job : asked (pfx (codes "show" ∷ codes "a.pfx" ∷ codes "2" ∷ [])) ≡ Some (show (codes "a.pfx") (Some 2) false)
 unfolding clap_on_literals asked
 asks_for_one_job = refl
 

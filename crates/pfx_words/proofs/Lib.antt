@@ -2,6 +2,7 @@ pub mod Builds
 pub mod Numbers
 pub mod Examples
 pub mod Plain
+pub mod PlainJson
 pub mod PlainPlan
 pub mod PlainInit
 pub mod PlainRun

@@ -12,10 +12,10 @@ use Rattle.pfx_words.specs.Requests.{IsTask, show, show_of, number_of, asked, as
 use Rattle.pfx_words.proofs.Numbers.{no_sign, number_written, number_passes}
 use Rattle.pfx_words.proofs.Plain.{sub_built, with_word, on_from, plain_on, plain_passes, ends_well, and_true}
 
-abbrev show_built : Shape
+abbrev pub show_built : Shape
 show_built = sub_built 5
 
-abbrev after_file : Text → Walk
+abbrev pub after_file : Text → Walk
 after_file file = with_word show_built 1 nothing_held file
 
 -- ---- of all tasks
@@ -27,11 +27,11 @@ asked_steps : (program file : Text) → asked (program ∷ codes "show" ∷ file
 unfolding clap_on_literals asked
 asked_steps program file = refl
 
-asked_held : (file : Text) → asked_in (Some (codes "show", finished show_built.rules (after_file file).held)) ≡ Some (show file None)
+asked_held : (file : Text) → asked_in (Some (codes "show", finished show_built.rules (after_file file).held)) ≡ Some (show file None false)
 unfolding clap_on_literals
 asked_held file = refl
 
-pub plain_show_asked : (program file : Text) → starts_with_minus file ≡ false → asked (program ∷ codes "show" ∷ file ∷ []) ≡ Some (show file None)
+pub plain_show_asked : (program file : Text) → starts_with_minus file ≡ false → asked (program ∷ codes "show" ∷ file ∷ []) ≡ Some (show file None false)
 plain_show_asked program file e =
     asked_steps program file ∙ ap (λ (w : Walk). asked_in (Some (codes "show", finished show_built.rules w.held))) (show_walk file e) ∙ asked_held file
 
@@ -63,11 +63,11 @@ task_steps : (program file task : Text) → asked (program ∷ codes "show" ∷ 
 unfolding clap_on_literals asked
 task_steps program file task = refl
 
-task_held : (file : Text) (d : ℕ) (ds : Text) → (d == 45) ≡ false → asked_in (Some (codes "show", finished show_built.rules (after_both file (d ∷ ds)).held)) ≡ show_of (Some file) (number_of (d ∷ ds))
+task_held : (file : Text) (d : ℕ) (ds : Text) → (d == 45) ≡ false → asked_in (Some (codes "show", finished show_built.rules (after_both file (d ∷ ds)).held)) ≡ show_of (Some file) (number_of (d ∷ ds)) false
 unfolding clap_on_literals
 task_held file d ds f = rw f refl
 
-asked_task : (program file : Text) (d : ℕ) (ds : Text) → starts_with_minus file ≡ false → (d == 45) ≡ false → asked (program ∷ codes "show" ∷ file ∷ (d ∷ ds) ∷ []) ≡ show_of (Some file) (number_of (d ∷ ds))
+asked_task : (program file : Text) (d : ℕ) (ds : Text) → starts_with_minus file ≡ false → (d == 45) ≡ false → asked (program ∷ codes "show" ∷ file ∷ (d ∷ ds) ∷ []) ≡ show_of (Some file) (number_of (d ∷ ds)) false
 asked_task program file d ds e f =
     task_steps program file (d ∷ ds) ∙ ap (λ (w : Walk). asked_in (Some (codes "show", finished show_built.rules w.held))) (task_walk file (d ∷ ds) e f) ∙ task_held file d ds f
 
@@ -96,6 +96,6 @@ pub plain_show_task_taken : (program file task : Text) → starts_with_minus fil
 plain_show_task_taken program file [] e h = absurd (omega (arith, h.0.0))
 plain_show_task_taken program file (d ∷ ds) e h = takes_task program file (d ∷ ds) e (no_sign d ds h.0).0 (number_passes 0 65535 d ds h.0 (omega arith) h.1 (omega arith))
 
-pub plain_show_task_asked : (program file task : Text) → starts_with_minus file ≡ false → IsTask task → asked (program ∷ codes "show" ∷ file ∷ task ∷ []) ≡ Some (show file (Some (digits_value 10 task)))
+pub plain_show_task_asked : (program file task : Text) → starts_with_minus file ≡ false → IsTask task → asked (program ∷ codes "show" ∷ file ∷ task ∷ []) ≡ Some (show file (Some (digits_value 10 task)) false)
 plain_show_task_asked program file [] e h = absurd (omega (arith, h.0.0))
-plain_show_task_asked program file (d ∷ ds) e h = asked_task program file d ds e (no_sign d ds h.0).0 ∙ ap (λ n. show_of (Some file) n) (number_written 65535 d ds h.0 h.1 (omega arith))
+plain_show_task_asked program file (d ∷ ds) e h = asked_task program file d ds e (no_sign d ds h.0).0 ∙ ap (λ n. show_of (Some file) n false) (number_written 65535 d ds h.0 h.1 (omega arith))

@@ -9,10 +9,10 @@ use Rattle.pfx_words.specs.Commands.{pfx_app}
 use Rattle.pfx_words.specs.Requests.{status, asked, asked_in}
 use Rattle.pfx_words.proofs.Plain.{sub_built, with_word, on_from, plain_on, plain_passes, ends_well, and_true}
 
-abbrev status_built : Shape
+abbrev pub status_built : Shape
 status_built = sub_built 3
 
-abbrev after_file : Text → Walk
+abbrev pub after_file : Text → Walk
 after_file file = with_word status_built 1 nothing_held file
 
 status_walk : (file : Text) → starts_with_minus file ≡ false → on_from status_built (walk_from nothing_held) (file ∷ []) ≡ after_file file
@@ -22,11 +22,11 @@ asked_steps : (program file : Text) → asked (program ∷ codes "status" ∷ fi
 unfolding clap_on_literals asked
 asked_steps program file = refl
 
-asked_held : (file : Text) → asked_in (Some (codes "status", finished status_built.rules (after_file file).held)) ≡ Some (status file)
+asked_held : (file : Text) → asked_in (Some (codes "status", finished status_built.rules (after_file file).held)) ≡ Some (status file false)
 unfolding clap_on_literals
 asked_held file = refl
 
-pub plain_status_asked : (program file : Text) → starts_with_minus file ≡ false → asked (program ∷ codes "status" ∷ file ∷ []) ≡ Some (status file)
+pub plain_status_asked : (program file : Text) → starts_with_minus file ≡ false → asked (program ∷ codes "status" ∷ file ∷ []) ≡ Some (status file false)
 plain_status_asked program file e =
     asked_steps program file ∙ ap (λ (w : Walk). asked_in (Some (codes "status", finished status_built.rules w.held))) (status_walk file e) ∙ asked_held file
 

@@ -20,13 +20,21 @@ slots = record (required (codes "SLOTS")) { parser = Some (vp.Signed (pos 0) (po
 abbrev pub at_ledger : Rule
 at_ledger = record (new_rule (codes "at")) { long = Some (codes "at"); value_names = 1 }
 
+-- whether what is printed is JSON: `--json`, which has no value
+abbrev pub as_json : Rule
+as_json = record (new_rule (codes "json")) { long = Some (codes "json"); action = Some SetTrue }
+
 -- `plan SET SLOTS`
 abbrev pub plan_words : App
 plan_words = with_rule (with_rule (new_app (codes "plan")) (required (codes "SET"))) slots
 
 -- and `--at LEDGER`, which may be left out
+abbrev pub plan_from : App
+plan_from = with_rule plan_words at_ledger
+
+-- and `--json`
 abbrev pub plan_app : App
-plan_app = with_rule plan_words at_ledger
+plan_app = with_rule plan_from as_json
 
 -- `init SET FILE`
 abbrev pub init_app : App
@@ -57,12 +65,20 @@ abbrev pub strict : Rule
 strict = record (new_rule (codes "strict")) { long = Some (codes "strict"); action = Some SetTrue }
 
 -- and `--strict`
+abbrev pub run_strictly : App
+run_strictly = with_rule run_by_batch strict
+
+-- and `--json`
 abbrev pub run_app : App
-run_app = with_rule run_by_batch strict
+run_app = with_rule run_strictly as_json
 
 -- `status FILE`
+abbrev pub status_words : App
+status_words = with_rule (new_app (codes "status")) (required (codes "FILE"))
+
+-- and `--json`
 abbrev pub status_app : App
-status_app = with_rule (new_app (codes "status")) (required (codes "FILE"))
+status_app = with_rule status_words as_json
 
 -- `replay FILE`
 abbrev pub replay_app : App
@@ -77,8 +93,12 @@ abbrev pub show_words : App
 show_words = with_rule (new_app (codes "show")) (required (codes "FILE"))
 
 -- and a task
+abbrev pub show_of_task : App
+show_of_task = with_rule show_words task
+
+-- and `--json`
 abbrev pub show_app : App
-show_app = with_rule show_words task
+show_app = with_rule show_of_task as_json
 
 -- a count of slots that are drawn: 1 to 1,440
 abbrev pub drawn_slots : Rule

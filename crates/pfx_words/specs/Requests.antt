@@ -10,26 +10,26 @@ use Rattle.pfx_words.specs.Commands.{pfx_app}
 use Rattle.pfx_words.specs.declared.request.Request.{Request}
 use Rattle.pfx_words.specs.declared.request.Request.TheVariants as request
 
--- a request, with its texts
+-- a request, with its texts; the last of those that can be printed as JSON says whether they are
 pub data Asked : Type 0 where
-  plan : Text → ℕ → Option Text → Asked
+  plan : Text → ℕ → Option Text → Bool → Asked
   init : Text → Text → Asked
-  run : Text → Text → Option ℕ → Option ℕ → Bool → Asked
-  status : Text → Asked
+  run : Text → Text → Option ℕ → Option ℕ → Bool → Bool → Asked
+  status : Text → Bool → Asked
   replay : Text → Asked
-  show : Text → Option ℕ → Asked
+  show : Text → Option ℕ → Bool → Asked
   draw : Text → ℕ → Option Text → Asked
   check : Text → Asked
   explain : Text → Asked
 
 -- the request that a value of the code is
 abbrev pub asked_by : Request → Asked
-asked_by (request.Plan set slots at) = plan set.now slots (option_map (λ s. s.now) at)
+asked_by (request.Plan set slots at json) = plan set.now slots (option_map (λ s. s.now) at) json
 asked_by (request.Init set file) = init set.now file.now
-asked_by (request.Run file script workers batch strict) = run file.now script.now workers batch strict
-asked_by (request.Status file) = status file.now
+asked_by (request.Run file script workers batch strict json) = run file.now script.now workers batch strict json
+asked_by (request.Status file json) = status file.now json
 asked_by (request.Replay file) = replay file.now
-asked_by (request.Show file task) = show file.now task
+asked_by (request.Show file task json) = show file.now task json
 asked_by (request.Draw set slots at) = draw set.now slots (option_map (λ s. s.now) at)
 asked_by (request.Check set) = check set.now
 asked_by (request.Explain fault) = explain fault.now
@@ -57,15 +57,15 @@ is_yes (Some text) = bytes_eq text (codes "true")
 abbrev pub flag_at : Text → List Row → Bool
 flag_at id rows = is_yes (text_at id rows)
 
--- a plan, if both its words are there, with the ledger to begin with, if there is one
-abbrev pub plan_of : Option Text → Option ℕ → Option Text → Option Asked
-plan_of (Some set) (Some slots) at = Some (plan set slots at)
-plan_of (Some set) None at = None
-plan_of None slots at = None
+-- a plan, if both its words are there, with the ledger to begin with, if there is one, and whether it is printed as JSON
+abbrev pub plan_of : Option Text → Option ℕ → Option Text → Bool → Option Asked
+plan_of (Some set) (Some slots) at json = Some (plan set slots at json)
+plan_of (Some set) None at json = None
+plan_of None slots at json = None
 
 -- the plan that is asked for by what was found
 abbrev pub plan_in : List Row → Option Asked
-plan_in rows = plan_of (text_at (codes "SET") rows) (number_at (codes "SLOTS") rows) (text_at (codes "at") rows)
+plan_in rows = plan_of (text_at (codes "SET") rows) (number_at (codes "SLOTS") rows) (text_at (codes "at") rows) (flag_at (codes "json") rows)
 
 -- a new store, if both its words are there
 abbrev pub init_of : Option Text → Option Text → Option Asked
@@ -76,32 +76,37 @@ init_of None file = None
 abbrev pub init_in : List Row → Option Asked
 init_in rows = init_of (text_at (codes "SET") rows) (text_at (codes "FILE") rows)
 
--- a run, if both its words are there, with the number of workers and that of slots kept at once, where there are any, and whether it
--- ends at its first refused record
-abbrev pub run_of : Option Text → Option Text → Option ℕ → Option ℕ → Bool → Option Asked
-run_of (Some file) (Some script) workers batch strict = Some (run file script workers batch strict)
-run_of (Some file) None workers batch strict = None
-run_of None script workers batch strict = None
+-- a run, if both its words are there, with the number of workers and that of slots kept at once, where there are any, whether it
+-- ends at its first refused record, and whether its lines are JSON
+abbrev pub run_of : Option Text → Option Text → Option ℕ → Option ℕ → Bool → Bool → Option Asked
+run_of (Some file) (Some script) workers batch strict json = Some (run file script workers batch strict json)
+run_of (Some file) None workers batch strict json = None
+run_of None script workers batch strict json = None
 
 abbrev pub run_in : List Row → Option Asked
 run_in rows =
     run_of (text_at (codes "FILE") rows) (text_at (codes "SCRIPT") rows) (number_at (codes "workers") rows) (number_at (codes "batch") rows) (flag_at (codes "strict") rows)
+    (flag_at (codes "json") rows)
 
--- a look at a store, if its word is there
+-- a look at a store, if its word is there, and whether it is printed as JSON
+abbrev pub status_of : Option Text → Bool → Option Asked
+status_of (Some file) json = Some (status file json)
+status_of None json = None
+
 abbrev pub status_in : List Row → Option Asked
-status_in rows = option_map status (text_at (codes "FILE") rows)
+status_in rows = status_of (text_at (codes "FILE") rows) (flag_at (codes "json") rows)
 
 -- a replay of a store, if its word is there
 abbrev pub replay_in : List Row → Option Asked
 replay_in rows = option_map replay (text_at (codes "FILE") rows)
 
--- what the jobs of a store computed, or that of a task, if the store's word is there
-abbrev pub show_of : Option Text → Option ℕ → Option Asked
-show_of (Some file) task = Some (show file task)
-show_of None task = None
+-- what the jobs of a store computed, or that of a task, if the store's word is there, and whether it is printed as JSON
+abbrev pub show_of : Option Text → Option ℕ → Bool → Option Asked
+show_of (Some file) task json = Some (show file task json)
+show_of None task json = None
 
 abbrev pub show_in : List Row → Option Asked
-show_in rows = show_of (text_at (codes "FILE") rows) (number_at (codes "TASK") rows)
+show_in rows = show_of (text_at (codes "FILE") rows) (number_at (codes "TASK") rows) (flag_at (codes "json") rows)
 
 -- a picture of a plan, if both its words are there, with the ledger to begin with, if there is one
 abbrev pub draw_of : Option Text → Option ℕ → Option Text → Option Asked

@@ -3,10 +3,10 @@
 ghost use Rattle.std.specs.Prelude.{◌≡◌, option_map};
 ghost use Rattle.clap.specs.Matches.{found_of};
 ghost use Rattle.clap.specs.Walk.{rows_of};
-ghost use Rattle.pfx_words.specs.Commands.{required, IsArgument};
+ghost use Rattle.pfx_words.specs.Commands.{required, as_json, IsArgument};
 ghost use Rattle.pfx_words.specs.Requests.{flag_at, text_at, number_at};
 
-use clap::{Arg, ArgMatches};
+use clap::{Arg, ArgAction, ArgMatches};
 use std::alloc::Global;
 
 // A word that has to be there, by its name in the usage.
@@ -14,6 +14,16 @@ pub(crate) fn required_word<'a>(alloc: Global, name: &'a str) -> Arg<'a>
     ensures { IsArgument result (required name.entry.now) }
 {
     Arg::new(alloc, name).required(true)
+}
+
+// Whether what is printed is JSON.
+pub(crate) fn json_flag<'a>(alloc: Global) -> Arg<'a>
+    ensures { IsArgument result as_json }
+{
+    Arg::new(alloc, "json")
+        .long("json")
+        .help("Print an object of JSON a line")
+        .action(ArgAction::SetTrue)
 }
 
 pub(crate) fn text_under<'a>(matches: &ArgMatches<'a>, name: &str) -> Option<&'a str>

@@ -13,7 +13,7 @@ pub fn plain_plan(program: &str, set: &str, slots: &str)
     requires slots { IsSlots slots.now }
     ensures taken { takes pfx_app (program.now ∷ codes "plan" ∷ set.now ∷ slots.now ∷ []) ≡ true }
     ensures asked { asked (program.now ∷ codes "plan" ∷ set.now ∷ slots.now ∷ [])
-        ≡ Some (plan set.now (digits_value 10 slots.now) None) }
+        ≡ Some (plan set.now (digits_value 10 slots.now) None false) }
 {}
 
 /// `pfx init SET FILE`: for any `set` and `file` that don't begin with a hyphen, the command takes these words, and they
@@ -32,7 +32,7 @@ pub fn plain_run(program: &str, file: &str, script: &str)
     requires script { starts_with_minus script.now ≡ false }
     ensures taken { takes pfx_app (program.now ∷ codes "run" ∷ file.now ∷ script.now ∷ []) ≡ true }
     ensures asked { asked (program.now ∷ codes "run" ∷ file.now ∷ script.now ∷ [])
-        ≡ Some (run file.now script.now None None false) }
+        ≡ Some (run file.now script.now None None false false) }
 {}
 
 /// `pfx run FILE SCRIPT --workers N`: the same words with any `workers` of digits that write 0 to 64 ask for a run by
@@ -44,7 +44,7 @@ pub fn plain_workers(program: &str, file: &str, script: &str, workers: &str)
     ensures taken { takes pfx_app
         (program.now ∷ codes "run" ∷ file.now ∷ script.now ∷ codes "--workers" ∷ workers.now ∷ []) ≡ true }
     ensures asked { asked (program.now ∷ codes "run" ∷ file.now ∷ script.now ∷ codes "--workers" ∷ workers.now ∷ [])
-        ≡ Some (run file.now script.now (Some (digits_value 10 workers.now)) None false) }
+        ≡ Some (run file.now script.now (Some (digits_value 10 workers.now)) None false false) }
 {}
 
 /// `pfx run FILE SCRIPT --batch N`: the same words with any `batch` of digits that write 1 to 16 ask for a run that keeps so
@@ -56,7 +56,7 @@ pub fn plain_batch(program: &str, file: &str, script: &str, batch: &str)
     ensures taken { takes pfx_app
         (program.now ∷ codes "run" ∷ file.now ∷ script.now ∷ codes "--batch" ∷ batch.now ∷ []) ≡ true }
     ensures asked { asked (program.now ∷ codes "run" ∷ file.now ∷ script.now ∷ codes "--batch" ∷ batch.now ∷ [])
-        ≡ Some (run file.now script.now None (Some (digits_value 10 batch.now)) false) }
+        ≡ Some (run file.now script.now None (Some (digits_value 10 batch.now)) false false) }
 {}
 
 /// `pfx status FILE`: for any `file` that doesn't begin with a hyphen, the command takes these words, and they ask for
@@ -64,7 +64,7 @@ pub fn plain_batch(program: &str, file: &str, script: &str, batch: &str)
 pub fn plain_status(program: &str, file: &str)
     requires file { starts_with_minus file.now ≡ false }
     ensures taken { takes pfx_app (program.now ∷ codes "status" ∷ file.now ∷ []) ≡ true }
-    ensures asked { asked (program.now ∷ codes "status" ∷ file.now ∷ []) ≡ Some (status file.now) }
+    ensures asked { asked (program.now ∷ codes "status" ∷ file.now ∷ []) ≡ Some (status file.now false) }
 {}
 
 /// `pfx plan - SLOTS`: a hyphen alone is taken as a set too, which is standard input.
@@ -72,7 +72,7 @@ pub fn standard_plan(program: &str, slots: &str)
     requires slots { IsSlots slots.now }
     ensures taken { takes pfx_app (program.now ∷ codes "plan" ∷ codes "-" ∷ slots.now ∷ []) ≡ true }
     ensures asked { asked (program.now ∷ codes "plan" ∷ codes "-" ∷ slots.now ∷ [])
-        ≡ Some (plan (codes "-") (digits_value 10 slots.now) None) }
+        ≡ Some (plan (codes "-") (digits_value 10 slots.now) None false) }
 {}
 
 /// `pfx init - FILE`: the same of a new store's set.
@@ -87,7 +87,7 @@ pub fn standard_run(program: &str, file: &str)
     requires file { starts_with_minus file.now ≡ false }
     ensures taken { takes pfx_app (program.now ∷ codes "run" ∷ file.now ∷ codes "-" ∷ []) ≡ true }
     ensures asked { asked (program.now ∷ codes "run" ∷ file.now ∷ codes "-" ∷ [])
-        ≡ Some (run file.now (codes "-") None None false) }
+        ≡ Some (run file.now (codes "-") None None false false) }
 {}
 
 /// `pfx replay FILE`: for any `file` that doesn't begin with a hyphen, the command takes these words, and they ask for
@@ -103,7 +103,7 @@ pub fn plain_replay(program: &str, file: &str)
 pub fn plain_show(program: &str, file: &str)
     requires file { starts_with_minus file.now ≡ false }
     ensures taken { takes pfx_app (program.now ∷ codes "show" ∷ file.now ∷ []) ≡ true }
-    ensures asked { asked (program.now ∷ codes "show" ∷ file.now ∷ []) ≡ Some (show file.now None) }
+    ensures asked { asked (program.now ∷ codes "show" ∷ file.now ∷ []) ≡ Some (show file.now None false) }
 {}
 
 /// `pfx show FILE TASK`: the same words with any `task` of digits that write 0 to 65,535 ask for the job of that task.
@@ -112,7 +112,7 @@ pub fn plain_show_task(program: &str, file: &str, task: &str)
     requires task { IsTask task.now }
     ensures taken { takes pfx_app (program.now ∷ codes "show" ∷ file.now ∷ task.now ∷ []) ≡ true }
     ensures asked { asked (program.now ∷ codes "show" ∷ file.now ∷ task.now ∷ [])
-        ≡ Some (show file.now (Some (digits_value 10 task.now))) }
+        ≡ Some (show file.now (Some (digits_value 10 task.now)) false) }
 {}
 
 /// `pfx draw SET SLOTS`: for any `set` that doesn't begin with a hyphen, and any `slots` of digits that write 1 to 1,440, the
@@ -154,7 +154,39 @@ pub fn plain_strict(program: &str, file: &str, script: &str)
     requires script { starts_with_minus script.now ≡ false }
     ensures taken { takes pfx_app (program.now ∷ codes "run" ∷ file.now ∷ script.now ∷ codes "--strict" ∷ []) ≡ true }
     ensures asked { asked (program.now ∷ codes "run" ∷ file.now ∷ script.now ∷ codes "--strict" ∷ [])
-        ≡ Some (run file.now script.now None None true) }
+        ≡ Some (run file.now script.now None None true false) }
+{}
+
+/// `pfx plan SET SLOTS --json`: the same words as of `pfx plan SET SLOTS` with the flag ask for that plan as JSON.
+pub fn plain_json_plan(program: &str, set: &str, slots: &str)
+    requires set { starts_with_minus set.now ≡ false }
+    requires slots { IsSlots slots.now }
+    ensures taken { takes pfx_app (program.now ∷ codes "plan" ∷ set.now ∷ slots.now ∷ codes "--json" ∷ []) ≡ true }
+    ensures asked { asked (program.now ∷ codes "plan" ∷ set.now ∷ slots.now ∷ codes "--json" ∷ [])
+        ≡ Some (plan set.now (digits_value 10 slots.now) None true) }
+{}
+
+/// `pfx run FILE SCRIPT --json`: the same of a run.
+pub fn plain_json_run(program: &str, file: &str, script: &str)
+    requires file { starts_with_minus file.now ≡ false }
+    requires script { starts_with_minus script.now ≡ false }
+    ensures taken { takes pfx_app (program.now ∷ codes "run" ∷ file.now ∷ script.now ∷ codes "--json" ∷ []) ≡ true }
+    ensures asked { asked (program.now ∷ codes "run" ∷ file.now ∷ script.now ∷ codes "--json" ∷ [])
+        ≡ Some (run file.now script.now None None false true) }
+{}
+
+/// `pfx status FILE --json`: the same of a board.
+pub fn plain_json_status(program: &str, file: &str)
+    requires file { starts_with_minus file.now ≡ false }
+    ensures taken { takes pfx_app (program.now ∷ codes "status" ∷ file.now ∷ codes "--json" ∷ []) ≡ true }
+    ensures asked { asked (program.now ∷ codes "status" ∷ file.now ∷ codes "--json" ∷ []) ≡ Some (status file.now true) }
+{}
+
+/// `pfx show FILE --json`: the same of what all jobs have computed.
+pub fn plain_json_show(program: &str, file: &str)
+    requires file { starts_with_minus file.now ≡ false }
+    ensures taken { takes pfx_app (program.now ∷ codes "show" ∷ file.now ∷ codes "--json" ∷ []) ≡ true }
+    ensures asked { asked (program.now ∷ codes "show" ∷ file.now ∷ codes "--json" ∷ []) ≡ Some (show file.now None true) }
 {}
 
 /// `pfx explain FAULT`: for any word that doesn't begin with a hyphen, the command takes these words, and they ask for what is said

@@ -1,13 +1,13 @@
-//! `pfx plan SET SLOTS --at LEDGER`.
+//! `pfx plan SET SLOTS --at LEDGER --json`.
 
 ghost use Rattle.std.specs.Prelude.{◌≡◌, IfOk, option_map};
 ghost use Rattle.clap.specs.Matches.{found_of};
 ghost use Rattle.clap.specs.Walk.{rows_of};
-ghost use Rattle.pfx_words.specs.Commands.{slots, at_ledger, plan_words, plan_app, IsArgument, IsCommand};
+ghost use Rattle.pfx_words.specs.Commands.{slots, at_ledger, plan_words, plan_from, plan_app, IsArgument, IsCommand};
 ghost use Rattle.pfx_words.specs.Requests.{asked_by, plan_in};
 
 use crate::Request;
-use crate::arguments::{number_under, required_word, text_under};
+use crate::arguments::{flag_under, json_flag, number_under, required_word, text_under};
 use clap::{Arg, ArgMatches, Command, value_parser};
 use std::alloc::{AllocError, Global};
 
@@ -20,7 +20,9 @@ in it, one for each worker. Where the weights sum to less than the workers, idle
 on take up the rest.
 
 With --at T:A,A,.. the plan goes on from a ledger: it begins at slot T, where the tasks got A, A and
-so on of the slots before it, idle tasks too. It ends early where no fair schedule goes on.";
+so on of the slots before it, idle tasks too. It ends early where no fair schedule goes on.
+
+With --json each line is an object instead: {\"run\":[\"a\",\"b\"],\"slot\":0}.";
 
 const EXAMPLE: &str = "Example:
   pfx plan examples/thirds.toml 4                  the first four slots of three tasks of weight 2/3
@@ -42,7 +44,7 @@ pub(crate) fn at_option<'a>(alloc: Global) -> Arg<'a>
     )
 }
 
-// The command without its option.
+// The command without its options.
 fn bare_plan<'a>(alloc: Global) -> Result<Command<'a>, AllocError>
     ensures { IfOk result (λ c. IsCommand c plan_words) }
 {
@@ -54,10 +56,16 @@ fn bare_plan<'a>(alloc: Global) -> Result<Command<'a>, AllocError>
     command.arg(set)?.arg(slots_word(alloc))
 }
 
+fn plan_from<'a>(alloc: Global) -> Result<Command<'a>, AllocError>
+    ensures { IfOk result (λ c. IsCommand c plan_from) }
+{
+    bare_plan(alloc)?.arg(at_option(alloc))
+}
+
 pub(crate) fn plan_command<'a>(alloc: Global) -> Result<Command<'a>, AllocError>
     ensures { IfOk result (λ c. IsCommand c plan_app) }
 {
-    bare_plan(alloc)?.arg(at_option(alloc))
+    plan_from(alloc)?.arg(json_flag(alloc))
 }
 
 pub(crate) fn plan_request<'a>(matches: &ArgMatches<'a>) -> Option<Request<'a>>
@@ -66,5 +74,11 @@ pub(crate) fn plan_request<'a>(matches: &ArgMatches<'a>) -> Option<Request<'a>>
     let set = text_under(matches, "SET")?;
     let slots = number_under(matches, "SLOTS")?;
     let at = text_under(matches, "at");
-    Some(Request::Plan { set, slots, at })
+    let json = flag_under(matches, "json");
+    Some(Request::Plan {
+        set,
+        slots,
+        at,
+        json,
+    })
 }

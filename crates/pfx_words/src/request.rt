@@ -11,6 +11,8 @@ pub enum Request<'a> {
         slots: u32,
         /// The ledger to begin with, as `T:A,A,..`; without one the plan begins at slot 0.
         at: Option<&'a str>,
+        /// Whether each line is an object of JSON.
+        json: bool,
     },
     /// Make a new store from a set.
     Init {
@@ -33,11 +35,15 @@ pub enum Request<'a> {
         batch: Option<u32>,
         /// Whether the script ends behind its first refused record.
         strict: bool,
+        /// Whether each line is an object of JSON.
+        json: bool,
     },
     /// Show the board of a store.
     Status {
         /// The path of the store's file.
         file: &'a str,
+        /// Whether the board is an object of JSON.
+        json: bool,
     },
     /// Compare what a store's file records with what its commands do.
     Replay {
@@ -50,6 +56,8 @@ pub enum Request<'a> {
         file: &'a str,
         /// The number of the task, 0 to 65,535, where one alone is asked for.
         task: Option<u32>,
+        /// Whether each line is an object of JSON.
+        json: bool,
     },
     /// Draw the plan of some slots of a set.
     Draw {

@@ -1,13 +1,13 @@
-//! `pfx run FILE SCRIPT --workers N --batch N --strict`.
+//! `pfx run FILE SCRIPT --workers N --batch N --strict --json`.
 
 ghost use Rattle.std.specs.Prelude.{◌≡◌, IfOk, option_map};
 ghost use Rattle.clap.specs.Matches.{found_of};
 ghost use Rattle.clap.specs.Walk.{rows_of};
-ghost use Rattle.pfx_words.specs.Commands.{workers, batch, strict, run_words, run_by_workers, run_by_batch, run_app, IsArgument, IsCommand};
+ghost use Rattle.pfx_words.specs.Commands.{workers, batch, strict, run_words, run_by_workers, run_by_batch, run_strictly, run_app, IsArgument, IsCommand};
 ghost use Rattle.pfx_words.specs.Requests.{asked_by, run_in};
 
 use crate::Request;
-use crate::arguments::{flag_under, number_under, required_word, text_under};
+use crate::arguments::{flag_under, json_flag, number_under, required_word, text_under};
 use clap::{Arg, ArgAction, ArgMatches, Command, value_parser};
 use std::alloc::{AllocError, Global};
 
@@ -23,6 +23,7 @@ kind of job, a goal and data. Fields that aren't used are empty.
   withdraw,TASK,,,              take the task's job away
   settle,,,,                    wait until all that was accepted is kept
   status,,,,                    settle, and show the board (see pfx status --help)
+  show,TASK,,,                  settle, and show what the task's job holds, or all if TASK is empty
 
 Jobs of kind count and rule take GOAL steps. A count's data are the digits that it begins with, or
 nothing for 0; a rule's are its number, 0 to 255, a colon and 3 to 512 cells, each 0 or 1. A scan has
@@ -44,7 +45,16 @@ N slots of one record are kept at once, by one write of the file, and their line
 output is the same for all of them.
 
 With --strict the script ends behind its first refused record, as if no more stood in it: nothing
-further is carried out, and the exit status is 7.";
+further is carried out, and the exit status is 7.
+
+With --json each line is an object instead, and a board is one:
+
+  {\"did\":\"submitted\",\"number\":1,\"task\":0}
+  {\"did\":\"ran\",\"number\":2,\"slot\":0,\"tasks\":[0,1]}
+  {\"did\":\"withdrawn\",\"number\":3,\"task\":0}
+  {\"refused\":{\"fields\":{\"task\":0},\"name\":\"TaskBusy\",\"number\":32}}
+  {\"settled\":3}
+  {\"closed\":3}";
 
 const EXAMPLE: &str = "Example:
   pfx run thirds.pfx examples/thirds.csv    a job of three steps and three slots, then the board
@@ -104,10 +114,16 @@ fn run_by_batch<'a>(alloc: Global) -> Result<Command<'a>, AllocError>
     run_by_workers(alloc)?.arg(batch_option(alloc))
 }
 
+fn run_strictly<'a>(alloc: Global) -> Result<Command<'a>, AllocError>
+    ensures { IfOk result (λ c. IsCommand c run_strictly) }
+{
+    run_by_batch(alloc)?.arg(strict_flag(alloc))
+}
+
 pub(crate) fn run_command<'a>(alloc: Global) -> Result<Command<'a>, AllocError>
     ensures { IfOk result (λ c. IsCommand c run_app) }
 {
-    run_by_batch(alloc)?.arg(strict_flag(alloc))
+    run_strictly(alloc)?.arg(json_flag(alloc))
 }
 
 pub(crate) fn run_request<'a>(matches: &ArgMatches<'a>) -> Option<Request<'a>>
@@ -118,11 +134,13 @@ pub(crate) fn run_request<'a>(matches: &ArgMatches<'a>) -> Option<Request<'a>>
     let workers = number_under(matches, "workers");
     let batch = number_under(matches, "batch");
     let strict = flag_under(matches, "strict");
+    let json = flag_under(matches, "json");
     Some(Request::Run {
         file,
         script,
         workers,
         batch,
         strict,
+        json,
     })
 }

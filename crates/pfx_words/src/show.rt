@@ -1,13 +1,13 @@
-//! `pfx show FILE TASK`.
+//! `pfx show FILE TASK --json`.
 
 ghost use Rattle.std.specs.Prelude.{◌≡◌, IfOk, option_map};
 ghost use Rattle.clap.specs.Matches.{found_of};
 ghost use Rattle.clap.specs.Walk.{rows_of};
-ghost use Rattle.pfx_words.specs.Commands.{task, show_words, show_app, IsArgument, IsCommand};
+ghost use Rattle.pfx_words.specs.Commands.{task, show_words, show_of_task, show_app, IsArgument, IsCommand};
 ghost use Rattle.pfx_words.specs.Requests.{asked_by, show_in};
 
 use crate::Request;
-use crate::arguments::{number_under, required_word, text_under};
+use crate::arguments::{flag_under, json_flag, number_under, required_word, text_under};
 use clap::{Arg, ArgMatches, Command, value_parser};
 use std::alloc::{AllocError, Global};
 
@@ -24,7 +24,11 @@ and of a scan found, how often it has found the needle, which follows behind of=
   2 scan left=0 found=2 of=ab
 
 With TASK that task's line alone is printed. A task without a job is refused as 33 NoJob, a number that
-is no task's as 31 NoSuchTask.";
+is no task's as 31 NoSuchTask. With --json each line is an object instead:
+
+  {\"job\":\"count\",\"left\":98,\"task\":0,\"value\":12}
+  {\"cells\":\"00001101\",\"job\":\"rule\",\"left\":0,\"rule\":110,\"task\":1}
+  {\"found\":2,\"job\":\"scan\",\"left\":0,\"of\":\"ab\",\"task\":2}";
 
 const EXAMPLE: &str = "Example:
   pfx show thirds.pfx      what all jobs of the store thirds.pfx have computed
@@ -50,10 +54,16 @@ fn bare_show<'a>(alloc: Global) -> Result<Command<'a>, AllocError>
         .arg(file)
 }
 
+fn show_of_task<'a>(alloc: Global) -> Result<Command<'a>, AllocError>
+    ensures { IfOk result (λ c. IsCommand c show_of_task) }
+{
+    bare_show(alloc)?.arg(task_word(alloc))
+}
+
 pub(crate) fn show_command<'a>(alloc: Global) -> Result<Command<'a>, AllocError>
     ensures { IfOk result (λ c. IsCommand c show_app) }
 {
-    bare_show(alloc)?.arg(task_word(alloc))
+    show_of_task(alloc)?.arg(json_flag(alloc))
 }
 
 pub(crate) fn show_request<'a>(matches: &ArgMatches<'a>) -> Option<Request<'a>>
@@ -61,5 +71,6 @@ pub(crate) fn show_request<'a>(matches: &ArgMatches<'a>) -> Option<Request<'a>>
 {
     let file = text_under(matches, "FILE")?;
     let task = number_under(matches, "TASK");
-    Some(Request::Show { file, task })
+    let json = flag_under(matches, "json");
+    Some(Request::Show { file, task, json })
 }

@@ -39,9 +39,13 @@ complete -c pfx -n __fish_use_subcommand -a explain -d 'Say what a fault means'
 complete -c pfx -n __fish_use_subcommand -a help -d 'Print this message or the help of the given subcommand(s)'
 
 complete -c pfx -n '__fish_seen_subcommand_from plan' -l at -x -d 'Begin with a ledger, T:A,A,..'
+complete -c pfx -n '__fish_seen_subcommand_from plan' -l json -d 'Print an object of JSON a line'
 complete -c pfx -n '__fish_seen_subcommand_from run' -l workers -x -d 'How many workers run the jobs, 0 to 64'
 complete -c pfx -n '__fish_seen_subcommand_from run' -l batch -x -d 'How many slots of a record are kept at once, 1 to 16'
 complete -c pfx -n '__fish_seen_subcommand_from run' -l strict -d 'End at the first refused record, with status 7'
+complete -c pfx -n '__fish_seen_subcommand_from run' -l json -d 'Print an object of JSON a line'
+complete -c pfx -n '__fish_seen_subcommand_from status' -l json -d 'Print an object of JSON a line'
+complete -c pfx -n '__fish_seen_subcommand_from show' -l json -d 'Print an object of JSON a line'
 complete -c pfx -n '__fish_seen_subcommand_from draw' -l at -x -d 'Begin with a ledger, T:A,A,..'
 
 complete -c pfx -k -n '__pfx_at plan 1' -a '(__fish_complete_suffix .toml)'

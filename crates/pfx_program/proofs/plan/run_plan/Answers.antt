@@ -7,24 +7,24 @@ use Rattle.pfx_program.proofs.plan.run_plan.Goals as goal
 pub returns-in_err-bytes-clause-leaves : goal.returns-in_err-bytes-clause-leaves
 returns-in_err-bytes-clause-leaves g c =
     let same : c.from_residual.result ≡ Err c.in_err-bytes.field-0.0 = search rules in
-    rw same (no_input (g.R.Read.remaining c.args.input.now) (option_map (λ s. s.now) c.args.at) c.args.slots (g.W.Write.contents c.args.output.now) c.in_err-bytes.field-0.0 c.in_err-bytes.ensures.err)
+    rw same (no_input c.args.form (g.R.Read.remaining c.args.input.now) (option_map (λ s. s.now) c.args.at) c.args.slots (g.W.Write.contents c.args.output.now) c.in_err-bytes.field-0.0 c.in_err-bytes.ensures.err)
 
 pub returns-in_err-file-clause-leaves : goal.returns-in_err-file-clause-leaves
 returns-in_err-file-clause-leaves g c =
     let same : c.from_residual-in_err-file.result ≡ Err c.in_err-file.field-0.0 = search rules in
     if_some (g.R.Read.remaining c.args.input.now) _ _ c.in_ok-bytes.ensures.ok
-    (λ bytes read. rw same (no_set bytes (option_map (λ s. s.now) c.args.at) c.args.slots (g.W.Write.contents c.args.output.now) c.in_err-file.field-0.0 (rw (c.as_slice.ensures.value ∙ read) at c.in_err-file.ensures.err)))
+    (λ bytes read. rw same (no_set c.args.form bytes (option_map (λ s. s.now) c.args.at) c.args.slots (g.W.Write.contents c.args.output.now) c.in_err-file.field-0.0 (rw (c.as_slice.ensures.value ∙ read) at c.in_err-file.ensures.err)))
 
 pub returns-in_err-columns-clause-leaves : goal.returns-in_err-columns-clause-leaves
 returns-in_err-columns-clause-leaves g c =
     let same : c.from_residual-in_err-columns.result ≡ Err c.in_err-columns.field-0.0 = search rules in
     if_some (g.R.Read.remaining c.args.input.now) _ _ c.in_ok-bytes.ensures.ok
-    (λ bytes read. rw same (no_start bytes (option_map (λ s. s.now) c.args.at) (set_view c.in_ok-file.file) c.args.slots (g.W.Write.contents c.args.output.now) c.in_err-columns.field-0.0
+    (λ bytes read. rw same (no_start c.args.form bytes (option_map (λ s. s.now) c.args.at) (set_view c.in_ok-file.file) c.args.slots (g.W.Write.contents c.args.output.now) c.in_err-columns.field-0.0
     (rw (c.as_slice.ensures.value ∙ read) at c.in_ok-file.ensures.ok) c.in_err-columns.ensures.err))
 
 pub loop-init : goal.loop-init
 loop-init g c = record {
-  progress = starts (set_view c.in_ok-file.file).tasks c.in_ok-columns.columns c.args.slots (g.W.Write.contents c.args.output.now);
+  progress = starts c.args.form (set_view c.in_ok-file.file).tasks c.in_ok-columns.columns c.args.slots (g.W.Write.contents c.args.output.now);
   served = first_served (set_view c.in_ok-file.file) (option_map (λ s. s.now) c.args.at) c.in_ok-columns.columns c.in_ok-columns.ensures.ok;
 }
 
@@ -33,7 +33,7 @@ loop-preserved g c =
     let (row, is, next, wrote) = c.in_ok-put_slot.ensures.ok in
     record {
       progress =
-          goes_on (set_view c.in_ok-file.file).tasks c.in_ok-columns.columns c.loop.columns c.put_slot.new.columns c.args.slots c.loop.counter
+          goes_on c.args.form (set_view c.in_ok-file.file).tasks c.in_ok-columns.columns c.loop.columns c.put_slot.new.columns c.args.slots c.loop.counter
           (g.W.Write.contents c.args.output.now) (g.W.Write.contents c.loop.output) (g.W.Write.contents c.put_slot.new.output) row (omega arith) c.loop.invariant.progress is next (rw c.as_slice-in-loop.ensures.value at wrote);
       served = λ none. next_served c.loop.columns c.put_slot.new.columns c.loop.counter row (c.loop.invariant.served none) is next;
     }
@@ -43,7 +43,7 @@ returns-in_err-put_slot-clause-leaves g c =
     let same : c.from_residual-in_err-put_slot.result ≡ Err c.in_err-put_slot.field-0.0 = search rules in
     let (set, accepted, begins) = c.in_ok-columns.ensures.ok in
     if_some (g.R.Read.remaining c.args.input.now) _ _ c.in_ok-bytes.ensures.ok
-    (λ bytes read. rw same (fails bytes (option_map (λ s. s.now) c.args.at) (set_view c.in_ok-file.file) c.in_ok-columns.columns c.loop.columns c.args.slots c.loop.counter
+    (λ bytes read. rw same (fails c.args.form bytes (option_map (λ s. s.now) c.args.at) (set_view c.in_ok-file.file) c.in_ok-columns.columns c.loop.columns c.args.slots c.loop.counter
     (g.W.Write.contents c.args.output.now) (g.W.Write.contents c.loop.output) (g.W.Write.contents c.put_slot.new.output) c.in_err-put_slot.field-0.0
     (record { read = rw (c.as_slice.ensures.value ∙ read) at c.in_ok-file.ensures.ok; set = set; accepted = accepted; begins = begins }) (omega arith) c.loop.invariant.progress
     (rw c.as_slice-in-loop.ensures.value at c.in_err-put_slot.ensures.err)))
@@ -52,7 +52,7 @@ pub returns-clause-leaves : goal.returns-clause-leaves
 returns-clause-leaves g c =
     let (set, accepted, begins) = c.in_ok-columns.ensures.ok in
     if_some (g.R.Read.remaining c.args.input.now) _ _ c.in_ok-bytes.ensures.ok
-    (λ bytes read. ends bytes (option_map (λ s. s.now) c.args.at) (set_view c.in_ok-file.file) c.in_ok-columns.columns c.loop.columns c.args.slots c.loop.counter (g.W.Write.contents c.args.output.now) (g.W.Write.contents c.loop.output)
+    (λ bytes read. ends c.args.form bytes (option_map (λ s. s.now) c.args.at) (set_view c.in_ok-file.file) c.in_ok-columns.columns c.loop.columns c.args.slots c.loop.counter (g.W.Write.contents c.args.output.now) (g.W.Write.contents c.loop.output)
     (record { read = rw (c.as_slice.ensures.value ∙ read) at c.in_ok-file.ensures.ok; set = set; accepted = accepted; begins = begins }) (omega arith) c.loop.invariant.progress)
 
 pub returns-in_err-bytes-clause-served : goal.returns-in_err-bytes-clause-served
@@ -73,5 +73,5 @@ returns-in_err-columns-clause-served g c none =
 pub returns-in_err-put_slot-clause-served : goal.returns-in_err-put_slot-clause-served
 returns-in_err-put_slot-clause-served g c none =
     let same : c.from_residual-in_err-put_slot.result ≡ Err c.in_err-put_slot.field-0.0 = search rules in
-    rw same (slot_served (set_view c.in_ok-file.file).tasks c.loop.columns c.args.slots c.loop.counter (g.W.Write.contents c.loop.output) (g.W.Write.contents c.put_slot.new.output)
+    rw same (slot_served c.args.form (set_view c.in_ok-file.file).tasks c.loop.columns c.args.slots c.loop.counter (g.W.Write.contents c.loop.output) (g.W.Write.contents c.put_slot.new.output)
     c.in_err-put_slot.field-0.0 (c.loop.invariant.served none) (omega arith) (rw c.as_slice-in-loop.ensures.value at c.in_err-put_slot.ensures.err))

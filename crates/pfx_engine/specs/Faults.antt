@@ -11,7 +11,6 @@ use Rattle.pfx_opening.specs.declared.faults.OpenFault.{OpenFault}
 use Rattle.pfx_opening.specs.declared.faults.OpenFault.TheVariants as opening
 use Rattle.pfx_opening.specs.declared.faults.Part.{Part as FilePart}
 use Rattle.pfx_opening.specs.declared.faults.Part.TheVariants as filepart
-use Rattle.pfx_opening.specs.declared.faults.Refusal.{Refusal}
 use Rattle.pfx_opening.specs.declared.faults.Refusal.TheVariants as refusal
 
 -- the fault of a segment's length
