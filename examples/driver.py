@@ -3,7 +3,8 @@
 
 driver.py SET STORE IN OUT [--chunk BYTES]: for each task NAME of the set, chunk K of the file IN/NAME is hashed in the K-th slot
 that the task gets, and OUT/NAME/K is its hash. It ends once all chunks are hashed. Whatever is killed, start it again with the
-same words: it goes on where it was. The variable PFX names the program pfx. docs/DRIVERS.md says why it is right.
+same words: it goes on where it was. STORE and OUT are made where they are missing; they belong together. The variable PFX names the
+program pfx. docs/DRIVERS.md says why it is right.
 
 It takes a unit's effect for granted once it is there: the file OUT/NAME/K, made whole by one link. To drive work of your own,
 replace `Units`."""
@@ -11,6 +12,7 @@ import argparse
 import concurrent.futures
 import hashlib
 import os
+import shutil
 import subprocess
 import sys
 import time
@@ -19,6 +21,17 @@ import tomllib
 BUSY = "pfx: error 58 Busy"
 FULL = "refused 64 SessionFull"
 PATIENCE = 60           # seconds
+
+
+def lives(process):
+    """Whether a process still runs: a driver whose pfx alone was killed may be within a unit while another one has the store."""
+    try:
+        os.kill(process, 0)
+    except ProcessLookupError:
+        return False
+    except PermissionError:
+        pass
+    return True
 
 
 class Gone(Exception):
@@ -99,7 +112,10 @@ class Units:
 
     def __init__(self, names, source, target, chunk):
         self.names, self.source, self.target, self.chunk = names, source, target, chunk
-        self.most = [-(-os.path.getsize(f"{source}/{name}") // chunk) for name in names]
+        try:
+            self.most = [-(-os.path.getsize(f"{source}/{name}") // chunk) for name in names]
+        except OSError as error:
+            sys.exit(f"driver.py: {error}")
         for name in names:
             os.makedirs(f"{target}/{name}", exist_ok=True)
 
@@ -108,8 +124,8 @@ class Units:
         folder = f"{self.target}/{self.names[task]}"
         there = set(os.listdir(folder))
         for draft in there:
-            if draft.startswith("."):
-                os.unlink(f"{folder}/{draft}")       # of a driver that was killed: there is one at a time
+            if draft.startswith(".") and not lives(int(draft.rsplit(".", 1)[1])):
+                os.unlink(f"{folder}/{draft}")       # of a driver that was killed
         return [(task, k) for k in range(1, min(upto, self.most[task]) + 1) if str(k) not in there]
 
     def do(self, unit):
@@ -160,10 +176,12 @@ def main():
     given = words.parse_args()
     with open(given.SET, "rb") as it:
         it = tomllib.load(it)
-    program = os.environ.get("PFX", "pfx")
+    program = shutil.which(os.environ.get("PFX", "pfx"))
+    if program is None:
+        sys.exit("driver.py: no program pfx: put it on the PATH, or have the variable PFX name it")
+    units = Units([task["name"] for task in it["task"]], given.IN, given.OUT, given.chunk)
     if not os.path.exists(given.STORE):
         subprocess.run([program, "init", given.SET, given.STORE], check=True, stdout=subprocess.DEVNULL)
-    units = Units([task["name"] for task in it["task"]], given.IN, given.OUT, given.chunk)
     until = None
     with concurrent.futures.ThreadPoolExecutor(it["workers"]) as pool:
         while True:
