@@ -244,10 +244,11 @@ fn warn_refused(rt: &HostRuntime, alloc: Global, script: &str, seen: &Seen) {
         script,
         text.as_slice(),
         seen.answers,
+        seen.shown,
         refusal,
         seen.refused,
     );
-    if let Ok(Some(note)) = note {
+    if let Ok(note) = note {
         let _ = eprintln!(rt; "pfx: warning: a record was refused");
         put_note(rt, alloc, Ok(Some(note)));
     }

@@ -23,6 +23,19 @@ fn refusal_of(bytes: &[u8]) -> Option<&[u8]> {
     Some(object.strip_suffix(b"}\n").unwrap_or(object))
 }
 
+// Whether an answer shows jobs, as text or as objects.
+fn shows_jobs(bytes: &[u8]) -> bool {
+    let digits = bytes.iter().take_while(|b| b.is_ascii_digit()).count();
+    let words = &bytes[digits..];
+    (digits > 0
+        && (words.starts_with(b" count left=")
+            || words.starts_with(b" rule left=")
+            || words.starts_with(b" scan left=")))
+        || bytes.starts_with(b"{\"job\":")
+        || bytes.starts_with(b"{\"cells\":")
+        || bytes.starts_with(b"{\"found\":")
+}
+
 /// What was seen of the output.
 #[derive(Clone, Copy)]
 pub(crate) struct Seen {
@@ -30,6 +43,8 @@ pub(crate) struct Seen {
     pub(crate) failed: Option<ErrorKind>,
     /// How many answers stand before the first refusal. An answer is what is written at the start of a line.
     pub(crate) answers: u64,
+    /// How many of these show jobs.
+    pub(crate) shown: u64,
     /// How many answers are refusals.
     pub(crate) refused: u64,
     /// What the first refusal says behind its first word, or its object, and how many bytes of it.
@@ -47,6 +62,7 @@ impl Seen {
         Seen {
             failed: None,
             answers: 0,
+            shown: 0,
             refused: 0,
             refusal: [0u8; KEPT],
             len: 0,
@@ -86,7 +102,12 @@ impl Seen {
                     }
                     self.refused = self.refused.saturating_add(1);
                 }
-                None if self.refused == 0 => self.answers = self.answers.saturating_add(1),
+                None if self.refused == 0 => {
+                    self.answers = self.answers.saturating_add(1);
+                    if shows_jobs(bytes) {
+                        self.shown = self.shown.saturating_add(1);
+                    }
+                }
                 None => {}
             }
         }

@@ -23,9 +23,19 @@ fn line_of(text: &[u8], row: &ByteRecord) -> Option<Place> {
     Some(line_behind(text, byte))
 }
 
+// Whether a record shows jobs.
+fn shows(row: &ByteRecord) -> bool {
+    row.get(0) == Some(b"show")
+}
+
 // Whether a record shows the jobs of all tasks: it has no answer where there are none, and is never refused.
 fn shows_all(row: &ByteRecord) -> bool {
-    row.get(0) == Some(b"show") && row.get(1) == Some(b"")
+    shows(row) && row.get(1) == Some(b"")
+}
+
+// Whether a record may be refused.
+fn asks(row: &ByteRecord) -> bool {
+    row.get(0) != Some(b"status") && row.get(0) != Some(b"settle") && !shows_all(row)
 }
 
 // Whether a task has a job behind an accepted record, as far as this is known; `has` says so of the records before it.
@@ -37,39 +47,78 @@ fn has_job(row: &ByteRecord, has: bool) -> bool {
     }
 }
 
-// The place and the line of the record that has the answer behind so many ones; none where two records may have it.
-fn record_behind(alloc: Global, text: &[u8], answers: u64) -> Option<(u64, Option<Place>)> {
+// What is known of the answers of a script's first records, none of which was refused.
+#[derive(Drop)]
+struct Passed {
+    // How many answers are left behind theirs, but for jobs that were shown.
+    left: u64,
+    // How often they have shown jobs, at least and at most.
+    least: u64,
+    most: u64,
+    // Whether a task is known to have a job.
+    has: bool,
+}
+
+impl Passed {
+    // Whether the next record may be the refused one, where jobs were shown so often before the refusal.
+    fn may_end(&self, row: &ByteRecord, shown: u64) -> bool {
+        let is_next = self.left == 0 || (!shows(row) && self.left < answers_of(row));
+        is_next && asks(row) && self.least <= shown && shown <= self.most
+    }
+
+    // Passes the next record; whether it can be passed.
+    fn pass(&mut self, row: &ByteRecord) -> bool {
+        if shows(row) {
+            self.most = self.most.saturating_add(1);
+            if self.has || !shows_all(row) {
+                self.least = self.least.saturating_add(1);
+            }
+        } else {
+            let answers = answers_of(row);
+            if self.left < answers {
+                return false;
+            }
+            self.left -= answers;
+        }
+        self.has = has_job(row, self.has);
+        true
+    }
+}
+
+// The place and the line of the record that was refused first, behind so many answers, of which `shown` were jobs that were shown;
+// none where two records may be the one.
+fn record_behind(
+    alloc: Global,
+    text: &[u8],
+    answers: u64,
+    shown: u64,
+) -> Option<(u64, Option<Place>)> {
     let mut reader = ReaderBuilder::new()
         .has_headers(false)
         .flexible(true)
         .from_reader(alloc, text);
     let mut row = ByteRecord::new(alloc);
-    let mut left = answers;
-    // So many of the records before had no answer, or one.
-    let mut unsure: u64 = 0;
-    let mut has = false;
+    let mut passed = Passed {
+        left: answers.saturating_sub(shown),
+        least: 0,
+        most: 0,
+        has: false,
+    };
     let mut found = None;
     for place in 0..u64::MAX {
         match reader.read_byte_record(&mut row) {
             Ok(true) => {}
             _ => return found,
         }
-        let is_all = shows_all(&row);
-        let most = answers_of(&row);
-        if !is_all && left < most.saturating_add(unsure) {
+        if passed.may_end(&row, shown) {
             if found.is_some() {
                 return None;
             }
             found = Some((place.saturating_add(1), line_of(text, &row)));
         }
-        if is_all && !has {
-            unsure = unsure.saturating_add(1);
-        } else if left < most {
+        if !passed.pass(&row) {
             return found;
-        } else {
-            left -= most;
         }
-        has = has_job(&row, has);
     }
     found
 }
@@ -96,22 +145,29 @@ fn change_of(refusal: &str) -> &'static str {
 }
 
 /// The note of the first refused record of a script: where it stands, how it was refused, what to change, and how many more records were.
-/// `answers` are the answers that were printed before it, `refusal` is what its line says behind `refused`, `refused` how many records
-/// were refused in all. `None` where it isn't known which record it is. Fails only where memory runs out.
+/// `answers` are the answers that were printed before it, `shown` those of them that show jobs, `refusal` is what its line says behind
+/// `refused`, `refused` how many records were refused in all. Where two records may be the one, no place is told. Fails only where
+/// memory runs out.
 pub fn refused_note(
     alloc: Global,
     file: &str,
     text: &[u8],
     answers: u64,
+    shown: u64,
     refusal: &[u8],
     refused: u64,
-) -> Result<Option<Note>, AllocError> {
-    let Some((place, line)) = record_behind(alloc, without_mark(text), answers) else {
-        return Ok(None);
-    };
+) -> Result<Note, AllocError> {
     let refusal = from_utf8(refusal).unwrap_or("");
-    let what = format!(in alloc; "record {place} was refused: {refusal}")?;
-    let what = located(alloc, file, line, what.as_str())?;
+    let what = match record_behind(alloc, without_mark(text), answers, shown) {
+        Some((place, line)) => {
+            let what = format!(in alloc; "record {place} was refused: {refusal}")?;
+            located(alloc, file, line, what.as_str())?
+        }
+        None => {
+            let what = format!(in alloc; "a record was refused: {refusal}")?;
+            located(alloc, file, None, what.as_str())?
+        }
+    };
     let change = Some(String::from_str(alloc, change_of(refusal))?);
     let others = refused.saturating_sub(1);
     let more = match others {
@@ -119,5 +175,5 @@ pub fn refused_note(
         1 => Some(String::from_str(alloc, "One more record was refused.")?),
         _ => Some(format!(in alloc; "{others} more records were refused.")?),
     };
-    Ok(Some(Note { what, change, more }))
+    Ok(Note { what, change, more })
 }

@@ -68,6 +68,14 @@ fn says(alloc: Global, note: Result<Option<Note>, AllocError>, lines: &str) -> b
     }
 }
 
+/// Whether these are the note's lines.
+fn tells(alloc: Global, note: Result<Note, AllocError>, lines: &str) -> bool {
+    match note {
+        Ok(note) => says(alloc, Ok(Some(note)), lines),
+        Err(_) => false,
+    }
+}
+
 #[test]
 fn says_what_is_wrong_with_a_set(rt: HostRuntime) {
     let text = b"workers = 2\n\n[[task]]\nname = \"big\"\ne =  3\np = 3\n";
@@ -103,13 +111,14 @@ fn says_what_is_wrong_with_a_script(rt: HostRuntime) {
         "a.csv",
         b"slot,,,2,\nwithdraw,0,,,\n",
         2,
+        0,
         b"33 NoJob task=0",
         3,
     );
     let lines = "  a.csv:2:1: record 2 was refused: 33 NoJob task=0
   Take away or show only what is there: pfx status says job=open or job=done of a task that has one.
   2 more records were refused.\n";
-    assert!(rt; says(rt.alloc(), note, lines));
+    assert!(rt; tells(rt.alloc(), note, lines));
 }
 
 /// Whether this is said of a script's record.
@@ -130,15 +139,15 @@ fn says_how_jobs_are_shown(rt: HostRuntime) {
     assert!(rt; says_of(rt.alloc(), b"show,,,,\nshow,0,,1,\n", 2, lines));
 }
 
-/// Whether this record of a script is said to be refused behind so many answers.
-fn tells_refused(alloc: Global, text: &[u8], answers: u64, place: u64) -> bool {
-    let note = refused_note(alloc, "a.csv", text, answers, b"33 NoJob task=2", 1);
+/// Whether this record of a script is said to be refused behind so many answers, of which so many show jobs.
+fn tells_refused(alloc: Global, text: &[u8], answers: u64, shown: u64, place: u64) -> bool {
+    let note = refused_note(alloc, "a.csv", text, answers, shown, b"33 NoJob task=2", 1);
     let lines = format!(in alloc;
         "  a.csv:{place}:1: record {place} was refused: 33 NoJob task=2
   Take away or show only what is there: pfx status says job=open or job=done of a task that has one.\n"
     );
     match lines {
-        Ok(lines) => says(alloc, note, lines.as_str()),
+        Ok(lines) => tells(alloc, note, lines.as_str()),
         Err(_) => false,
     }
 }
@@ -147,15 +156,45 @@ fn tells_refused(alloc: Global, text: &[u8], answers: u64, place: u64) -> bool {
 fn finds_a_refused_record_behind_jobs_that_were_shown(rt: HostRuntime) {
     // Jobs that are shown are an answer where there are some, and none else.
     let first = b"show,,,,\nshow,2,,,\n";
-    assert!(rt; tells_refused(rt.alloc(), first, 0, 2), "none were shown");
-    assert!(rt; tells_refused(rt.alloc(), first, 1, 2), "some were shown");
+    assert!(rt;
+        tells_refused(rt.alloc(), first, 0, 0, 2),
+        "none were shown"
+    );
+    assert!(rt;
+        tells_refused(rt.alloc(), first, 1, 1, 2),
+        "some were shown"
+    );
     let given = b"submit,0,count,9,\nshow,,,,\nslot,,,2,\nshow,2,,,\nslot,,,,\n";
-    assert!(rt; tells_refused(rt.alloc(), given, 4, 4), "a job was given");
-    let unsure = b"show,,,,\nwithdraw,1,,,\nwithdraw,2,,,\n";
-    assert!(rt; tells_refused(rt.alloc(), unsure, 0, 2), "the first");
-    assert!(rt; tells_refused(rt.alloc(), unsure, 2, 3), "the second");
-    let note = refused_note(rt.alloc(), "a.csv", unsure, 1, b"33 NoJob task=2", 1);
-    assert!(rt; matches!(note, Ok(None)), "either");
+    assert!(rt;
+        tells_refused(rt.alloc(), given, 4, 1, 4),
+        "a job was given"
+    );
+    let unsure = b"show,,,,\nstatus,,,,\nwithdraw,1,,,\nwithdraw,2,,,\n";
+    assert!(rt;
+        tells_refused(rt.alloc(), unsure, 1, 0, 3),
+        "none, and the first"
+    );
+    assert!(rt;
+        tells_refused(rt.alloc(), unsure, 2, 1, 3),
+        "some, and the first"
+    );
+    assert!(rt;
+        tells_refused(rt.alloc(), unsure, 2, 0, 4),
+        "none, and the second"
+    );
+    assert!(rt;
+        tells_refused(rt.alloc(), unsure, 3, 1, 4),
+        "some, and the second"
+    );
+}
+
+#[test]
+fn tells_no_place_where_two_records_may_be_refused(rt: HostRuntime) {
+    let either = b"show,,,,\nshow,1,,,\nshow,2,,,\n";
+    let note = refused_note(rt.alloc(), "a.csv", either, 1, 1, b"33 NoJob task=2", 1);
+    let lines = "  a.csv: a record was refused: 33 NoJob task=2
+  Take away or show only what is there: pfx status says job=open or job=done of a task that has one.\n";
+    assert!(rt; tells(rt.alloc(), note, lines));
 }
 
 #[test]
