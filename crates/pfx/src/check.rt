@@ -4,9 +4,9 @@ use crate::failed;
 use crate::files::{fault_of, input};
 use crate::notes::{is_closed, tell};
 use crate::traces::{Traces, output_of, set_source};
+use pfx_args::Request;
 use pfx_check::{Refusal, put_also, run_check};
 use pfx_fault::Fault;
-use pfx_words::Request;
 use std::alloc::Global;
 use std::io::Write;
 

@@ -2,8 +2,8 @@
 
 use crate::files::fault_of;
 use crate::traces::{Traces, output_of};
+use pfx_explain::{entry_named, put_entry};
 use pfx_fault::Fault;
-use pfx_notes::{entry_named, put_entry};
 
 /// Prints what is to be known of the fault that a word names; `false` where it names none, with nothing printed.
 pub(crate) fn explain(rt: &HostRuntime, word: &str, traces: &Traces) -> Result<bool, Fault> {

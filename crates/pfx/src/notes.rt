@@ -2,12 +2,13 @@
 
 use crate::files::Source;
 use crate::traces::{Seen, Traces};
+use pfx_args::Request;
+use pfx_explain::Note;
 use pfx_fault::Fault;
 use pfx_notes::{
-    Named, Note, input_note, output_note, passed_over_note, record_note, refused_note, script_note,
+    Named, input_note, output_note, passed_over_note, record_note, refused_note, script_note,
     set_note, store_note,
 };
-use pfx_words::Request;
 use std::alloc::{AllocError, Global};
 use std::fs::{File, OpenOptions};
 use std::io::{ErrorKind, Read, Write};

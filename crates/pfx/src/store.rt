@@ -12,9 +12,9 @@ use pfx_engine::DurableEngine;
 use pfx_engine::faults::{init_fault, open_fault, size_fault};
 use pfx_fault::Fault;
 use pfx_header::check_segment;
-use pfx_journal::Store;
 use pfx_kinds::any::AnyJob;
 use pfx_program::{Form, created_line, read_task_set, run_show, run_status};
+use pfx_store::Store;
 use std::alloc::Global;
 use std::io::{BufWriter, Write};
 

@@ -3,8 +3,8 @@ use Rattle.std.specs.Prelude.{◌≡◌, ℕ, List, [], ◌∷◌, true, false, 
 use Rattle.pfx_disk.specs.Stop.{Sync, Write, Look}
 use Rattle.pfx_recovery.specs.ToyCodec.{toy}
 use Rattle.pfx_segment.specs.Acts.{put_acts, close_acts}
-use Rattle.pfx_store.specs.Acts.{steps_acts, end_acts, ended_file, append_acts}
-use Rattle.pfx_store.specs.Files.{File}
+use Rattle.pfx_store_file.specs.Acts.{steps_acts, end_acts, ended_file, append_acts}
+use Rattle.pfx_store_file.specs.Files.{File}
 
 -- two bytes behind a gate
 put_row : put_acts 7 (8 ∷ 9 ∷ []) ≡ Write 8 (8 ∷ 9 ∷ []) ∷ Sync ∷ Write 7 (195 ∷ []) ∷ Sync ∷ []

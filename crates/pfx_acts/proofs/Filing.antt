@@ -17,10 +17,10 @@ use Rattle.pfx_recovery.specs.Store.{IsStore, Other, next_gate, with_frame, turn
 use Rattle.pfx_recovery.proofs.Regions.{slot_inside, segment_inside, slot_of_segment, other_segment, segment_of_slot, other_slot}
 use Rattle.pfx_recovery.proofs.Runs.{not_not}
 use Rattle.pfx_recovery.proofs.Steps.{append_step, turn_shut, turn_whole, close_step, piece_step, open_step, open_whole}
-use Rattle.pfx_store.specs.Holding.{IsGate, IsStart}
+use Rattle.pfx_store_file.specs.Holding.{IsGate, IsStart}
 use Rattle.pfx_acts.specs.Files.{IsFile, IsWhole}
-use Rattle.pfx_store.specs.Files.{File, slot_of, segment_of}
-use Rattle.pfx_store.specs.Acts.{piece_len, closed_file, pieced_file, finished_file, turned_file, framed_file, gate_of}
+use Rattle.pfx_store_file.specs.Files.{File, slot_of, segment_of}
+use Rattle.pfx_store_file.specs.Acts.{piece_len, closed_file, pieced_file, finished_file, turned_file, framed_file, gate_of}
 use Rattle.pfx_acts.proofs.Partly.{same_again}
 
 pub gate_same : (b : Bool) (at : ℕ) (x y : List ℕ) → get_or y at 0 ≡ get_or x at 0 → IsGate b at x → IsGate b at y

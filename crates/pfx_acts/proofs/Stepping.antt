@@ -9,12 +9,12 @@ use Rattle.pfx_recovery.specs.Codec.{Codec, Laws}
 use Rattle.pfx_recovery.specs.Layout.{segment_at, segment_end}
 use Rattle.pfx_recovery.specs.Store.{Parts, IsStore, next_gate, turned_at, finished}
 use Rattle.pfx_recovery.proofs.Regions.{slot_inside, segment_inside}
-use Rattle.pfx_store.specs.Holding.{IsStart}
+use Rattle.pfx_store_file.specs.Holding.{IsStart}
 use Rattle.pfx_acts.specs.Files.{IsFile, IsWhole}
 use Rattle.pfx_segment.specs.Acts.{put_acts, close_acts, open_acts}
-use Rattle.pfx_store.specs.Files.{File, slot_of, segment_of}
-use Rattle.pfx_store.specs.Acts.{piece_acts, tend_acts, closed_file, pieced_file, finished_file, tended_file, steps_acts, stepped_file, end_acts, ended_file, turn_acts, turned_file, gate_of, has_room, framed_file, append_acts, appended_file, roomy_file}
-use Rattle.pfx_store.proofs.Ends.{by_if₂, Kept, tended_kept, stepped_kept, has_ended}
+use Rattle.pfx_store_file.specs.Files.{File, slot_of, segment_of}
+use Rattle.pfx_store_file.specs.Acts.{piece_acts, tend_acts, closed_file, pieced_file, finished_file, tended_file, steps_acts, stepped_file, end_acts, ended_file, turn_acts, turned_file, gate_of, has_room, framed_file, append_acts, appended_file, roomy_file}
+use Rattle.pfx_store_file.proofs.Ends.{by_if₂, Kept, tended_kept, stepped_kept, has_ended}
 use Rattle.pfx_acts.proofs.Chains.{Chain, chain_then, chain_none, chain_with, chain_write}
 use Rattle.pfx_acts.proofs.Gating.{put_chain, close_chain, open_chain}
 use Rattle.pfx_acts.proofs.Filing.{known_shut, append_any, append_whole, shut_any, shut_whole, turn_any, turned_whole, close_any, close_whole, piece_file, piece_whole, finish_inside, finish_stand, finish_any, finish_whole}

@@ -3,8 +3,8 @@ use Rattle.std.specs.Prelude.{◌≡◌, ℕ, ◌+◌, List, take, true, false}
 use Rattle.pfx_recovery.specs.Codec.{Codec}
 use Rattle.pfx_recovery.specs.Store.{IsStore}
 use Rattle.pfx_segment.specs.Segment.{StandAt}
-use Rattle.pfx_store.specs.Files.{File, slot_of, segment_of}
-use Rattle.pfx_store.specs.Holding.{IsGate}
+use Rattle.pfx_store_file.specs.Files.{File, slot_of, segment_of}
+use Rattle.pfx_store_file.specs.Holding.{IsGate}
 
 module _ {H S : Type 0} (K : Codec H S) where
   -- the image is one of the store with this file at this state

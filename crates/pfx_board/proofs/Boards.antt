@@ -6,7 +6,7 @@ use Rattle.pfx_machine.specs.Plain.{Plain}
 use Rattle.pfx_machine.specs.Board.{lines_of, line_of}
 use Rattle.pfx_machine.specs.declared.board.Board.{Board}
 use Rattle.pfx_record.specs.declared.batch.Batch.{Batch}
-use Rattle.pfx_effect.proofs.States.{applied_behind}
+use Rattle.pfx_redo.proofs.States.{applied_behind}
 use Rattle.pfx_board.specs.Word.{records_of, last_of}
 use Rattle.pfx_board.specs.Shown.{IsBoardOf}
 

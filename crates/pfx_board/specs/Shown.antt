@@ -5,7 +5,7 @@ use Rattle.pfx_machine.specs.Plain.{Plain}
 use Rattle.pfx_machine.specs.Board.{all_lines}
 use Rattle.pfx_machine.specs.declared.board.Board.{Board}
 use Rattle.pfx_record.specs.declared.batch.Batch.{Batch}
-use Rattle.pfx_effect.specs.Applying.{applied}
+use Rattle.pfx_redo.specs.Applying.{applied}
 use Rattle.pfx_board.specs.Word.{records_of}
 
 -- the board of the state behind these batches, which go on from the origin

@@ -2,7 +2,7 @@
 ghost use Rattle.std.specs.Prelude.{◌≡◌, ◌≤◌, ◌<◌, ◌^◌, ◌++◌, ◌∷◌, [], replicate, Some, IfOk, OnOk, OnErr};
 ghost use mathlib.Core.List.{IsPrefix};
 ghost use Rattle.left_right.specs.Handles.{published, pending};
-ghost use Rattle.pfx_effect.specs.Applying.{applied};
+ghost use Rattle.pfx_redo.specs.Applying.{applied};
 ghost use Rattle.pfx_board.specs.Word.{records_of};
 ghost use Rattle.pfx_board.specs.Publisher.{Published};
 

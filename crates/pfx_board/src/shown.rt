@@ -1,7 +1,7 @@
 //! What lies in each copy of the board.
 ghost use Rattle.std.specs.Prelude.{◌≡◌, ◌≤◌, [], IfOk, OnErr, IsTrue, Some};
 ghost use mathlib.Core.List.{IsPrefix};
-ghost use Rattle.pfx_effect.specs.Applying.{applied};
+ghost use Rattle.pfx_redo.specs.Applying.{applied};
 ghost use Rattle.pfx_board.specs.Word.{records_of, last_of};
 ghost use Rattle.pfx_board.specs.Shown.{IsBoardOf};
 

@@ -6,7 +6,7 @@ use Rattle.pfx_jobs.specs.Kind.{Kind}
 use Rattle.pfx_machine.specs.Plain.{Plain}
 use Rattle.pfx_machine.specs.Outcome.{outcome}
 use Rattle.pfx_record.specs.Records.{Plain as Recorded}
-use Rattle.pfx_effect.specs.Recording.{records_of}
+use Rattle.pfx_redo.specs.Recording.{records_of}
 use Rattle.pfx_book.specs.Merging.{of, lists_from}
 use Rattle.pfx_book.specs.declared.note.Note.{Note}
 use Rattle.pfx_book.specs.declared.note.Note.TheVariants.{Lost, Marked, Failed}

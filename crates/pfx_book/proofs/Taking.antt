@@ -13,10 +13,10 @@ use Rattle.pfx_machine.specs.declared.command.Command.{Command}
 use Rattle.pfx_machine.proofs.Compose.{outcome-none, outcome-outcome}
 use Rattle.pfx_checkpoint.specs.Fitting.{fits}
 use Rattle.pfx_columns.specs.Ledgers.{total}
-use Rattle.pfx_effect.specs.Applying.{applied, is_right, is_apt, after_record}
-use Rattle.pfx_effect.specs.Recording.{record_of, records_of}
-use Rattle.pfx_effect.proofs.Outcomes.{records_outcome}
-use Rattle.pfx_effect.proofs.States.{applied_behind}
+use Rattle.pfx_redo.specs.Applying.{applied, is_right, is_apt, after_record}
+use Rattle.pfx_redo.specs.Recording.{record_of, records_of}
+use Rattle.pfx_redo.proofs.Outcomes.{records_outcome}
+use Rattle.pfx_redo.proofs.States.{applied_behind}
 use Rattle.pfx_record.specs.Batches.{all_fit, batch_fits, counts_fit}
 use Rattle.pfx_record.specs.Records.{plain, Plain as Recorded, record_fits}
 use Rattle.pfx_record.proofs.Rising.{both, of_both}

@@ -5,7 +5,7 @@ use Rattle.pfx_jobs.specs.Kind.{Kind}
 use Rattle.pfx_machine.specs.Plain.{Plain, IsState}
 use Rattle.pfx_machine.specs.Outcome.{outcome}
 use Rattle.pfx_record.specs.Records.{Plain as Recorded}
-use Rattle.pfx_effect.specs.Recording.{records_of}
+use Rattle.pfx_redo.specs.Recording.{records_of}
 use Rattle.pfx_slot.specs.Dealt.{Dealt, Answers, StandsAt}
 use Rattle.pfx_book.specs.Merging.{lists_from, Tagged}
 use Rattle.pfx_book.specs.declared.note.Note.{Note}

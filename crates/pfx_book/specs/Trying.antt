@@ -7,7 +7,7 @@ use Rattle.pfx_machine.specs.Refusals.{reply}
 use Rattle.pfx_machine.specs.declared.command.Command.{Command}
 use Rattle.pfx_machine.specs.declared.command.Command.TheVariants.{Slot}
 use Rattle.pfx_record.specs.Records.{plain}
-use Rattle.pfx_effect.specs.Recording.{record_of}
+use Rattle.pfx_redo.specs.Recording.{record_of}
 use Rattle.pfx_machine.specs.declared.faults.MachineFault.TheVariants as fault
 use Rattle.pfx_slot.specs.Dealt.{Dealt, AllBack}
 use Rattle.pfx_book.specs.Notes.{refused_at}

@@ -17,10 +17,10 @@ use crate::note::Note;
 use crate::room::make_room;
 use crate::trying::{is_all_back, is_no_memory, try_open};
 use pfx_crew::gathering::GatherFault;
-use pfx_effect::Recorded;
 use pfx_jobs::job::Job;
 use pfx_jobs::quantum::{Done, Quantum};
 use pfx_machine::{Command, MachineFault, Reply};
+use pfx_redo::Recorded;
 use pfx_slot::sealing::seal_on;
 
 impl<J: Job, B: Named<J>> Book<J, B> {

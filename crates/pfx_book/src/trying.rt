@@ -7,11 +7,11 @@ ghost use Rattle.pfx_book.specs.Trying.{Tries, StaysUnopened, IsReady};
 
 use crate::copies::copy_command;
 use crate::faults::BookFault;
-use pfx_effect::{Recorded, run_recorded};
 use pfx_jobs::job::Job;
 use pfx_jobs::quantum::Quantum;
 use pfx_machine::{Command, MachineFault, Reply, State};
 use pfx_record::Record;
+use pfx_redo::{Recorded, run_recorded};
 use pfx_slot::sealing::open_on;
 use pfx_slot::slot::OpenSlot;
 use std::alloc::Global;

@@ -5,7 +5,7 @@ use Rattle.pfx_weights.specs.Sets.{FilledSet, Accepts, demand}
 use Rattle.pfx_header.specs.Headers.{Header, IsSegmentSize}
 use Rattle.pfx_fault.specs.declared.refusals.Fault.{Fault}
 use Rattle.pfx_fault.specs.declared.refusals.Fault.TheVariants as fault
-use Rattle.pfx_set_text.specs.SetFile.{SetFile, weights_of, set_of_bytes}
+use Rattle.pfx_set_file.specs.SetFile.{SetFile, weights_of, set_of_bytes}
 use Rattle.pfx_program.specs.Plan.{IsInputFault}
 use Rattle.pfx_check.specs.Faults.{AreAllFaults}
 use Rattle.pfx_check.specs.Text.{check_text}

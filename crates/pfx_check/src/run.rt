@@ -1,7 +1,7 @@
 //! What is said of a set file's bytes.
 
 ghost use Rattle.std.specs.Prelude.{◌≡◌, ◌∷◌, [], IfSome, IfOk, IfErr, MatchOption};
-ghost use Rattle.pfx_set_text.specs.Views.{set_view};
+ghost use Rattle.pfx_set_file.specs.Views.{set_view};
 ghost use Rattle.pfx_check.specs.Faults.{AreAllFaults};
 ghost use Rattle.pfx_check.specs.Checks.{IsTextOf, IsCheck, Checks, FileFails, CheckFails};
 
@@ -9,7 +9,7 @@ use crate::faults::all_faults;
 use crate::text::check_text;
 use pfx_fault::Fault;
 use pfx_program::read_all;
-use pfx_set_text::{SetText, read_set};
+use pfx_set_file::{SetText, read_set};
 use pfx_weights::TaskSet;
 use std::alloc::{AllocError, Global};
 use std::io::Read;

@@ -5,7 +5,7 @@ use Rattle.pfx_weights.specs.Rows.{is_in, one, Schedule}
 use Rattle.pfx_columns.specs.Ledgers.{Ledger, total, task}
 use Rattle.pfx_choice.specs.Plans.{IsPlan}
 use Rattle.pfx_choice.specs.Dooms.{IsDoomed}
-use Rattle.pfx_set_text.specs.SetFile.{FileTask}
+use Rattle.pfx_set_file.specs.SetFile.{FileTask}
 use Rattle.pfx_program.specs.Lines.{name_of}
 use Rattle.pfx_draw.specs.Each.{each, most}
 use Rattle.pfx_draw.specs.Frame.{title, head, grid, dashes, foot}

@@ -1,7 +1,7 @@
 -- What stands round the lanes: the title, what the marks mean, the slots' numbers and the hyperperiods.
 use Rattle.std.specs.Prelude.{ℕ, ◌+◌, ◌-◌, ◌*◌, ◌/◌, ◌==◌, ◌&&◌, nat_lt, nat_le, if◌then◌else◌, List, [], ◌++◌}
 use Rattle.std.specs.Fmt.{decimal}
-use Rattle.pfx_set_text.specs.SetFile.{is_name}
+use Rattle.pfx_set_file.specs.SetFile.{is_name}
 use Rattle.pfx_draw.specs.Each.{each}
 use Rattle.pfx_draw.specs.Phrases.{say, say_number}
 use Rattle.pfx_draw.specs.Sizes.{x_at, lanes_end, width, height}

@@ -3,7 +3,7 @@ use Rattle.std.specs.Prelude.{◌≡◌, ◌⊎◌, ⊤, ℕ, List, Option, Some
 use Rattle.pfx_columns.specs.Ledgers.{Ledger}
 use Rattle.pfx_fault.specs.declared.refusals.Fault.{Fault}
 use Rattle.pfx_fault.specs.declared.refusals.Fault.TheVariants as fault
-use Rattle.pfx_set_text.specs.SetFile.{SetFile, set_of_bytes}
+use Rattle.pfx_set_file.specs.SetFile.{SetFile, set_of_bytes}
 use Rattle.pfx_program.specs.Plan.{IsStart, StartFails}
 
 -- the bytes are this set file, and a plan of it that a text, if there is one, begins goes on from this ledger

@@ -2,7 +2,7 @@
 
 ghost use Rattle.std.specs.Prelude.{◌≡◌, ◌++◌, ◌≤◌, ◌<◌, OnOk, IfOk, IfErr, IsTrue, ◌↔◌, length, map};
 ghost use Rattle.pfx_columns.specs.Ledgers.{total};
-ghost use Rattle.pfx_set_text.specs.Views.{task_view};
+ghost use Rattle.pfx_set_file.specs.Views.{task_view};
 ghost use Rattle.pfx_program.specs.Lines.{name_of};
 ghost use Rattle.pfx_draw.specs.Drawing.{course_of, marks_of, letters, digits, sizes_of, lane_of, lanes_of, framed, draw_text, IsDrawing, IsTooLarge, DrawFails};
 ghost use Rattle.pfx_draw.specs.Each.{most};
@@ -16,7 +16,7 @@ use crate::sizes::{Sizes, sizes_for};
 use crate::text::{put_bytes, put_number};
 use pfx_choice::{ChoiceFault, PlanFault, plan};
 use pfx_columns::Columns;
-use pfx_set_text::NamedTask;
+use pfx_set_file::NamedTask;
 use pfx_weights::Row;
 use std::alloc::{AllocError, Global};
 

@@ -2,7 +2,7 @@
 
 ghost use Rattle.std.specs.Prelude.{◌≡◌, ◌++◌, ◌≤◌, ◌<◌, ◌/◌, ◌*◌, OnOk, IfOk};
 ghost use Rattle.std.specs.List.{list_all};
-ghost use Rattle.pfx_set_text.specs.SetFile.{is_name_byte, is_name};
+ghost use Rattle.pfx_set_file.specs.SetFile.{is_name_byte, is_name};
 ghost use Rattle.pfx_draw.specs.Frame.{named, counted, title, opening, spoken, heading, level_key, key, head, upright, grid_piece, number_piece, ticks, grid_lines, numbers, grid, hyper_slot, hyper_piece, hyper_count, hyper_lines, dashes, foot};
 ghost use Rattle.pfx_draw.specs.Sizes.{IsDrawable};
 

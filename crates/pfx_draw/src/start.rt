@@ -1,13 +1,13 @@
 //! Where a drawn plan begins.
 
 ghost use Rattle.std.specs.Prelude.{IfSome, IfOk, IfErr, option_map};
-ghost use Rattle.pfx_set_text.specs.Views.{set_view};
+ghost use Rattle.pfx_set_file.specs.Views.{set_view};
 ghost use Rattle.pfx_draw.specs.Start.{Starts, StartIsRefused};
 
 use pfx_columns::Columns;
 use pfx_fault::Fault;
 use pfx_program::{read_all, started};
-use pfx_set_text::{SetText, read_set};
+use pfx_set_file::{SetText, read_set};
 use std::alloc::Global;
 use std::io::Read;
 

@@ -3,12 +3,12 @@ use Rattle.std.specs.Prelude.{◌≡◌, ◌<◌, ◌≤◌, ◌⊎◌, ℕ, ◌
 use Rattle.std.proofs.Common.{inl, inr, sym, ◌∙◌, ap, subst, arith, append_assoc, append-nil, length-append}
 use Rattle.std.proofs.lemmas.Bool.{cases_lt}
 use Rattle.std.proofs.lemmas.List.{take-append-le, take_all}
-use Rattle.pfx_effect.specs.Recording.{record_of}
+use Rattle.pfx_redo.specs.Recording.{record_of}
 use Rattle.pfx_format.specs.Format.{format}
-use Rattle.pfx_journal.specs.Groups.{AreRecordsOf, AreSmall, alone, frame_of, joined}
-use Rattle.pfx_journal.specs.Groups as groups
-use Rattle.pfx_journal.proofs.Grouping.{all_alone, alone_small, frames_there, joined_alone, length-alone}
-use Rattle.pfx_journal.proofs.Grouping as grouping
+use Rattle.pfx_store.specs.Groups.{AreRecordsOf, AreSmall, alone, frame_of, joined}
+use Rattle.pfx_store.specs.Groups as groups
+use Rattle.pfx_store.proofs.Grouping.{all_alone, alone_small, frames_there, joined_alone, length-alone}
+use Rattle.pfx_store.proofs.Grouping as grouping
 use Rattle.pfx_kinds.specs.AnyKind.{any_kind, any_laws}
 use Rattle.pfx_kinds.specs.declared.any.AnyJob.{AnyJob}
 use Rattle.pfx_machine.specs.Plain.{Plain, IsState}

@@ -4,14 +4,14 @@ use Rattle.std.proofs.Common.{sym, ◌∙◌, ap, arith, length-append, subst}
 use Rattle.std.proofs.lemmas.Bool.{true≢false}
 use Rattle.std.proofs.lemmas.List.{take-append-le}
 use Rattle.pfx_disk.specs.Disk.{View}
-use Rattle.pfx_effect.specs.Applying.{applied}
+use Rattle.pfx_redo.specs.Applying.{applied}
 use Rattle.pfx_format.specs.Format.{format}
 use Rattle.pfx_format.specs.Frames.{state_after}
 use Rattle.pfx_format.proofs.Batches.{some_same}
-use Rattle.pfx_journal.specs.Groups.{AreRecordsOf, alone, frame_of}
-use Rattle.pfx_journal.specs.Groups as groups
-use Rattle.pfx_journal.proofs.Grouping.{alone_small, frame_led, joined_alone, keeps_groups, length-alone, length-records, records_lead, replays_same, to_frames, to_groups}
-use Rattle.pfx_journal.proofs.Grouping as grouping
+use Rattle.pfx_store.specs.Groups.{AreRecordsOf, alone, frame_of}
+use Rattle.pfx_store.specs.Groups as groups
+use Rattle.pfx_store.proofs.Grouping.{alone_small, frame_led, joined_alone, keeps_groups, length-alone, length-records, records_lead, replays_same, to_frames, to_groups}
+use Rattle.pfx_store.proofs.Grouping as grouping
 use Rattle.pfx_kinds.specs.AnyKind.{any_kind, any_laws}
 use Rattle.pfx_kinds.specs.declared.any.AnyJob.{AnyJob}
 use Rattle.pfx_machine.specs.Plain.{Plain, IsState}
@@ -22,10 +22,10 @@ use Rattle.pfx_record.specs.Batches.{batch_bytes}
 use Rattle.pfx_record.specs.Records as recorded
 use Rattle.pfx_recovery.specs.Recovery.{recovered}
 use Rattle.pfx_recovery.specs.Store.{Replays}
-use Rattle.pfx_store.specs.Calls.{Works}
-use Rattle.pfx_store.specs.Holding as frames
-use Rattle.pfx_store.specs.declared.faults.StoreFault.{StoreFault}
-use Rattle.pfx_store.specs.declared.faults.StoreFault.TheVariants.{Device, Broken, NoRoom}
+use Rattle.pfx_store_file.specs.Calls.{Works}
+use Rattle.pfx_store_file.specs.Holding as frames
+use Rattle.pfx_store_file.specs.declared.faults.StoreFault.{StoreFault}
+use Rattle.pfx_store_file.specs.declared.faults.StoreFault.TheVariants.{Device, Broken, NoRoom}
 use Rattle.pfx_engine.specs.Surviving.{Survives, KeepsAll, frames_of}
 use Rattle.pfx_engine.specs.KeepingLaws.{acceptable_both}
 use Rattle.pfx_engine.proofs.Commands.{all_in, replays_commands, with_accepted, with_frames, with_group, with_small, with_survives}

@@ -3,7 +3,7 @@ use Rattle.std.proofs.Common.{◌≡◌, ◌<◌, ◌≤◌, ◌⊎◌, inl, inr
 use Rattle.std.proofs.lemmas.List.{take_all}
 use Rattle.pfx_disk.specs.Disk.{View, IsHonest}
 use Rattle.pfx_format.specs.Format.{format}
-use Rattle.pfx_journal.proofs.Grouping.{joined_alone, length-alone}
+use Rattle.pfx_store.proofs.Grouping.{joined_alone, length-alone}
 use Rattle.pfx_recovery.specs.Recovery.{recovered}
 use Rattle.pfx_kinds.specs.AnyKind.{any_kind}
 use Rattle.pfx_kinds.specs.declared.any.AnyJob.{AnyJob}

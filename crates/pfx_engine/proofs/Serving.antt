@@ -1,13 +1,13 @@
 -- Slots over states from which fair schedules of every length go on.
 use Rattle.std.proofs.Common.{◌≡◌, ℕ, List, [], ◌∷◌, take, Option, Some, None, Ok, Err, sym, ◌∙◌, ap, subst}
 use Rattle.pfx_columns.proofs.Shown.{start_ledger}
-use Rattle.pfx_endless.specs.Commands.{limit_fault}
-use Rattle.pfx_endless.specs.Endless.{IsEndless}
-use Rattle.pfx_endless.proofs.Endless.{start_endless}
-use Rattle.pfx_endless.proofs.Rows.{ledger_goes_on}
-use Rattle.pfx_endless.proofs.Serving.{endless_behind, slot_refusal}
+use Rattle.pfx_feasible.specs.Commands.{limit_fault}
+use Rattle.pfx_feasible.specs.Endless.{IsEndless}
+use Rattle.pfx_feasible.proofs.Endless.{start_endless}
+use Rattle.pfx_feasible.proofs.Rows.{ledger_goes_on}
+use Rattle.pfx_feasible.proofs.Serving.{endless_behind, slot_refusal}
 use Rattle.pfx_format.specs.Format.{format}
-use Rattle.pfx_journal.specs.Groups.{alone, joined}
+use Rattle.pfx_store.specs.Groups.{alone, joined}
 use Rattle.pfx_kinds.specs.AnyKind.{any_kind, any_laws}
 use Rattle.pfx_kinds.specs.declared.any.AnyJob.{AnyJob}
 use Rattle.pfx_machine.specs.Outcome.{outcome}

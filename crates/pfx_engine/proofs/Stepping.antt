@@ -4,10 +4,10 @@ use Rattle.std.proofs.Common.{sym, ◌∙◌, ap, arith, refl, subst}
 use Rattle.std.proofs.lemmas.Bool.{true≢false}
 use Rattle.pfx_disk.specs.Disk.{View}
 use Rattle.pfx_segment.specs.Segment.{Takes}
-use Rattle.pfx_store.specs.Tending.{StaysPut, append_calls, calls_left, calls_of, next_step}
-use Rattle.pfx_store.specs.declared.places.Places.{Places}
-use Rattle.pfx_store.specs.declared.checkpoint.Tended.{Tended}
-use Rattle.pfx_store.specs.declared.checkpoint.Tended.TheVariants.{Nothing, Closed, Piece, Finished}
+use Rattle.pfx_store_file.specs.Tending.{StaysPut, append_calls, calls_left, calls_of, next_step}
+use Rattle.pfx_store_file.specs.declared.places.Places.{Places}
+use Rattle.pfx_store_file.specs.declared.checkpoint.Tended.{Tended}
+use Rattle.pfx_store_file.specs.declared.checkpoint.Tended.TheVariants.{Nothing, Closed, Piece, Finished}
 use Rattle.pfx_engine.specs.Stepping.{command_calls}
 
 -- the calls of the two together

@@ -2,9 +2,9 @@
 use Rattle.std.specs.Prelude.{◌≡◌, ℕ, List, [], ◌∷◌, ◌++◌, length, map, None}
 use Rattle.std.proofs.Common.{sym, ◌∙◌, subst, refl}
 use Rattle.std.proofs.lemmas.List.{length-map}
-use Rattle.pfx_effect.specs.Recording.{record_of}
-use Rattle.pfx_journal.specs.Groups.{AreRecordsOf}
-use Rattle.pfx_journal.proofs.Grouping.{records_split}
+use Rattle.pfx_redo.specs.Recording.{record_of}
+use Rattle.pfx_store.specs.Groups.{AreRecordsOf}
+use Rattle.pfx_store.proofs.Grouping.{records_split}
 use Rattle.pfx_kinds.specs.AnyKind.{any_kind, any_laws}
 use Rattle.pfx_kinds.specs.declared.any.AnyJob.{AnyJob}
 use Rattle.pfx_machine.specs.Plain.{Plain}

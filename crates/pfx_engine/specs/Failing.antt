@@ -1,6 +1,6 @@
 -- What an engine answers where its store has failed.
 use Rattle.std.specs.Prelude.{◌≡◌, ℕ, Bool, if◌then◌else◌, Some, Result, Ok, Err, ⊤}
-use Rattle.pfx_endless.specs.Commands.{limit_fault}
+use Rattle.pfx_feasible.specs.Commands.{limit_fault}
 use Rattle.pfx_fault.specs.declared.parts.Cause.TheVariants as cause
 use Rattle.pfx_fault.specs.declared.refusals.Fault.{Fault}
 use Rattle.pfx_fault.specs.declared.refusals.Fault.TheVariants as fault

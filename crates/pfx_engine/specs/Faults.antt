@@ -5,13 +5,13 @@ use Rattle.pfx_fault.specs.declared.refusals.Fault.{Fault}
 use Rattle.pfx_fault.specs.declared.refusals.Fault.TheVariants as fault
 use Rattle.pfx_header.specs.declared.faults.SegmentSizeFault.{SegmentSizeFault}
 use Rattle.pfx_header.specs.declared.faults.SegmentSizeFault.TheVariants as size
-use Rattle.pfx_journal.specs.declared.making.InitFault.{InitFault}
-use Rattle.pfx_journal.specs.declared.making.InitFault.TheVariants as making
-use Rattle.pfx_opening.specs.declared.faults.OpenFault.{OpenFault}
-use Rattle.pfx_opening.specs.declared.faults.OpenFault.TheVariants as opening
-use Rattle.pfx_opening.specs.declared.faults.Part.{Part as FilePart}
-use Rattle.pfx_opening.specs.declared.faults.Part.TheVariants as filepart
-use Rattle.pfx_opening.specs.declared.faults.Refusal.TheVariants as refusal
+use Rattle.pfx_store.specs.declared.making.InitFault.{InitFault}
+use Rattle.pfx_store.specs.declared.making.InitFault.TheVariants as making
+use Rattle.pfx_recover.specs.declared.faults.OpenFault.{OpenFault}
+use Rattle.pfx_recover.specs.declared.faults.OpenFault.TheVariants as opening
+use Rattle.pfx_recover.specs.declared.faults.Part.{Part as FilePart}
+use Rattle.pfx_recover.specs.declared.faults.Part.TheVariants as filepart
+use Rattle.pfx_recover.specs.declared.faults.Refusal.TheVariants as refusal
 
 -- the fault of a segment's length
 abbrev pub fault_of_size : SegmentSizeFault → Fault

@@ -2,8 +2,8 @@
 use Rattle.std.proofs.Common.{◌≡◌, ◌≤◌, ℕ, ◌+◌, Bool, false, List, [], ◌∷◌, ◌++◌, length, length-append, take, Option, Some, None, Ok, refl, sym, ap, subst, ◌∙◌, arith}
 use Rattle.std.proofs.Math.Seq.{take-append-add}
 use Rattle.pfx_disk.specs.Disk.{View}
-use Rattle.pfx_journal.specs.Groups.{alone, joined}
-use Rattle.pfx_journal.proofs.Grouping.{joined_alone, length-alone}
+use Rattle.pfx_store.specs.Groups.{alone, joined}
+use Rattle.pfx_store.proofs.Grouping.{joined_alone, length-alone}
 use Rattle.pfx_kinds.specs.AnyKind.{any_kind, any_laws}
 use Rattle.pfx_kinds.specs.declared.any.AnyJob.{AnyJob}
 use Rattle.pfx_machine.specs.Plain.{Plain}

@@ -1,12 +1,12 @@
 -- What commands that are kept take: a step of the checkpoint in progress, and their frame.
 use Rattle.std.specs.Prelude.{ℕ, ◌+◌, List, length, nat_lt, if◌then◌else◌}
-use Rattle.pfx_journal.specs.Groups.{frame_of}
+use Rattle.pfx_store.specs.Groups.{frame_of}
 use Rattle.pfx_kinds.specs.AnyKind.{any_kind}
 use Rattle.pfx_kinds.specs.declared.any.AnyJob.{AnyJob}
 use Rattle.pfx_machine.specs.Plain.{Plain}
 use Rattle.pfx_machine.specs.declared.command.Command.{Command}
-use Rattle.pfx_store.specs.Tending.{calls_left, calls_of, next_step}
-use Rattle.pfx_store.specs.declared.places.Places.{Places}
+use Rattle.pfx_store_file.specs.Tending.{calls_left, calls_of, next_step}
+use Rattle.pfx_store_file.specs.declared.places.Places.{Places}
 
 -- how many bytes the frame of accepted commands has, from one gate to the next
 abbrev pub frame_len : Plain AnyJob → List (Command AnyJob) → ℕ

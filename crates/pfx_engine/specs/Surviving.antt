@@ -1,8 +1,8 @@
 -- What survives of a list of commands, as they were accepted.
 use Rattle.std.specs.Prelude.{◌≡◌, ◌<◌, ◌≤◌, ℕ, List, length}
 use Rattle.pfx_disk.specs.Disk.{View}
-use Rattle.pfx_journal.specs.Groups.{AreRecordsOf, alone}
-use Rattle.pfx_journal.specs.Groups as groups
+use Rattle.pfx_store.specs.Groups.{AreRecordsOf, alone}
+use Rattle.pfx_store.specs.Groups as groups
 use Rattle.pfx_kinds.specs.AnyKind.{any_kind}
 use Rattle.pfx_kinds.specs.declared.any.AnyJob.{AnyJob}
 use Rattle.pfx_machine.specs.Plain.{Plain}

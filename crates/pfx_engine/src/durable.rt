@@ -2,7 +2,7 @@
 
 ghost use Rattle.std.specs.Prelude.{◌≡◌, ◌<◌, ◌≤◌, ◌+◌, ◌++◌, ◌∷◌, [], List, ℕ, length, true, false, Ok, Err, IfOk, IfErr, OnOk, OnErr};
 ghost use Rattle.pfx_disk.specs.Disk.{IsHonest, HasFailed};
-ghost use Rattle.pfx_endless.specs.Endless.{IsEndless};
+ghost use Rattle.pfx_feasible.specs.Endless.{IsEndless};
 ghost use Rattle.pfx_format.specs.Format.{format};
 ghost use Rattle.pfx_kinds.specs.AnyKind.{any_kind};
 ghost use Rattle.pfx_kinds.specs.declared.any.AnyJob.{AnyJob};
@@ -14,22 +14,22 @@ ghost use Rattle.pfx_machine.specs.declared.command.Command.{Command};
 ghost use Rattle.pfx_program.specs.Promises.{Promise, Laws, AreAnswered, AreDone, AreNotDone, IsDone, IsNotDone, IsSame, IsEngineFault, Shows, slots_for};
 ghost use Rattle.pfx_recovery.specs.Recovery.{recovered};
 ghost use Rattle.pfx_segment.specs.Segment.{Takes};
-ghost use Rattle.pfx_store.specs.Calls.{GoesOn};
+ghost use Rattle.pfx_store_file.specs.Calls.{GoesOn};
 ghost use Rattle.pfx_engine.specs.Failing.{Fails, IsInDoubt, IsServed, NotAccepted, last_kept, stopped_at};
 ghost use Rattle.pfx_engine.specs.Keeping.{KeepsFrom};
 ghost use Rattle.pfx_engine.specs.KeepingLaws.{keeps_none, keeps_more, keeps_fewer};
 ghost use Rattle.pfx_engine.specs.Stepping.{command_calls, frame_len};
 ghost use Rattle.pfx_engine.specs.Surviving.{KeepsAll};
 
-use crate::keeping::keep;
+use crate::keeping::commit;
 use crate::windows::{Window, is_memory, run_slots};
 use pfx_disk::Disk;
-use pfx_effect::{Recorded, run_recorded};
 use pfx_fault::{Cause, Fault};
-use pfx_journal::{Mark, Store};
 use pfx_kinds::any::AnyJob;
 use pfx_machine::{Board, Command, Reply, State};
 use pfx_program::{CallFault, Engine};
+use pfx_redo::{Recorded, run_recorded};
+use pfx_store::{Mark, Store};
 use std::alloc::{AllocError, Global};
 
 /// A store, and a state that commands are run on, which is the store's own while the store isn't broken.
@@ -97,7 +97,7 @@ impl<D: Disk> DurableEngine<D> {
     /// A command that the machine refuses changes nothing, nor does `NoMemory`. `StoreFailed` breaks the store, and tells
     /// the number of the last command that was durable before; the command may survive. A broken store does nothing, and
     /// answers so to every command.
-    pub fn carry_out(
+    pub fn execute(
         &mut self,
         alloc: Global,
         command: Command<AnyJob>,
@@ -155,7 +155,7 @@ impl<D: Disk> DurableEngine<D> {
             Err(fault) => Err(CallFault::Refused(fault)),
             Ok(Recorded { reply, entry }) => {
                 records.push_reserved(entry);
-                match keep(&mut self.store, records) {
+                match commit(&mut self.store, records) {
                     Ok(mark) => Ok((mark, reply)),
                     Err(_) => Err(CallFault::Failed(stopped(&self.store))),
                 }
@@ -206,7 +206,7 @@ impl<D: Disk> Engine for DurableEngine<D> {
             → KeepsAll start H (H ++ command ∷ []) (D.view self.old.store.file.disk) (D.view self.new.store.file.disk) }
     {
         let _number = self.store.state().number();
-        match self.carry_out(alloc, command) {
+        match self.execute(alloc, command) {
             Ok((mark, reply)) => Ok((mark.number, reply)),
             Err(fault) => Err(fault),
         }
@@ -242,7 +242,7 @@ impl<D: Disk> Engine for DurableEngine<D> {
         let _number = self.state.number();
         match run_slots(alloc, &mut self.state, count.min(16)) {
             Err(why) => Err(why),
-            Ok(Window { said, records }) => match keep(&mut self.store, records) {
+            Ok(Window { said, records }) => match commit(&mut self.store, records) {
                 Ok(_) => Ok(said),
                 Err(_) => Err(CallFault::Failed(stopped(&self.store))),
             },

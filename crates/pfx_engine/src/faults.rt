@@ -5,8 +5,8 @@ ghost use Rattle.pfx_engine.specs.Faults.{fault_of_init, fault_of_open, fault_of
 
 use pfx_fault::{Fault, Part};
 use pfx_header::SegmentSizeFault;
-use pfx_journal::InitFault;
-use pfx_opening::{OpenFault, Part as FilePart, Refusal};
+use pfx_recover::{OpenFault, Part as FilePart, Refusal};
+use pfx_store::InitFault;
 
 /// The fault of a segment's length, with the least that it may have.
 pub fn size_fault(fault: SegmentSizeFault) -> Fault

@@ -3,7 +3,7 @@
 ghost use Rattle.std.specs.Prelude.{◌≡◌, ◌<◌, ◌≤◌, ◌++◌, List, ℕ, length, map, Ok, IfOk, OnOk, OnErr, IsErrOf};
 ghost use Rattle.pfx_disk.specs.Disk.{IsHonest};
 ghost use Rattle.pfx_format.specs.Format.{format};
-ghost use Rattle.pfx_journal.specs.Groups.{AreRecordsOf};
+ghost use Rattle.pfx_store.specs.Groups.{AreRecordsOf};
 ghost use Rattle.pfx_kinds.specs.AnyKind.{any_kind};
 ghost use Rattle.pfx_kinds.specs.declared.any.AnyJob.{AnyJob};
 ghost use Rattle.pfx_machine.specs.Outcome.{outcome};
@@ -12,20 +12,20 @@ ghost use Rattle.pfx_machine.specs.Sessions.{IsAcceptable};
 ghost use Rattle.pfx_machine.specs.declared.command.Command.{Command};
 ghost use Rattle.pfx_record.specs.Records.{plain};
 ghost use Rattle.pfx_recovery.specs.Recovery.{recovered};
-ghost use Rattle.pfx_store.specs.Calls.{Works, GoesOn};
+ghost use Rattle.pfx_store_file.specs.Calls.{Works, GoesOn};
 ghost use Rattle.pfx_segment.specs.Segment.{Takes};
 ghost use Rattle.pfx_engine.specs.Stepping.{command_calls, frame_len};
 ghost use Rattle.pfx_engine.specs.Surviving.{KeepsAll};
 
 use pfx_disk::Disk;
-use pfx_journal::{Mark, Store, batch_of};
 use pfx_kinds::any::AnyJob;
 use pfx_record::Record;
-use pfx_store::StoreFault;
+use pfx_store::{Mark, Store, batch_of};
+use pfx_store_file::StoreFault;
 
 /// Takes a step of the checkpoint in progress, if there is one, and then appends the records of 1 to 16 commands that the
 /// store's state accepts one after the other, in one batch. The step comes first, so that no reply waits behind it.
-pub(crate) fn keep<D: Disk>(
+pub(crate) fn commit<D: Disk>(
     store: &mut Store<D, AnyJob>,
     records: Vec<Record<AnyJob>>,
 ) -> Result<Mark, StoreFault>

@@ -6,12 +6,12 @@ ghost use Rattle.pfx_record.specs.Records.{plain};
 ghost use Rattle.pfx_engine.specs.Failing.{Fails, NotAccepted};
 ghost use Rattle.pfx_engine.specs.Surviving.{AreRun};
 
-use pfx_effect::{Recorded, run_recorded};
 use pfx_fault::Fault;
 use pfx_kinds::any::AnyJob;
 use pfx_machine::{Command, MachineFault, Reply, State};
 use pfx_program::CallFault;
 use pfx_record::Record;
+use pfx_redo::{Recorded, run_recorded};
 use std::alloc::Global;
 
 /// Slots that were run, in order.

@@ -7,12 +7,12 @@ use Rattle.pfx_machine.specs.Plain.{Plain, IsState}
 use Rattle.pfx_machine.specs.Outcome.{outcome}
 use Rattle.pfx_machine.specs.Sessions.{AllAccepted, IsAcceptable}
 use Rattle.pfx_machine.specs.declared.command.Command.{Command}
-use Rattle.pfx_store.specs.Holding.{Survives}
+use Rattle.pfx_store_file.specs.Holding.{Survives}
 use Rattle.pfx_world.proofs.Machine.{front_accepted}
 use Rattle.pfx_events.specs.Batches.{frames_of, joined, AreSmall, KeepsBatches}
-use Rattle.pfx_journal.proofs.Grouping.{to_frames, to_groups}
-pub use Rattle.pfx_journal.proofs.Grouping.{first_frames_lead, frames_lead, frames_there, records_split}
-pub use Rattle.pfx_journal.proofs.Grouping.{frames_snoc as frames_grow}
+use Rattle.pfx_store.proofs.Grouping.{to_frames, to_groups}
+pub use Rattle.pfx_store.proofs.Grouping.{first_frames_lead, frames_lead, frames_there, records_split}
+pub use Rattle.pfx_store.proofs.Grouping.{frames_snoc as frames_grow}
 
 module _ {J : Type 0} (K : Kind J) (L : Laws K) where
   pub length_frames : (s : Plain J) (batches : List (List (Command J))) → length (frames_of K s batches) ≡ length batches

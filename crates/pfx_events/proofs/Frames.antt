@@ -4,7 +4,7 @@ use Rattle.std.proofs.Common.{sym, ◌∙◌, ap, subst, arith, length-append}
 use Rattle.std.proofs.lemmas.List.{get_or_at}
 use Rattle.byteorder.specs.Endian.{little_number}
 use Rattle.pfx_disk.specs.declared.gates.TheConstants.{GATE_OPEN}
-use Rattle.pfx_effect.specs.Recording.{records_of}
+use Rattle.pfx_redo.specs.Recording.{records_of}
 use Rattle.pfx_format.specs.Format.{format}
 use Rattle.pfx_format.specs.Frames.{state_after}
 use Rattle.pfx_format.proofs.Batches.{number_there}
@@ -17,13 +17,13 @@ use Rattle.pfx_machine.specs.declared.command.Command.{Command}
 use Rattle.pfx_record.specs.Batches.{PlainBatch, batch_bytes, batch_fits}
 use Rattle.pfx_record.specs.Numbers.{number_bytes}
 use Rattle.pfx_record.proofs.Again.{length-number_bytes}
-use Rattle.pfx_journal.proofs.Behinds.{behind_is}
-use Rattle.pfx_journal.proofs.Grouping as grouping
-use Rattle.pfx_journal.specs.Standing.{IsBehind}
+use Rattle.pfx_store.proofs.Behinds.{behind_is}
+use Rattle.pfx_store.proofs.Grouping as grouping
+use Rattle.pfx_store.specs.Standing.{IsBehind}
 use Rattle.pfx_record.proofs.Bodies.{Short, short_batch}
 use Rattle.pfx_segment.specs.Frames.{IsFrame}
-use Rattle.pfx_store.specs.Holding.{IsStart}
-use Rattle.pfx_journal.specs.Files.{behind_of, start_of}
+use Rattle.pfx_store_file.specs.Holding.{IsStart}
+use Rattle.pfx_store.specs.Files.{behind_of, start_of}
 use Rattle.pfx_events.specs.Store.{frame_of}
 
 module _ {J : Type 0} (K : Kind J) (L : Laws K) (s : Plain J) (H : List (Command J)) (some : 0 < length H) (few : length H ≤ 16) (state : IsState s) (all : IsAcceptable K s H) where

@@ -8,12 +8,12 @@ use Rattle.pfx_disk.specs.Disk.{View}
 use Rattle.pfx_format.specs.Format.{format}
 use Rattle.pfx_header.proofs.Meanings.{read_filled}
 use Rattle.pfx_jobs.specs.Kind.{Kind}
-use Rattle.pfx_journal.specs.Files.{FileOf}
-use Rattle.pfx_journal.specs.Standing.{Stands}
+use Rattle.pfx_store.specs.Files.{FileOf}
+use Rattle.pfx_store.specs.Standing.{Stands}
 use Rattle.pfx_machine.specs.Plain.{Plain}
 use Rattle.pfx_segment.specs.Segment.{StandAt}
-use Rattle.pfx_store.specs.declared.places.Places.{Places}
-use Rattle.pfx_store.specs.Files.{slot_of}
+use Rattle.pfx_store_file.specs.declared.places.Places.{Places}
+use Rattle.pfx_store_file.specs.Files.{slot_of}
 use Rattle.pfx_events.specs.Batches.{IsSeen}
 
 module _ {J : Type 0} (K : Kind J) (places : Places) (s : Plain J) (body : List ℕ) (disk : View) (st : Stands K places s body disk) where

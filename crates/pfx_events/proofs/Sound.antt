@@ -5,11 +5,11 @@ use Rattle.std.proofs.Math.Nat.{le-max_right}
 use Rattle.std.proofs.lemmas.Bool.{cases_eq, ne_eqb, false≢true}
 use Rattle.std.proofs.lemmas.Option.{same_Some, none-some}
 use Rattle.pfx_segment.specs.Acts.{put_acts}
-use Rattle.pfx_store.specs.Acts.{room_acts, append_acts, appended_file, tend_acts, tended_file, ended_file, roomy_file, gate_of}
-use Rattle.pfx_store.specs.Files.{file_in}
+use Rattle.pfx_store_file.specs.Acts.{room_acts, append_acts, appended_file, tend_acts, tended_file, ended_file, roomy_file, gate_of}
+use Rattle.pfx_store_file.specs.Files.{file_in}
 use Rattle.pfx_acts.specs.Files.{IsFile, IsWhole}
 use Rattle.pfx_acts.proofs.Chains.{safe_at, Safe, Steady, chain_with}
-use Rattle.pfx_store.proofs.Ends.{stepped_kept, tended_kept}
+use Rattle.pfx_store_file.proofs.Ends.{stepped_kept, tended_kept}
 use Rattle.pfx_acts.proofs.Stepping.{Spells, Goes, tends, append_goes}
 use Rattle.pfx_disk.specs.Stop.{Act}
 use Rattle.pfx_disk.specs.declared.gates.TheConstants.{GATE_OPEN}
@@ -31,9 +31,9 @@ use Rattle.pfx_recovery.specs.Refusals.{Refusal}
 use Rattle.pfx_recovery.specs.Store.{Parts, IsStore}
 use Rattle.pfx_recovery.proofs.Recovers.{finds}
 use Rattle.pfx_recovery.proofs.Stands.{found_stands}
-use Rattle.pfx_store.specs.Holding.{IsGate}
+use Rattle.pfx_store_file.specs.Holding.{IsGate}
 use Rattle.pfx_world.specs.Setting.{Settled, Leads, StandsFor, IsSound}
-use Rattle.pfx_journal.specs.Files.{FileOf, spelled, start_of, behind_of, file_found, recovered_file}
+use Rattle.pfx_store.specs.Files.{FileOf, spelled, start_of, behind_of, file_found, recovered_file}
 use Rattle.pfx_events.specs.Store.{frame_of, store_of}
 use Rattle.pfx_events.proofs.Frames.{frame_led, frame_long, frame_there, opens_here, start_is}
 use Rattle.pfx_events.proofs.Known.{IsOf, header_is, middle_is, state_is, spelled_read}

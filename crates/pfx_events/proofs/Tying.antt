@@ -5,12 +5,12 @@ use Rattle.std.proofs.Common.{sym, ◌∙◌, ap, subst, arith, inl, inr, ⊎_el
 use Rattle.pfx_disk.specs.CallsMade.{with_failed, LeavesAtMost, IsAfter, BrokeOff, HasMade, HasBrokenOff, HasKeptTo}
 use Rattle.pfx_disk.specs.Disk.{View}
 use Rattle.pfx_disk.specs.Stop.{Act, Sync, Left}
-use Rattle.pfx_effect.specs.Applying.{applied}
-use Rattle.pfx_effect.specs.Recording.{records_of}
-use Rattle.pfx_effect.proofs.Outcomes.{records_outcome}
+use Rattle.pfx_redo.specs.Applying.{applied}
+use Rattle.pfx_redo.specs.Recording.{records_of}
+use Rattle.pfx_redo.proofs.Outcomes.{records_outcome}
 use Rattle.pfx_jobs.specs.Kind.{Kind, Laws}
-use Rattle.pfx_journal.specs.Stores.{PlainStore}
-use Rattle.pfx_journal.specs.Files.{FileOf, HasFile, appending, appended, recovered_file}
+use Rattle.pfx_store.specs.Stores.{PlainStore}
+use Rattle.pfx_store.specs.Files.{FileOf, HasFile, appending, appended, recovered_file}
 use Rattle.pfx_machine.specs.Outcome.{outcome}
 use Rattle.pfx_machine.specs.Plain.{Plain, IsState}
 use Rattle.pfx_machine.specs.Sessions.{IsAcceptable}
@@ -20,7 +20,7 @@ use Rattle.pfx_record.specs.Records.{Plain as Recorded}
 use Rattle.pfx_format.specs.Format.{format}
 use Rattle.pfx_recovery.specs.Store.{Replays}
 use Rattle.pfx_machine.proofs.Compose.{outcome-none}
-use Rattle.pfx_store.specs.declared.places.Places.{Places}
+use Rattle.pfx_store_file.specs.declared.places.Places.{Places}
 use Rattle.pfx_world.specs.Setting.{Setting, Settled}
 use Rattle.pfx_world.specs.World.{World, new_world, state_at}
 use Rattle.pfx_world.specs.Events.{Event, Device, Stop, Take, MayHappen, next_of, happens, run, CanRun, called, missed, stopped}

@@ -2,11 +2,11 @@
 use Rattle.pfx_acts.specs.Files.{IsFile, IsWhole}
 use Rattle.pfx_format.specs.Format.{format}
 use Rattle.pfx_jobs.specs.Kind.{Kind}
-use Rattle.pfx_journal.specs.Files.{FileOf, spelled, appending, appended, tending, recovered_file}
-use Rattle.pfx_store.specs.Acts.{tended_file}
+use Rattle.pfx_store.specs.Files.{FileOf, spelled, appending, appended, tending, recovered_file}
+use Rattle.pfx_store_file.specs.Acts.{tended_file}
 use Rattle.pfx_world.specs.Setting.{Setting}
 -- the frame of a batch behind a state
-pub use Rattle.pfx_journal.specs.Groups.{frame_of}
+pub use Rattle.pfx_store.specs.Groups.{frame_of}
 
 -- this product's store of a kind of job, as the world of events sees one
 abbrev pub store_of : {J : Type 0} → Kind J → Setting J

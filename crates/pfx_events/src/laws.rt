@@ -1,13 +1,13 @@
 //! What holds of every list of events, each the contract of a function that does nothing.
 ghost use Rattle.std.specs.Prelude.{◌≡◌, ◌≢◌, ◌+◌, ◌++◌, ◌∷◌, [], List, ℕ, take, false, None, Some, Ok};
 ghost use Rattle.pfx_disk.specs.Disk.{IsHonest};
-ghost use Rattle.pfx_effect.specs.Recording.{records_of};
+ghost use Rattle.pfx_redo.specs.Recording.{records_of};
 ghost use Rattle.pfx_events.specs.Batches.{frames_of, joined, AreSmall, IsSeen, KeepsBatches};
 ghost use Rattle.pfx_events.specs.Reached.{IsReached, IsAtRest, IsStopped, KeepsClaims, Reaches};
 ghost use Rattle.pfx_events.specs.Ties.{through};
 ghost use Rattle.pfx_events.specs.Store.{store_of, frame_of};
 ghost use Rattle.pfx_format.specs.Format.{format};
-ghost use Rattle.pfx_journal.specs.Files.{FileOf, recovered_file};
+ghost use Rattle.pfx_store.specs.Files.{FileOf, recovered_file};
 ghost use Rattle.pfx_machine.specs.Outcome.{outcome};
 ghost use Rattle.pfx_machine.specs.Plain.{Plain, IsState};
 ghost use Rattle.pfx_machine.specs.Refusals.{refusal};
@@ -16,7 +16,7 @@ ghost use Rattle.pfx_machine.specs.declared.command.Command.{Command};
 ghost use Rattle.pfx_machine.specs.declared.command.Command.TheVariants.{Slot};
 ghost use Rattle.pfx_recovery.specs.Recovery.{recovered};
 ghost use Rattle.pfx_recovery.specs.Store.{Replays};
-ghost use Rattle.pfx_store.specs.Holding.{Survives as FramesSurvive};
+ghost use Rattle.pfx_store_file.specs.Holding.{Survives as FramesSurvive};
 ghost use Rattle.pfx_world.specs.Claims.{IsNew, IsReceipted, StaysOrderly, ShowsAppended, LosesNothing, RecoversPrefix, NeverGoesBack, Survives};
 ghost use Rattle.pfx_world.specs.Calls.{MayLeave};
 ghost use Rattle.pfx_world.specs.Events.{Event, Tend, CanRun, run};
@@ -26,7 +26,7 @@ ghost use Rattle.pfx_world.specs.World.{World, new_world, state_at};
 
 use pfx_disk::Disk;
 use pfx_jobs::job::Job;
-use pfx_journal::Store;
+use pfx_store::Store;
 
 /// Whatever happens, and in whatever order, to a store's file, its book and its readers: the accepted commands are
 /// acceptable throughout, and at every prefix of them every lag lies strictly between minus one and one; what is published

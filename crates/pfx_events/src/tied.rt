@@ -3,12 +3,12 @@ ghost use Rattle.std.specs.Prelude.{◌≡◌, ◌⊎◌, ◌≤◌, ◌+◌, �
 ghost use Rattle.pfx_disk.specs.CallsMade.{IsAfter, LeavesAtMost};
 ghost use Rattle.pfx_disk.specs.Disk.{IsHonest};
 ghost use Rattle.pfx_disk.specs.Stop.{Act};
-ghost use Rattle.pfx_effect.specs.Applying.{applied};
+ghost use Rattle.pfx_redo.specs.Applying.{applied};
 ghost use Rattle.pfx_events.specs.Batches.{joined, AreSmall, KeepsBatches};
 ghost use Rattle.pfx_events.specs.Reached.{AreAside, IsReached, going_world};
 ghost use Rattle.pfx_events.specs.Store.{store_of};
 ghost use Rattle.pfx_events.specs.Ties.{Carries, IsIn, IsTied, through, broken_off};
-ghost use Rattle.pfx_journal.specs.Files.{FileOf, recovered_file};
+ghost use Rattle.pfx_store.specs.Files.{FileOf, recovered_file};
 ghost use Rattle.pfx_machine.specs.Outcome.{outcome};
 ghost use Rattle.pfx_machine.specs.Plain.{Plain, IsState};
 ghost use Rattle.pfx_machine.specs.Sessions.{IsAcceptable};
@@ -21,10 +21,10 @@ ghost use Rattle.pfx_world.specs.World.{World, new_world, state_at};
 
 use pfx_disk::Disk;
 use pfx_jobs::job::Job;
-use pfx_journal::{Mark, Store};
-use pfx_opening::OpenFault;
 use pfx_record::Batch;
-use pfx_store::{StoreFault, Tended};
+use pfx_recover::OpenFault;
+use pfx_store::{Mark, Store};
+use pfx_store_file::{StoreFault, Tended};
 use std::alloc::Global;
 
 /// `Store::append`, in each world whose store this is, where the flusher may take the batch's commands.

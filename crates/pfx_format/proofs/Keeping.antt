@@ -8,7 +8,7 @@ use Rattle.pfx_checkpoint.specs.Fitting.{fits}
 use Rattle.pfx_checkpoint.specs.Found.{number_at, plain_at, read_state}
 use Rattle.pfx_checkpoint.specs.Spelling.{state_bytes}
 use Rattle.pfx_checkpoint.proofs.Fits.{Fitting, fitting}
-use Rattle.pfx_effect.proofs.States.{applied_behind}
+use Rattle.pfx_redo.proofs.States.{applied_behind}
 use Rattle.pfx_header.specs.Headers.{Header}
 use Rattle.pfx_header.proofs.Alone.{alone, enough}
 use Rattle.pfx_header.proofs.Meanings.{read_whole, refused_of_header}
@@ -17,7 +17,7 @@ use Rattle.pfx_machine.specs.Plain.{Plain}
 use Rattle.pfx_record.proofs.Rising.{both}
 use Rattle.pfx_recovery.specs.Codec.{Laws}
 use Rattle.pfx_weights.specs.Sets.{FilledSet}
-use Rattle.pfx_opening.specs.Formats.{Bounds}
+use Rattle.pfx_recover.specs.Formats.{Bounds}
 use Rattle.pfx_header.specs.declared.sizes.TheConstants.{HEADER_MOST}
 use Rattle.pfx_format.specs.Format.{format, IsSetOf}
 use Rattle.pfx_format.specs.Frames.{state_after}

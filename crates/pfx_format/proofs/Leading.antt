@@ -1,7 +1,7 @@
 -- Where a frame leads, by what was read of it.
 use Rattle.std.specs.Prelude.{◌≡◌, ◌≢◌, ℕ, List, [], ◌∷◌, ◌++◌, length, Option, Some, None, refl}
 use Rattle.std.proofs.Common.{sym, ◌∙◌, ap, arith, append-nil, length-append}
-use Rattle.pfx_effect.specs.Applying.{applied}
+use Rattle.pfx_redo.specs.Applying.{applied}
 use Rattle.pfx_jobs.specs.Kind.{Kind, Laws}
 use Rattle.pfx_machine.specs.Plain.{Plain}
 use Rattle.pfx_record.specs.Batches.{PlainBatch, batch_bytes}

@@ -3,9 +3,9 @@ use Rattle.std.specs.Prelude.{◌≡◌, ◌≢◌, ℕ, ◌+◌, ◌<◌, ◌�
 use Rattle.std.proofs.Common.{sym, ◌∙◌, ap, arith, eq-eqb, subst}
 use Rattle.std.proofs.lemmas.Bool.{cond-true, cond-false, eqb-true, leb-true, le-leb, lt-ltb, ltb-true, false≢true}
 use Rattle.std.proofs.lemmas.Option.{none-some}
-use Rattle.pfx_effect.specs.Applying.{applied}
-use Rattle.pfx_effect.specs.Recording.{records_of}
-use Rattle.pfx_effect.proofs.States.{applied_behind}
+use Rattle.pfx_redo.specs.Applying.{applied}
+use Rattle.pfx_redo.specs.Recording.{records_of}
+use Rattle.pfx_redo.proofs.States.{applied_behind}
 use Rattle.pfx_jobs.specs.Kind.{Kind, Laws}
 use Rattle.pfx_machine.specs.Plain.{Plain, IsState}
 use Rattle.pfx_record.specs.Batches.{PlainBatch, all_fit, batch_bytes, batch_fits, counts_fit}

@@ -8,10 +8,10 @@ use Rattle.std.proofs.lemmas.List.Elements.{All-head, All-tail}
 use Rattle.byteorder.specs.Endian.{little_number}
 use Rattle.pfx_weights.specs.Rows.{is_in, IsFullRow, IsRow}
 use Rattle.pfx_columns.specs.Ledgers.{IsFair, IsLedger, after, total}
-use Rattle.pfx_effect.specs.Applying.{is_busy, is_flagged}
-use Rattle.pfx_effect.proofs.Effects.{after-ran}
-use Rattle.pfx_effect.proofs.Rightness.{row_right}
-use Rattle.pfx_effect.proofs.Rows.{row_is}
+use Rattle.pfx_redo.specs.Applying.{is_busy, is_flagged}
+use Rattle.pfx_redo.proofs.Effects.{after-ran}
+use Rattle.pfx_redo.proofs.Rightness.{row_right}
+use Rattle.pfx_redo.proofs.Rows.{row_is}
 use Rattle.pfx_jobs.specs.Kind.{Kind, Laws}
 use Rattle.pfx_machine.specs.Plain as machine
 use Rattle.pfx_record.specs.Begins.{Begins}

@@ -3,7 +3,7 @@ use Rattle.std.proofs.Common.{◌≡◌, ◌≢◌, ◌≤◌, ◌<◌, inl, inr
 use Rattle.std.proofs.lemmas.List.{length_push}
 use Rattle.std.proofs.lemmas.Option.{none-some}
 use Rattle.std.specs.Bool.{IsTrue}
-use Rattle.pfx_effect.specs.Applying.{after_record, applied, is_right}
+use Rattle.pfx_redo.specs.Applying.{after_record, applied, is_right}
 use Rattle.pfx_jobs.specs.Kind.{Kind, Laws}
 use Rattle.pfx_machine.specs.Plain as machine
 use Rattle.pfx_record.specs.Batches.{PlainBatch, all_fit, batch_bytes}

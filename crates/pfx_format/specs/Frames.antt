@@ -1,6 +1,6 @@
 -- What a frame does to a state.
 use Rattle.std.specs.Prelude.{ℕ, ◌+◌, ◌^◌, ◌==◌, ◌&&◌, nat_lt, nat_le, if◌then◌else◌, Bool, List, length, Option, Some, None}
-use Rattle.pfx_effect.specs.Applying.{applied}
+use Rattle.pfx_redo.specs.Applying.{applied}
 use Rattle.pfx_jobs.specs.Kind.{Kind}
 use Rattle.pfx_machine.specs.Plain.{Plain}
 use Rattle.pfx_format.specs.Batches.{batch_in, count_in, first_in, if_some}

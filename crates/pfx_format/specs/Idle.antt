@@ -1,6 +1,6 @@
 -- Slots in which no task has a state recorded.
 use Rattle.std.specs.Prelude.{◌≡◌, ℕ, ◌+◌, ◌*◌, true, List, map, None}
-use Rattle.pfx_effect.specs.Applying.{after_record, is_right}
+use Rattle.pfx_redo.specs.Applying.{after_record, is_right}
 use Rattle.pfx_jobs.specs.Kind.{Kind}
 use Rattle.pfx_machine.specs.Plain as machine
 use Rattle.pfx_record.specs.Reading.{IsRecord}

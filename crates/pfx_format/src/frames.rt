@@ -6,10 +6,10 @@ ghost use Rattle.pfx_format.specs.Taking.{AreTaken, AreWrong};
 
 use crate::idle::{idle_len, pass_idle};
 use byteorder::{ByteOrder, LittleEndian};
-use pfx_effect::apply_record;
 use pfx_jobs::job::Job;
 use pfx_machine::State;
 use pfx_record::{read_head, read_next};
+use pfx_redo::apply_record;
 use std::alloc::{AllocError, Global};
 
 /// The number of eight bytes, the lowest first.

@@ -1,7 +1,7 @@
 // Slots in which no task has a state recorded, as those of stores without jobs: their rows are read without a list of places.
 ghost use Rattle.std.specs.Prelude.{◌≡◌, ◌≤◌, ◌+◌, ◌*◌, slice_get, not, IsTrue, IsFalse};
 ghost use Rattle.std.specs.List.{list_all};
-ghost use Rattle.pfx_effect.specs.Applying.{is_busy};
+ghost use Rattle.pfx_redo.specs.Applying.{is_busy};
 ghost use Rattle.pfx_record.specs.Reading.{IsRecord};
 ghost use Rattle.pfx_record.specs.Records.{ran};
 ghost use Rattle.pfx_format.specs.Idle.{idle, idle_len, IsPassed};

@@ -5,7 +5,7 @@
 //! its records:
 //! 1. its head is right behind the state's number: 1 to 16 commands, the next number first, none above 2^48 - 1;
 //! 2. its bytes are the spelling of a batch, all of them;
-//! 3. each record is right where it comes, as `pfx_effect` says, and is taken over as it stands.
+//! 3. each record is right where it comes, as `pfx_redo` says, and is taken over as it stands.
 //!
 //! Records are read and taken over one by one, so that a batch isn't held, and a slot's record in which no task has a state
 //! without a list of places: it takes no memory.

@@ -8,15 +8,15 @@ use Rattle.pfx_machine.specs.Plain.{Plain, IsState}
 use Rattle.pfx_machine.specs.Outcome.{outcome}
 use Rattle.pfx_machine.specs.Sessions.{AllAccepted, IsAcceptable}
 use Rattle.pfx_machine.specs.declared.command.Command.{Command}
-use Rattle.pfx_effect.specs.Applying.{applied}
-use Rattle.pfx_effect.specs.Recording.{records_of}
-use Rattle.pfx_effect.proofs.Outcomes.{records_outcome}
+use Rattle.pfx_redo.specs.Applying.{applied}
+use Rattle.pfx_redo.specs.Recording.{records_of}
+use Rattle.pfx_redo.proofs.Outcomes.{records_outcome}
 use Rattle.pfx_slot.proofs.Placed.{take_own}
-use Rattle.pfx_journal.specs.Groups.{joined, AreSmall}
-use Rattle.pfx_journal.specs.Groups as groups
-use Rattle.pfx_journal.specs.Marks.{IsKept, AreKept}
-use Rattle.pfx_journal.specs.declared.store.Mark.{Mark}
-use Rattle.pfx_journal.proofs.Grouping.{length-records, records_split, first_frames_lead, to_groups}
+use Rattle.pfx_store.specs.Groups.{joined, AreSmall}
+use Rattle.pfx_store.specs.Groups as groups
+use Rattle.pfx_store.specs.Marks.{IsKept, AreKept}
+use Rattle.pfx_store.specs.declared.store.Mark.{Mark}
+use Rattle.pfx_store.proofs.Grouping.{length-records, records_split, first_frames_lead, to_groups}
 use Rattle.pfx_book.specs.declared.note.Note.{Note}
 use Rattle.pfx_book.specs.declared.note.Note.TheVariants.{Receipt, Marked}
 use Rattle.pfx_book.specs.Kept.{HasFailed}
@@ -26,7 +26,7 @@ use Rattle.pfx_book.proofs.Notes.{number_is, records_more}
 use mathlib.Core.List.{IsPrefix}
 use Rattle.pfx_board.specs.Word.{records_of as records_of_batches}
 use Rattle.pfx_board.proofs.Words.{records_append}
-use Rattle.pfx_effect.proofs.States.{applied_behind}
+use Rattle.pfx_redo.proofs.States.{applied_behind}
 use Rattle.pfx_record.specs.Records.{Plain as Recorded}
 use Rattle.pfx_record.specs.declared.batch.Batch.{Batch}
 use Rattle.pfx_front.specs.Showing.{IsShown}

@@ -6,8 +6,8 @@ use Rattle.std.proofs.lemmas.Bool.{false≢true, ltb-true, leb-true}
 use Rattle.std.proofs.lemmas.List.{length-map, append_cancel_right}
 use Rattle.std.proofs.lemmas.Option.{none-some, same_Some}
 use Rattle.pfx_disk.specs.Disk.{View, IsHonest, HasFailed}
-use Rattle.pfx_effect.specs.Applying.{applied, is_right, after_record}
-use Rattle.pfx_effect.proofs.States.{applied_behind}
+use Rattle.pfx_redo.specs.Applying.{applied, is_right, after_record}
+use Rattle.pfx_redo.proofs.States.{applied_behind}
 use Rattle.pfx_fault.specs.declared.parts.Cause.{Cause}
 use Rattle.pfx_fault.specs.declared.parts.Cause.TheVariants.{Device, Memory}
 use Rattle.pfx_jobs.specs.Kind.{Kind}
@@ -17,11 +17,11 @@ use Rattle.pfx_record.specs.Records.{plain, Plain as Recorded}
 use Rattle.pfx_record.specs.declared.batch.Batch.{Batch}
 use Rattle.pfx_record.specs.declared.record.Record.{Record}
 use Rattle.pfx_record.proofs.Rising.{both}
-use Rattle.pfx_store.specs.Calls.{Works}
-use Rattle.pfx_store.specs.declared.faults.StoreFault.{StoreFault}
-use Rattle.pfx_store.specs.declared.faults.StoreFault.TheVariants.{Device as DeviceFault, Broken, NoRoom}
-use Rattle.pfx_journal.specs.Marks.{AreKept, Covers}
-use Rattle.pfx_journal.specs.declared.store.Mark.{Mark}
+use Rattle.pfx_store_file.specs.Calls.{Works}
+use Rattle.pfx_store_file.specs.declared.faults.StoreFault.{StoreFault}
+use Rattle.pfx_store_file.specs.declared.faults.StoreFault.TheVariants.{Device as DeviceFault, Broken, NoRoom}
+use Rattle.pfx_store.specs.Marks.{AreKept, Covers}
+use Rattle.pfx_store.specs.declared.store.Mark.{Mark}
 use Rattle.pfx_book.specs.declared.note.Note.{Note}
 use Rattle.pfx_book.specs.declared.note.Note.TheVariants.{Took, Marked, Failed}
 use Rattle.pfx_book.specs.Notes.{Noted, records_in, taken_in}

@@ -3,7 +3,7 @@ use Rattle.std.specs.Prelude.{◌≡◌, ◌≢◌, ◌⊎◌, ◌≤◌, ◌<�
 use mathlib.Core.List.{IsPrefix}
 use Rattle.pfx_board.specs.Word.{records_of as records_of_batches}
 use Rattle.pfx_disk.specs.Disk.{View, IsSpent}
-use Rattle.pfx_effect.specs.Recording.{records_of}
+use Rattle.pfx_redo.specs.Recording.{records_of}
 use Rattle.pfx_fault.specs.declared.parts.Cause.{Cause}
 use Rattle.pfx_fault.specs.declared.parts.Cause.TheVariants.{Device}
 use Rattle.pfx_format.specs.Format.{format}

@@ -1,14 +1,14 @@
 -- A store that keeps what the flusher's notes say.
 use Rattle.std.specs.Prelude.{◌≡◌, ◌⊎◌, ◌≤◌, ◌<◌, ℕ, ◌+◌, List, [], ◌∷◌, ◌++◌, length, Some, Bool, false, ⊤}
 use Rattle.pfx_disk.specs.Disk.{View, IsHonest, IsSpent}
-use Rattle.pfx_effect.specs.Applying.{applied}
+use Rattle.pfx_redo.specs.Applying.{applied}
 use Rattle.pfx_fault.specs.declared.parts.Cause.{Cause}
 use Rattle.pfx_fault.specs.declared.parts.Cause.TheVariants.{Device}
 use Rattle.pfx_jobs.specs.Kind.{Kind}
 use Rattle.pfx_machine.specs.Plain.{Plain}
 use Rattle.pfx_record.specs.Batches.{batch_bytes, batch_of}
-use Rattle.pfx_journal.specs.Marks.{AreKept, Covers}
-use Rattle.pfx_journal.specs.declared.store.Mark.{Mark}
+use Rattle.pfx_store.specs.Marks.{AreKept, Covers}
+use Rattle.pfx_store.specs.declared.store.Mark.{Mark}
 use Rattle.pfx_book.specs.declared.note.Note.{Note}
 use Rattle.pfx_book.specs.declared.note.Note.TheVariants.{Took, Marked, Failed}
 use Rattle.pfx_book.specs.Notes.{Noted, records_in, taken_in}

@@ -22,7 +22,7 @@ use pfx_disk::Disk;
 use pfx_fault::Cause;
 use pfx_jobs::job::Job;
 use pfx_jobs::quantum::{Done, Quantum};
-use pfx_journal::Store;
+use pfx_store::Store;
 use std::sync::Wait;
 use std::thread::Threads;
 

@@ -1,7 +1,7 @@
 //! The flusher: it alone owns the store.
 ghost use Rattle.std.specs.Prelude.{◌≡◌, ◌≤◌, ◌+◌, [], ◌∷◌, ◌++◌, length, IsTrue, IfSome, IfNone, Some, false, vec_capacity};
 ghost use Rattle.pfx_board.specs.Word.{records_of};
-ghost use Rattle.pfx_effect.specs.Applying.{applied};
+ghost use Rattle.pfx_redo.specs.Applying.{applied};
 ghost use Rattle.pfx_fault.specs.declared.parts.Cause.TheVariants.{Memory};
 ghost use Rattle.pfx_book.specs.Notes.{records_in};
 ghost use Rattle.pfx_book.specs.declared.note.Note.TheVariants.{Marked, Failed};
@@ -19,8 +19,8 @@ use pfx_book::book::Share;
 use pfx_disk::Disk;
 use pfx_fault::Cause;
 use pfx_jobs::job::Job;
-use pfx_journal::{Mark, Store};
 use pfx_record::{Batch, Record};
+use pfx_store::{Mark, Store};
 use std::alloc::Global;
 use std::marker::Model;
 use std::sync::Wait;
@@ -45,7 +45,7 @@ pub struct Flusher<
 impl<J: Job, B: Since<J>, D: Disk, T: Absorb<T, State = [Batch<J>; 0]> + Drop, R: Wait + Drop> Model
     for Flusher<J, B, D, T, R> {
     ghost use Rattle.std.specs.Prelude.{◌≡◌, ◌≤◌, List, [], vec_capacity};
-    ghost use Rattle.pfx_journal.specs.Stores.{PlainStore};
+    ghost use Rattle.pfx_store.specs.Stores.{PlainStore};
     ghost use Rattle.pfx_board.specs.Publisher.{Published};
     ghost use Rattle.pfx_book.specs.declared.note.Note.{Note};
     ghost use Rattle.pfx_front.specs.Keeping.{InStep};
@@ -78,7 +78,7 @@ pub struct Flushed<
 impl<J: Job, B: Since<J>, D: Disk, T: Absorb<T, State = [Batch<J>; 0]> + Drop, R: Wait + Drop> Model
     for Flushed<J, B, D, T, R> {
     ghost use Rattle.std.specs.Prelude.{List};
-    ghost use Rattle.pfx_journal.specs.Stores.{PlainStore};
+    ghost use Rattle.pfx_store.specs.Stores.{PlainStore};
     ghost use Rattle.pfx_board.specs.Publisher.{Published};
     ghost use Rattle.pfx_book.specs.declared.note.Note.{Note};
     ghost use Rattle.pfx_front.specs.Keeping.{Behind};
@@ -223,7 +223,7 @@ fn show<J: Job, B: Since<J>, D: Disk, R: Wait + Drop, W: Wait>(
 
 /// Appends a batch, publishes and marks it: the room for the next one. `None` where the store has failed, or memory is refused
 /// for the board; then the book knows.
-fn keep<J: Job, B: Since<J>, D: Disk, R: Wait + Drop, W: Wait>(
+fn commit<J: Job, B: Since<J>, D: Disk, R: Wait + Drop, W: Wait>(
     rt: &W,
     alloc: Global,
     monitor: &Monitor<J, B>,
@@ -320,7 +320,7 @@ pub(crate) fn flush<J: Job, B: Since<J>, D: Disk, R: Wait + Drop, W: Wait + Cloc
             }
             Work::Append(batch) => {
                 pace = Pace::of(rt, &batch);
-                match keep(
+                match commit(
                     rt,
                     alloc,
                     monitor,

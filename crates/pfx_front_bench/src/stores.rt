@@ -7,9 +7,9 @@ use crate::failures::Failure;
 use pfx_crew::channel::ChannelDesk;
 use pfx_disk::Disk;
 use pfx_jobs::quantum::{Done, Quantum};
-use pfx_journal::Store;
 use pfx_kinds::any::AnyJob;
 use pfx_machine::Command;
+use pfx_store::Store;
 use pfx_weights::TaskSet;
 use std::alloc::Global;
 

@@ -19,7 +19,7 @@ use Rattle.pfx_fault.specs.declared.refusals.Fault.TheVariants as fault
 use Rattle.pfx_format.specs.Format.{format}
 use Rattle.pfx_front.specs.Closing.{IsHeld, IsSession, Survives}
 use Rattle.pfx_front.specs.Sole.{state_of}
-use Rattle.pfx_journal.proofs.Grouping.{joined_alone, length-alone}
+use Rattle.pfx_store.proofs.Grouping.{joined_alone, length-alone}
 use Rattle.pfx_kinds.specs.AnyKind.{any_kind}
 use Rattle.pfx_kinds.specs.declared.any.AnyJob.{AnyJob}
 use Rattle.pfx_machine.proofs.Compose.{outcome-none}

@@ -1,7 +1,8 @@
 //! Notes of files that can't be opened, and of stores.
 
-use crate::note::{Note, of_lines, two_lines};
+use crate::lines::{of_lines, two_lines};
 use crate::places::shown_path;
+use pfx_explain::Note;
 use pfx_fault::{Fault, Part};
 use std::alloc::{AllocError, Global};
 

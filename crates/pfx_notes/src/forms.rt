@@ -1,8 +1,9 @@
 //! Notes of texts that aren't set files.
 
+use crate::lines::{of_lines, two_lines};
 use crate::members::{SetSource, kind_of, other_set_key, other_task_key};
-use crate::note::{Note, of_lines, two_lines};
 use crate::places::{Place, Within, header_place, located, place_at, places_of};
+use pfx_explain::Note;
 use std::alloc::{AllocError, Global};
 use toml::{Table, Value};
 

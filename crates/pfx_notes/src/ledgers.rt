@@ -1,9 +1,10 @@
 //! Notes of ledgers that a plan can't begin with.
 
-use crate::note::{Note, of_lines, two_lines};
+use crate::lines::{of_lines, two_lines};
+use pfx_decimal::number_in;
+use pfx_explain::Note;
 use pfx_fault::Fault;
-use pfx_numerals::number_in;
-use pfx_set_text::SetText;
+use pfx_set_file::SetText;
 use pfx_weights::TaskSet;
 use std::alloc::{AllocError, Global};
 

@@ -1,9 +1,9 @@
 //! Notes of records of a script whose commands were refused.
 
-use crate::note::Note;
 use crate::places::{Place, line_behind, located, without_mark};
 use csv::{ByteRecord, ReaderBuilder};
-use pfx_numerals::number_in;
+use pfx_decimal::number_in;
+use pfx_explain::Note;
 use std::alloc::{AllocError, Global};
 use std::str::from_utf8;
 

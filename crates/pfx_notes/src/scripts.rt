@@ -1,9 +1,10 @@
 //! Notes of scripts.
 
-use crate::note::{Note, of_lines, two_lines};
+use crate::lines::{of_lines, two_lines};
 use crate::places::{line_behind, located, without_mark};
 use csv::{ByteRecord, ReaderBuilder};
-use pfx_numerals::number_in;
+use pfx_decimal::number_in;
+use pfx_explain::Note;
 use std::alloc::{AllocError, Global};
 use std::str::from_utf8;
 

@@ -3,12 +3,12 @@
 use crate::forms::{form_note, syntax_note};
 use crate::ledgers::ledger_fault_note;
 use crate::members::SetSource;
-use crate::note::Note;
 use crate::weights::{
     load_note, multiple_note, no_tasks, segment_note, too_many, weight_note, workers_note,
 };
+use pfx_explain::Note;
 use pfx_fault::Fault;
-use pfx_set_text::{SetText, read_set};
+use pfx_set_file::{SetText, read_set};
 use std::alloc::{AllocError, Global};
 use std::str::from_utf8;
 

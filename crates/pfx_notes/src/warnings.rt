@@ -1,8 +1,8 @@
 //! Warnings: what is passed over in a set.
 
 use crate::members::{SetSource, is_set_key, is_task_key};
-use crate::note::Note;
 use crate::places::{Within, header_place, located, places_of};
+use pfx_explain::Note;
 use std::alloc::{AllocError, Global};
 use std::str::from_utf8;
 use toml::Table;

@@ -1,10 +1,11 @@
 //! Notes of sets that are no task sets.
 
 use crate::fractions::{Fraction, common_multiple, sum_of};
+use crate::lines::{of_lines, two_lines};
 use crate::members::SetSource;
-use crate::note::{Note, of_lines, two_lines};
 use crate::places::{header_place, located};
-use pfx_set_text::SetText;
+use pfx_explain::Note;
+use pfx_set_file::SetText;
 use std::alloc::{AllocError, Global};
 
 const NONE: &str =

@@ -14,14 +14,14 @@ use Rattle.pfx_choice.specs.declared.faults.ChoiceFault.{ChoiceFault}
 use Rattle.pfx_choice.specs.declared.faults.ChoiceFault.TheVariants as choicefault
 use Rattle.pfx_fault.specs.declared.refusals.Fault.{Fault}
 use Rattle.pfx_fault.specs.declared.refusals.Fault.TheVariants as fault
-use Rattle.pfx_set_text.specs.SetFile.{SetFile, FileTask, weights_of, set_of_bytes}
+use Rattle.pfx_set_file.specs.SetFile.{SetFile, FileTask, weights_of, set_of_bytes}
 use Rattle.pfx_program.specs.declared.form.Form.{Form}
 use Rattle.pfx_program.specs.Faults.{fault_of_set, fault_of_ledger, fault_of_choice}
 use Rattle.pfx_program.specs.Ledger.{Begins, RefusesGiven, given}
 use Rattle.pfx_program.specs.Lines.{Lines, no_lines, before, slot_line, plan_lines}
 use Rattle.pfx_program.proofs.Appends.{keeps-same, appends-nothing, appends-kept}
 use Rattle.pfx_program.specs.Plan.{IsPlanned, IsSetRefused, IsLedgerRefused, IsPlanText, Prints, Leaves, IsInputFault, StartFails, SetFails, LedgerFails, SlotFails}
-use Rattle.pfx_set_text.specs.Reading.{ReadFails}
+use Rattle.pfx_set_file.specs.Reading.{ReadFails}
 
 -- ---- lines
 

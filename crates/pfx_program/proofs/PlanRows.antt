@@ -13,7 +13,7 @@ use Rattle.pfx_choice.specs.declared.faults.ChoiceFault.TheVariants as choicefau
 use Rattle.pfx_choice.proofs.PfFunction.{pf_function}
 use Rattle.pfx_choice.proofs.Planning.{past_none, past_push, plan_push}
 use Rattle.pfx_choice.proofs.Schedules.{doomed_at}
-use Rattle.pfx_set_text.specs.SetFile.{FileTask}
+use Rattle.pfx_set_file.specs.SetFile.{FileTask}
 use Rattle.pfx_program.specs.declared.form.Form.{Form}
 use Rattle.pfx_program.specs.Lines.{Lines, before, lines_by, slot_line, plan_lines}
 use Rattle.pfx_program.specs.PlanLaws.{rows_text, AreOfPlan}

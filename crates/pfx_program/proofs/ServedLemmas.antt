@@ -8,14 +8,14 @@ use Rattle.pfx_weights.proofs.Fills.{filled_set}
 use Rattle.pfx_columns.specs.Ledgers.{Ledger, IsLedger, after}
 use Rattle.pfx_columns.proofs.Shown.{start_ledger}
 use Rattle.pfx_choice.specs.PfRows.{chosen}
-use Rattle.pfx_endless.proofs.Rows.{GoesOn, start_goes_on, row_goes_on, no_row_at_limit}
+use Rattle.pfx_feasible.proofs.Rows.{GoesOn, start_goes_on, row_goes_on, no_row_at_limit}
 use Rattle.pfx_fault.specs.declared.refusals.Fault.{Fault}
 use Rattle.pfx_fault.specs.declared.refusals.Fault.TheVariants as fault
-use Rattle.pfx_set_text.specs.SetFile.{SetFile, FileTask, weights_of}
+use Rattle.pfx_set_file.specs.SetFile.{SetFile, FileTask, weights_of}
 use Rattle.pfx_program.specs.declared.form.Form.{Form}
 use Rattle.pfx_program.specs.Faults.{fault_of_set, fault_of_choice}
 use Rattle.pfx_program.specs.Plan.{LacksNoRow, IsInputFault, IsStart, StartFails, SlotFails}
-use Rattle.pfx_set_text.specs.Reading.{ReadFails}
+use Rattle.pfx_set_file.specs.Reading.{ReadFails}
 
 -- the ledger at this slot, from which fair schedules of every length go on
 pub record Served (g : Ledger) (slot : ℕ) : Type 0 where

@@ -1,7 +1,7 @@
 -- Where a plan begins: at the start of the set, or at the ledger that a text gives.
 use Rattle.std.specs.Prelude.{◌≡◌, ◌≢◌, ℕ, ◌==◌, ◌^◌, ⊤, nat_lt, if◌then◌else◌, List, [], ◌∷◌, length, Option, Some, None, option_and_then}
 use Rattle.std.specs.List.{before_first, after_first, slice_split}
-use Rattle.pfx_numerals.specs.Numerals.{number_in}
+use Rattle.pfx_decimal.specs.Numerals.{number_in}
 use Rattle.pfx_weights.specs.Sets.{FilledSet}
 use Rattle.pfx_columns.specs.Ledgers.{Ledger, IsLedger, Refuses, start, ledger_at}
 use Rattle.pfx_columns.specs.declared.faults.LedgerFault.{LedgerFault}

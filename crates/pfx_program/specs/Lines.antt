@@ -6,7 +6,7 @@ use Rattle.pfx_weights.specs.Rows.{is_in}
 use Rattle.pfx_columns.specs.Ledgers.{Ledger, after}
 use Rattle.pfx_choice.specs.PfRows.{chosen}
 use Rattle.pfx_choice.specs.declared.faults.ChoiceFault.{ChoiceFault}
-use Rattle.pfx_set_text.specs.SetFile.{FileTask}
+use Rattle.pfx_set_file.specs.SetFile.{FileTask}
 use Rattle.pfx_program.specs.declared.form.Form.{Form}
 use Rattle.pfx_program.specs.declared.form.Form.TheVariants.{Text, Json}
 use Rattle.pfx_program.specs.Objects.{object_line, slot_object}

@@ -10,7 +10,7 @@ use Rattle.pfx_choice.specs.PfRows.{chosen}
 use Rattle.pfx_choice.specs.declared.faults.ChoiceFault.{ChoiceFault}
 use Rattle.pfx_fault.specs.declared.refusals.Fault.{Fault}
 use Rattle.pfx_fault.specs.declared.refusals.Fault.TheVariants as fault
-use Rattle.pfx_set_text.specs.SetFile.{SetFile, FileTask, weights_of, set_of_bytes}
+use Rattle.pfx_set_file.specs.SetFile.{SetFile, FileTask, weights_of, set_of_bytes}
 use Rattle.pfx_program.specs.declared.form.Form.{Form}
 use Rattle.pfx_program.specs.Faults.{fault_of_set, fault_of_choice}
 use Rattle.pfx_program.specs.Ledger.{Begins, RefusesBegin}

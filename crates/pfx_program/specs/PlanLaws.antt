@@ -4,7 +4,7 @@ use Rattle.pfx_weights.specs.Rows.{Schedule}
 use Rattle.pfx_columns.specs.Ledgers.{Ledger}
 use Rattle.pfx_choice.specs.Dooms.{IsDoomed}
 use Rattle.pfx_choice.specs.Plans.{IsPlan}
-use Rattle.pfx_set_text.specs.SetFile.{FileTask}
+use Rattle.pfx_set_file.specs.SetFile.{FileTask}
 use Rattle.pfx_program.specs.declared.form.Form.{Form}
 use Rattle.pfx_program.specs.Lines.{Lines, slot_line}
 

@@ -4,7 +4,7 @@ use Rattle.pfx_weights.specs.Sets.{FilledSet, Accepts, Refuses}
 use Rattle.pfx_weights.specs.declared.faults.SetFault.{SetFault}
 use Rattle.pfx_fault.specs.declared.refusals.Fault.{Fault}
 use Rattle.pfx_fault.specs.declared.refusals.Fault.TheVariants as fault
-use Rattle.pfx_set_text.specs.SetFile.{SetFile, weights_of, set_of_bytes}
+use Rattle.pfx_set_file.specs.SetFile.{SetFile, weights_of, set_of_bytes}
 use Rattle.pfx_program.specs.Faults.{fault_of_set}
 
 -- the bytes are a set file, with this set and this size of a segment

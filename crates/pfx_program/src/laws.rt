@@ -10,7 +10,7 @@ ghost use Rattle.pfx_kinds.specs.declared.any.AnyJob.{AnyJob};
 ghost use Rattle.pfx_machine.specs.Plain.{Plain};
 ghost use Rattle.pfx_machine.specs.Sessions.{IsAcceptable};
 ghost use Rattle.pfx_script.specs.Records.{Fields};
-ghost use Rattle.pfx_set_text.specs.SetFile.{SetFile, FileTask};
+ghost use Rattle.pfx_set_file.specs.SetFile.{SetFile, FileTask};
 ghost use Rattle.pfx_program.specs.declared.form.Form.{Form};
 ghost use Rattle.pfx_program.specs.Lines.{plan_lines};
 ghost use Rattle.pfx_program.specs.ObjectLaws.{spelled, in_order};

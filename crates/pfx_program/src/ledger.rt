@@ -5,8 +5,8 @@ ghost use Rattle.pfx_program.specs.Ledger.{slot_in, allocs_in, ledger_of, Begins
 
 use crate::faults::ledger_fault;
 use pfx_columns::Columns;
+use pfx_decimal::number_in;
 use pfx_fault::Fault;
-use pfx_numerals::number_in;
 use pfx_weights::TaskSet;
 use std::alloc::{AllocError, Global};
 

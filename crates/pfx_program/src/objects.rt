@@ -4,7 +4,7 @@ ghost use Rattle.std.specs.Prelude.{◌≡◌, ◌<◌, ◌+◌, ◌∷◌, [], 
 ghost use Rattle.serde_json.specs.Data.{string};
 ghost use Rattle.serde_json.specs.View.{view};
 ghost use Rattle.serde_json.specs.Written.{has_float};
-ghost use Rattle.pfx_set_text.specs.Views.{task_view};
+ghost use Rattle.pfx_set_file.specs.Views.{task_view};
 ghost use Rattle.pfx_kinds.specs.Cells.{cell_at};
 ghost use Rattle.pfx_program.specs.Cells.{cells_text};
 ghost use Rattle.pfx_program.specs.Lines.{name_of};
@@ -14,7 +14,7 @@ use pfx_kinds::any::AnyJob;
 use pfx_kinds::count::Count;
 use pfx_kinds::rule::{CELL_BYTES, Rule};
 use pfx_kinds::scan::Scan;
-use pfx_set_text::NamedTask;
+use pfx_set_file::NamedTask;
 use serde_json::{Value, json};
 use std::alloc::{AllocError, Global};
 use std::str;

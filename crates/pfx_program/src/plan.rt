@@ -1,8 +1,8 @@
 //! `pfx plan`.
 
 ghost use Rattle.std.specs.Prelude.{◌≡◌, Some, None, IfSome, IfOk, IfErr, OnOk, map, option_map};
-ghost use Rattle.pfx_set_text.specs.SetFile.{set_of_bytes};
-ghost use Rattle.pfx_set_text.specs.Views.{task_view, set_view};
+ghost use Rattle.pfx_set_file.specs.SetFile.{set_of_bytes};
+ghost use Rattle.pfx_set_file.specs.Views.{task_view, set_view};
 ghost use Rattle.pfx_program.specs.Plan.{Leaves, LacksNoRow, IsInputFault, IsStart, StartFails, SlotPrinted, SlotFails};
 
 use crate::Form;
@@ -13,7 +13,7 @@ use crate::output::put;
 use pfx_choice::{Chooser, give};
 use pfx_columns::Columns;
 use pfx_fault::Fault;
-use pfx_set_text::{NamedTask, SetText, read_set};
+use pfx_set_file::{NamedTask, SetText, read_set};
 use pfx_weights::{Row, TaskSet};
 use std::alloc::Global;
 use std::io::{ErrorKind, Read, Write};

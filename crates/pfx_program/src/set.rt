@@ -6,7 +6,7 @@ ghost use Rattle.pfx_program.specs.Sets.{IsSetOf, SetFails};
 use crate::faults::set_fault;
 use crate::plan::read_all;
 use pfx_fault::Fault;
-use pfx_set_text::read_set;
+use pfx_set_file::read_set;
 use pfx_weights::TaskSet;
 use std::alloc::Global;
 use std::io::Read;

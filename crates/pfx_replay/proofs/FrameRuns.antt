@@ -4,7 +4,7 @@ use Rattle.std.specs.Prelude.{Vec}
 use Rattle.std.specs.declared.alloc.Global.{Global}
 use Rattle.pfx_segment.specs.Reading.{views}
 use Rattle.std.proofs.Common.{zero, suc, get_or, sym, ◌∙◌, ap, ap₂, arith, append-nil, append_assoc, length-append, subst}
-use Rattle.pfx_effect.specs.Applying.{applied, after_record, is_right}
+use Rattle.pfx_redo.specs.Applying.{applied, after_record, is_right}
 use Rattle.pfx_header.specs.Headers.{Header}
 use Rattle.pfx_jobs.specs.Kind.{Kind, Laws}
 use Rattle.pfx_machine.specs.Plain.{Plain}

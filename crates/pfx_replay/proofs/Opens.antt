@@ -5,9 +5,9 @@ use Rattle.std.proofs.Common.{subst, arith}
 use Rattle.pfx_disk.specs.Disk.{View}
 use Rattle.pfx_recovery.specs.Codec.{Codec}
 use Rattle.pfx_recovery.specs.Store.{IsStore}
-use Rattle.pfx_store.specs.Fitting.{Fits}
-use Rattle.pfx_store.specs.declared.places.Places.{Places}
-use Rattle.pfx_opening.specs.Finding.{IsOpened}
+use Rattle.pfx_store_file.specs.Fitting.{Fits}
+use Rattle.pfx_store_file.specs.declared.places.Places.{Places}
+use Rattle.pfx_recover.specs.Finding.{IsOpened}
 
 module _ {H S : Type 0} (K : Codec H S) (h : H) (bytes : List ℕ) (places : Places) (state : S) (middle : Option (Vec ℕ Global)) (disk : View) (opened : IsOpened K h bytes places state middle disk) where
   pub store_is : IsStore K h opened.parts state bytes

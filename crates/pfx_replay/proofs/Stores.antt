@@ -1,7 +1,7 @@
 -- What is known of a file that a store leaves.
 use Rattle.std.specs.Prelude.{◌≡◌, ◌+◌, ◌++◌, ℕ, List, [], ◌∷◌, not, take, drop, Bool, true, false, Option, Some, None, MatchOption, refl}
 use Rattle.std.proofs.Common.{sym, ◌∙◌, ap, ap₂, subst}
-use Rattle.pfx_effect.specs.Applying.{applied}
+use Rattle.pfx_redo.specs.Applying.{applied}
 use Rattle.pfx_checkpoint.specs.Found.{read_state}
 use Rattle.pfx_format.specs.Format.{format, layout}
 use Rattle.pfx_format.proofs.Keeping.{after_set, read_set}

@@ -15,9 +15,9 @@ use Rattle.pfx_machine.specs.declared.faults.MachineFault.TheVariants.{NumberLim
 use Rattle.pfx_record.specs.Records.{Plain, submitted, ran, withdrawn, record_fits, tasks_of}
 use Rattle.pfx_record.specs.declared.record.Place.{Place}
 use Rattle.pfx_record.proofs.Rising.{both}
-use Rattle.pfx_effect.specs.Applying.{after_record, has_job, is_apt, is_free, is_right}
-use Rattle.pfx_effect.specs.Recording.{place_of, record_of}
-use Rattle.pfx_effect.proofs.Rightness.{number_wrong}
+use Rattle.pfx_redo.specs.Applying.{after_record, has_job, is_apt, is_free, is_right}
+use Rattle.pfx_redo.specs.Recording.{place_of, record_of}
+use Rattle.pfx_redo.proofs.Rightness.{number_wrong}
 
 module _ {J : Type 0} (K : Kind J) (s : machine.Plain J) where
   pub number_below : (one : Plain J) → IsTrue (is_right K s one) → s.number + 1 < 2 ^ 48

@@ -7,7 +7,7 @@ use Rattle.pfx_machine.specs.Outcome.{outcome}
 use Rattle.pfx_machine.specs.declared.command.Command.TheVariants.{Slot}
 use Rattle.pfx_record.specs.Records.{Plain as Recorded, ran, tasks_of}
 use Rattle.pfx_record.specs.declared.record.Place.{Place}
-use Rattle.pfx_effect.specs.Recording.{record_of}
+use Rattle.pfx_redo.specs.Recording.{record_of}
 use Rattle.pfx_replay.specs.Commands.{Follow, commands_of}
 use Rattle.pfx_replay.specs.declared.verdict.Difference.{Difference}
 use Rattle.pfx_replay.specs.declared.verdict.Difference.TheVariants.{Row, State, Checkpoint}

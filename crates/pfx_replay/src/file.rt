@@ -1,6 +1,6 @@
 // What a store's file records, and the verdict on it.
 ghost use Rattle.std.specs.Prelude.{◌≡◌, ◌≤◌, ◌+◌, ◌++◌, [], ℕ, List, length, map, not, true, false, Option, Some, IfOk, MatchOption};
-ghost use Rattle.pfx_effect.specs.Applying.{applied};
+ghost use Rattle.pfx_redo.specs.Applying.{applied};
 ghost use Rattle.pfx_format.specs.Format.{format, layout};
 ghost use Rattle.pfx_machine.specs.Plain.{Plain};
 ghost use Rattle.pfx_record.specs.Records.{plain};
@@ -16,12 +16,12 @@ use crate::jobs::PlainState;
 use crate::records::add_records;
 use crate::verdict::Verdict;
 use crate::way::find_way;
-use pfx_effect::apply_all;
 use pfx_jobs::job::Job;
-use pfx_journal::{FileFormat, FileHeader};
 use pfx_machine::State;
-use pfx_opening::Format;
 use pfx_record::Record;
+use pfx_recover::Format;
+use pfx_redo::apply_all;
+use pfx_store::{FileFormat, FileHeader};
 use std::alloc::{AllocError, Global};
 
 // Adds the records of a segment's frames, or answers `false` where a frame doesn't fit.

@@ -6,7 +6,7 @@ ghost use Rattle.pfx_segment.specs.Reading.{views};
 ghost use Rattle.pfx_recovery.specs.Layout.{first_at};
 
 use pfx_disk::GATE_OPEN;
-use pfx_opening::Format;
+use pfx_recover::Format;
 use std::alloc::{AllocError, Global};
 
 // The number in four bytes, the lowest first.

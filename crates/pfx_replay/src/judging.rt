@@ -5,8 +5,8 @@ ghost use Rattle.pfx_machine.specs.Outcome.{outcome};
 ghost use Rattle.pfx_machine.specs.Plain.{Plain};
 ghost use Rattle.pfx_machine.specs.Refusals.{refusal};
 ghost use Rattle.pfx_record.specs.Records.{plain, ran, tasks_of};
-ghost use Rattle.pfx_effect.specs.Applying.{applied, is_right};
-ghost use Rattle.pfx_effect.specs.Recording.{place_of, state_after_step};
+ghost use Rattle.pfx_redo.specs.Applying.{applied, is_right};
+ghost use Rattle.pfx_redo.specs.Recording.{place_of, state_after_step};
 ghost use Rattle.pfx_replay.specs.Judged.{GivesAll, GivesOne};
 ghost use Rattle.pfx_replay.specs.Stated.{plain_of};
 

@@ -2,8 +2,8 @@
 ghost use Rattle.std.specs.Prelude.{◌≡◌, ◌≤◌, ℕ, List, length, Err, IfOk, IfErr, IsErrOf, MatchResult};
 ghost use Rattle.pfx_disk.specs.Disk.{IsHonest, HasFailed};
 ghost use Rattle.pfx_format.specs.Format.{format};
-ghost use Rattle.pfx_opening.specs.Answers.{IsRefusal};
-ghost use Rattle.pfx_opening.specs.Looking.{IsKept, Looks, Reaches};
+ghost use Rattle.pfx_recover.specs.Answers.{IsRefusal};
+ghost use Rattle.pfx_recover.specs.Looking.{IsKept, Looks, Reaches};
 ghost use Rattle.pfx_recovery.specs.Recovery.{found, recovered};
 ghost use Rattle.pfx_replay.specs.Reading.{IsNoRefusal};
 ghost use Rattle.pfx_replay.specs.Trails.{IsReplayed};
@@ -12,8 +12,8 @@ use crate::file::judge_file;
 use crate::verdict::Verdict;
 use pfx_disk::Disk;
 use pfx_jobs::job::Job;
-use pfx_journal::FileFormat;
-use pfx_opening::{OpenFault, Opened, Part, Refusal, open};
+use pfx_recover::{OpenFault, Opened, Part, Refusal, open};
+use pfx_store::FileFormat;
 use std::alloc::Global;
 
 // All bytes of a disk, of which there are so many.

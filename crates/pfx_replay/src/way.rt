@@ -8,7 +8,7 @@ ghost use Rattle.pfx_replay.specs.Ways.{way_of};
 
 use crate::image::{first_in, frames_in, state_in};
 use pfx_disk::GATE_OPEN;
-use pfx_opening::Format;
+use pfx_recover::Format;
 use std::alloc::{AllocError, Global};
 
 // The state that frames lead to, or `None` where one isn't right at the state that it comes to.

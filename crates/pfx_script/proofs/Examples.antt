@@ -4,7 +4,7 @@ use Rattle.std.specs.Char.{encode_utf8}
 use Rattle.std.specs.Str.{is_utf8, chars}
 use Rattle.csv.specs.Records.{field_at}
 use Rattle.csv.proofs.OnLiterals.{csv_on_literals}
-use Rattle.pfx_numerals.specs.Numerals.{number_in}
+use Rattle.pfx_decimal.specs.Numerals.{number_in}
 use Rattle.pfx_script.specs.Verbs.{submit, slot, withdraw, settle, status, show, verb_of}
 use Rattle.pfx_script.specs.Records.{script_records}
 

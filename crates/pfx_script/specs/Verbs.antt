@@ -3,7 +3,7 @@ use Rattle.std.specs.Prelude.{codes, ℕ, Bool, ◌==◌, ◌&&◌, nat_le, if�
 use Rattle.std.specs.List.{list_all}
 use Rattle.std.specs.Str.{is_utf8, bytes_eq}
 use Rattle.csv.specs.Records.{field_at}
-use Rattle.pfx_numerals.specs.Numerals.{number_in}
+use Rattle.pfx_decimal.specs.Numerals.{number_in}
 use Rattle.pfx_script.specs.declared.verbs.Verb.{Verb}
 use Rattle.pfx_script.specs.declared.verbs.Verb.TheVariants as verb
 

@@ -3,7 +3,7 @@
 ghost use Rattle.std.specs.Prelude.{◌≡◌};
 ghost use Rattle.pfx_script.specs.Verbs.{task_in, goal_in, count_in};
 
-use pfx_numerals::number_in;
+use pfx_decimal::number_in;
 
 pub(crate) fn task_in(text: &str) -> Option<u16>
     ensures { result ≡ task_in text.now }

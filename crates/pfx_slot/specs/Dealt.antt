@@ -7,7 +7,7 @@ use Rattle.pfx_machine.specs.Refusals.{refusal}
 use Rattle.pfx_machine.specs.declared.command.Command.TheVariants as command
 use Rattle.pfx_machine.specs.Slots.{Deal, deals_in}
 use Rattle.pfx_record.specs.declared.record.Place.{Place}
-use Rattle.pfx_effect.specs.Recording.{after_in}
+use Rattle.pfx_redo.specs.Recording.{after_in}
 
 -- the row, the quanta, and for each of them its result where it is back (a result is its quantum, stepped)
 pub record Dealt (J : Type 0) : Type 0 where

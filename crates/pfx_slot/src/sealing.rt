@@ -6,15 +6,15 @@ ghost use Rattle.pfx_machine.specs.Refusals.{refusal, reply, IsFaultOf};
 ghost use Rattle.pfx_machine.specs.Slots.{deal};
 ghost use Rattle.pfx_machine.specs.declared.command.Command.{Command};
 ghost use Rattle.pfx_record.specs.Records.{plain};
-ghost use Rattle.pfx_effect.specs.Recording.{record_of};
+ghost use Rattle.pfx_redo.specs.Recording.{record_of};
 ghost use Rattle.pfx_slot.specs.Dealt.{AllBack, StandsAt};
 
 use crate::slot::{Ended, OpenSlot};
-use pfx_effect::Recorded;
 use pfx_jobs::job::Job;
 use pfx_jobs::quantum::Quantum;
 use pfx_machine::{Command, MachineFault, State};
 use pfx_record::Record;
+use pfx_redo::Recorded;
 use std::alloc::Global;
 
 /// Opens the state's next slot, with all the memory that its end needs, and gives the quanta that are to be run. The state

@@ -2,7 +2,7 @@
 ghost use Rattle.std.specs.Prelude.{◌≡◌, ◌≤◌, ℕ, List, length, map, [], MatchOption, MatchResult, IfOk, IfErr, OnOk, OnErr, IfSome, Some, None, option_map, vec_len, vec_capacity};
 ghost use Rattle.pfx_machine.specs.Slots.{deal};
 ghost use Rattle.pfx_crew.specs.Gathering.{Puts, Refuses};
-ghost use Rattle.pfx_effect.specs.Recording.{after_in};
+ghost use Rattle.pfx_redo.specs.Recording.{after_in};
 ghost use Rattle.pfx_slot.specs.Dealt.{Dealt, Answers, AllBack, IsMissing, places_with};
 
 use pfx_crew::gathering::{GatherFault, gather};

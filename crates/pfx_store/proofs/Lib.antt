@@ -1,5 +1,11 @@
-pub mod Calling
-pub mod Keeping
-pub mod Ends
-mod Rooms
-pub mod Joins
+mod Appends
+pub mod Behinds
+mod Counts
+mod Made
+mod Marking
+pub mod Slots
+mod Standings
+pub mod Filing
+mod Replies
+pub mod Grouping
+mod Heading

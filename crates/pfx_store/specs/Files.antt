@@ -1,45 +1,67 @@
--- A store's file by its parts, and what is known of it besides, as the places of a store have it.
-use Rattle.std.specs.Prelude.{◌≡◌, ℕ, List, Bool, false, not}
-use Rattle.pfx_recovery.specs.Codec.{Codec}
-use Rattle.pfx_recovery.specs.Layout.{Layout, slot_at, segment_at, is_open}
-use Rattle.pfx_recovery.specs.Store.{Parts}
-use Rattle.pfx_store.specs.Holding.{ArePlaces}
-use Rattle.pfx_store.specs.declared.places.Places.{Places}
+-- A store's file in this format, the calls of its acts, and the file that is found in an image.
+use Rattle.std.specs.Prelude.{◌≡◌, ℕ, ◌+◌, if◌then◌else◌, List, [], ◌∷◌, ◌++◌, drop, true, Option, Some, None, Result, Ok, Err}
+use Rattle.pfx_checkpoint.specs.Spelling.{state_bytes}
+use Rattle.pfx_disk.specs.Stop.{Act}
+use Rattle.pfx_format.specs.Format.{format}
+use Rattle.pfx_header.specs.Headers.{Header}
+use Rattle.pfx_jobs.specs.Kind.{Kind}
+use Rattle.pfx_machine.specs.Plain.{Plain}
+use Rattle.pfx_record.specs.Numbers.{number_bytes}
+use Rattle.pfx_recovery.specs.Recovery.{Found, found}
+use Rattle.pfx_recovery.specs.Refusals.{Refusal}
+use Rattle.pfx_store_file.specs.Acts.{tend_acts, end_acts, ended_file, turn_acts, has_room, append_acts, appended_file}
+use Rattle.pfx_store_file.specs.Files.{File, AreOf, file_in}
+use Rattle.pfx_store_file.specs.declared.places.Places.{Places}
 
--- The header and the parts; whether the gates of the slot and of the segment that aren't in use stand open; whether that
--- slot was closed for the checkpoint in progress, and how many bytes of it have been written behind that gate.
-pub record File (H S : Type 0) : Type 0 where
-  pub head : H
-  pub parts : Parts S
-  pub slot_open : Bool
-  pub segment_open : Bool
-  pub begun : Bool
-  pub done : ℕ
+-- a header and the rest of a file
+abbrev pub FileOf : Type 0 → Type 0
+FileOf J = File Header (Plain J)
 
-module _ {H S : Type 0} (K : Codec H S) where
-  -- where the slot that isn't in use stands
-  abbrev pub slot_of : File H S → ℕ
-  slot_of f = slot_at (K.layout f.head) (not f.parts.slot)
+-- the body of the slot that the checkpoint in progress writes
+abbrev pub spelled : {J : Type 0} → Kind J → FileOf J → List ℕ
+spelled K f = state_bytes K f.parts.middle
 
-  -- where the segment that isn't in use stands
-  abbrev pub segment_of : File H S → ℕ
-  segment_of f = segment_at (K.layout f.head) (not f.parts.segment)
+-- a store with these places has this file; where a checkpoint is in progress, this is its body
+pub record HasFile {J : Type 0} (K : Kind J) (f : FileOf J) (places : Places) (body : List ℕ) : Type 0 where
+  pub are : AreOf (format K) f places
+  pub spells : f.parts.turned ≡ true → body ≡ spelled K f
 
-  -- the file that is found in an image: the gates stand as they do there, and a checkpoint in progress begins anew
-  abbrev pub file_in : List ℕ → H → Parts S → File H S
-  file_in image h p = record {
-    head = h;
-    parts = p;
-    slot_open = is_open (slot_at (K.layout h) (not p.slot)) image;
-    segment_open = is_open (segment_at (K.layout h) (not p.segment)) image;
-    begun = false;
-    done = 0;
-  }
+-- the bytes behind the gate of a segment that begins behind a state: the next number, and the first frame's closed gate
+abbrev pub start_of : {J : Type 0} → Plain J → List ℕ
+start_of s = number_bytes 8 (s.number + 1) ++ 0 ∷ []
 
-  -- the places of a store are those of the file
-  pub record AreOf (f : File H S) (places : Places) : Type 0 where
-    pub are : ArePlaces K f.head f.parts places
-    pub slot_open : places.slot_open ≡ f.slot_open
-    pub segment_open : places.segment_open ≡ f.segment_open
-    pub begun : places.begun ≡ f.begun
-    pub done : places.done ≡ f.done
+-- what is written behind the gate of a frame: the rest of it, and the next gate, closed
+abbrev pub behind_of : List ℕ → List ℕ
+behind_of frame = drop 1 frame ++ 0 ∷ []
+
+module _ {J : Type 0} (K : Kind J) (f : FileOf J) where
+  -- the calls that append a frame at a state, and the file behind them
+  abbrev pub appending : Plain J → List ℕ → List Act
+  appending s frame = append_acts (format K) f s (spelled K f) (start_of s) (behind_of frame)
+
+  abbrev pub appended : Plain J → List ℕ → FileOf J
+  appended s frame = appended_file (format K) f s (behind_of frame) frame
+
+  -- the calls of the next step of the checkpoint in progress
+  abbrev pub tending : List Act
+  tending = tend_acts (format K) f (spelled K f)
+
+  -- the calls of a turn at a state
+  abbrev pub turning : Plain J → List Act
+  turning s = turn_acts (format K) f (start_of s)
+
+  -- where a frame of n bytes has no room, the calls that end the checkpoint in progress, and the file behind them
+  abbrev pub ending : ℕ → List Act
+  ending n = if has_room (format K) f n then [] else end_acts (format K) f (spelled K f)
+
+  abbrev pub ended : ℕ → FileOf J
+  ended n = if has_room (format K) f n then f else ended_file (format K) f
+
+-- the file that was found in an image, with the gates as they stand there
+abbrev pub file_found : {J : Type 0} → Kind J → List ℕ → Result (Found Header (Plain J)) Refusal → Option (Plain J × FileOf J)
+file_found K image (Ok f) = Some (f.state, file_in (format K) image f.head f.parts)
+file_found K image (Err refusal) = None
+
+-- recovery: the state that an image stands for, and the file in which it is found
+abbrev pub recovered_file : {J : Type 0} → Kind J → List ℕ → Option (Plain J × FileOf J)
+recovered_file K image = file_found K image (found (format K) image)

@@ -1,6 +1,6 @@
-pub mod Acts
+pub mod Standing
+pub mod Stores
+pub mod Making
+pub mod Marks
 pub mod Files
-pub mod Calls
-pub mod Fitting
-pub mod Holding
-pub mod Tending
+pub mod Groups

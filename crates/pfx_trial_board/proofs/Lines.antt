@@ -8,7 +8,7 @@ use Rattle.pfx_machine.specs.Plain as machine
 use Rattle.pfx_record.specs.Records.{Plain, plain}
 use Rattle.pfx_record.specs.declared.batch.Batch.{Batch}
 use Rattle.pfx_record.specs.declared.record.Record.{Record}
-use Rattle.pfx_effect.specs.Applying.{after_record, applied, is_right}
+use Rattle.pfx_redo.specs.Applying.{after_record, applied, is_right}
 use Rattle.pfx_board.specs.Word.{records_of}
 use Rattle.pfx_board.proofs.Words.{records_more}
 

@@ -3,11 +3,11 @@ ghost use Rattle.std.specs.Prelude.{◌≡◌, []};
 
 use pfx_board::name::Begun;
 use pfx_board::publisher::Publisher;
-use pfx_effect::apply_record;
 use pfx_jobs::job::Job;
 use pfx_kinds::any::AnyJob;
 use pfx_machine::State;
 use pfx_record::{Batch, Place, Record, fits};
+use pfx_redo::apply_record;
 use pfx_weights::TaskSet;
 use std::alloc::Global;
 use std::marker::Model;
@@ -24,7 +24,7 @@ pub struct Line<J: Job, B: Begun<J>, R: Wait + Drop> {
 impl<J: Job, B: Begun<J>, R: Wait + Drop> Model for Line<J, B, R> {
     ghost use Rattle.std.specs.Prelude.{◌≡◌, Some};
     ghost use Rattle.pfx_machine.specs.Plain.{Plain};
-    ghost use Rattle.pfx_effect.specs.Applying.{applied};
+    ghost use Rattle.pfx_redo.specs.Applying.{applied};
     ghost use Rattle.pfx_board.specs.Word.{records_of};
 
     ghost Value = { Plain J };

@@ -3,10 +3,10 @@
 
 use crate::check::{check, check_pair};
 use crate::held::{held, is_held};
-use pfx_creating::laws::a_new_file_can_be_made;
-use pfx_creating::{CreateFault, create, create_file, new_places};
+use pfx_create::laws::a_new_file_can_be_made;
+use pfx_create::{CreateFault, create, create_file, new_places};
 use pfx_disk::{Disk, Fate, FaultDisk, GATE_OPEN, MemoryDisk};
-use pfx_store::{PIECE, Places, StoreFile};
+use pfx_store_file::{PIECE, Places, StoreFile};
 use std::alloc::Global;
 
 /// The gate, the letters PFXSTORE, version 1, two workers, three tasks, the segment's length, and the tasks.

@@ -5,9 +5,9 @@
 //! | `disk` | `pfx_disk`: what each disk holds, what stops and faults leave, and the held call |
 //! | `segment` | `pfx_segment`: frames behind gates |
 //! | `recovery` | `pfx_recovery`: its laws at concrete types |
-//! | `store` | `pfx_store`: appends, turns and checkpoints of small files |
-//! | `opening` | `pfx_opening`: small files of the format in `toy` |
-//! | `creating` | `pfx_creating`: new files |
+//! | `store` | `pfx_store_file`: appends, turns and checkpoints of small files |
+//! | `opening` | `pfx_recover`: small files of the format in `toy` |
+//! | `creating` | `pfx_create`: new files |
 //!
 //! A case is a plain `bool`; `check`, `check_at` and `check_pair` name the one that doesn't hold.
 #![tactic(auto)]

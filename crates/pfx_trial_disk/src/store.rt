@@ -5,8 +5,8 @@ ghost use Rattle.std.specs.Prelude.{◌≡◌, IfSome};
 use crate::check::{check, check_at, check_pair};
 use crate::held::{has_failed_at, held};
 use pfx_disk::{Disk, Fate, FaultDisk, GATE_OPEN, MemoryDisk};
-use pfx_store::laws::{calls_compose, store_is_recovered};
-use pfx_store::{Places, StoreFault, StoreFile, Tended};
+use pfx_store_file::laws::{calls_compose, store_is_recovered};
+use pfx_store_file::{Places, StoreFault, StoreFile, Tended};
 use std::alloc::Global;
 
 const LEN: usize = 92;

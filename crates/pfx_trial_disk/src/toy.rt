@@ -1,8 +1,8 @@
 //! The format of small files.
 ghost use Rattle.std.specs.Prelude.{◌≡◌, ◌<◌, ℕ, slice_index};
-ghost use Rattle.pfx_opening.specs.ToyCodec.{small_codec, is_small, small};
+ghost use Rattle.pfx_recover.specs.ToyCodec.{small_codec, is_small, small};
 
-use pfx_opening::{Format, HeadFault, Refusal, Sizes};
+use pfx_recover::{Format, HeadFault, Refusal, Sizes};
 use std::alloc::{AllocError, Global};
 use std::marker::Model;
 
@@ -59,7 +59,7 @@ fn state_of(number: u64, sum: u64) -> Option<Tally>
 }
 
 impl Format for Toy {
-    ghost use Rattle.pfx_opening.specs.ToyLaws.{laws_hold, bounds_hold};
+    ghost use Rattle.pfx_recover.specs.ToyLaws.{laws_hold, bounds_hold};
 
     type Header = u8;
 
@@ -130,7 +130,7 @@ impl Format for Toy {
         }
     }
 
-    fn spell(_header: &u8, state: &Tally, out: &mut [u8]) {
+    fn encode(_header: &u8, state: &Tally, out: &mut [u8]) {
         out[0] = state.number as u8;
         out[1] = state.sum as u8;
     }

@@ -2,11 +2,11 @@
 
 use crate::check::{check, check_at};
 use crate::thirds::new_state;
-use pfx_effect::{apply_all, apply_record, laws, run_recorded};
 use pfx_jobs::job::Job;
 use pfx_kinds::any::AnyJob;
 use pfx_machine::{Command, MachineFault, Reply, State};
 use pfx_record::{Place, Record};
+use pfx_redo::{apply_all, apply_record, laws, run_recorded};
 use std::alloc::Global;
 
 /// A submit of rule 110 from one cell to task 0.

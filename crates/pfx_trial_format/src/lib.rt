@@ -5,7 +5,7 @@
 //! | `record` | `pfx_record`: batches as bytes, and bytes that are none |
 //! | `checkpoint` | `pfx_checkpoint`: states as bytes |
 //! | `header` | `pfx_header`: headers as bytes |
-//! | `effect` | `pfx_effect`: records taken over by states |
+//! | `effect` | `pfx_redo`: records taken over by states |
 //! | `format` | `pfx_format`: frames that lead from state to state |
 //!
 //! A case is a plain `bool`; `check` and `check_at` name the one that doesn't hold.

@@ -1,9 +1,10 @@
 //! Notes as a user reads them: each fault has its entry, and what stands below a fault's line.
 
+use pfx_explain::{Note, entry_named, put_entry};
 use pfx_fault::Fault;
 use pfx_notes::{
-    Named, Note, entry_named, input_note, output_note, passed_over_note, put_entry, record_note,
-    refused_note, script_note, set_note, store_note,
+    Named, input_note, output_note, passed_over_note, record_note, refused_note, script_note,
+    set_note, store_note,
 };
 use std::alloc::{AllocError, Global};
 

@@ -1,6 +1,6 @@
 //! Words as a shell passes them, and the texts that answer them.
 
-use pfx_words::{Request, read_words};
+use pfx_args::{Request, read_words};
 use std::alloc::Global;
 
 /// Whether the words are taken, and ask for this.

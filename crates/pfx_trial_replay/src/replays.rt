@@ -3,12 +3,12 @@
 use crate::check::{check, check_at};
 use pfx_disk::{Disk, MemoryDisk};
 use pfx_engine::DurableEngine;
-use pfx_journal::Store;
 use pfx_kinds::any::AnyJob;
 use pfx_machine::Command;
-use pfx_opening::{OpenFault, Part, Refusal};
+use pfx_recover::{OpenFault, Part, Refusal};
 use pfx_replay::{Difference, Verdict, replay};
-use pfx_store::Tended;
+use pfx_store::Store;
+use pfx_store_file::Tended;
 use pfx_weights::TaskSet;
 use std::alloc::Global;
 
@@ -31,7 +31,7 @@ fn begun(alloc: Global) -> Option<DurableEngine<MemoryDisk>> {
 fn behind_slots(alloc: Global, count: u32) -> Option<DurableEngine<MemoryDisk>> {
     let mut engine = begun(alloc)?;
     for _ in 0..count {
-        engine.carry_out(alloc, Command::Slot).ok()?;
+        engine.execute(alloc, Command::Slot).ok()?;
     }
     Some(engine)
 }
@@ -51,10 +51,10 @@ fn worked(alloc: Global) -> Option<Vec<u8>> {
     let mut engine = begun(alloc)?;
     let job = AnyJob::start("rule", 3, b"110:00000001").ok()?;
     engine
-        .carry_out(alloc, Command::Submit { task: 0, job })
+        .execute(alloc, Command::Submit { task: 0, job })
         .ok()?;
     for _ in 0..5 {
-        engine.carry_out(alloc, Command::Slot).ok()?;
+        engine.execute(alloc, Command::Slot).ok()?;
     }
     file_of(alloc, engine.into_store())
 }

@@ -5,12 +5,12 @@ use crate::folds::{CALLS, COMMANDS, Fold, MADE, SEGMENT, command, empty, folds, 
 use pfx_disk::{Disk, FaultDisk, MemoryDisk};
 use pfx_engine::DurableEngine;
 use pfx_fault::{Cause, Fault};
-use pfx_journal::Store;
 use pfx_kinds::any::AnyJob;
 use pfx_machine::Command;
-use pfx_opening::OpenFault;
 use pfx_program::CallFault;
-use pfx_store::StoreFault;
+use pfx_recover::OpenFault;
+use pfx_store::Store;
+use pfx_store_file::StoreFault;
 use std::alloc::Global;
 
 /// How many calls an opening of the disk behind the run takes.
@@ -33,7 +33,7 @@ fn carried_out(
     engine: &mut DurableEngine<FaultDisk<MemoryDisk>>,
 ) -> Option<(u64, Option<CallFault>)> {
     for number in 1..COMMANDS + 1 {
-        match engine.carry_out(alloc, command(number)?) {
+        match engine.execute(alloc, command(number)?) {
             Ok(_) => {}
             Err(fault) => return Some((number - 1, Some(fault))),
         }
@@ -75,7 +75,7 @@ fn is_ended(alloc: Global, call: u64, works: bool, folds: &[Fold]) -> Option<boo
         cause: Cause::Device,
     });
     let clock = engine.store.disk().clock();
-    let again = engine.carry_out(alloc, Command::Slot).err();
+    let again = engine.execute(alloc, Command::Slot).err();
     let is_told = fault == Some(told) && again == Some(told);
     let mut store = engine.into_store();
     let is_broken = stays_broken(&mut store, clock);

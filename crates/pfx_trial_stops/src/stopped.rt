@@ -3,8 +3,8 @@
 use crate::folds::{Fold, MADE, is_state};
 use pfx_disk::{Disk, Fate, MemoryDisk};
 use pfx_engine::DurableEngine;
-use pfx_journal::Store;
 use pfx_machine::Command;
+use pfx_store::Store;
 use std::alloc::Global;
 
 /// What becomes of what isn't synced.
@@ -98,7 +98,7 @@ fn is_one(
 fn goes_on(alloc: Global, engine: DurableEngine<MemoryDisk>, fold: &Fold) -> Option<u64> {
     let mut engine = engine;
     let opened = engine.store.disk().clock();
-    let (mark, _reply) = engine.carry_out(alloc, Command::Slot).ok()?;
+    let (mark, _reply) = engine.execute(alloc, Command::Slot).ok()?;
     let disk = engine.into_store().into_disk();
     let mut stops: u64 = 0;
     for calls in 0..disk.clock().saturating_add(1) {

@@ -5,7 +5,7 @@ use crate::folds::{CALLS, COMMANDS, SEGMENT, command, empty, folds, thirds};
 use crate::stopped::{Run, are_two, stops};
 use pfx_disk::{Fate, MemoryDisk};
 use pfx_engine::DurableEngine;
-use pfx_journal::Store;
+use pfx_store::Store;
 use std::alloc::Global;
 
 /// The disk behind the run, and the clocks of the run's marks.
@@ -14,7 +14,7 @@ fn run_on_disk(alloc: Global) -> Option<(MemoryDisk, Vec<u64>)> {
     let mut engine = DurableEngine::new(alloc, store).ok()?;
     let mut marks = Vec::new(alloc);
     for number in 1..COMMANDS + 1 {
-        let (mark, _reply) = engine.carry_out(alloc, command(number)?).ok()?;
+        let (mark, _reply) = engine.execute(alloc, command(number)?).ok()?;
         marks.push(mark.clock).ok()?;
     }
     Some((engine.into_store().into_disk(), marks))

@@ -2,10 +2,10 @@
 use Rattle.std.specs.Prelude.{◌≡◌, List, [], ◌∷◌, ◌++◌, map, None, refl}
 use Rattle.std.proofs.Common.{sym, ◌∙◌, ap, subst}
 use Rattle.std.proofs.lemmas.List.{map-append}
-use Rattle.pfx_effect.specs.Recording.{record_of, records_of}
+use Rattle.pfx_redo.specs.Recording.{record_of, records_of}
 use Rattle.pfx_jobs.specs.Kind.{Kind, Laws}
-use Rattle.pfx_journal.specs.Groups.{AreRecordsOf}
-use Rattle.pfx_journal.proofs.Grouping.{records_split}
+use Rattle.pfx_store.specs.Groups.{AreRecordsOf}
+use Rattle.pfx_store.proofs.Grouping.{records_split}
 use Rattle.pfx_machine.specs.Plain.{Plain}
 use Rattle.pfx_machine.specs.Outcome.{outcome}
 use Rattle.pfx_machine.specs.Refusals.{refusal}

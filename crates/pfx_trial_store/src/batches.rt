@@ -1,17 +1,17 @@
 //! Batches of slots, appended one by one and by the worked client.
 ghost use Rattle.std.specs.Prelude.{◌≡◌, ◌<◌, ◌≤◌, List, length, map, IfSome};
-ghost use Rattle.pfx_journal.specs.Groups.{AreRecordsOf};
+ghost use Rattle.pfx_store.specs.Groups.{AreRecordsOf};
 ghost use Rattle.pfx_machine.specs.Outcome.{outcome};
 ghost use Rattle.pfx_machine.specs.declared.command.Command.{Command};
 ghost use Rattle.pfx_record.specs.Records.{plain};
 
 use crate::client::ten_calls;
 use pfx_disk::Disk;
-use pfx_effect::run_recorded;
 use pfx_jobs::job::Job;
-use pfx_journal::{Mark, Store, batch_of};
 use pfx_machine::{Command, State};
 use pfx_record::Record;
+use pfx_redo::run_recorded;
+use pfx_store::{Mark, Store, batch_of};
 use std::alloc::Global;
 
 /// The records of so many slots, behind which the state goes on.

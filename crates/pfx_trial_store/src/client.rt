@@ -1,18 +1,18 @@
 //! A worked client: ten calls of a store, through which each mark is kept.
 ghost use Rattle.std.specs.Prelude.{◌≡◌, ◌+◌, ◌++◌, ◌∷◌, [], List, ℕ, map, Some, IfOk, OnErr};
 ghost use Rattle.pfx_disk.specs.Disk.{IsHonest};
-ghost use Rattle.pfx_effect.specs.Applying.{applied};
-ghost use Rattle.pfx_journal.specs.Marks.{Covers};
-ghost use Rattle.pfx_journal.specs.declared.store.Mark.{Mark};
+ghost use Rattle.pfx_redo.specs.Applying.{applied};
+ghost use Rattle.pfx_store.specs.Marks.{Covers};
+ghost use Rattle.pfx_store.specs.declared.store.Mark.{Mark};
 ghost use Rattle.pfx_machine.specs.Plain.{Plain};
 ghost use Rattle.pfx_record.specs.Batches.{batch_bytes, batch_of};
 ghost use Rattle.pfx_record.specs.Records.{plain};
 
 use pfx_disk::Disk;
 use pfx_jobs::job::Job;
-use pfx_journal::{Mark, Store};
 use pfx_record::Batch;
-use pfx_store::StoreFault;
+use pfx_store::{Mark, Store};
+use pfx_store_file::StoreFault;
 
 /// Ten calls, two of which append a batch. Whatever they answer, each mark noted before is kept behind them, and
 /// where both batches are appended their marks are too.

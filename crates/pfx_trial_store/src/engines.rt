@@ -2,8 +2,8 @@
 
 use pfx_disk::{Disk, MemoryDisk};
 use pfx_engine::DurableEngine;
-use pfx_journal::Store;
 use pfx_kinds::any::AnyJob;
+use pfx_store::Store;
 use pfx_weights::TaskSet;
 use std::alloc::Global;
 

@@ -4,10 +4,10 @@ use crate::check::{check, check_at};
 use crate::held::held;
 use crate::turns::append_slot;
 use pfx_disk::{Disk, Fate, FaultDisk, MemoryDisk};
-use pfx_journal::{InitFault, Store};
 use pfx_kinds::any::AnyJob;
-use pfx_opening::{OpenFault, Part, Refusal};
-use pfx_store::Tended;
+use pfx_recover::{OpenFault, Part, Refusal};
+use pfx_store::{InitFault, Store};
+use pfx_store_file::Tended;
 use pfx_weights::TaskSet;
 use std::alloc::Global;
 

@@ -4,9 +4,9 @@ use crate::check::{check, check_at};
 use crate::held::held;
 use crate::journal::new_file;
 use pfx_disk::{Disk, FaultDisk, MemoryDisk};
-use pfx_journal::Store;
 use pfx_kinds::any::AnyJob;
-use pfx_opening::{OpenFault, Part, Refusal};
+use pfx_recover::{OpenFault, Part, Refusal};
+use pfx_store::Store;
 use std::alloc::Global;
 
 /// How many workers and tasks the header on a disk has, and how long a segment is; or why that isn't told.

@@ -3,10 +3,10 @@
 //! | Module | Tests |
 //! |---|---|
 //! | `batches` | batches of slots, for the tests of stores |
-//! | `client` | a worked client of `pfx_journal`: each mark is kept through ten calls, proved |
-//! | `journal` | `pfx_journal`: the file of a new store, frames in it, and files and disks that are refused |
-//! | `layouts` | `pfx_journal`: what the header of a file tells, whole or damaged |
-//! | `marks` | `pfx_journal`: batches of 2 and of 16 slots with turns in their midst, stops behind each call, and the worked client |
+//! | `client` | a worked client of `pfx_store`: each mark is kept through ten calls, proved |
+//! | `journal` | `pfx_store`: the file of a new store, frames in it, and files and disks that are refused |
+//! | `layouts` | `pfx_store`: what the header of a file tells, whole or damaged |
+//! | `marks` | `pfx_store`: batches of 2 and of 16 slots with turns in their midst, stops behind each call, and the worked client |
 //! | `scripts` | `pfx_engine`: scripts over stores, on disks in memory, in a file, and on ones that fail |
 //! | `stops` | `pfx_engine`: stops behind each call, and where frames go |
 //! | `turns` | `pfx_engine`: turns and checkpoints, and stops behind each call of sixty slots |

@@ -3,8 +3,8 @@ use crate::batches::{append_both, append_slots};
 use crate::check::{check, check_at};
 use crate::engines::{last_of, new_store};
 use pfx_disk::{Disk, Fate, MemoryDisk};
-use pfx_journal::{Mark, Store};
 use pfx_kinds::any::AnyJob;
+use pfx_store::{Mark, Store};
 use std::alloc::Global;
 
 /// The marks of batches of 2 and of 16 slots, where both are appended.

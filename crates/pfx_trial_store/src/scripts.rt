@@ -203,7 +203,7 @@ fn segments_are_turned(rt: HostRuntime) {
 
 /// Whether a slot's mark has the number 1 and the disk's clock, and its reply is of slot 0.
 fn slot_is_marked(alloc: Global, mut engine: DurableEngine<MemoryDisk>) -> bool {
-    match engine.carry_out(alloc, Command::Slot) {
+    match engine.execute(alloc, Command::Slot) {
         Ok((mark, Reply::Ran { slot: 0, row: _ })) => {
             engine.last_kept() == Ok(1)
                 && mark.number == 1

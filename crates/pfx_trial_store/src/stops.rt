@@ -12,7 +12,7 @@ use std::alloc::Global;
 /// Whether so many slots are carried out.
 fn run_slots(alloc: Global, count: u32, engine: &mut DurableEngine<MemoryDisk>) -> bool {
     for _ in 0..count {
-        if engine.carry_out(alloc, Command::Slot).is_err() {
+        if engine.execute(alloc, Command::Slot).is_err() {
             return false;
         }
     }
@@ -27,9 +27,7 @@ fn submit(
     engine: &mut DurableEngine<MemoryDisk>,
 ) -> bool {
     match job {
-        Some(job) => engine
-            .carry_out(alloc, Command::Submit { task, job })
-            .is_ok(),
+        Some(job) => engine.execute(alloc, Command::Submit { task, job }).is_ok(),
         None => false,
     }
 }

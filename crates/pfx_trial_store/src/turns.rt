@@ -4,14 +4,14 @@ use crate::check::{check, check_at};
 use crate::engines::{empty, new_store, opened, over};
 use crate::held::held;
 use pfx_disk::{Disk, Fate, MemoryDisk};
-use pfx_effect::{apply_all, run_recorded};
 use pfx_engine::DurableEngine;
 use pfx_jobs::job::Job;
-use pfx_journal::Store;
 use pfx_kinds::any::AnyJob;
 use pfx_machine::{Command, State};
 use pfx_record::{Batch, Record, fits};
-use pfx_store::Tended;
+use pfx_redo::{apply_all, run_recorded};
+use pfx_store::Store;
+use pfx_store_file::Tended;
 use std::alloc::Global;
 
 /// The record of a slot, where the state accepts one.
@@ -237,7 +237,7 @@ fn with_a_checkpoint(alloc: Global) -> Option<DurableEngine<MemoryDisk>> {
 /// Whether a slot takes so many calls, up to its mark.
 fn takes_calls(alloc: Global, engine: &mut DurableEngine<MemoryDisk>, calls: u64) -> bool {
     let before = engine.store.disk().clock();
-    match engine.carry_out(alloc, Command::Slot) {
+    match engine.execute(alloc, Command::Slot) {
         Ok((mark, _reply)) => mark.clock >= before && mark.clock - before == calls,
         Err(_) => false,
     }
@@ -263,7 +263,7 @@ fn marked(
     marks: &mut Vec<u64>,
     engine: &mut DurableEngine<MemoryDisk>,
 ) -> bool {
-    match engine.carry_out(alloc, command) {
+    match engine.execute(alloc, command) {
         Ok((mark, _reply)) => marks.push(mark.clock).is_ok(),
         Err(_) => false,
     }

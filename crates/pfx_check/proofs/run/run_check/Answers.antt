@@ -1,7 +1,7 @@
 use Rattle.std.proofs.Common.{sym, ap, ◌∙◌}
 use Rattle.std.proofs.lemmas.Result.{IfOk-weaker}
-use Rattle.pfx_set_text.specs.SetFile.{set_of_bytes}
-use Rattle.pfx_set_text.specs.Views.{set_view}
+use Rattle.pfx_set_file.specs.SetFile.{set_of_bytes}
+use Rattle.pfx_set_file.specs.Views.{set_view}
 use Rattle.pfx_program.proofs.PlanLemmas.{if_some}
 use Rattle.pfx_check.proofs.run.run_check.Goals as goal
 

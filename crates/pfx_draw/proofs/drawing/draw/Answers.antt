@@ -1,7 +1,7 @@
 use Rattle.std.proofs.Common.{ap, ◌∙◌, map}
 use Rattle.pfx_columns.specs.Ledgers.{Ledger}
 use Rattle.pfx_weights.specs.Rows.{Schedule}
-use Rattle.pfx_set_text.specs.Views.{task_view}
+use Rattle.pfx_set_file.specs.Views.{task_view}
 use Rattle.pfx_draw.specs.Drawing.{draw_text}
 use Rattle.pfx_draw.proofs.drawing.draw.Goals as goal
 

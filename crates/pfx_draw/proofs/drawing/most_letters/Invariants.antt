@@ -1,5 +1,5 @@
 use Rattle.std.proofs.Common.{◌≡◌, map}
-use Rattle.pfx_set_text.specs.Views.{task_view}
+use Rattle.pfx_set_file.specs.Views.{task_view}
 use Rattle.pfx_draw.specs.Drawing.{letters}
 use Rattle.pfx_draw.specs.Each.{most}
 use Rattle.pfx_draw.proofs.drawing.most_letters.Given as goal

@@ -1,6 +1,6 @@
 use Rattle.std.proofs.Common.{rules, ◌≡◌, List, Err, map, option_map, subst}
-use Rattle.pfx_set_text.specs.Views.{task_view, set_view}
-use Rattle.pfx_set_text.specs.declared.set.NamedTask.{NamedTask}
+use Rattle.pfx_set_file.specs.Views.{task_view, set_view}
+use Rattle.pfx_set_file.specs.declared.set.NamedTask.{NamedTask}
 use Rattle.pfx_program.proofs.PlanLemmas.{if_some}
 use Rattle.pfx_draw.specs.Drawing.{IsDrawing}
 use Rattle.pfx_draw.proofs.Failures.{refused_fails}

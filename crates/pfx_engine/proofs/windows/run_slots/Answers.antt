@@ -1,7 +1,7 @@
 use Rattle.std.proofs.Common.{rules, ◌≡◌, ◌<◌, ◌+◌, ◌∷◌, [], ℕ, List, ◌++◌, Ok, Err, None, length, map, sym, ap, subst, ◌∙◌, arith}
 use Rattle.std.proofs.lemmas.List.{map_push}
-use Rattle.pfx_effect.specs.Recording.{record_of}
-use Rattle.pfx_journal.specs.Groups.{AreRecordsOf}
+use Rattle.pfx_redo.specs.Recording.{record_of}
+use Rattle.pfx_store.specs.Groups.{AreRecordsOf}
 use Rattle.pfx_kinds.specs.AnyKind.{any_kind}
 use Rattle.pfx_kinds.specs.declared.any.AnyJob.{AnyJob}
 use Rattle.pfx_machine.specs.Plain.{Plain}

@@ -1,5 +1,5 @@
 use Rattle.std.proofs.Common.{vec_len, vec_capacity, ◌≡◌, ◌≤◌, map}
-use Rattle.pfx_journal.specs.Groups.{AreRecordsOf}
+use Rattle.pfx_store.specs.Groups.{AreRecordsOf}
 use Rattle.pfx_kinds.specs.AnyKind.{any_kind}
 use Rattle.pfx_kinds.specs.declared.any.AnyJob.{AnyJob}
 use Rattle.pfx_machine.specs.Outcome.{outcome}

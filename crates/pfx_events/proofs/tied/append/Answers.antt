@@ -2,11 +2,11 @@ use Rattle.std.specs.Prelude.{◌+◌, [], ◌∷◌, ◌++◌, length}
 use Rattle.std.proofs.Common.{subst, refl, inl, inr, ⊎_elim}
 use Rattle.pfx_disk.specs.CallsMade.{HasMade, HasBrokenOff, HasKeptTo}
 use Rattle.pfx_format.specs.Format.{format}
-use Rattle.pfx_journal.specs.Files.{HasFile}
+use Rattle.pfx_store.specs.Files.{HasFile}
 use Rattle.pfx_record.specs.Batches.{batch_of}
 use Rattle.pfx_world.specs.Events.{Take, happens, next_of}
 use Rattle.pfx_world.specs.World.{state_at}
-use Rattle.pfx_store.specs.Holding.{Survives}
+use Rattle.pfx_store_file.specs.Holding.{Survives}
 use Rattle.pfx_events.specs.Batches.{frames_of}
 use Rattle.pfx_events.specs.Store.{store_of}
 use Rattle.pfx_events.specs.Ties.{through}

@@ -5,7 +5,7 @@ use Rattle.pfx_world.specs.Events.{Device, Stop}
 use Rattle.pfx_events.specs.Store.{store_of}
 use Rattle.pfx_events.proofs.Reaching.{reached_new, reached_on}
 use Rattle.pfx_events.proofs.Sound.{sound}
-use Rattle.pfx_journal.specs.Files.{recovered_file}
+use Rattle.pfx_store.specs.Files.{recovered_file}
 use Rattle.pfx_events.proofs.Tying.{reopened, begun, opened_state, still_one, if_ok_both, if_ok_all, if_err_then, match_ok}
 use Rattle.pfx_events.proofs.tied.open.Goals as goal
 

@@ -1,6 +1,6 @@
 use Rattle.std.specs.Prelude.{◌∷◌}
 use Rattle.std.proofs.Common.{refl, ◌∙◌, inl, inr, ⊎_elim}
-use Rattle.pfx_journal.specs.Files.{tending}
+use Rattle.pfx_store.specs.Files.{tending}
 use Rattle.pfx_world.specs.Events.{Tend, happens}
 use Rattle.pfx_events.specs.Store.{store_of}
 use Rattle.pfx_events.specs.Ties.{through}

@@ -2,7 +2,7 @@ use Rattle.std.proofs.Common.{◌≡◌, ◌+◌, ℕ, List, None, refl, sym, ap
 use Rattle.std.specs.Prelude.{◌⊎◌, ◌≢◌, map, length, take}
 use Rattle.std.specs.Option.{is_some}
 use Rattle.std.proofs.lemmas.Bool.{false≢true}
-use Rattle.pfx_effect.specs.Recording.{records_of}
+use Rattle.pfx_redo.specs.Recording.{records_of}
 use Rattle.pfx_book.specs.Kept.{HasFailed}
 use Rattle.pfx_book.specs.Merging.{IsMerge}
 use Rattle.pfx_book.specs.Notes.{Noted, AllBacked, answers_of}

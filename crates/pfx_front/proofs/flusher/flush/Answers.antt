@@ -6,7 +6,7 @@ use Rattle.pfx_book.specs.Notes.{records_in}
 use Rattle.pfx_front.specs.Keeping.{InStep, Behind}
 use Rattle.pfx_front.specs.Showing.{AreShown, IsShown}
 use Rattle.pfx_front.proofs.Steps.{step_behind, step_shown, took_shown}
-use Rattle.pfx_front.proofs.flusher.flush.Goals.{in-Tend, in-Append+in-Some-keep}
+use Rattle.pfx_front.proofs.flusher.flush.Goals.{in-Tend, in-Append+in-Some-commit}
 use Rattle.pfx_front.proofs.flusher.flush.Goals as goal
 
 pub home-requires : goal.home-requires
@@ -22,8 +22,8 @@ home-requires g c =
           (step_shown K start c.loop.share c.loop.publisher.batches c.loop.store.state c.loop.invariant.1 c.loop.invariant.0.state);
     }
 
-pub keep-requires-clause-shown : goal.keep-requires-clause-shown
-keep-requires-clause-shown g c =
+pub commit-requires-clause-shown : goal.commit-requires-clause-shown
+commit-requires-clause-shown g c =
     took_shown c.loop.share c.next_work.new.share c.loop.publisher.batches c.in-Append.batch c.in-Append.ensures.0 c.loop.invariant.1
 
 pub tend-requires : goal.tend-requires
@@ -35,10 +35,10 @@ tend-requires g c =
           subst (λ n. InStep K start g.B.Since.failures g.B.Since.clock n c.match-next_work.store.file.broken c.match-next_work.store.state (g.D.Disk.view c.match-next_work.store.file.disk))
           (sym (w.share-is ∙ w.in-Tend.ensures.0))
           (subst (λ st. InStep K start g.B.Since.failures g.B.Since.clock c.loop.share st.file.broken st.state (g.D.Disk.view st.file.disk)) (sym w.store-is) c.loop.invariant.0)
-      | in-Append+in-Some-keep w ↦
+      | in-Append+in-Some-commit w ↦
           subst (λ n. InStep K start g.B.Since.failures g.B.Since.clock n c.match-next_work.store.file.broken c.match-next_work.store.state (g.D.Disk.view c.match-next_work.store.file.disk))
           (sym w.share-is)
-          (subst (λ st. InStep K start g.B.Since.failures g.B.Since.clock w.keep.new.share st.file.broken st.state (g.D.Disk.view st.file.disk)) (sym w.store-is) w.in-Some-keep.ensures.step)
+          (subst (λ st. InStep K start g.B.Since.failures g.B.Since.clock w.commit.new.share st.file.broken st.state (g.D.Disk.view st.file.disk)) (sym w.store-is) w.in-Some-commit.ensures.step)
     ]
 
 pub home-requires-then-not-tend-clause-behind : goal.home-requires-then-not-tend-clause-behind
@@ -49,8 +49,8 @@ home-requires-then-not-tend-clause-shown g c =
     let shown : AreShown c.match-next_work.share c.match-next_work.publisher.batches = elim c.match-next_work.branch [
       | in-Tend w ↦
           ap (λ (p : Published g.row.J.Denot). records_of p.batches) w.publisher-is ∙ c.loop.invariant.1 ∙ ap records_in (sym (w.share-is ∙ w.in-Tend.ensures.0))
-      | in-Append+in-Some-keep w ↦
-          ap (λ (p : Published g.row.J.Denot). records_of p.batches) w.publisher-is ∙ w.in-Some-keep.ensures.shown ∙ ap records_in (sym w.share-is)
+      | in-Append+in-Some-commit w ↦
+          ap (λ (p : Published g.row.J.Denot). records_of p.batches) w.publisher-is ∙ w.in-Some-commit.ensures.shown ∙ ap records_in (sym w.share-is)
     ] in
     step_shown g.J.Job.kind g.B.Named.start c.tend.new.share c.match-next_work.publisher.batches c.tend.new.store.state (shown ∙ sym c.tend.ensures.notes) c.tend.ensures.leads
 
@@ -59,11 +59,11 @@ loop-preserved g c =
     let shown : AreShown c.match-next_work.share c.match-next_work.publisher.batches = elim c.match-next_work.branch [
       | in-Tend w ↦
           ap (λ (p : Published g.row.J.Denot). records_of p.batches) w.publisher-is ∙ c.loop.invariant.1 ∙ ap records_in (sym (w.share-is ∙ w.in-Tend.ensures.0))
-      | in-Append+in-Some-keep w ↦
-          ap (λ (p : Published g.row.J.Denot). records_of p.batches) w.publisher-is ∙ w.in-Some-keep.ensures.shown ∙ ap records_in (sym w.share-is)
+      | in-Append+in-Some-commit w ↦
+          ap (λ (p : Published g.row.J.Denot). records_of p.batches) w.publisher-is ∙ w.in-Some-commit.ensures.shown ∙ ap records_in (sym w.share-is)
     ] in
     let room : (c.match-next_work.room.items ≡ []) × (16 ≤ vec_capacity c.match-next_work.room) = elim c.match-next_work.branch [
       | in-Tend w ↦ subst (λ v. (v.items ≡ []) × (16 ≤ vec_capacity v)) (sym w.room-is) (w.in-Tend.ensures.1, w.in-Tend.ensures.2)
-      | in-Append+in-Some-keep w ↦ subst (λ v. (v.items ≡ []) × (16 ≤ vec_capacity v)) (sym w.room-is) w.in-Some-keep.ensures.room
+      | in-Append+in-Some-commit w ↦ subst (λ v. (v.items ≡ []) × (16 ≤ vec_capacity v)) (sym w.room-is) w.in-Some-commit.ensures.room
     ] in
     (c.if-not-tend.ensures.step refl, shown ∙ sym c.tend.ensures.notes, c.loop.invariant.2, room.0, room.1)

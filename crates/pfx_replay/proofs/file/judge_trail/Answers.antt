@@ -1,6 +1,6 @@
 use Rattle.std.proofs.Common.{◌≡◌, Some, map, sym, subst, IsTrue, rules}
 use Rattle.pfx_record.specs.Records.{plain}
-use Rattle.pfx_effect.specs.Applying.{applied}
+use Rattle.pfx_redo.specs.Applying.{applied}
 use Rattle.pfx_replay.proofs.file.judge_trail.Goals as goal
 
 pub judge_history-requires-clause-before : goal.judge_history-requires-clause-before

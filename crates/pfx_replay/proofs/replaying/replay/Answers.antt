@@ -1,8 +1,8 @@
 use Rattle.std.proofs.Common.{◌∙◌, Err, ap, sym, subst}
 use Rattle.pfx_disk.specs.Disk.{HasFailed}
 use Rattle.pfx_format.specs.Format.{format}
-use Rattle.pfx_opening.specs.Looking.{IsKept, Looks}
-use Rattle.pfx_opening.proofs.Looking.{failed_after, looks_then}
+use Rattle.pfx_recover.specs.Looking.{IsKept, Looks}
+use Rattle.pfx_recover.proofs.Looking.{failed_after, looks_then}
 use Rattle.pfx_recovery.specs.Recovery.{found_of}
 use Rattle.pfx_recovery.specs.Store.{IsStore}
 use Rattle.pfx_replay.specs.Trails.{IsWayIf}

@@ -2,8 +2,8 @@ use Rattle.std.proofs.Common.{◌≡◌, ◌+◌, List, sym, ◌∙◌, ap, map}
 use Rattle.pfx_machine.specs.Happenings.{row_or_none}
 use Rattle.pfx_machine.specs.Slots.{Deal}
 use Rattle.pfx_record.specs.Records.{ran}
-use Rattle.pfx_effect.specs.Recording.{place_of}
-use Rattle.pfx_effect.proofs.Merging.{row_places}
+use Rattle.pfx_redo.specs.Recording.{place_of}
+use Rattle.pfx_redo.proofs.Merging.{row_places}
 use Rattle.pfx_slot.specs.Dealt.{places_with}
 use Rattle.pfx_slot.proofs.sealing.seal_on.Goals as goal
 

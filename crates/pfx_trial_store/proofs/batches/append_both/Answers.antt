@@ -1,8 +1,8 @@
 use Rattle.std.proofs.Common.{◌≡◌, ◌+◌, map, sym, ◌∙◌, ap, subst}
 use Rattle.std.specs.Prelude.{Some}
-use Rattle.pfx_effect.specs.Applying.{applied}
-use Rattle.pfx_effect.proofs.States.{applied_behind}
-use Rattle.pfx_journal.specs.Groups.{AreRecordsOf}
+use Rattle.pfx_redo.specs.Applying.{applied}
+use Rattle.pfx_redo.proofs.States.{applied_behind}
+use Rattle.pfx_store.specs.Groups.{AreRecordsOf}
 use Rattle.pfx_machine.specs.Outcome.{outcome}
 use Rattle.pfx_machine.specs.Plain.{Plain}
 use Rattle.pfx_record.specs.Records.{plain}

@@ -1,6 +1,6 @@
 use Rattle.std.proofs.Common.{◌≡◌, ◌∷◌, [], ◌++◌, List, length, map, sym, ◌∙◌, ap, arith, length-append, subst}
 use Rattle.std.specs.Prelude.{Bool, if◌then◌else◌, not}
-use Rattle.pfx_journal.specs.Groups.{AreRecordsOf}
+use Rattle.pfx_store.specs.Groups.{AreRecordsOf}
 use Rattle.pfx_machine.specs.declared.command.Command.TheVariants.{Slot}
 use Rattle.pfx_machine.proofs.Compose.{outcome-none}
 use Rattle.pfx_record.specs.Records.{plain}

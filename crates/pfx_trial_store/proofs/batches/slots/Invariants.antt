@@ -1,5 +1,5 @@
 use Rattle.std.proofs.Common.{◌≡◌, List, length, map}
-use Rattle.pfx_journal.specs.Groups.{AreRecordsOf}
+use Rattle.pfx_store.specs.Groups.{AreRecordsOf}
 use Rattle.pfx_machine.specs.Outcome.{outcome}
 use Rattle.pfx_machine.specs.declared.command.Command.{Command}
 use Rattle.pfx_record.specs.Records.{plain}

@@ -1,7 +1,7 @@
 use Rattle.std.proofs.Common.{◌≡◌, ◌+◌, ◌++◌, ◌∷◌, [], map, sym, ◌∙◌, ap}
 use Rattle.std.specs.Prelude.{Some}
-use Rattle.pfx_effect.specs.Applying.{applied}
-use Rattle.pfx_effect.proofs.States.{applied_behind}
+use Rattle.pfx_redo.specs.Applying.{applied}
+use Rattle.pfx_redo.proofs.States.{applied_behind}
 use Rattle.pfx_machine.specs.Plain.{Plain}
 use Rattle.pfx_record.specs.Batches.{batch_bytes, batch_of}
 use Rattle.pfx_record.specs.Records.{plain}

@@ -2,8 +2,8 @@ use Rattle.std.proofs.Common.{◌≡◌, ◌++◌, ◌∷◌, [], ap, sym, ◌�
 use Rattle.std.proofs.lemmas.List.{append-nil}
 use Rattle.left_right.specs.Handles.{published, pending}
 use Rattle.std.specs.Prelude.{Some}
-use Rattle.pfx_effect.specs.Applying.{applied}
-use Rattle.pfx_effect.proofs.States.{applied_behind}
+use Rattle.pfx_redo.specs.Applying.{applied}
+use Rattle.pfx_redo.proofs.States.{applied_behind}
 use Rattle.pfx_board.specs.Publisher.{Published}
 use Rattle.pfx_board.specs.Word.{records_of}
 use Rattle.pfx_board.proofs.publisher.BoardWriter+J+B+Shown+J+B+R.publish.Goals as goal

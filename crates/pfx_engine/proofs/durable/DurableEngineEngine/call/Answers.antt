@@ -12,9 +12,9 @@ pub returns-in-Ok-clause-done : goal.returns-in-Ok-clause-done
 returns-in-Ok-clause-done g c =
     let V = g.D.Disk.view in
     let old = c.args.self.now in
-    let new = c.carry_out.new.self in
+    let new = c.execute.new.self in
     let h = c.in-Ok.ensures in
-    let whole : old.store.file.broken ≡ false = not_broken old.store.file.broken c.carry_out.result (c.in-Ok.mark, c.in-Ok.reply) c.in-Ok.is (λ was. (c.carry_out.ensures.broken was).0) in
+    let whole : old.store.file.broken ≡ false = not_broken old.store.file.broken c.execute.result (c.in-Ok.mark, c.in-Ok.reply) c.in-Ok.is (λ was. (c.execute.ensures.broken was).0) in
     let at = old.same whole in
     let next = new.same h.whole in
     let moved : new.store.state ≡ outcome any_kind old.store.state (c.args.command ∷ []) = sym next ∙ h.moves ∙ ap (λ (s : Plain AnyJob). outcome any_kind s (c.args.command ∷ [])) at in
@@ -32,10 +32,10 @@ pub returns-in-Err-clause-not_done : goal.returns-in-Err-clause-not_done
 returns-in-Err-clause-not_done g c =
     let V = g.D.Disk.view in
     let old = c.args.self.now in
-    let new = c.carry_out.new.self in
+    let new = c.execute.new.self in
     let h = c.in-Err.ensures in
     not_done (λ engine. V engine.store.file.disk) (λ engine. engine.store.file.broken) (λ engine. engine.store.state) c.args.command old new old.state new.state _ _ c.in-Err.fault
     old.same h.refused h.stays h.doubt h.fails
     (λ y. rw y.1 (keeps_none (V old.store.file.disk) old.store.file.broken old.store.state, λ whole. whole))
-    (λ was. let t = c.carry_out.ensures.broken was in (err_is c.carry_out.result _ c.in-Err.fault c.in-Err.is t.0, (t.1, t.2)))
+    (λ was. let t = c.execute.ensures.broken was in (err_is c.execute.result _ c.in-Err.fault c.in-Err.is t.0, (t.1, t.2)))
     (λ accepted. keeps_doubt (V old.store.file.disk) (V new.store.file.disk) old.store.file.broken old.store.state new.store.state c.args.command (subst IsState c.state.ensures c.number-number.ensures.state) accepted h.goes.later h.kept h.keeps)

@@ -1,7 +1,7 @@
 use Rattle.std.proofs.Common.{◌≡◌, [], ◌∷◌, ap, ◌∙◌, rules}
 use Rattle.std.specs.Bool.{IsTrue}
 use Rattle.pfx_record.specs.Records.{plain}
-use Rattle.pfx_effect.specs.Applying.{after_record, applied, is_right}
+use Rattle.pfx_redo.specs.Applying.{after_record, applied, is_right}
 use Rattle.pfx_board.specs.Word.{records_of}
 use Rattle.pfx_trial_board.proofs.Lines.{batch_more}
 use Rattle.pfx_trial_board.proofs.line.Line.keep.Goals as goal

@@ -1,0 +1,168 @@
+-- What the words of a command line ask for.
+use Rattle.std.specs.Prelude.{ℕ, Bool, false, ◌&&◌, ◌≤◌, nat_lt, if◌then◌else◌, codes, List, length, Option, Some, None, option_map, option_and_then}
+use Rattle.std.specs.Char.{digit_value}
+use Rattle.std.specs.List.{list_all}
+use Rattle.std.specs.Str.{bytes_eq}
+use Rattle.std.specs.Str.Parse.{IsNumeral, digits_value, without_leading_plus}
+use Rattle.clap.specs.Walk.{Row, Text, first_of, one_of}
+use Rattle.clap.specs.Simple.{subcommand_of}
+use Rattle.pfx_args.specs.Commands.{pfx_app}
+use Rattle.pfx_args.specs.declared.request.Request.{Request}
+use Rattle.pfx_args.specs.declared.request.Request.TheVariants as request
+
+-- a request, with its texts; the last of those that can be printed as JSON says whether they are
+pub data Asked : Type 0 where
+  plan : Text → ℕ → Option Text → Bool → Asked
+  init : Text → Text → Asked
+  run : Text → Text → Option ℕ → Option ℕ → Bool → Bool → Asked
+  status : Text → Bool → Asked
+  replay : Text → Asked
+  show : Text → Option ℕ → Bool → Asked
+  draw : Text → ℕ → Option Text → Asked
+  check : Text → Asked
+  explain : Text → Asked
+
+-- the request that a value of the code is
+abbrev pub asked_by : Request → Asked
+asked_by (request.Plan set slots at json) = plan set.now slots (option_map (λ s. s.now) at) json
+asked_by (request.Init set file) = init set.now file.now
+asked_by (request.Run file script workers batch strict json) = run file.now script.now workers batch strict json
+asked_by (request.Status file json) = status file.now json
+asked_by (request.Replay file) = replay file.now
+asked_by (request.Show file task json) = show file.now task json
+asked_by (request.Draw set slots at) = draw set.now slots (option_map (λ s. s.now) at)
+asked_by (request.Check set) = check set.now
+asked_by (request.Explain fault) = explain fault.now
+
+-- one digit or more, of a number of 32 bits
+abbrev pub is_number : Text → Bool
+is_number ds = nat_lt 0 (length ds) && list_all (λ d. nat_lt (digit_value d) 10) ds && nat_lt (digits_value 10 ds) 4294967296
+
+-- the number that a text writes, where a plus may stand first
+abbrev pub number_of : Text → Option ℕ
+number_of text = let ds = without_leading_plus text in if is_number ds then Some (digits_value 10 ds) else None
+
+-- the first text that was found for an argument, and the number that it writes
+abbrev pub text_at : Text → List Row → Option Text
+text_at id rows = first_of id rows
+
+abbrev pub number_at : Text → List Row → Option ℕ
+number_at id rows = option_and_then number_of (one_of id rows)
+
+-- whether the first text that was found for an argument says so
+abbrev pub is_yes : Option Text → Bool
+is_yes None = false
+is_yes (Some text) = bytes_eq text (codes "true")
+
+abbrev pub flag_at : Text → List Row → Bool
+flag_at id rows = is_yes (text_at id rows)
+
+-- a plan, if both its words are there, with the ledger to begin with, if there is one, and whether it is printed as JSON
+abbrev pub plan_of : Option Text → Option ℕ → Option Text → Bool → Option Asked
+plan_of (Some set) (Some slots) at json = Some (plan set slots at json)
+plan_of (Some set) None at json = None
+plan_of None slots at json = None
+
+-- the plan that is asked for by what was found
+abbrev pub plan_in : List Row → Option Asked
+plan_in rows = plan_of (text_at (codes "SET") rows) (number_at (codes "SLOTS") rows) (text_at (codes "at") rows) (flag_at (codes "json") rows)
+
+-- a new store, if both its words are there
+abbrev pub init_of : Option Text → Option Text → Option Asked
+init_of (Some set) (Some file) = Some (init set file)
+init_of (Some set) None = None
+init_of None file = None
+
+abbrev pub init_in : List Row → Option Asked
+init_in rows = init_of (text_at (codes "SET") rows) (text_at (codes "FILE") rows)
+
+-- a run, if both its words are there, with the number of workers and that of slots kept at once, where there are any, whether it
+-- ends at its first refused record, and whether its lines are JSON
+abbrev pub run_of : Option Text → Option Text → Option ℕ → Option ℕ → Bool → Bool → Option Asked
+run_of (Some file) (Some script) workers batch strict json = Some (run file script workers batch strict json)
+run_of (Some file) None workers batch strict json = None
+run_of None script workers batch strict json = None
+
+abbrev pub run_in : List Row → Option Asked
+run_in rows =
+    run_of (text_at (codes "FILE") rows) (text_at (codes "SCRIPT") rows) (number_at (codes "workers") rows) (number_at (codes "batch") rows) (flag_at (codes "strict") rows)
+    (flag_at (codes "json") rows)
+
+-- a look at a store, if its word is there, and whether it is printed as JSON
+abbrev pub status_of : Option Text → Bool → Option Asked
+status_of (Some file) json = Some (status file json)
+status_of None json = None
+
+abbrev pub status_in : List Row → Option Asked
+status_in rows = status_of (text_at (codes "FILE") rows) (flag_at (codes "json") rows)
+
+-- a replay of a store, if its word is there
+abbrev pub replay_in : List Row → Option Asked
+replay_in rows = option_map replay (text_at (codes "FILE") rows)
+
+-- what the jobs of a store computed, or that of a task, if the store's word is there, and whether it is printed as JSON
+abbrev pub show_of : Option Text → Option ℕ → Bool → Option Asked
+show_of (Some file) task json = Some (show file task json)
+show_of None task json = None
+
+abbrev pub show_in : List Row → Option Asked
+show_in rows = show_of (text_at (codes "FILE") rows) (number_at (codes "TASK") rows) (flag_at (codes "json") rows)
+
+-- a picture of a plan, if both its words are there, with the ledger to begin with, if there is one
+abbrev pub draw_of : Option Text → Option ℕ → Option Text → Option Asked
+draw_of (Some set) (Some slots) at = Some (draw set slots at)
+draw_of (Some set) None at = None
+draw_of None slots at = None
+
+abbrev pub draw_in : List Row → Option Asked
+draw_in rows = draw_of (text_at (codes "SET") rows) (number_at (codes "SLOTS") rows) (text_at (codes "at") rows)
+
+-- a look at a set, if its word is there
+abbrev pub check_in : List Row → Option Asked
+check_in rows = option_map check (text_at (codes "SET") rows)
+
+-- what is said of a fault, if its word is there
+abbrev pub explain_in : List Row → Option Asked
+explain_in rows = option_map explain (text_at (codes "FAULT") rows)
+
+-- what the subcommand of this name asks for, by what was found for its arguments
+abbrev pub asked_of : Text → List Row → Option Asked
+asked_of name rows =
+    if bytes_eq name (codes "plan") then plan_in rows
+    else (if bytes_eq name (codes "init") then init_in rows
+    else (if bytes_eq name (codes "run") then run_in rows
+    else (if bytes_eq name (codes "status") then status_in rows
+    else (if bytes_eq name (codes "replay") then replay_in rows
+    else (if bytes_eq name (codes "show") then show_in rows
+    else (if bytes_eq name (codes "draw") then draw_in rows
+    else (if bytes_eq name (codes "check") then check_in rows
+    else (if bytes_eq name (codes "explain") then explain_in rows
+    else None))))))))
+
+abbrev pub asked_in : Option (Text × List Row) → Option Asked
+asked_in None = None
+asked_in (Some used) = asked_of used.0 used.1
+
+-- what the words ask for: of the subcommand that they name, with the arguments that follow it
+unfoldable pub asked : List Text → Option Asked
+asked words = asked_in (subcommand_of pfx_app words)
+
+-- the text is a count of slots in digits: 0 to 1,048,576
+abbrev pub IsSlots : Text → Type 0
+IsSlots text = IsNumeral 10 text × (digits_value 10 text ≤ 1048576)
+
+-- the text is a number of workers in digits: 0 to 64
+abbrev pub IsWorkers : Text → Type 0
+IsWorkers text = IsNumeral 10 text × (digits_value 10 text ≤ 64)
+
+-- the text is a number of slots kept at once in digits: 1 to 16
+abbrev pub IsBatch : Text → Type 0
+IsBatch text = IsNumeral 10 text × (1 ≤ digits_value 10 text) × (digits_value 10 text ≤ 16)
+
+-- the text is a task's number in digits: 0 to 65,535
+abbrev pub IsTask : Text → Type 0
+IsTask text = IsNumeral 10 text × (digits_value 10 text ≤ 65535)
+
+-- the text is a count of slots that are drawn in digits: 1 to 1,440
+abbrev pub IsDrawnSlots : Text → Type 0
+IsDrawnSlots text = IsNumeral 10 text × (1 ≤ digits_value 10 text) × (digits_value 10 text ≤ 1440)

@@ -1,0 +1,49 @@
+//! `pfx init SET FILE`.
+
+ghost use Rattle.std.specs.Prelude.{◌≡◌, IfOk, option_map};
+ghost use Rattle.clap.specs.Matches.{found_of};
+ghost use Rattle.clap.specs.Walk.{rows_of};
+ghost use Rattle.pfx_args.specs.Commands.{init_app, IsCommand};
+ghost use Rattle.pfx_args.specs.Requests.{asked_by, init_in};
+
+use crate::Request;
+use crate::arguments::{required_word, text_under};
+use clap::{ArgMatches, Command};
+use std::alloc::{AllocError, Global};
+
+const ABOUT: &str = "Make a new store from a task set";
+
+const LONG: &str = "Make a new store in FILE from the task set in SET
+
+FILE is made where it is missing; one that isn't empty is refused and stays as it is. In the new
+store no task has a job and no slot has run. A key segment of the set gives the size of each of the
+file's two segments in bytes; without it they have 1048576.
+
+One line is printed: m, the workers; real, the tasks of the set; idle, the idle tasks that take up
+what those leave over; hyper, the slots after which the plan repeats; size, the bytes of the file.
+For examples/thirds.toml it is
+
+  created m=2 real=3 idle=0 hyper=3 size=2098049";
+
+const EXAMPLE: &str = "Example:
+  pfx init examples/thirds.toml thirds.pfx    a store for three tasks of weight 2/3";
+
+pub(crate) fn init_command<'a>(alloc: Global) -> Result<Command<'a>, AllocError>
+    ensures { IfOk result (λ c. IsCommand c init_app) }
+{
+    let set = required_word(alloc, "SET").help("The set file, in TOML; - is standard input");
+    let file = required_word(alloc, "FILE").help("The file to make the store in");
+    let command = Command::new(alloc, "init")
+        .about(ABOUT)
+        .long_about(LONG)
+        .after_help(EXAMPLE);
+    command.arg(set)?.arg(file)
+}
+
+pub(crate) fn init_request<'a>(matches: &ArgMatches<'a>) -> Option<Request<'a>>
+    ensures { option_map asked_by result ≡ init_in (rows_of (found_of matches.now)) }
+{
+    let set = text_under(matches, "SET")?;
+    let file = text_under(matches, "FILE")?;
+    Some(Request::Init { set, file })
+}

@@ -1,0 +1,50 @@
+//! `pfx replay FILE`.
+
+ghost use Rattle.std.specs.Prelude.{◌≡◌, IfOk, option_map};
+ghost use Rattle.clap.specs.Matches.{found_of};
+ghost use Rattle.clap.specs.Walk.{rows_of};
+ghost use Rattle.pfx_args.specs.Commands.{replay_app, IsCommand};
+ghost use Rattle.pfx_args.specs.Requests.{asked_by, replay_in};
+
+use crate::Request;
+use crate::arguments::{required_word, text_under};
+use clap::{ArgMatches, Command};
+use std::alloc::{AllocError, Global};
+
+const ABOUT: &str = "Run a store's commands again, and compare them with its records";
+
+const LONG: &str =
+    "Run the commands of a store's file again, and compare what they do with what the file records
+
+It begins at the lesser of the file's two checkpoints, where the records lead from it to the greater one,
+else at the checkpoint in use, and computes each row and each state of a job anew, by code of its own.
+Nothing is written. One line is printed:
+
+  agrees 6                 all records and checkpoints are what the commands do, up to number 6
+  differs 3 Row            up to 2 they are; the row that is recorded for command 3 isn't PF's
+  differs 3 State          its row is; a job's state behind its quantum isn't the recorded one
+  differs 10 Checkpoint    the checkpoint of number 10 isn't what the commands up to it lead to
+
+The exit status is 0 where all agrees and 6 where something differs. A file that isn't a store, or is
+damaged, is refused as every command refuses it.";
+
+const EXAMPLE: &str = "Example:
+  pfx replay thirds.pfx    whether the store thirds.pfx is what its commands do";
+
+pub(crate) fn replay_command<'a>(alloc: Global) -> Result<Command<'a>, AllocError>
+    ensures { IfOk result (λ c. IsCommand c replay_app) }
+{
+    let file = required_word(alloc, "FILE").help("The store's file");
+    Command::new(alloc, "replay")
+        .about(ABOUT)
+        .long_about(LONG)
+        .after_help(EXAMPLE)
+        .arg(file)
+}
+
+pub(crate) fn replay_request<'a>(matches: &ArgMatches<'a>) -> Option<Request<'a>>
+    ensures { option_map asked_by result ≡ replay_in (rows_of (found_of matches.now)) }
+{
+    let file = text_under(matches, "FILE")?;
+    Some(Request::Replay { file })
+}

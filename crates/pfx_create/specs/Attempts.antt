@@ -1,0 +1,33 @@
+-- What the making of a new file leaves on a disk, and what a codec says of it.
+use Rattle.std.specs.Prelude.{◌≡◌, ◌≤◌, ◌<◌, ◌⊎◌, ℕ, List, [], length, Ok, Err}
+use Rattle.pfx_disk.specs.Disk.{View, IsHonest, Leaves, Same}
+use Rattle.pfx_recovery.specs.Codec.{Codec, Laws}
+use Rattle.pfx_recovery.specs.Layout.{Layout}
+use Rattle.pfx_recovery.specs.NewFile.{ArePartsOfNew, new_file}
+use Rattle.pfx_recovery.specs.Recovery.{recovered}
+use Rattle.pfx_recovery.specs.Refusals.{NotAStore}
+use Rattle.pfx_create.specs.Creating.{Creating, HasLengths, IsUnmade, number_one}
+
+-- At every moment of the call, and afterwards, what was empty is no store's file yet, or the new one. On a disk that holds
+-- bytes nothing is written.
+pub record Attempts (head body : List ℕ) (segment : ℕ) (old new : View) : Type 0 where
+  pub honest : IsHonest new → IsHonest old
+  pub kept : IsHonest old → IsHonest new
+  pub leaves : IsHonest old → (L : Layout) → HasLengths L head body segment → Leaves (Creating (new_file L head body number_one)) old new
+  pub untouched : IsHonest old → 0 < length old.contents → Leaves Same old new
+
+module _ {H S : Type 0} (K : Codec H S) where
+  -- the bytes are those of the parts of a new file of this header at this state
+  pub record IsMadeOf (h : H) (s : S) (head body : List ℕ) (segment : ℕ) : Type 0 where
+    pub laws : Laws K
+    pub parts : ArePartsOfNew K h s head body number_one
+    pub of_segment : segment ≡ (K.layout h).segment
+
+  -- what is no store's file yet is refused as none
+  abbrev pub RefusesUnmade : Type 0
+  RefusesUnmade = (image : List ℕ) → IsUnmade image → K.read_head image ≡ Err NotAStore
+
+  -- Where the disk was empty since some moment, each image since then is refused as no store's, or recovered to this state.
+  abbrev pub IsNoneOrMade : S → View → View → Type 0
+  IsNoneOrMade s old new = (c : ℕ) → c ≤ old.clock → ((image : List ℕ) → old.since c image → image ≡ [])
+      → (image : List ℕ) → new.since c image → (recovered K image ≡ Err NotAStore) ⊎ (recovered K image ≡ Ok s)

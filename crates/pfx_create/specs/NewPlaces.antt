@@ -1,0 +1,18 @@
+-- The places of a new file's parts.
+use Rattle.std.specs.Prelude.{◌≡◌, ℕ, ◌+◌, ◌*◌, false}
+use Rattle.pfx_store_file.specs.declared.places.Places.{Places}
+
+-- the first slot and the first segment are in use, with no frame and no checkpoint in progress, and the other gates closed
+pub record AreNew (head_len body_len long : ℕ) (places : Places) : Type 0 where
+  pub head : places.head ≡ head_len
+  pub body : places.body ≡ body_len
+  pub segment_len : places.segment_len ≡ long
+  pub slot : places.slot ≡ false
+  pub segment : places.segment ≡ false
+  pub turned : places.turned ≡ false
+  pub gate : places.gate ≡ head_len + 2 * (1 + body_len) + 9
+  pub end : places.end ≡ head_len + 2 * (1 + body_len) + long
+  pub slot_open : places.slot_open ≡ false
+  pub segment_open : places.segment_open ≡ false
+  pub begun : places.begun ≡ false
+  pub done : places.done ≡ 0

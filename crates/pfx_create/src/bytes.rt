@@ -1,0 +1,48 @@
+// The bytes of a new file.
+ghost use Rattle.std.specs.Prelude.{◌≡◌, ◌≤◌, ◌<◌, ◌+◌, ◌^◌, length, slice_index, EachIndex};
+ghost use Rattle.pfx_recovery.specs.Layout.{Layout};
+ghost use Rattle.pfx_recovery.specs.NewFile.{new_file};
+ghost use Rattle.pfx_create.specs.Creating.{HasLengths, len_of, number_one};
+
+use pfx_disk::GATE_OPEN;
+
+/// How long a new file is, in bytes.
+pub fn file_len(head: &[u8], body: &[u8], segment: usize) -> usize
+    requires { len_of head.now body.now segment < 2 ^ 62 }
+    ensures { result ≡ len_of head.now body.now segment }
+{
+    head.len() + 2 * (1 + body.len()) + 2 * segment
+}
+
+/// The byte at this place of the new file with this header, this body of its first slot, and segments of this length.
+pub fn byte_at(head: &[u8], body: &[u8], segment: usize, at: usize) -> u8
+    requires short { len_of head.now body.now segment < 2 ^ 62 }
+    requires inside { at < len_of head.now body.now segment }
+    ensures { (L : Layout) → HasLengths L head.now body.now segment
+        → result ≡ slice_index (new_file L head.now body.now number_one) at }
+{
+    let slot = head.len();
+    let segments = slot + 2 * (1 + body.len());
+    if at < slot {
+        return head[at];
+    }
+    if at == slot || at == segments {
+        return GATE_OPEN;
+    }
+    if at <= slot + body.len() {
+        return body[at - slot - 1];
+    }
+    if at == segments + 1 { 1 } else { 0 }
+}
+
+/// Fills the slice with the bytes of the new file from this place on.
+pub fn fill(head: &[u8], body: &[u8], segment: usize, at: usize, out: &mut [u8])
+    requires short { len_of head.now body.now segment < 2 ^ 62 }
+    requires inside { at + length out.old ≤ len_of head.now body.now segment }
+    ensures { (L : Layout) → HasLengths L head.now body.now segment → EachIndex out.new (λ k.
+        slice_index out.new k ≡ slice_index (new_file L head.now body.now number_one) (at + k)) }
+{
+    for (i, byte) in out.iter_mut().enumerate() {
+        *byte = byte_at(head, body, segment, at + i);
+    }
+}

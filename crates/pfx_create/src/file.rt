@@ -1,0 +1,91 @@
+// A new file as a store's.
+ghost use Rattle.std.specs.Prelude.{◌≡◌, ◌<◌, ◌+◌, ◌-◌, ◌*◌, ◌^◌, [], ℕ, List, length, slice_index, false, IfOk, IfErr, MatchResult};
+ghost use Rattle.pfx_disk.specs.Disk.{IsHonest, HasFailed};
+ghost use Rattle.pfx_disk.specs.declared.gates.TheConstants.{GATE_OPEN};
+ghost use Rattle.pfx_recovery.specs.Codec.{Codec};
+ghost use Rattle.pfx_recovery.specs.Layout.{Layout};
+ghost use Rattle.pfx_recovery.specs.NewFile.{new_file, new_parts};
+ghost use Rattle.pfx_segment.specs.Segment.{Takes};
+ghost use Rattle.pfx_store_file.specs.Holding.{Holds};
+ghost use Rattle.pfx_store_file.specs.Tending.{pieces};
+ghost use Rattle.pfx_create.specs.Attempts.{Attempts, IsMadeOf, IsNoneOrMade, RefusesUnmade};
+ghost use Rattle.pfx_create.specs.Creating.{HasLengths, len_of, number_one};
+ghost use Rattle.pfx_create.specs.NewPlaces.{AreNew};
+
+use crate::creation::create;
+use crate::fault::CreateFault;
+use pfx_disk::Disk;
+use pfx_store_file::{Places, StoreFile};
+
+/// The places of a new file with a header and a slot's body of these lengths, and segments of this one, all in bytes.
+pub fn new_places(head: usize, body: usize, segment: usize) -> Places
+    requires room { 9 < segment }
+    requires short { head + 2 * (1 + body) + 2 * segment < 2 ^ 62 }
+    ensures { AreNew head body segment result }
+{
+    let segments = head + 2 * (1 + body);
+    Places {
+        head,
+        body,
+        segment_len: segment,
+        len: segments + 2 * segment,
+        slot: false,
+        segment: false,
+        turned: false,
+        gate: segments + 9,
+        end: segments + segment,
+        slot_open: false,
+        segment_open: false,
+        begun: false,
+        done: 0,
+    }
+}
+
+/// Makes a new file on an empty disk, as `create` does, and gives it as a store's: no frame, and no checkpoint in progress.
+/// A refusal gives the disk back.
+pub fn create_file<D: Disk, H, S>(
+    disk: D,
+    head: &[u8],
+    body: &[u8],
+    segment: usize,
+) -> Result<StoreFile<D>, (CreateFault, D)>
+    requires room { 9 < segment }
+    requires short { len_of head.now body.now segment < 2 ^ 62 }
+    requires gate { slice_index head.now 0 ≡ GATE_OPEN }
+    ensures failed { IfErr result (λ e. e.0 ≡ CreateFault.Device → HasFailed (D.view disk) (D.view e.1)) }
+    ensures calls { MatchResult result
+        (λ file. Takes (6 + pieces (len_of head.now body.now segment - 1)) (D.view disk) (D.view file.disk) result)
+        (λ e. Takes (6 + pieces (len_of head.now body.now segment - 1)) (D.view disk) (D.view e.1) result) }
+    ensures not_empty { IsHonest (D.view disk) → IfErr result (λ e. e.0 ≡ CreateFault.NotEmpty
+        → 0 < length (D.view disk).contents) }
+    ensures one_call { IfErr result (λ e. e.0 ≡ CreateFault.NotEmpty
+        → (D.view e.1).clock ≡ (D.view disk).clock + 1) }
+
+    // The new file, and its store.
+    ensures empty { IsHonest (D.view disk) → IfOk result (λ _. (D.view disk).contents ≡ []) }
+    ensures whole { IfOk result (λ file. file.broken ≡ false) }
+    ensures places { IfOk result (λ file. AreNew (length head.now) (length body.now) segment file.places) }
+    ensures written { IsHonest (D.view disk) → (L : Layout) → HasLengths L head.now body.now segment
+        → IfOk result (λ file. (D.view file.disk).contents ≡ new_file L head.now body.now number_one) }
+    ensures holds { (K : Codec H S) → (h : H) → (s : S) → IsMadeOf K h s head.now body.now segment
+        → IsHonest (D.view disk) → IfOk result (λ file. (spelling : List ℕ)
+        → Holds K h file.places (new_parts s) s spelling (D.view file.disk)) }
+
+    // At every moment of the call, whatever it answers.
+    ensures attempts { MatchResult result
+        (λ file. Attempts head.now body.now segment (D.view disk) (D.view file.disk))
+        (λ e. Attempts head.now body.now segment (D.view disk) (D.view e.1)) }
+    ensures recovers { (K : Codec H S) → (h : H) → (s : S) → IsMadeOf K h s head.now body.now segment
+        → RefusesUnmade K → IsHonest (D.view disk) → MatchResult result
+        (λ file. IsNoneOrMade K s (D.view disk) (D.view file.disk))
+        (λ e. IsNoneOrMade K s (D.view disk) (D.view e.1)) }
+{
+    let mut disk = disk;
+    match create::<D, H, S>(&mut disk, head, body, segment) {
+        Ok(()) => {
+            let places = new_places(head.len(), body.len(), segment);
+            Ok(StoreFile::new::<H, S>(disk, places))
+        }
+        Err(fault) => Err((fault, disk)),
+    }
+}

@@ -1,0 +1,131 @@
+use Rattle.std.proofs.Common.{◌≡◌, ◌+◌, refl, [], ◌∷◌, map, None, Some, sym, ◌∙◌, ap, subst}
+use Rattle.std.proofs.lemmas.Bool.{true≢false}
+use Rattle.pfx_redo.specs.Recording.{record_of}
+use Rattle.pfx_kinds.specs.AnyKind.{any_kind}
+use Rattle.pfx_kinds.specs.declared.any.AnyJob.{AnyJob}
+use Rattle.pfx_machine.specs.Outcome.{outcome}
+use Rattle.pfx_machine.specs.Plain.{Plain}
+use Rattle.pfx_machine.specs.declared.command.Command.{Command}
+use Rattle.pfx_machine.specs.Refusals.{refusal}
+use Rattle.pfx_machine.proofs.Compose.{outcome-none}
+use Rattle.pfx_record.specs.Records.{plain}
+use Rattle.pfx_store.specs.Groups.{AreRecordsOf}
+use Rattle.pfx_engine.proofs.Commands.{one_record}
+use Rattle.pfx_engine.proofs.Keeps.{keeps_more, worked}
+use Rattle.pfx_engine.specs.Stepping.{command_calls, frame_len}
+use Rattle.pfx_engine.proofs.Serving.{endless_after, limits_refuse}
+use Rattle.pfx_engine.proofs.Stepping.{takes_as, takes_no_call}
+use Rattle.pfx_segment.specs.Segment.{Takes}
+use Rattle.std.specs.Prelude.{IsOk}
+use Rattle.pfx_engine.proofs.durable.DurableEngine.execute.Goals as goal
+
+pub returns-then-is_broken-clause-keeps : goal.returns-then-is_broken-clause-keeps
+returns-then-is_broken-clause-keeps g c honest start H h all at = keeps_more start H (c.args.command ∷ []) (g.D.Disk.view c.args.self.now.store.file.disk)
+
+pub returns-in_default-clause-keeps : goal.returns-in_default-clause-keeps
+returns-in_default-clause-keeps g c honest start H h all at = keeps_more start H (c.args.command ∷ []) (g.D.Disk.view c.args.self.now.store.file.disk)
+
+pub returns-in-Err-clause-keeps : goal.returns-in-Err-clause-keeps
+returns-in-Err-clause-keeps g c honest start H h all at = keeps_more start H (c.args.command ∷ []) (g.D.Disk.view c.args.self.now.store.file.disk)
+
+pub returns-in-Err-2-clause-keeps : goal.returns-in-Err-2-clause-keeps
+returns-in-Err-2-clause-keeps g c honest start H h all at = keeps_more start H (c.args.command ∷ []) (g.D.Disk.view c.args.self.now.store.file.disk)
+
+pub invariant_of-self-in-Ok-run_recorded : goal.invariant_of-self-in-Ok-run_recorded
+invariant_of-self-in-Ok-run_recorded g c = record {
+  same = λ whole.
+      let before = sym c.is_broken.ensures.broken ∙ c.if-is_broken.false in
+      let at = c.args.self.now.same before in
+      let done = c.in-Ok-run_recorded.ensures in
+      let mine : AreRecordsOf any_kind c.args.self.now.store.state (c.args.command ∷ []) (map plain c.push_reserved.new.self.items) =
+      one_record c.args.self.now.store.state c.args.command (map plain c.push_reserved.new.self.items) (subst (λ (t : Plain AnyJob). refusal any_kind t c.args.command ≡ None) at done.exact)
+      (rw (c.push_reserved.ensures.items, c.in-Ok.ensures.items) (ap (λ r. r ∷ []) (done.kept_as ∙ ap (λ (t : Plain AnyJob). record_of any_kind t c.args.command) at))) in
+      done.outcome c.args.self.now.state [] (sym (outcome-none any_kind c.args.self.now.state))
+      ∙ (ap (λ (t : Plain AnyJob). outcome any_kind t (c.args.command ∷ [])) at
+      ∙ sym (worked c.commit.result _ _ _ _ c.commit.ensures.works c.commit.ensures.room before whole (c.commit.ensures.state (c.args.command ∷ []) mine)));
+}
+
+pub returns-in-Ok-commit-clause-keeps : goal.returns-in-Ok-commit-clause-keeps
+returns-in-Ok-commit-clause-keeps g c honest start H h all there =
+    let at = c.args.self.now.same (sym c.is_broken.ensures.broken ∙ c.if-is_broken.false) in
+    let done = c.in-Ok-run_recorded.ensures in
+    let mine : AreRecordsOf any_kind c.args.self.now.store.state (c.args.command ∷ []) (map plain c.push_reserved.new.self.items) =
+    one_record c.args.self.now.store.state c.args.command (map plain c.push_reserved.new.self.items) (subst (λ (t : Plain AnyJob). refusal any_kind t c.args.command ≡ None) at done.exact)
+    (rw (c.push_reserved.ensures.items, c.in-Ok.ensures.items) (ap (λ r. r ∷ []) (done.kept_as ∙ ap (λ (t : Plain AnyJob). record_of any_kind t c.args.command) at))) in
+    c.commit.ensures.keeps honest start H (c.args.command ∷ []) h all there mine
+
+pub returns-clause-keeps : goal.returns-clause-keeps
+returns-clause-keeps g c honest start H h all there =
+    let at = c.args.self.now.same (sym c.is_broken.ensures.broken ∙ c.if-is_broken.false) in
+    let done = c.in-Ok-run_recorded.ensures in
+    let mine : AreRecordsOf any_kind c.args.self.now.store.state (c.args.command ∷ []) (map plain c.push_reserved.new.self.items) =
+    one_record c.args.self.now.store.state c.args.command (map plain c.push_reserved.new.self.items) (subst (λ (t : Plain AnyJob). refusal any_kind t c.args.command ≡ None) at done.exact)
+    (rw (c.push_reserved.ensures.items, c.in-Ok.ensures.items) (ap (λ r. r ∷ []) (done.kept_as ∙ ap (λ (t : Plain AnyJob). record_of any_kind t c.args.command) at))) in
+    c.commit.ensures.keeps honest start H (c.args.command ∷ []) h all there mine
+
+pub returns-in-Ok-commit-clause-endless : goal.returns-in-Ok-commit-clause-endless
+returns-in-Ok-commit-clause-endless g c = λ endless.
+    (let done = c.in-Ok-run_recorded.ensures in
+    let s = c.args.self.now.state in
+    endless_after s c.run_recorded.new.state c.args.command c.number-number.ensures.state endless done.exact (done.outcome s [] (sym (outcome-none any_kind s))))
+
+pub returns-in-Err-2-clause-served : goal.returns-in-Err-2-clause-served
+returns-in-Err-2-clause-served g c = λ endless slot.
+    (let s = c.args.self.now.state in
+    let refused : refusal any_kind s c.args.command ≡ Some c.in-Err.fault = c.in-Err.ensures.exact.1 (λ is. true≢false (sym (c.is_memory.ensures.1 is) ∙ c.if-is_memory.false)) in
+    limits_refuse s c.in-Err.fault c.number-number.ensures.state endless (subst (λ (d : Command AnyJob). refusal any_kind s d ≡ Some c.in-Err.fault) slot refused))
+
+pub returns-then-is_broken-clause-calls : goal.returns-then-is_broken-clause-calls
+returns-then-is_broken-clause-calls g c = takes_no_call (command_calls (frame_len c.args.self.now.state (c.args.command ∷ [])) c.args.self.now.store.file.places) (g.D.Disk.view c.args.self.now.store.file.disk) _
+
+pub returns-in_default-clause-calls : goal.returns-in_default-clause-calls
+returns-in_default-clause-calls g c = takes_no_call (command_calls (frame_len c.args.self.now.state (c.args.command ∷ [])) c.args.self.now.store.file.places) (g.D.Disk.view c.args.self.now.store.file.disk) _
+
+pub returns-in-Err-clause-calls : goal.returns-in-Err-clause-calls
+returns-in-Err-clause-calls g c = takes_no_call (command_calls (frame_len c.args.self.now.state (c.args.command ∷ [])) c.args.self.now.store.file.places) (g.D.Disk.view c.args.self.now.store.file.disk) _
+
+pub returns-in-Err-2-clause-calls : goal.returns-in-Err-2-clause-calls
+returns-in-Err-2-clause-calls g c = takes_no_call (command_calls (frame_len c.args.self.now.state (c.args.command ∷ [])) c.args.self.now.store.file.places) (g.D.Disk.view c.args.self.now.store.file.disk) _
+
+pub returns-in-Ok-commit-clause-calls : goal.returns-in-Ok-commit-clause-calls
+returns-in-Ok-commit-clause-calls g c =
+    let V = g.D.Disk.view in
+    let at = c.args.self.now.same (sym c.is_broken.ensures.broken ∙ c.if-is_broken.false) in
+    let done = c.in-Ok-run_recorded.ensures in
+    let mine : AreRecordsOf any_kind c.args.self.now.store.state (c.args.command ∷ []) (map plain c.push_reserved.new.self.items) =
+    one_record c.args.self.now.store.state c.args.command (map plain c.push_reserved.new.self.items) (subst (λ (t : Plain AnyJob). refusal any_kind t c.args.command ≡ None) at done.exact)
+    (rw (c.push_reserved.ensures.items, c.in-Ok.ensures.items) (ap (λ r. r ∷ []) (done.kept_as ∙ ap (λ (t : Plain AnyJob). record_of any_kind t c.args.command) at))) in
+    takes_as (command_calls (frame_len c.args.self.now.state (c.args.command ∷ [])) c.args.self.now.store.file.places) (V c.args.self.now.store.file.disk) (V c.commit.new.store.file.disk) c.commit.result _ (λ _. subst (λ r. IsOk r) (sym c.in-Ok-commit.is) refl)
+    (subst (λ (t : Plain AnyJob). Takes (command_calls (frame_len t (c.args.command ∷ [])) c.args.self.now.store.file.places) (V c.args.self.now.store.file.disk) (V c.commit.new.store.file.disk) c.commit.result) (sym at) (c.commit.ensures.calls (c.args.command ∷ []) mine))
+
+pub returns-clause-calls : goal.returns-clause-calls
+returns-clause-calls g c =
+    let V = g.D.Disk.view in
+    let at = c.args.self.now.same (sym c.is_broken.ensures.broken ∙ c.if-is_broken.false) in
+    let done = c.in-Ok-run_recorded.ensures in
+    let mine : AreRecordsOf any_kind c.args.self.now.store.state (c.args.command ∷ []) (map plain c.push_reserved.new.self.items) =
+    one_record c.args.self.now.store.state c.args.command (map plain c.push_reserved.new.self.items) (subst (λ (t : Plain AnyJob). refusal any_kind t c.args.command ≡ None) at done.exact)
+    (rw (c.push_reserved.ensures.items, c.in-Ok.ensures.items) (ap (λ r. r ∷ []) (done.kept_as ∙ ap (λ (t : Plain AnyJob). record_of any_kind t c.args.command) at))) in
+    takes_as (command_calls (frame_len c.args.self.now.state (c.args.command ∷ [])) c.args.self.now.store.file.places) (V c.args.self.now.store.file.disk) (V c.commit.new.store.file.disk) c.commit.result _ (λ is. absurd (true≢false (sym is)))
+    (subst (λ (t : Plain AnyJob). Takes (command_calls (frame_len t (c.args.command ∷ [])) c.args.self.now.store.file.places) (V c.args.self.now.store.file.disk) (V c.commit.new.store.file.disk) c.commit.result) (sym at) (c.commit.ensures.calls (c.args.command ∷ []) mine))
+
+pub commit-requires-clause-right : goal.commit-requires-clause-right
+commit-requires-clause-right g c =
+    let at = c.args.self.now.same (sym c.is_broken.ensures.broken ∙ c.if-is_broken.false) in
+    let done = c.in-Ok-run_recorded.ensures in
+    let mine : AreRecordsOf any_kind c.args.self.now.store.state (c.args.command ∷ []) (map plain c.push_reserved.new.self.items) =
+    one_record c.args.self.now.store.state c.args.command (map plain c.push_reserved.new.self.items) (subst (λ (t : Plain AnyJob). refusal any_kind t c.args.command ≡ None) at done.exact)
+    (rw (c.push_reserved.ensures.items, c.in-Ok.ensures.items) (ap (λ r. r ∷ []) (done.kept_as ∙ ap (λ (t : Plain AnyJob). record_of any_kind t c.args.command) at))) in
+    (c.args.command ∷ [], mine)
+
+pub returns-in-Ok-commit-clause-number : goal.returns-in-Ok-commit-clause-number
+returns-in-Ok-commit-clause-number g c =
+    let at = c.args.self.now.same (sym c.is_broken.ensures.broken ∙ c.if-is_broken.false) in
+    let done = c.in-Ok-run_recorded.ensures in
+    let mine : AreRecordsOf any_kind c.args.self.now.store.state (c.args.command ∷ []) (map plain c.push_reserved.new.self.items) =
+    one_record c.args.self.now.store.state c.args.command (map plain c.push_reserved.new.self.items) (subst (λ (t : Plain AnyJob). refusal any_kind t c.args.command ≡ None) at done.exact)
+    (rw (c.push_reserved.ensures.items, c.in-Ok.ensures.items) (ap (λ r. r ∷ []) (done.kept_as ∙ ap (λ (t : Plain AnyJob). record_of any_kind t c.args.command) at))) in
+    c.in-Ok-commit.ensures.mark.0 ∙ ap (λ (t : Plain AnyJob). t.number) (c.in-Ok-commit.ensures.state (c.args.command ∷ []) mine) ∙ ap (λ (t : Plain AnyJob). t.number + 1) (sym at)
+
+pub returns-in-Ok-commit-clause-moves : goal.returns-in-Ok-commit-clause-moves
+returns-in-Ok-commit-clause-moves g c = c.in-Ok-run_recorded.ensures.outcome c.args.self.now.state [] (sym (outcome-none any_kind c.args.self.now.state))

@@ -1,6 +1,0 @@
-pub mod Standing
-pub mod Stores
-pub mod Making
-pub mod Marks
-pub mod Files
-pub mod Groups

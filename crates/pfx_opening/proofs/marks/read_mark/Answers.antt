@@ -1,8 +1,0 @@
-use Rattle.std.proofs.Common.{◌∙◌}
-use Rattle.pfx_opening.proofs.Numbers.{first_is}
-use Rattle.pfx_opening.proofs.marks.read_mark.Goals as goal
-
-pub returns-clause-bytes : goal.returns-clause-bytes
-returns-clause-bytes g c bytes kept =
-    c.copy_from_slice.ensures.after
-    ∙ first_is c.args.at c.read.new.out (g.D.Disk.view c.args.disk.now).contents bytes kept.contents (c.in_ok-read.ensures.bytes kept.honest)

@@ -1,0 +1,48 @@
+-- How runs of calls that only read go on.
+use Rattle.std.proofs.Common.{inl, inr, ⊎_elim, ℕ, List, length, ◌∙◌, ap, arith, Result}
+use Rattle.pfx_disk.specs.Disk.{View, IsHonest, Leaves, Same, HasFailed, Ticks}
+use Rattle.pfx_disk.specs.declared.device.DeviceFailed.{DeviceFailed}
+use Rattle.pfx_disk.proofs.Steps.{leaves_then, leaves_none}
+use Rattle.pfx_recover.specs.Looking.{IsKept, Looks, Reaches}
+
+pub looks_then : (a b c : View) → Looks a b → Looks b c → Looks a c
+looks_then a b c first second = record {
+  leaves = λ h. leaves_then Same Same Same a b c first.later (λ x y is. is) (λ x y z one two. two ∙ one) (first.leaves h) (second.leaves (first.leaves h).honest);
+  honest = λ h. first.honest (second.honest h);
+  later = omega (arith, first.later, second.later);
+  no_fewer = omega (arith, first.no_fewer, second.no_fewer);
+}
+
+pub looks_none : (a : View) → Looks a a
+looks_none a = record {
+  leaves = λ h. leaves_none a h;
+  honest = λ h. h;
+  later = omega arith;
+  no_fewer = omega arith;
+}
+
+pub kept_after : (bytes : List ℕ) (a b : View) → Looks a b → IsKept bytes a → IsKept bytes b
+kept_after bytes a b looks kept =
+    let left = looks.leaves kept.honest in
+    record {
+      honest = left.honest;
+      contents = left.contents ∙ kept.contents;
+      only = λ image is. let d = left.now image is in d.2 ∙ kept.only d.0 d.1;
+    }
+
+pub reaches_after : (n : ℕ) (a b : View) → Looks a b → Reaches n a → Reaches n b
+reaches_after n a b looks reach h =
+    let before = looks.honest h in
+    omega (arith, reach before, ap length (looks.leaves before).contents)
+
+pub failed_after : (a b c : View) → Looks a b → HasFailed b c → HasFailed a c
+failed_after a b c looks failed = ⊎_elim (λ rise. inl (omega (arith, looks.no_fewer, rise))) (λ spent. inr spent) failed
+
+-- one call of a disk
+pub looks_of : {T : Type 0} (a b : View) (result : Result T DeviceFailed) → Ticks a b result → (IsHonest b → IsHonest a) → (IsHonest a → Leaves Same a b) → Looks a b
+looks_of a b result time honest leaves = record {
+  leaves = leaves;
+  honest = honest;
+  later = time.later;
+  no_fewer = time.no_fewer;
+}

@@ -1,0 +1,23 @@
+-- Which of two slots, and of two segments, was chosen.
+use Rattle.std.specs.Prelude.{◌≡◌, ℕ, List, Bool, not, Result, Ok}
+use Rattle.pfx_recovery.specs.Codec.{Codec}
+use Rattle.pfx_recovery.specs.Layout.{slot_at, segment_at, is_open, body_at}
+use Rattle.pfx_recovery.specs.Recovery.{segment_first, on_some}
+use Rattle.pfx_recovery.specs.Refusals.{Refusal, Damaged, Checkpoint}
+use Rattle.pfx_recover.specs.declared.choosing.Choice.{Choice}
+
+module _ {H S : Type 0} (K : Codec H S) (h : H) (bytes : List ℕ) where
+  -- it is the slot that was to be chosen, and the other's gate stands so
+  pub record IsSlot (choice : Choice) (read : Result Bool Refusal) : Type 0 where
+    pub chosen : read ≡ Ok choice.second
+    pub other : choice.other_open ≡ is_open (slot_at (K.layout h) (not choice.second)) bytes
+
+  -- the state in this slot
+  abbrev pub slot_state : Bool → Result S Refusal
+  slot_state second = on_some (K.read_state h (body_at (K.layout h) (slot_at (K.layout h) second) bytes)) (Damaged (slot_at (K.layout h) second) Checkpoint) (λ s. Ok s)
+
+  -- it is the segment that was to be chosen, the other's gate stands so, and the other has this number
+  pub record IsSegment (choice : Choice) (read : Result Bool Refusal) : Type 0 where
+    pub chosen : read ≡ Ok choice.second
+    pub other : choice.other_open ≡ is_open (segment_at (K.layout h) (not choice.second)) bytes
+    pub number : choice.other_number ≡ segment_first K h bytes (not choice.second)

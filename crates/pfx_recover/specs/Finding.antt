@@ -1,0 +1,35 @@
+-- What an opened file is.
+use Rattle.std.specs.Prelude.{◌≡◌, ℕ, List, length, true, false, Option, Some, None, Result, Ok, Vec}
+use Rattle.std.specs.declared.alloc.Global.{Global}
+use Rattle.pfx_disk.specs.Disk.{View}
+use Rattle.pfx_recovery.specs.Codec.{Codec}
+use Rattle.pfx_recovery.specs.Recovery.{Found, found, found_of}
+use Rattle.pfx_recovery.specs.Refusals.{Refusal}
+use Rattle.pfx_recovery.specs.Store.{Parts}
+use Rattle.pfx_store_file.specs.Files.{AreOf, file_in}
+use Rattle.pfx_store_file.specs.Holding.{Holds}
+use Rattle.pfx_store_file.specs.declared.places.Places.{Places}
+use Rattle.pfx_recover.specs.Looking.{IsKept}
+
+module _ {H S : Type 0} (K : Codec H S) (h : H) where
+  -- where two segments were read, the body of a slot that holds the state between them; else there is none
+  abbrev pub IsMiddle : Parts S → Option (Vec ℕ Global) → Type 0
+  IsMiddle p None = p.turned ≡ false
+  IsMiddle p (Some spelled) = (p.turned ≡ true) × (length spelled.items ≡ (K.layout h).body) × (K.read_state h spelled.items ≡ Some p.middle)
+
+  -- In these bytes these parts and this state are found, and the places are those of the file with these parts: its gates
+  -- stand as they do there, and of the checkpoint in progress nothing is done.
+  pub record IsFound (bytes : List ℕ) (places : Places) (state : S) (middle : Option (Vec ℕ Global)) (read : Result (Found H S) Refusal) : Type 0 where
+    pub parts : Parts S
+    pub found : read ≡ Ok (found_of h parts state)
+    pub file : AreOf K (file_in K bytes h parts) places
+    pub between : IsMiddle parts middle
+
+  -- That is what is found in these bytes; the store of it holds on the disk, which has these bytes, also behind a stop.
+  pub record IsOpened (bytes : List ℕ) (places : Places) (state : S) (middle : Option (Vec ℕ Global)) (disk : View) : Type 0 where
+    pub parts : Parts S
+    pub found : found K bytes ≡ Ok (found_of h parts state)
+    pub file : AreOf K (file_in K bytes h parts) places
+    pub kept : IsKept bytes disk
+    pub holds : (spelling : List ℕ) → Holds K h places parts state spelling disk
+    pub between : IsMiddle parts middle

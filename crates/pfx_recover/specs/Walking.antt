@@ -1,0 +1,41 @@
+-- The frames of a segment, as they were read, and the places of a file that was read.
+use Rattle.std.specs.Prelude.{◌≡◌, ◌<◌, ◌+◌, ℕ, List, Bool, false, All, length, take, Result, Ok}
+use Rattle.std.specs.List.{concat}
+use Rattle.pfx_recovery.specs.Layout.{Layout, first_gate, segment_end}
+use Rattle.pfx_recovery.specs.Refusals as means
+use Rattle.pfx_segment.specs.Frames.{frame_len}
+use Rattle.pfx_store_file.specs.Fitting.{Fits}
+use Rattle.pfx_store_file.specs.declared.places.Places.{Places}
+use Rattle.pfx_recover.specs.declared.walked.Walked.{Walked}
+
+-- these frames, each as long as its head says, fill the bytes, one behind the other
+pub record Fill (frames : List (List ℕ)) (bytes : List ℕ) : Type 0 where
+  pub whole : All (λ frame. length frame ≡ frame_len 0 frame) frames
+  pub joined : concat frames ≡ bytes
+
+-- the frames that fill these bytes were read, and this is the last one's number
+abbrev pub IsWalk : List ℕ → ℕ → Result (List (List ℕ) × ℕ) means.Refusal → Type 0
+IsWalk bytes last read = (frames : List (List ℕ)) × Fill frames bytes × (read ≡ Ok (frames, last))
+
+-- the bytes of the frames
+abbrev pub frames_of : Walked → List ℕ
+frames_of walked = take walked.len walked.bytes.items
+
+-- they stand in this segment, with the gate behind them
+pub record StandIn (L : Layout) (second : Bool) (walked : Walked) : Type 0 where
+  pub gate : walked.gate ≡ first_gate L second + walked.len
+  pub inside : walked.gate < segment_end L second
+
+-- These are the slot and the segment in use, how the gates of the others stand, and the next frame's gate; and no
+-- checkpoint is begun, nor anything of one done.
+pub record AreInUse (L : Layout) (in_slot other_slot is_turned second other_segment : Bool) (next : ℕ) (places : Places) : Type 0 where
+  pub fits : Fits L places
+  pub slot : places.slot ≡ in_slot
+  pub slot_open : places.slot_open ≡ other_slot
+  pub turned : places.turned ≡ is_turned
+  pub segment : places.segment ≡ second
+  pub segment_open : places.segment_open ≡ other_segment
+  pub gate : places.gate ≡ next
+  pub end : places.end ≡ segment_end L second
+  pub unbegun : places.begun ≡ false
+  pub undone : places.done ≡ 0

@@ -1,0 +1,86 @@
+// How the bytes of a store's file are read.
+ghost use Rattle.std.specs.Prelude.{◌≡◌, ◌≤◌, ◌<◌, ◌^◌, ℕ, length, Some, None, IfOk, IsTrue, IsFalse};
+
+use crate::faults::HeadFault;
+use crate::sizes::Sizes;
+use std::alloc::{AllocError, Global};
+
+/// How the headers, the states and the frames of a store's file are read. The type names the format, and no value of it
+/// is made.
+///
+/// `codec` says what the bytes stand for, and each function answers as it says. Numbers are those of commands, and stay
+/// below 2^48: the last one that a state has seen, or that a frame has.
+pub trait Format {
+    ghost use Rattle.pfx_recovery.specs.Codec.{Codec, Laws};
+    ghost use Rattle.pfx_recover.specs.Formats.{HasSizes, Bounds};
+    ghost use Rattle.pfx_recover.specs.Answers.{GivesHead};
+
+    /// What stands at the front of a file.
+    type Header: Drop;
+
+    /// What a file stands for.
+    type State: Drop;
+
+    /// What the bytes of the parts of a file stand for.
+    ghost codec: { Codec Self.Header Self.State };
+
+    /// Which states a slot of a file with this header can hold. Those that are read fit, and those that frames lead to.
+    ghost fits: { Self.Header → Self.State → Type 0 };
+
+    ghost HEAD_MOST: { ℕ };
+
+    /// How many bytes at the front of a file are enough for each header.
+    const HEAD_MOST: usize;
+
+    /// The header at the front of these bytes, or why there is none.
+    fn read_head(alloc: Global, bytes: &[u8]) -> Result<Self::Header, HeadFault>
+        ensures { GivesHead (codec.read_head bytes.now) result };
+
+    /// How long the parts of a file with this header are.
+    fn sizes(header: &Self::Header) -> Sizes
+        ensures { HasSizes (codec.layout header.now) result };
+
+    /// The number at the beginning of a slot's body, which isn't tested.
+    fn slot_number(bytes: &[u8; 8]) -> u64
+        ensures { result ≡ codec.slot_number bytes.now };
+
+    /// The state that a slot's body stands for, or `None` where it doesn't pass its tests.
+    fn read_state(
+        alloc: Global,
+        header: &Self::Header,
+        bytes: &[u8],
+    ) -> Result<Option<Self::State>, AllocError>
+        ensures { IfOk result (λ state. state ≡ codec.read_state header.now bytes.now) };
+
+    /// The number of the last command that the state has seen.
+    fn number(state: &Self::State) -> u64
+        ensures { result ≡ codec.number state.now };
+
+    /// The number of the first command of a segment, which stands behind its gate.
+    fn segment_number(bytes: &[u8; 8]) -> u64
+        ensures { result ≡ codec.segment_number bytes.now };
+
+    /// The number of the frame's last command, or `None` where the frame's head isn't right behind this number.
+    fn after(last: u64, frame: &[u8]) -> Option<u64>
+        requires { last < 2 ^ 48 }
+        ensures { result ≡ codec.after last frame.now };
+
+    /// Takes over the frame's records. Where they aren't right at this state, the answer is `false`, and the state is no
+    /// longer of use.
+    fn apply(alloc: Global, state: &mut Self::State, frame: &[u8]) -> Result<bool, AllocError>
+        ensures taken { IfOk result (λ right. IsTrue right → codec.apply state.old frame.now ≡ Some state.new) }
+        ensures wrong { IfOk result (λ right. IsFalse right → codec.apply state.old frame.now ≡ None) };
+
+    /// Writes the body of a slot that holds the state. It takes no memory.
+    fn encode(header: &Self::Header, state: &Self::State, out: &mut [u8])
+        requires state { fits header.now state.now }
+        requires long { length out.old ≡ (codec.layout header.now).body }
+        ensures read { codec.read_state header.now out.new ≡ Some state.now }
+        ensures long { length out.new ≡ length out.old };
+
+    /// The codec is one of a store's files.
+    ghost laws: { Laws codec };
+
+    /// Its headers, its numbers and the states that fit are bounded.
+    ghost bounds: { Bounds codec fits HEAD_MOST };
+}

@@ -1,0 +1,123 @@
+// The frames of a segment.
+ghost use Rattle.std.specs.Prelude.{◌≡◌, ◌≤◌, ◌<◌, ◌+◌, ◌^◌, ℕ, List, length, take, drop, IfOk, IsErrOf};
+ghost use Rattle.pfx_disk.specs.Disk.{HasFailed};
+ghost use Rattle.pfx_recovery.specs.Recovery.{walk};
+ghost use Rattle.pfx_recover.specs.Answers.{Gives};
+ghost use Rattle.pfx_recover.specs.Looking.{IsKept, Looks, Reaches};
+ghost use Rattle.pfx_recover.specs.Walking.{IsWalk, frames_of};
+
+use crate::faults::{OpenFault, Part, Refusal};
+use crate::format::Format;
+use crate::held::{head_at, hold};
+use crate::walked::Walked;
+use pfx_disk::{Disk, GATE_OPEN};
+use pfx_segment::read_one;
+use std::alloc::Global;
+
+// How many bytes the frames take that these bytes begin with, up to the first closed gate, and their last number. The
+// first of them has this gate, and comes behind the command of this number.
+fn walk_held<F: Format>(bytes: &[u8], first: usize, number: u64) -> Result<(usize, u64), OpenFault>
+    requires some { 0 < length bytes.now }
+    requires place { first + length bytes.now < 2 ^ 64 }
+    requires number { number < 2 ^ 48 }
+    ensures device { ¬ IsErrOf result OpenFault.Device }
+    ensures inside { IfOk result (λ walked. walked.0 < length bytes.now) }
+    ensures last { IfOk result (λ walked. walked.1 < 2 ^ 48) }
+    ensures exact { (image : List ℕ) → bytes.now ≡ take (length bytes.now) (drop first image)
+        → (n : ℕ) → first + length bytes.now ≤ n
+        → Gives (λ walked. IsWalk (take walked.0 bytes.now) walked.1)
+        (walk F.codec (1 + n) first (first + length bytes.now) number image) result }
+{
+    let mut at = 0;
+    let mut last = number;
+    'walk: loop {
+        if bytes[at] != GATE_OPEN {
+            return Ok((at, last));
+        }
+        let Some((len, next)) = head_at::<F>(bytes, at, last) else {
+            return Err(OpenFault::Refused(Refusal::Damaged {
+                at: first + at,
+                what: Part::Frame,
+            }));
+        };
+        last = next;
+        at += len;
+    }
+}
+
+// The frames from this gate on, as below, each by at most three calls of the disk, and the gate behind them by one.
+fn read_singly<F: Format, D: Disk>(
+    alloc: Global,
+    disk: &mut D,
+    first: usize,
+    end: usize,
+    number: u64,
+) -> Result<Walked, OpenFault>
+    requires order { first < end }
+    requires number { number < 2 ^ 48 }
+    requires inside { Reaches end (D.view disk.old) }
+    ensures looks { Looks (D.view disk.old) (D.view disk.new) }
+    ensures device { IsErrOf result OpenFault.Device → HasFailed (D.view disk.old) (D.view disk.new) }
+    ensures gate { IfOk result (λ walked. walked.gate ≡ first + walked.len) }
+    ensures inside { IfOk result (λ walked. walked.gate < end) }
+    ensures last { IfOk result (λ walked. walked.last < 2 ^ 48) }
+    ensures exact { (bytes : List ℕ) → IsKept bytes (D.view disk.old) → (n : ℕ) → end ≤ n
+        → Gives (λ walked. IsWalk (frames_of walked) walked.last) (walk F.codec (1 + n) first end number bytes) result }
+{
+    let mut gate = first;
+    let mut last = number;
+    let mut bytes = Vec::new(alloc);
+    'walk: loop {
+        let Some(frame) = read_one(alloc, disk, gate, end)? else {
+            let len = bytes.len();
+            return Ok(Walked {
+                bytes,
+                len,
+                last,
+                gate,
+            });
+        };
+        let Some(next) = F::after(last, &frame) else {
+            return Err(OpenFault::Refused(Refusal::Damaged {
+                at: gate,
+                what: Part::Frame,
+            }));
+        };
+        last = next;
+        gate += frame.len();
+        bytes.extend_from_slice(&frame)?;
+    }
+}
+
+/// The frames from this gate on, up to the first closed one, behind the command of this number. They are read by one
+/// call of the disk, or one by one if there is no memory for all bytes up to the end. A frame is refused where it doesn't
+/// fit before the end, or its head isn't right behind the frames before it.
+pub(crate) fn read_frames<F: Format, D: Disk>(
+    alloc: Global,
+    disk: &mut D,
+    first: usize,
+    end: usize,
+    number: u64,
+) -> Result<Walked, OpenFault>
+    requires order { first < end }
+    requires number { number < 2 ^ 48 }
+    requires inside { Reaches end (D.view disk.old) }
+    ensures looks { Looks (D.view disk.old) (D.view disk.new) }
+    ensures device { IsErrOf result OpenFault.Device → HasFailed (D.view disk.old) (D.view disk.new) }
+    ensures gate { IfOk result (λ walked. walked.gate ≡ first + walked.len) }
+    ensures inside { IfOk result (λ walked. walked.gate < end) }
+    ensures last { IfOk result (λ walked. walked.last < 2 ^ 48) }
+    ensures exact { (bytes : List ℕ) → IsKept bytes (D.view disk.old) → (n : ℕ) → end ≤ n
+        → Gives (λ walked. IsWalk (frames_of walked) walked.last) (walk F.codec (1 + n) first end number bytes) result }
+{
+    let Some(bytes) = hold(alloc, disk, first, end - first)? else {
+        return read_singly::<F, D>(alloc, disk, first, end, number);
+    };
+    let (len, last) = walk_held::<F>(&bytes, first, number)?;
+    Ok(Walked {
+        bytes,
+        len,
+        last,
+        gate: first + len,
+    })
+}

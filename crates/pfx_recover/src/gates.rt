@@ -1,0 +1,34 @@
+// The gates of slots and segments, and the numbers behind them.
+ghost use Rattle.std.specs.Prelude.{◌≡◌, ◌≤◌, ◌+◌, ℕ, List, IfOk, IsErr};
+ghost use Rattle.pfx_disk.specs.Disk.{HasFailed};
+ghost use Rattle.pfx_recovery.specs.Layout.{is_open, first_at};
+ghost use Rattle.pfx_recover.specs.Looking.{IsKept, Looks, Reaches};
+
+use pfx_disk::{DeviceFailed, Disk, GATE_OPEN};
+
+/// How a gate stands, and the eight bytes behind it.
+#[derive(Clone, Copy)]
+pub(crate) struct GateHead {
+    pub open: bool,
+    pub bytes: [u8; 8],
+}
+
+/// The gate of a slot or a segment and the bytes behind it, by one call of the disk.
+pub(crate) fn read_gate<D: Disk>(disk: &mut D, at: usize) -> Result<GateHead, DeviceFailed>
+    requires inside { Reaches (at + 9) (D.view disk.old) }
+    ensures looks { Looks (D.view disk.old) (D.view disk.new) }
+    ensures device { IsErr result → HasFailed (D.view disk.old) (D.view disk.new) }
+    ensures gate { (bytes : List ℕ) → IsKept bytes (D.view disk.old)
+        → IfOk result (λ head. head.open ≡ is_open at bytes) }
+    ensures bytes { (bytes : List ℕ) → IsKept bytes (D.view disk.old)
+        → IfOk result (λ head. head.bytes ≡ first_at at bytes) }
+{
+    let mut read = [0; 9];
+    disk.read(at, &mut read)?;
+    let mut bytes = [0; 8];
+    bytes.copy_from_slice(&read[1..]);
+    Ok(GateHead {
+        open: read[0] == GATE_OPEN,
+        bytes,
+    })
+}

@@ -1,0 +1,62 @@
+// Opening a store's file.
+ghost use Rattle.std.specs.Prelude.{◌≡◌, false, Err, IfOk, IfErr, MatchResult};
+ghost use Rattle.pfx_disk.specs.Disk.{IsHonest, HasFailed};
+ghost use Rattle.pfx_recovery.specs.Recovery.{recovered};
+ghost use Rattle.pfx_store_file.specs.Fitting.{Fits};
+ghost use Rattle.pfx_recover.specs.Answers.{IsRefusal};
+ghost use Rattle.pfx_recover.specs.Finding.{IsOpened};
+ghost use Rattle.pfx_recover.specs.Looking.{Looks};
+
+use crate::faults::OpenFault;
+use crate::format::Format;
+use crate::reading::read_file;
+use pfx_disk::Disk;
+use pfx_store_file::StoreFile;
+use std::alloc::Global;
+
+/// A store's file that was opened.
+#[derive(Drop)]
+pub struct Opened<D: Disk, F: Format> {
+    /// The file on its disk, where the next frame goes.
+    pub file: StoreFile<D>,
+    /// Its header.
+    pub header: F::Header,
+    /// Its state.
+    pub state: F::State,
+    /// The body of the slot that the checkpoint in progress writes, where two segments were read. It holds the state
+    /// behind the frames of the first.
+    pub middle: Option<Vec<u8>>,
+}
+
+/// Opens a store's file: a sync, and then reads alone. With a fault the disk comes back.
+///
+/// `Refused` names the first test that the bytes don't pass. `Device` comes only where the disk failed, and `NoMemory` where
+/// a growth of memory was refused.
+pub fn open<F: Format, D: Disk>(alloc: Global, disk: D) -> Result<Opened<D, F>, (OpenFault, D)>
+    // What is found in the disk's bytes, and the store of it.
+    ensures opened { IsHonest (D.view disk) → IfOk result (λ o. IsOpened F.codec o.header
+        (D.view disk).contents o.file.places o.state o.middle (D.view o.file.disk)) }
+    // A refusal is the one that the bytes are to be refused with.
+    ensures refused { IsHonest (D.view disk) → IfErr result (λ e. IsRefusal e.0 (λ refusal.
+        recovered F.codec (D.view disk).contents ≡ Err refusal)) }
+    ensures device { IfErr result (λ e. e.0 ≡ OpenFault.Device → HasFailed (D.view disk) (D.view e.1)) }
+    // Nothing is written.
+    ensures looks { MatchResult result
+        (λ o. Looks (D.view disk) (D.view o.file.disk)) (λ e. Looks (D.view disk) (D.view e.1)) }
+    ensures whole { IfOk result (λ o. o.file.broken ≡ false) }
+    // No checkpoint is begun, also where one is in progress.
+    ensures unbegun { IfOk result (λ o. o.file.places.begun ≡ false) }
+    ensures sized { IfOk result (λ o. Fits (F.codec.layout o.header) o.file.places) }
+    ensures fits { IfOk result (λ o. F.fits o.header o.state) }
+{
+    let mut disk = disk;
+    match read_file::<F, D>(alloc, &mut disk) {
+        Ok((outline, contents)) => Ok(Opened {
+            file: StoreFile::new::<F::Header, F::State>(disk, contents.places),
+            header: outline.header,
+            state: contents.state,
+            middle: contents.middle,
+        }),
+        Err(fault) => Err((fault, disk)),
+    }
+}

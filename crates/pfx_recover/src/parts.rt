@@ -1,0 +1,147 @@
+// The records of one segment or of two, where the heads of all frames are right.
+ghost use Rattle.std.specs.Prelude.{◌≡◌, ◌≤◌, ◌<◌, ◌+◌, ◌^◌, ℕ, List, false, not, IfOk, IsErrOf};
+ghost use Rattle.pfx_recovery.specs.Layout.{segment_at, segment_end, IsOpenAt};
+ghost use Rattle.pfx_recovery.specs.Recovery.{slot_taken, segment_begun, from_one, from_two};
+ghost use Rattle.pfx_store_file.specs.Fitting.{Fits};
+ghost use Rattle.pfx_recover.specs.Answers.{Gives};
+ghost use Rattle.pfx_recover.specs.Choosing.{IsSlot, IsSegment};
+ghost use Rattle.pfx_recover.specs.Finding.{IsFound};
+ghost use Rattle.pfx_recover.specs.Formats.{total_len};
+ghost use Rattle.pfx_recover.specs.Walking.{StandIn, AreInUse, Fill, frames_of};
+
+use crate::choosing::Choice;
+use crate::faults::{OpenFault, Part, Refusal};
+use crate::format::Format;
+use crate::outline::Outline;
+use crate::records::replay_frames;
+use crate::walked::Walked;
+use pfx_store_file::Places;
+use std::alloc::Global;
+
+/// What a file holds.
+#[derive(Drop)]
+pub(crate) struct Contents<F: Format> {
+    /// Where its parts lie.
+    pub places: Places,
+    /// Its state.
+    pub state: F::State,
+    /// Where two segments were read, the body of a slot that holds the state between them.
+    pub middle: Option<Vec<u8>>,
+}
+
+// The places of a file whose frames go to this segment.
+fn places_of<F: Format>(
+    file: &Outline<F>,
+    slot: Choice,
+    turned: bool,
+    second: bool,
+    segment_open: bool,
+    gate: usize,
+) -> Places
+    requires { gate < segment_end (F.codec.layout file.now.header) second }
+    ensures len { result.len ≡ total_len file.now.sizes }
+    ensures placed { AreInUse (F.codec.layout file.now.header) slot.second slot.other_open turned second
+        segment_open gate result }
+{
+    let sizes = file.sizes;
+    Places {
+        head: sizes.head,
+        body: sizes.body,
+        segment_len: sizes.segment,
+        len: sizes.file_len(),
+        slot: slot.second,
+        segment: second,
+        turned,
+        gate,
+        end: sizes.segment_at(second) + sizes.segment,
+        slot_open: slot.other_open,
+        segment_open,
+        begun: false,
+        done: 0,
+    }
+}
+
+/// The records of one segment, and the test of the segment that isn't read.
+pub(crate) fn read_single<F: Format>(
+    alloc: Global,
+    file: &Outline<F>,
+    slot: Choice,
+    segment: Choice,
+    state: F::State,
+    walked: Walked,
+) -> Result<Contents<F>, OpenFault>
+    requires stand { StandIn (F.codec.layout file.now.header) segment.second walked }
+    requires last { walked.last < 2 ^ 48 }
+    requires fits { F.fits file.now.header state }
+    ensures device { ¬ IsErrOf result OpenFault.Device }
+    ensures fits { IfOk result (λ c. F.fits file.now.header c.state) }
+    ensures len { IfOk result (λ c. c.places.len ≡ total_len file.now.sizes) }
+    ensures sized { IfOk result (λ c. Fits (F.codec.layout file.now.header) c.places) }
+    ensures unbegun { IfOk result (λ c. c.places.begun ≡ false) }
+    ensures exact { (bytes : List ℕ)
+        → IsSlot F.codec file.now.header bytes slot (slot_taken F.codec file.now.header bytes)
+        → (n : ℕ)
+        → IsSegment F.codec file.now.header bytes segment (segment_begun F.codec file.now.header bytes n)
+        → (frames : List (List ℕ)) → Fill frames (frames_of walked)
+        → Gives (λ c. IsFound F.codec file.now.header bytes c.places c.state c.middle)
+        (from_one F.codec file.now.header bytes slot.second state segment.second frames walked.last) result }
+{
+    let first = file.sizes.segment_at(segment.second) + 9;
+    let reached = replay_frames::<F>(alloc, first, state, walked.frames())?;
+    if !segment.is_passed(walked.last) {
+        return Err(OpenFault::Refused(Refusal::Damaged {
+            at: file.sizes.segment_at(!segment.second),
+            what: Part::Segment,
+        }));
+    }
+    Ok(Contents {
+        places: places_of(
+            file,
+            slot,
+            false,
+            segment.second,
+            segment.other_open,
+            walked.gate,
+        ),
+        state: reached,
+        middle: None,
+    })
+}
+
+/// The records of two segments, of which this one is read first.
+pub(crate) fn read_double<F: Format>(
+    alloc: Global,
+    file: &Outline<F>,
+    slot: Choice,
+    second: bool,
+    state: F::State,
+    before: Walked,
+    walked: Walked,
+) -> Result<Contents<F>, OpenFault>
+    requires fits { F.fits file.now.header state }
+    requires before { StandIn (F.codec.layout file.now.header) second before }
+    requires stand { StandIn (F.codec.layout file.now.header) (not second) walked }
+    ensures device { ¬ IsErrOf result OpenFault.Device }
+    ensures fits { IfOk result (λ c. F.fits file.now.header c.state) }
+    ensures len { IfOk result (λ c. c.places.len ≡ total_len file.now.sizes) }
+    ensures sized { IfOk result (λ c. Fits (F.codec.layout file.now.header) c.places) }
+    ensures unbegun { IfOk result (λ c. c.places.begun ≡ false) }
+    ensures exact { (bytes : List ℕ)
+        → IsSlot F.codec file.now.header bytes slot (slot_taken F.codec file.now.header bytes)
+        → IsOpenAt (segment_at (F.codec.layout file.now.header) second) bytes
+        → (first next : List (List ℕ)) → Fill first (frames_of before) → Fill next (frames_of walked)
+        → Gives (λ c. IsFound F.codec file.now.header bytes c.places c.state c.middle)
+        (from_two F.codec file.now.header bytes slot.second state second first next) result }
+{
+    let first = file.sizes.segment_at(second) + 9;
+    let next = file.sizes.segment_at(!second) + 9;
+    let between = replay_frames::<F>(alloc, first, state, before.frames())?;
+    let mut middle = vec![in alloc; 0; file.sizes.body]?;
+    F::encode(&file.header, &between, &mut middle);
+    let reached = replay_frames::<F>(alloc, next, between, walked.frames())?;
+    Ok(Contents {
+        places: places_of(file, slot, true, !second, true, walked.gate),
+        state: reached,
+        middle: Some(middle),
+    })
+}

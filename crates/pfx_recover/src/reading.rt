@@ -1,0 +1,179 @@
+// A synced disk, read in the order of the tests.
+ghost use Rattle.std.specs.Prelude.{◌≡◌, ◌≤◌, ◌<◌, ◌+◌, ◌^◌, ℕ, List, false, length, IfOk, OnOk, IsErrOf};
+ghost use Rattle.pfx_disk.specs.Disk.{IsHonest, HasFailed};
+ghost use Rattle.pfx_recovery.specs.Recovery.{slot_taken, segment_begun, from_frames, from_state, from_slot, found, on_ok};
+ghost use Rattle.pfx_store_file.specs.Fitting.{Fits};
+ghost use Rattle.pfx_recover.specs.Answers.{Gives, IsRead};
+ghost use Rattle.pfx_recover.specs.Choosing.{IsSlot, IsSegment};
+ghost use Rattle.pfx_recover.specs.Finding.{IsFound};
+ghost use Rattle.pfx_recover.specs.Formats.{total_len};
+ghost use Rattle.pfx_recover.specs.Looking.{IsKept, Looks, Reaches};
+ghost use Rattle.pfx_recover.specs.Walking.{StandIn, Fill, frames_of};
+
+use crate::choosing::Choice;
+use crate::faults::{OpenFault, Part, Refusal};
+use crate::format::Format;
+use crate::frames::read_frames;
+use crate::outline::Outline;
+use crate::parts::{Contents, read_double, read_single};
+use crate::segments::find_segment;
+use crate::slots::{read_slot, take_slot};
+use crate::walked::Walked;
+use pfx_disk::Disk;
+use std::alloc::Global;
+
+// The heads of the other segment, if it goes on behind the first, and all records.
+fn read_on<F: Format, D: Disk>(
+    alloc: Global,
+    disk: &mut D,
+    file: &Outline<F>,
+    slot: Choice,
+    segment: Choice,
+    state: F::State,
+    walked: Walked,
+) -> Result<Contents<F>, OpenFault>
+    requires inside { Reaches (total_len file.now.sizes) (D.view disk.old) }
+    requires fits { F.fits file.now.header state }
+    requires stand { StandIn (F.codec.layout file.now.header) segment.second walked }
+    requires last { walked.last < 2 ^ 48 }
+    ensures looks { Looks (D.view disk.old) (D.view disk.new) }
+    ensures device { IsErrOf result OpenFault.Device → HasFailed (D.view disk.old) (D.view disk.new) }
+    ensures fits { IfOk result (λ c. F.fits file.now.header c.state) }
+    ensures len { IfOk result (λ c. c.places.len ≡ total_len file.now.sizes) }
+    ensures sized { IfOk result (λ c. Fits (F.codec.layout file.now.header) c.places) }
+    ensures unbegun { IfOk result (λ c. c.places.begun ≡ false) }
+    ensures exact { (bytes : List ℕ) → IsKept bytes (D.view disk.old)
+        → IsSlot F.codec file.now.header bytes slot (slot_taken F.codec file.now.header bytes)
+        → (n : ℕ)
+        → IsSegment F.codec file.now.header bytes segment (segment_begun F.codec file.now.header bytes n)
+        → (frames : List (List ℕ)) → Fill frames (frames_of walked)
+        → Gives (λ c. IsFound F.codec file.now.header bytes c.places c.state c.middle)
+        (from_frames F.codec file.now.header bytes slot.second state segment.second frames walked.last) result }
+{
+    if !segment.goes_on(walked.last) {
+        return read_single(alloc, file, slot, segment, state, walked);
+    }
+    let at = file.sizes.segment_at(!segment.second);
+    let end = at + file.sizes.segment;
+    let next = read_frames::<F, D>(alloc, disk, at + 9, end, walked.last)?;
+    read_double(alloc, file, slot, segment.second, state, walked, next)
+}
+
+// The segments, behind the slot's state.
+fn read_segments<F: Format, D: Disk>(
+    alloc: Global,
+    disk: &mut D,
+    file: &Outline<F>,
+    slot: Choice,
+    state: F::State,
+) -> Result<Contents<F>, OpenFault>
+    requires inside { Reaches (total_len file.now.sizes) (D.view disk.old) }
+    requires fits { F.fits file.now.header state }
+    requires number { F.codec.number state < 2 ^ 48 }
+    ensures looks { Looks (D.view disk.old) (D.view disk.new) }
+    ensures device { IsErrOf result OpenFault.Device → HasFailed (D.view disk.old) (D.view disk.new) }
+    ensures fits { IfOk result (λ c. F.fits file.now.header c.state) }
+    ensures len { IfOk result (λ c. c.places.len ≡ total_len file.now.sizes) }
+    ensures sized { IfOk result (λ c. Fits (F.codec.layout file.now.header) c.places) }
+    ensures unbegun { IfOk result (λ c. c.places.begun ≡ false) }
+    ensures exact { (bytes : List ℕ) → IsKept bytes (D.view disk.old)
+        → IsSlot F.codec file.now.header bytes slot (slot_taken F.codec file.now.header bytes)
+        → Gives (λ c. IsFound F.codec file.now.header bytes c.places c.state c.middle)
+        (from_state F.codec file.now.header bytes slot.second state) result }
+{
+    let number = F::number(&state);
+    let segment = find_segment(disk, file, number + 1)?;
+    let at = file.sizes.segment_at(segment.second);
+    let end = at + file.sizes.segment;
+    let walked = read_frames::<F, D>(alloc, disk, at + 9, end, number)?;
+    read_on(alloc, disk, file, slot, segment, state, walked)
+}
+
+// The slot that is taken, and what follows on it.
+fn read_contents<F: Format, D: Disk>(
+    alloc: Global,
+    disk: &mut D,
+    file: &Outline<F>,
+) -> Result<Contents<F>, OpenFault>
+    requires inside { Reaches (total_len file.now.sizes) (D.view disk.old) }
+    ensures looks { Looks (D.view disk.old) (D.view disk.new) }
+    ensures device { IsErrOf result OpenFault.Device → HasFailed (D.view disk.old) (D.view disk.new) }
+    ensures fits { IfOk result (λ c. F.fits file.now.header c.state) }
+    ensures len { IfOk result (λ c. c.places.len ≡ total_len file.now.sizes) }
+    ensures sized { IfOk result (λ c. Fits (F.codec.layout file.now.header) c.places) }
+    ensures unbegun { IfOk result (λ c. c.places.begun ≡ false) }
+    ensures exact { (bytes : List ℕ) → IsKept bytes (D.view disk.old)
+        → Gives (λ c. IsFound F.codec file.now.header bytes c.places c.state c.middle)
+        (on_ok (slot_taken F.codec file.now.header bytes) (from_slot F.codec file.now.header bytes)) result }
+{
+    let slot = take_slot(disk, file)?;
+    let state = read_slot(alloc, disk, file, slot.second)?;
+    read_segments(alloc, disk, file, slot, state)
+}
+
+// The header, of a file of this length.
+fn read_header<F: Format, D: Disk>(
+    alloc: Global,
+    disk: &mut D,
+    len: usize,
+) -> Result<F::Header, OpenFault>
+    requires inside { Reaches len (D.view disk.old) }
+    ensures looks { Looks (D.view disk.old) (D.view disk.new) }
+    ensures device { IsErrOf result OpenFault.Device → HasFailed (D.view disk.old) (D.view disk.new) }
+    ensures exact { (bytes : List ℕ) → IsKept bytes (D.view disk.old) → len ≡ length bytes
+        → Gives IsRead (F.codec.read_head bytes) result }
+{
+    let mut front = vec![in alloc; 0; len.min(F::HEAD_MOST)]?;
+    disk.read(0, &mut front)?;
+    Ok(F::read_head(alloc, &front)?)
+}
+
+// What a synced disk holds.
+fn read_synced<F: Format, D: Disk>(
+    alloc: Global,
+    disk: &mut D,
+) -> Result<(Outline<F>, Contents<F>), OpenFault>
+    ensures looks { Looks (D.view disk.old) (D.view disk.new) }
+    ensures device { IsErrOf result OpenFault.Device → HasFailed (D.view disk.old) (D.view disk.new) }
+    ensures fits { IfOk result (λ r. F.fits r.0.header r.1.state) }
+    ensures sized { IfOk result (λ r. Fits (F.codec.layout r.0.header) r.1.places) }
+    ensures unbegun { IfOk result (λ r. r.1.places.begun ≡ false) }
+    ensures inside { IfOk result (λ r. Reaches r.1.places.len (D.view disk.new)) }
+    ensures exact { (bytes : List ℕ) → IsKept bytes (D.view disk.old)
+        → Gives (λ r. IsFound F.codec r.0.header bytes r.1.places r.1.state r.1.middle)
+        (found F.codec bytes) result }
+{
+    let len = disk.len()?;
+    let header = read_header::<F, D>(alloc, disk, len)?;
+    let sizes = F::sizes(&header);
+    if len != sizes.file_len() {
+        return Err(OpenFault::Refused(Refusal::Damaged {
+            at: len,
+            what: Part::Length,
+        }));
+    }
+    let file = Outline { header, sizes };
+    let contents = read_contents(alloc, disk, &file)?;
+    Ok((file, contents))
+}
+
+/// What a disk holds. It is synced first, so that a stop leaves what is read.
+pub(crate) fn read_file<F: Format, D: Disk>(
+    alloc: Global,
+    disk: &mut D,
+) -> Result<(Outline<F>, Contents<F>), OpenFault>
+    ensures looks { Looks (D.view disk.old) (D.view disk.new) }
+    ensures device { IsErrOf result OpenFault.Device → HasFailed (D.view disk.old) (D.view disk.new) }
+    ensures fits { IfOk result (λ r. F.fits r.0.header r.1.state) }
+    ensures sized { IfOk result (λ r. Fits (F.codec.layout r.0.header) r.1.places) }
+    ensures unbegun { IfOk result (λ r. r.1.places.begun ≡ false) }
+    ensures inside { IfOk result (λ r. Reaches r.1.places.len (D.view disk.new)) }
+    ensures kept { IsHonest (D.view disk.old)
+        → OnOk result (IsKept (D.view disk.old).contents (D.view disk.new)) }
+    ensures exact { IsHonest (D.view disk.old) → Gives
+        (λ r. IsFound F.codec r.0.header (D.view disk.old).contents r.1.places r.1.state r.1.middle)
+        (found F.codec (D.view disk.old).contents) result }
+{
+    disk.sync()?;
+    read_synced(alloc, disk)
+}

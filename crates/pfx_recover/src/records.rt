@@ -1,0 +1,39 @@
+// The records of frames.
+ghost use Rattle.std.specs.Prelude.{◌≡◌, ◌≤◌, ◌<◌, ◌+◌, ◌^◌, ℕ, List, length, IfOk, IsErrOf};
+ghost use Rattle.pfx_recovery.specs.Recovery.{replay};
+ghost use Rattle.pfx_recover.specs.Answers.{Gives, IsRead};
+ghost use Rattle.pfx_recover.specs.Walking.{Fill};
+
+use crate::faults::{OpenFault, Part, Refusal};
+use crate::format::Format;
+use crate::held::len_at;
+use std::alloc::Global;
+
+/// The state behind the records of the frames that fill these bytes, the first of which has this gate. The first frame
+/// whose records aren't right is refused.
+pub(crate) fn replay_frames<F: Format>(
+    alloc: Global,
+    gate: usize,
+    state: F::State,
+    bytes: &[u8],
+) -> Result<F::State, OpenFault>
+    requires inside { gate + length bytes.now < 2 ^ 62 }
+    ensures device { ¬ IsErrOf result OpenFault.Device }
+    ensures fits { (h : F.Header) → F.fits h state → IfOk result (F.fits h) }
+    ensures exact { (frames : List (List ℕ)) → Fill frames bytes.now
+        → Gives IsRead (replay F.codec gate state frames) result }
+{
+    let mut at = 0;
+    let mut reached = state;
+    'frames: while at < bytes.len() {
+        let len = len_at(bytes, at);
+        if !F::apply(alloc, &mut reached, &bytes[at..at + len])? {
+            return Err(OpenFault::Refused(Refusal::Damaged {
+                at: gate + at,
+                what: Part::Record,
+            }));
+        }
+        at += len;
+    }
+    Ok(reached)
+}

@@ -1,0 +1,46 @@
+// The segment that is read first.
+ghost use Rattle.std.specs.Prelude.{◌≡◌, ◌≤◌, ◌<◌, ◌+◌, ◌^◌, ℕ, List, Ok, IfOk, IsErrOf};
+ghost use Rattle.pfx_disk.specs.Disk.{HasFailed};
+ghost use Rattle.pfx_recovery.specs.Recovery.{segment_begun};
+ghost use Rattle.pfx_recover.specs.Answers.{Gives};
+ghost use Rattle.pfx_recover.specs.Choosing.{IsSegment};
+ghost use Rattle.pfx_recover.specs.Formats.{total_len};
+ghost use Rattle.pfx_recover.specs.Looking.{IsKept, Looks, Reaches};
+
+use crate::choosing::{Choice, Numbered, beginning};
+use crate::faults::OpenFault;
+use crate::format::Format;
+use crate::gates::read_gate;
+use crate::outline::Outline;
+use pfx_disk::Disk;
+
+/// The segment that begins with this number, by two calls of the disk.
+pub(crate) fn find_segment<F: Format, D: Disk>(
+    disk: &mut D,
+    file: &Outline<F>,
+    number: u64,
+) -> Result<Choice, OpenFault>
+    requires inside { Reaches (total_len file.now.sizes) (D.view disk.old) }
+    ensures looks { Looks (D.view disk.old) (D.view disk.new) }
+    ensures device { IsErrOf result OpenFault.Device → HasFailed (D.view disk.old) (D.view disk.new) }
+    ensures exact { (bytes : List ℕ) → IsKept bytes (D.view disk.old)
+        → Gives (IsSegment F.codec file.now.header bytes)
+        (segment_begun F.codec file.now.header bytes number) result }
+{
+    let low = file.sizes.segment_at(false);
+    let high = file.sizes.segment_at(true);
+    let low_gate = read_gate(disk, low)?;
+    let high_gate = read_gate(disk, high)?;
+    let first = Numbered {
+        at: low,
+        open: low_gate.open,
+        number: F::segment_number(&low_gate.bytes),
+    };
+    let second = Numbered {
+        at: high,
+        open: high_gate.open,
+        number: F::segment_number(&high_gate.bytes),
+    };
+    let is_second = beginning(number, first, second)?;
+    Ok(Choice::of(is_second, first, second))
+}

@@ -1,0 +1,51 @@
+// How long the parts of a file are, and where they lie.
+ghost use Rattle.std.specs.Prelude.{◌≡◌, ◌≤◌, ◌<◌, ◌+◌, ◌*◌, ◌^◌};
+
+/// How long the parts of a file are, in bytes. Of the two slots and of the two segments `true` names the second.
+#[derive(Clone, Copy)]
+pub struct Sizes {
+    /// The header.
+    pub head: usize,
+    /// A slot behind its gate. It begins with a number of eight bytes.
+    pub body: usize,
+    /// A segment. It begins with a gate, a number of eight bytes and the gate of a frame.
+    pub segment: usize,
+    ghost number: { 8 ≤ body },
+    ghost room: { 9 < segment },
+    ghost short: { head + 2 * (1 + body) + 2 * segment < 2 ^ 62 },
+}
+
+impl Sizes {
+    ghost use Rattle.pfx_recovery.specs.Layout.{Layout, slot_at, segment_at, file_len};
+    ghost use Rattle.pfx_recover.specs.Formats.{HasSizes, total_len};
+
+    /// The file's length.
+    pub fn file_len(&self) -> usize
+        ensures len { result ≡ total_len self.now }
+        ensures layout { (L : Layout) → HasSizes L self.now → result ≡ file_len L }
+        ensures bound { result < 2 ^ 62 }
+    {
+        self.head + 2 * (1 + self.body) + 2 * self.segment
+    }
+
+    /// Where a slot stands.
+    pub fn slot_at(&self, b: bool) -> usize
+        ensures at { (L : Layout) → HasSizes L self.now → result ≡ slot_at L b }
+        ensures inside { result + 1 + self.now.body + 2 * self.now.segment ≤ total_len self.now }
+    {
+        if b {
+            self.head + 1 + self.body
+        } else {
+            self.head
+        }
+    }
+
+    /// Where a segment stands.
+    pub fn segment_at(&self, b: bool) -> usize
+        ensures at { (L : Layout) → HasSizes L self.now → result ≡ segment_at L b }
+        ensures inside { result + self.now.segment ≤ total_len self.now }
+    {
+        let first = self.head + 2 * (1 + self.body);
+        if b { first + self.segment } else { first }
+    }
+}

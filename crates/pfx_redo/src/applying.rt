@@ -1,0 +1,169 @@
+// Taking records over.
+ghost use Rattle.std.specs.Prelude.{◌≡◌, ◌≤◌, ◌<◌, ◌+◌, ◌^◌, ◌==◌, ◌&&◌, nat_lt, map, length, slice_get, IsTrue, IsFalse, Some, None};
+ghost use Rattle.std.specs.List.{list_all};
+ghost use Rattle.std.specs.List.Sorted.{IsStrictlyIncreasing};
+ghost use Rattle.pfx_columns.specs.Ledgers.{total};
+ghost use Rattle.pfx_record.specs.Records.{plain, ran, record_fits, rises_from, tasks_of};
+ghost use Rattle.pfx_record.specs.Effect.{jobs_from};
+ghost use Rattle.pfx_redo.specs.Applying.{after_record, applied, has_job, is_busy, is_flagged, is_free, is_right};
+
+use pfx_jobs::job::Job;
+use pfx_machine::State;
+use pfx_record::{Place, Record, record_fits};
+use pfx_weights::Row;
+
+// Whether a task is a real one without an unfinished job.
+fn is_free<J: Job>(jobs: &[Option<J>], task: u16) -> bool
+    ensures { result ≡ is_free J.kind (slice_get jobs.now task) }
+{
+    match jobs.get(usize::from(task)) {
+        None => false,
+        Some(None) => true,
+        Some(Some(job)) => job.is_done(),
+    }
+}
+
+// Whether a task has a job.
+fn has_job<J: Job>(jobs: &[Option<J>], task: u16) -> bool
+    ensures { result ≡ has_job (slice_get jobs.now task) }
+{
+    match jobs.get(usize::from(task)) {
+        None => false,
+        Some(None) => false,
+        Some(Some(_)) => true,
+    }
+}
+
+// Whether a task has an unfinished job.
+fn is_busy<J: Job>(jobs: &[Option<J>], task: u16) -> bool
+    ensures { result ≡ is_busy J.kind (slice_get jobs.now task) }
+{
+    match jobs.get(usize::from(task)) {
+        None => false,
+        Some(None) => false,
+        Some(Some(job)) => !job.is_done(),
+    }
+}
+
+// Whether a place of a row has a state exactly where its task has an unfinished job.
+fn is_flagged<J: Job>(jobs: &[Option<J>], place: &Place<J>) -> bool
+    ensures { result ≡ is_flagged J.kind jobs.now place.now }
+{
+    match &place.state {
+        Some(_) => is_busy(jobs, place.task),
+        None => !is_busy(jobs, place.task),
+    }
+}
+
+// Whether each place of a row is one of so many tasks, and has a state where it should.
+fn are_flagged<J: Job>(jobs: &[Option<J>], total: usize, row: &[Place<J>]) -> bool
+    ensures { result ≡ list_all (λ place. nat_lt place.task total && is_flagged J.kind jobs.now place) row.now }
+{
+    for place in row {
+        if usize::from(place.task) >= total {
+            return false;
+        }
+        if !is_flagged(jobs, place) {
+            return false;
+        }
+    }
+    true
+}
+
+// The tasks of a row.
+fn row_of<J>(row: &[Place<J>]) -> Row
+    requires few { length row.now ≤ 64 }
+    requires rises { IsTrue (rises_from 0 (tasks_of row.now)) }
+    ensures { result ≡ tasks_of row.now }
+{
+    let mut tasks = [0; 64];
+    for i in 0..row.len() {
+        tasks[i] = row[i].task;
+    }
+    let mut made = Row::empty();
+    made.set(&tasks[..row.len()]);
+    made
+}
+
+// Puts the states of a row in the places of its tasks' jobs.
+fn put_states<J: Job>(state: &mut State<J>, row: &[Place<J>])
+    requires rises { IsTrue (rises_from 0 (tasks_of row.now)) }
+    requires flagged { IsTrue (list_all (λ place. nat_lt place.task (total state.old.ledger) && is_flagged J.kind state.old.jobs place) row.now) }
+    ensures { state.new ≡ record state.old { jobs = jobs_from (ran row.now) 0 state.old.jobs } }
+{
+    for place in row {
+        match &place.state {
+            None => (),
+            Some(job) => state.put_job(place.task, Some(job.copy_of())),
+        }
+    }
+}
+
+// Takes over a row.
+fn apply_row<J: Job>(state: &mut State<J>, row: &[Place<J>]) -> bool
+    requires number { state.old.number + 1 < 2 ^ 48 }
+    requires fits { IsTrue (record_fits state.old.ledger.set.workers (ran row.now)) }
+    ensures right { result ≡ is_right J.kind state.old (ran row.now) }
+    ensures taken { IsTrue result → state.new ≡ after_record state.old (ran row.now) }
+    ensures kept { IsFalse result → state.new ≡ state.old }
+{
+    let total = state.columns().total();
+    if !are_flagged(state.jobs(), total, row) {
+        return false;
+    }
+    let tasks = row_of(row);
+    if !state.pass_row(&tasks) {
+        return false;
+    }
+    put_states(state, row);
+    state.count();
+    true
+}
+
+/// Takes over a record, if it is right at the state. Else nothing changes. It takes no memory.
+pub fn apply_record<J: Job>(state: &mut State<J>, entry: &Record<J>) -> bool
+    ensures right { result ≡ is_right J.kind state.old (plain entry.now) }
+    ensures taken { IsTrue result → state.new ≡ after_record state.old (plain entry.now) }
+    ensures kept { IsFalse result → state.new ≡ state.old }
+{
+    let _total = state.columns().total();
+    if !record_fits(state.columns().workers(), entry) {
+        return false;
+    }
+    if state.number() >= (1 << 48) - 1 {
+        return false;
+    }
+    match entry {
+        Record::Submit { task, job } => {
+            if !is_free(state.jobs(), *task) {
+                return false;
+            }
+            state.put_job(*task, Some(job.copy_of()));
+            state.count();
+            true
+        }
+        Record::Slot { row } => apply_row(state, row),
+        Record::Withdraw { task } => {
+            if !has_job(state.jobs(), *task) {
+                return false;
+            }
+            state.put_job(*task, None);
+            state.count();
+            true
+        }
+    }
+}
+
+/// Takes over records, each of which is right behind those before it. Where one isn't, the answer is `false`, and the
+/// state is that of the records before it. It takes no memory.
+pub fn apply_all<J: Job>(state: &mut State<J>, records: &[Record<J>]) -> bool
+    ensures taken { IsTrue result → applied J.kind state.old (map plain records.now) ≡ Some state.new }
+    ensures wrong { IsFalse result → applied J.kind state.old (map plain records.now) ≡ None }
+{
+    for entry in records {
+        if !apply_record(state, entry) {
+            return false;
+        }
+    }
+    true
+}

@@ -1,0 +1,157 @@
+-- Stores that stand, after the calls of their files.
+use Rattle.std.specs.Prelude.{◌≡◌, ◌≤◌, ◌+◌, ℕ, List, [], ◌∷◌, ◌++◌, length, if◌then◌else◌, Bool, true, false, Option, Some, None, Result, Ok, Err, OnOk, Vec, refl}
+use Rattle.std.specs.declared.alloc.Global.{Global}
+use Rattle.std.proofs.Common.{sym, ◌∙◌, ap, arith, length-append, subst, inl, inr}
+use Rattle.std.proofs.lemmas.Bool.{cases_lt, true≢false}
+use Rattle.std.proofs.lemmas.List.{take-append-le}
+use Rattle.pfx_checkpoint.specs.Found.{read_state}
+use Rattle.pfx_checkpoint.specs.Spelling.{state_bytes}
+use Rattle.pfx_disk.specs.Disk.{View}
+use Rattle.pfx_format.specs.Format.{format, layout}
+use Rattle.pfx_header.specs.Headers.{Header}
+use Rattle.pfx_jobs.specs.Kind.{Kind, Laws}
+use Rattle.pfx_machine.specs.Plain.{Plain, IsState}
+use Rattle.pfx_recover.specs.Finding.{IsMiddle, IsOpened}
+use Rattle.pfx_recovery.specs.Recovery.{Found, found, found_of, on_ok, recovered}
+use Rattle.pfx_recovery.specs.Store.{Parts, Replays, finished, turned_at, with_frame}
+use Rattle.pfx_store_file.specs.Holding.{Holds, KeepsAll}
+use Rattle.pfx_store_file.specs.Tending.{settled, settled_unless, made_room}
+use Rattle.pfx_store_file.specs.declared.places.Places.{Places}
+use Rattle.pfx_store_file.proofs.Keeping.{keeps_then, room_there, room_made}
+use Rattle.pfx_store.specs.Standing.{IsReady, Stands}
+use Rattle.pfx_store.proofs.Slots.{spelled_read}
+
+-- how the body of a checkpoint is spelled matters only where one is in progress
+respelled : {J : Type 0} (K : Kind J) (h : Header) (places : Places) (p : Parts (Plain J)) (s : Plain J) (a b : List ℕ) (disk : View) → Holds (format K) h places p s a disk → p.turned ≡ false → Holds (format K) h places p s b disk
+respelled K h places p s a b disk holds single = record {
+  honest = holds.honest;
+  fits = holds.fits;
+  slot = holds.slot;
+  segment = holds.segment;
+  turned = holds.turned;
+  gate = holds.gate;
+  end = holds.end;
+  images = holds.images;
+  begun = λ is. absurd (true≢false (sym (holds.begun is).turned ∙ single));
+}
+
+settled_by : {S : Type 0} (p : Parts S) (b : Bool) → p.turned ≡ b → (settled p).turned ≡ false
+settled_by p true is = ap (λ b. (if b then finished p else p).turned) is
+settled_by p false is = ap (λ b. (if b then finished p else p).turned) is ∙ is
+
+pub settled_single : {S : Type 0} (p : Parts S) → (settled p).turned ≡ false
+settled_single p = settled_by p p.turned refl
+
+-- where no checkpoint is in progress any more
+pub stands_settled : {J : Type 0} (K : Kind J) (h : Header) (places : Places) (p : Parts (Plain J)) (s : Plain J) (a b : List ℕ) (disk : View) → Holds (format K) h places (settled p) s a disk → s.ledger.set ≡ h.set → Stands K places s b disk
+stands_settled K h places p s a b disk holds same = record {
+  header = h;
+  parts = settled p;
+  holds = respelled K h places (settled p) s a b disk holds (settled_single p);
+  set = same;
+  middle = λ is. absurd (true≢false (sym is ∙ settled_single p));
+}
+
+-- where a step of the checkpoint has been taken
+settled_middle : {S : Type 0} (turned : Bool) (p : Parts S) (P : S → Type 0) → (p.turned ≡ true → P p.middle) → (settled_unless turned p).turned ≡ true → P (settled_unless turned p).middle
+settled_middle true p P middle is = middle is
+settled_middle false p P middle is = absurd (true≢false (sym is ∙ settled_single p))
+
+pub stands_tended : {J : Type 0} (K : Kind J) (h : Header) (places : Places) (p : Parts (Plain J)) (s : Plain J) (a b : List ℕ) (disk : View) → a ≡ b → s.ledger.set ≡ h.set → (p.turned ≡ true → read_state K h.set a ≡ Some p.middle) →
+    Holds (format K) h places (settled_unless places.turned p) s a disk → Stands K places s b disk
+stands_tended K h places p s a b disk same set middle holds = subst (λ (l : List ℕ). Stands K places s l disk) same (record {
+  header = h;
+  parts = settled_unless places.turned p;
+  holds = holds;
+  set = set;
+  middle = settled_middle places.turned p (λ m. read_state K h.set a ≡ Some m) middle;
+})
+
+-- where the store was turned, with the state spelled
+pub stands_turned : {J : Type 0} (K : Kind J) (L : Laws K) (h : Header) (places : Places) (p : Parts (Plain J)) (s : Plain J) (spelled : List ℕ) (disk : View) → IsState s → s.ledger.set ≡ h.set → spelled ≡ state_bytes K s →
+    Holds (format K) h places (turned_at p s) s spelled disk → Stands K places s spelled disk
+stands_turned K L h places p s spelled disk state set is holds = record {
+  header = h;
+  parts = turned_at p s;
+  holds = holds;
+  set = set;
+  middle = λ _. spelled_read K L h.set s spelled state set is;
+}
+
+-- A frame more, which leads to the state t.
+module _ {J : Type 0} (K : Kind J) (L : Laws K) (n : ℕ) (old new : Places) (s t : Plain J) (spelled frame : List ℕ) (before behind : View) where
+  keeps_middle : (h : Header) (p : Parts (Plain J)) → IsState s → s.ledger.set ≡ h.set → (p.turned ≡ true → read_state K h.set spelled ≡ Some p.middle) → IsReady K n old s spelled →
+      (made_room n old p s).turned ≡ true → read_state K h.set spelled ≡ Some (made_room n old p s).middle
+  keeps_middle h p state set middle ready = elim (cases_lt (old.gate + n) old.end) [
+    | inl less ↦ subst (λ (q : Parts (Plain J)). q.turned ≡ true → read_state K h.set spelled ≡ Some q.middle) (sym (room_there n old p s less)) middle
+    | inr more ↦ elim ready [
+      | inl room ↦ absurd (omega (arith, more, room))
+      | inr is ↦ subst (λ (q : Parts (Plain J)). q.turned ≡ true → read_state K h.set spelled ≡ Some q.middle) (sym (room_made n old p s (λ room. omega (arith, more, room)))) (λ turned. spelled_read K L h.set s spelled state set is.1)
+    ]
+  ]
+
+  pub stands_behind : (st : Stands K old s spelled before) → IsState s → t.ledger.set ≡ s.ledger.set → IsReady K n old s spelled →
+      Holds (format K) st.header new (with_frame (made_room n old st.parts s) frame) t spelled behind → Stands K new t spelled behind
+  stands_behind st state set ready holds = record {
+    header = st.header;
+    parts = with_frame (made_room n old st.parts s) frame;
+    holds = holds;
+    set = set ∙ st.set;
+    middle = keeps_middle st.header st.parts state st.set st.middle ready;
+  }
+
+-- what survives survives with a frame more to come
+pub keeps_more : {J : Type 0} (K : Kind J) (start : Plain J) (all : List (List ℕ)) (frame : List ℕ) (a b : View) → KeepsAll (format K) start all all a b → KeepsAll (format K) start all (all ++ frame ∷ []) a b
+keeps_more K start all frame a b keeps c n le before image is =
+    let s = keeps c n le before image is in
+    record {
+      count = s.count;
+      at_least = s.at_least;
+      at_most = (let most = s.at_most in omega (arith, most, length-append all (frame ∷ [])));
+      state = s.state;
+      replays = subst (λ (l : List (List ℕ)). Replays (format K) start l s.state) (sym (take-append-le s.count all (frame ∷ []) s.at_most)) s.replays;
+      recovered = s.recovered;
+    }
+
+-- where nothing is done
+pub keeps_still : {J : Type 0} (K : Kind J) (start : Plain J) (all : List (List ℕ)) (a : View) → KeepsAll (format K) start all all a a
+keeps_still K start all a c n le before image is = before image is
+
+-- room made, and then a frame more
+pub keeps_appended : {J : Type 0} (K : Kind J) (start : Plain J) (all : List (List ℕ)) (frame other : List ℕ) (a b c : View) → a.clock ≤ b.clock → KeepsAll (format K) start all all a b → frame ≡ other → KeepsAll (format K) start all (all ++ other ∷ []) b c → KeepsAll (format K) start all (all ++ frame ∷ []) a c
+keeps_appended K start all frame other a b c later one same two =
+    keeps_then (format K) start all all (all ++ frame ∷ []) a b c later one (subst (λ (f : List ℕ). KeepsAll (format K) start all (all ++ f ∷ []) b c) (sym same) two)
+
+-- a store that was opened
+pub middle_spelled : {J : Type 0} (K : Kind J) (h : Header) (p : Parts (Plain J)) (middle : Option (Vec ℕ Global)) (spelled : List ℕ) → IsMiddle (format K) h p middle →
+    ((v : Vec ℕ Global) → middle ≡ Some v → length v.items ≡ (layout h).body → spelled ≡ v.items) → p.turned ≡ true → read_state K h.set spelled ≡ Some p.middle
+middle_spelled K h p None spelled between kept turned = absurd (true≢false (sym turned ∙ between))
+middle_spelled K h p (Some v) spelled between kept turned = ap (read_state K h.set) (kept v refl between.1) ∙ between.2
+
+pub opened_stands : {J : Type 0} (K : Kind J) (h : Header) (bytes : List ℕ) (places : Places) (s : Plain J) (middle : Option (Vec ℕ Global)) (spelled : List ℕ) (disk : View) →
+    IsOpened (format K) h bytes places s middle disk → s.ledger.set ≡ h.set → ((v : Vec ℕ Global) → middle ≡ Some v → length v.items ≡ (layout h).body → spelled ≡ v.items) → Stands K places s spelled disk
+opened_stands K h bytes places s middle spelled disk opened set kept = record {
+  header = h;
+  parts = opened.parts;
+  holds = opened.holds spelled;
+  set = set;
+  middle = middle_spelled K h opened.parts middle spelled opened.between kept;
+}
+
+pub found_recovered : {J : Type 0} (K : Kind J) (h : Header) (bytes : List ℕ) (p : Parts (Plain J)) (s : Plain J) → found (format K) bytes ≡ Ok (found_of h p s) → recovered (format K) bytes ≡ Ok s
+unfolding recovered
+found_recovered K h bytes p s is = ap (λ r. on_ok r (λ f. Ok f.state)) is
+
+abbrev result : {A E : Type 0} → A → Result A E
+result a = Ok a
+
+same_turned : {H S E : Type 0} (a b : Found H S) → result {E = E} a ≡ Ok b → a.parts.turned ≡ b.parts.turned
+same_turned a b is = cc
+
+-- two segments were read where the parts say so
+pub opened_turned : {J : Type 0} (K : Kind J) (h : Header) (bytes : List ℕ) (places : Places) (s : Plain J) (middle : Option (Vec ℕ Global)) (disk : View) → IsOpened (format K) h bytes places s middle disk → (f : Found Header (Plain J)) → found (format K) bytes ≡ Ok f → places.turned ≡ f.parts.turned
+opened_turned K h bytes places s middle disk opened f is = (opened.holds []).turned ∙ same_turned (found_of h opened.parts s) f (sym opened.found ∙ is)
+
+pub on_ok_then : {T E P Q : Type 0} (r : Result T E) → (P → Q) → OnOk r P → OnOk r Q
+on_ok_then (Ok x) f p = f p
+on_ok_then (Err e) f p = tt

@@ -1,0 +1,100 @@
+use Rattle.std.proofs.Common.{List, ℕ, length, refl, sym, ◌∙◌, ap, arith, subst}
+use Rattle.std.specs.Prelude.{slice_index}
+use Rattle.pfx_checkpoint.specs.Spelling.{state_len}
+use Rattle.pfx_format.specs.Format.{format}
+use Rattle.pfx_header.specs.Headers.{Header}
+use Rattle.pfx_header.proofs.Written.{header_long}
+use Rattle.pfx_machine.specs.Plain.{Plain, IsState, empty}
+use Rattle.pfx_store.specs.Standing.{Stands}
+use Rattle.std.proofs.lemmas.Bool.{true≢false}
+use Rattle.pfx_store.proofs.Counts.{takes_told}
+use Rattle.pfx_store.proofs.Made.{file_short, gate_of, made_calls, made_of, new_stands, unmade_refused}
+use Rattle.pfx_store.proofs.Slots.{state_long}
+use Rattle.pfx_store.proofs.making.placed.Goals as goal
+
+pub create_file-requires-clause-short : goal.create_file-requires-clause-short
+create_file-requires-clause-short g c =
+    let h : Header = record { set = c.args.set.now; segment = c.args.segment } in
+    let state : IsState (empty c.args.set.now) = subst IsState c.requires.empty c.number-number.ensures.state in
+    let head = ap length c.requires.head ∙ header_long h c.requires.header in
+    let body = ap length (c.deref.ensures.value ∙ c.requires.spelled) ∙ state_long g.J.Job.kind g.met.J.Job.laws (empty c.args.set.now) state in
+    file_short h (length c.args.head.now) (length c.deref.result.now) c.args.segment c.requires.header head body refl
+
+pub create_file-requires-clause-gate : goal.create_file-requires-clause-gate
+create_file-requires-clause-gate g c = ap (λ (l : List ℕ). slice_index l 0) c.requires.head ∙ gate_of (record { set = c.args.set.now; segment = c.args.segment })
+
+pub invariant_of-result : goal.invariant_of-result
+invariant_of-result g c =
+    let places = c.in-Ok.ensures.places in
+    let state : IsState (empty c.args.set.now) = subst IsState c.requires.empty c.number-number.ensures.state in
+    let least = c.requires.header.segment.0 in
+    let room = c.requires.room in
+    let workers = ap (λ (s : Plain g.row.J.Denot). s.ledger.set.workers) c.requires.empty in
+    record {
+      long = sym (places.body ∙ ap length c.deref.ensures.value);
+      body = places.body ∙ (ap length (c.deref.ensures.value ∙ c.requires.spelled) ∙ (state_long g.J.Job.kind g.met.J.Job.laws (empty c.args.set.now) state ∙ ap (λ (s : Plain g.row.J.Denot). state_len s.ledger.set) (sym c.requires.empty)));
+      fits = omega (arith, places.segment_len, workers, least);
+      room = omega (arith, room, workers);
+    }
+
+pub returns-in-Ok-clause-stands : goal.returns-in-Ok-clause-stands
+returns-in-Ok-clause-stands g c honest =
+    let K = g.J.Job.kind in
+    let set = c.args.set.now in
+    let h : Header = record { set = set; segment = c.args.segment } in
+    let state : IsState (empty set) = subst IsState c.requires.empty c.number-number.ensures.state in
+    let made = made_of K g.met.J.Job.laws h c.args.head.now c.deref.result.now c.args.segment c.requires.header state c.requires.head (c.deref.ensures.value ∙ c.requires.spelled) refl in
+    subst (λ (s : Plain g.row.J.Denot). Stands K c.in-Ok.file.places s c.args.spelled.items (g.D.Disk.view c.in-Ok.file.disk)) (sym c.requires.empty)
+    (new_stands K h c.in-Ok.file.places (empty set) c.args.spelled.items (g.D.Disk.view c.in-Ok.file.disk) (c.in-Ok.ensures.holds (format K) h (empty set) made honest) refl)
+
+pub returns-in-Ok-clause-recovers : goal.returns-in-Ok-clause-recovers
+returns-in-Ok-clause-recovers g c honest =
+    let K = g.J.Job.kind in
+    let set = c.args.set.now in
+    let h : Header = record { set = set; segment = c.args.segment } in
+    let state : IsState (empty set) = subst IsState c.requires.empty c.number-number.ensures.state in
+    let made = made_of K g.met.J.Job.laws h c.args.head.now c.deref.result.now c.args.segment c.requires.header state c.requires.head (c.deref.ensures.value ∙ c.requires.spelled) refl in
+    c.in-Ok.ensures.recovers (format K) h (empty set) made (unmade_refused K) honest
+
+pub returns-in-Err-Device-default-clause-recovers :
+    goal.returns-in-Err-Device-default-clause-recovers
+returns-in-Err-Device-default-clause-recovers g c honest =
+    let K = g.J.Job.kind in
+    let set = c.args.set.now in
+    let h : Header = record { set = set; segment = c.args.segment } in
+    let state : IsState (empty set) = subst IsState c.requires.empty c.number-number.ensures.state in
+    let made = made_of K g.met.J.Job.laws h c.args.head.now c.deref.result.now c.args.segment c.requires.header state c.requires.head (c.deref.ensures.value ∙ c.requires.spelled) refl in
+    c.in-Err-Device-default.ensures.recovers (format K) h (empty set) made (unmade_refused K) honest
+
+pub returns-clause-recovers : goal.returns-clause-recovers
+returns-clause-recovers g c honest =
+    let K = g.J.Job.kind in
+    let set = c.args.set.now in
+    let h : Header = record { set = set; segment = c.args.segment } in
+    let state : IsState (empty set) = subst IsState c.requires.empty c.number-number.ensures.state in
+    let made = made_of K g.met.J.Job.laws h c.args.head.now c.deref.result.now c.args.segment c.requires.header state c.requires.head (c.deref.ensures.value ∙ c.requires.spelled) refl in
+    c.in-Err-NotEmpty-default.ensures.recovers (format K) h (empty set) made (unmade_refused K) honest
+
+pub returns-in-Ok-clause-takes : goal.returns-in-Ok-clause-takes
+returns-in-Ok-clause-takes g c =
+    let h : Header = record { set = c.args.set.now; segment = c.args.segment } in
+    let state : IsState (empty c.args.set.now) = subst IsState c.requires.empty c.number-number.ensures.state in
+    let head = ap length c.requires.head ∙ header_long h c.requires.header in
+    let body = ap length (c.deref.ensures.value ∙ c.requires.spelled) ∙ state_long g.J.Job.kind g.met.J.Job.laws (empty c.args.set.now) state in
+    takes_told _ _ _ _ _ _ (made_calls h (length c.args.head.now) (length c.deref.result.now) c.args.segment c.requires.header head body refl) (λ _. refl) c.in-Ok.ensures.calls
+
+pub returns-in-Err-Device-default-clause-takes : goal.returns-in-Err-Device-default-clause-takes
+returns-in-Err-Device-default-clause-takes g c =
+    let h : Header = record { set = c.args.set.now; segment = c.args.segment } in
+    let state : IsState (empty c.args.set.now) = subst IsState c.requires.empty c.number-number.ensures.state in
+    let head = ap length c.requires.head ∙ header_long h c.requires.header in
+    let body = ap length (c.deref.ensures.value ∙ c.requires.spelled) ∙ state_long g.J.Job.kind g.met.J.Job.laws (empty c.args.set.now) state in
+    takes_told _ _ _ _ _ _ (made_calls h (length c.args.head.now) (length c.deref.result.now) c.args.segment c.requires.header head body refl) (λ is. absurd (true≢false (sym is))) c.in-Err-Device-default.ensures.calls
+
+pub returns-clause-takes : goal.returns-clause-takes
+returns-clause-takes g c =
+    let h : Header = record { set = c.args.set.now; segment = c.args.segment } in
+    let state : IsState (empty c.args.set.now) = subst IsState c.requires.empty c.number-number.ensures.state in
+    let head = ap length c.requires.head ∙ header_long h c.requires.header in
+    let body = ap length (c.deref.ensures.value ∙ c.requires.spelled) ∙ state_long g.J.Job.kind g.met.J.Job.laws (empty c.args.set.now) state in
+    takes_told _ _ _ _ _ _ (made_calls h (length c.args.head.now) (length c.deref.result.now) c.args.segment c.requires.header head body refl) (λ is. absurd (true≢false (sym is))) c.in-Err-NotEmpty-default.ensures.calls

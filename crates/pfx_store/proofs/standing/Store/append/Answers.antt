@@ -1,0 +1,53 @@
+use Rattle.std.proofs.Common.{◌≡◌, ◌+◌, ◌++◌, ◌∷◌, [], sym, ap, subst}
+use Rattle.std.specs.Prelude.{Some, OnOk}
+use Rattle.pfx_disk.specs.Disk.{View}
+use Rattle.pfx_format.specs.Format.{format}
+use Rattle.pfx_format.specs.Frames.{state_after}
+use Rattle.pfx_record.specs.Batches.{PlainBatch, batch_bytes, batch_of}
+use Rattle.pfx_store_file.specs.Holding.{KeepsAll}
+use Rattle.pfx_store.specs.Stores.{PlainStore}
+use Rattle.pfx_store.proofs.Appends.{batch_leads}
+use Rattle.pfx_store.proofs.Marking.{by_broken, covers_appended, holds_after, on_ok_when}
+use Rattle.pfx_store.proofs.Standings.{keeps_more, keeps_still, on_ok_then}
+use Rattle.pfx_store.proofs.standing.Store.append.Goals as goal
+
+pub invariant_of-self : goal.invariant_of-self
+invariant_of-self g c =
+    holds_after _ _ c.self.inside.journal.file.broken c.append.new.self.file.broken _ _ c.append.result c.append.ensures.works c.append.ensures.room (λ is. ap (λ j. j.file.broken) (c.append.ensures.broken is)) c.append.ensures.honest c.append.ensures.stands c.self.invariant
+
+pub returns-clause-marks : goal.returns-clause-marks
+returns-clause-marks g c = rw (← c.self.view_is) (λ honest start all marks covers.
+    (let K = g.J.Job.kind in
+    let L = g.met.J.Job.laws in
+    let j = c.self.inside.journal in
+    let b : PlainBatch g.row.J.Denot = batch_of c.args.batch.now.first c.args.batch.now.records.items in
+    let a : View = g.D.Disk.view j.file.disk in
+    let t = c.append.new.self.state in
+    let workers : c.args.batch.now.workers ≡ j.state.ledger.set.workers = subst (λ (v : PlainStore g.row.D.Denot g.row.J.Denot). c.args.batch.now.workers ≡ v.state.ledger.set.workers) (sym c.self.view_is) c.requires.workers in
+    let first : c.args.batch.now.first ≡ j.state.number + 1 = subst (λ (v : PlainStore g.row.D.Denot g.row.J.Denot). c.args.batch.now.first ≡ v.state.number + 1) (sym c.self.view_is) c.requires.first in
+    let led : OnOk c.append.result (state_after K j.state (batch_bytes K b) ≡ Some t) = on_ok_then c.append.result (batch_leads K L j.state t c.args.batch.now.workers b c.args.batch.now.fits workers first) c.append.ensures.state in
+    let keeps = by_broken j.file.broken (λ whole. c.append.ensures.keeps (c.self.invariant whole honest) start all (covers.leads whole))
+    (λ broken. subst (λ i. KeepsAll (format K) start all (all ++ batch_bytes K b ∷ []) a (g.D.Disk.view i.file.disk)) (sym (c.append.ensures.broken (c.append.ensures.works.broken.1 broken))) (keeps_more K start all (batch_bytes K b) a a (keeps_still K start all a))) in
+    covers_appended K start all L (batch_bytes K b) marks a (g.D.Disk.view c.append.new.self.file.disk) j.file.broken c.append.new.self.file.broken j.state t c.append.ensures.goes.later keeps covers
+    c.append.result c.append.ensures.works c.append.ensures.room (λ is. ap (λ i. i.file.broken) (c.append.ensures.broken is)) led c.append.ensures.mark
+    (λ whole. c.append.ensures.acknowledged (c.self.invariant whole honest) start all (covers.leads whole))))
+
+pub returns-clause-keeps : goal.returns-clause-keeps
+returns-clause-keeps g c = rw (← c.self.view_is) (λ honest start all replays.
+    (let K = g.J.Job.kind in
+    let j = c.self.inside.journal in
+    let b : PlainBatch g.row.J.Denot = batch_of c.args.batch.now.first c.args.batch.now.records.items in
+    let a : View = g.D.Disk.view j.file.disk in
+    by_broken j.file.broken (λ whole. c.append.ensures.keeps (c.self.invariant whole honest) start all replays)
+    (λ broken. subst (λ i. KeepsAll (format K) start all (all ++ batch_bytes K b ∷ []) a (g.D.Disk.view i.file.disk)) (sym (c.append.ensures.broken (c.append.ensures.works.broken.1 broken))) (keeps_more K start all (batch_bytes K b) a a (keeps_still K start all a)))))
+
+pub returns-clause-acknowledged : goal.returns-clause-acknowledged
+returns-clause-acknowledged g c = rw (← c.self.view_is) (λ honest start all replays.
+    on_ok_when _ _ _ c.self.inside.journal.file.broken c.append.new.self.file.broken c.append.result c.append.ensures.works
+    (λ whole. c.append.ensures.acknowledged (c.self.invariant whole honest) start all replays))
+
+pub returns-clause-acts : goal.returns-clause-acts
+returns-clause-acts g c = rw (← c.self.view_is) c.append.ensures.acts
+
+pub returns-clause-between : goal.returns-clause-between
+returns-clause-between g c = rw (← c.self.view_is) c.append.ensures.between

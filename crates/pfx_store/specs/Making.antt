@@ -1,0 +1,29 @@
+-- The calls that the making of a store takes, and which fault comes where it isn't made.
+use Rattle.std.specs.Prelude.{◌≡◌, ◌<◌, ◌+◌, ◌-◌, ℕ, ⊤}
+use Rattle.pfx_format.specs.Format.{layout}
+use Rattle.pfx_header.specs.Headers.{IsSegmentSize, least_segment, longest_segment}
+use Rattle.pfx_recovery.specs.Layout.{file_len}
+use Rattle.pfx_store_file.specs.Tending.{pieces}
+use Rattle.pfx_weights.specs.Sets.{FilledSet}
+use Rattle.pfx_store.specs.declared.making.InitFault.{InitFault}
+use Rattle.pfx_store.specs.declared.making.InitFault.TheVariants.{SegmentTooSmall, SegmentTooLarge, NotEmpty, Device, NoMemory}
+
+-- how many calls of the disk it takes: six, and one for each 4,096 bytes behind the first
+abbrev pub making_calls : FilledSet → ℕ → ℕ
+making_calls set segment = 6 + pieces (file_len (layout (record { set = set; segment = segment })) - 1)
+
+-- a segment of this length is below the limits of m workers, or above them; every other fault comes within them
+abbrev pub IsSizeFault : ℕ → ℕ → InitFault → Type 0
+IsSizeFault m segment (SegmentTooSmall least) = (least ≡ least_segment m) × (segment < least)
+IsSizeFault m segment SegmentTooLarge = longest_segment < segment
+IsSizeFault m segment NotEmpty = IsSegmentSize m segment
+IsSizeFault m segment Device = IsSegmentSize m segment
+IsSizeFault m segment NoMemory = IsSegmentSize m segment
+
+-- a fault that comes before the disk is asked anything
+abbrev pub IsBeforeAnyCall : InitFault → Type 0
+IsBeforeAnyCall (SegmentTooSmall least) = ⊤
+IsBeforeAnyCall SegmentTooLarge = ⊤
+IsBeforeAnyCall NotEmpty = ⊥
+IsBeforeAnyCall Device = ⊥
+IsBeforeAnyCall NoMemory = ⊤

@@ -1,0 +1,238 @@
+// Making a store.
+ghost use Rattle.std.specs.Prelude.{◌≡◌, ◌↔◌, ◌<◌, ◌≤◌, ◌+◌, ◌-◌, ◌*◌, ◌^◌, ◌⊎◌, ◌∷◌, [], ℕ, List, length, false, vec_capacity, Ok, IfOk, IfErr, MatchResult, IsErr};
+ghost use Rattle.pfx_checkpoint.specs.Spelling.{state_bytes};
+ghost use Rattle.pfx_disk.specs.Disk.{IsHonest, HasFailed, Leaves, Same};
+ghost use Rattle.pfx_create.specs.Attempts.{IsNoneOrMade};
+ghost use Rattle.pfx_recovery.specs.Recovery.{recovered};
+ghost use Rattle.pfx_segment.specs.Segment.{Takes};
+ghost use Rattle.pfx_store_file.specs.Tending.{pieces, steps_left};
+ghost use Rattle.pfx_format.specs.Format.{format};
+ghost use Rattle.pfx_header.specs.Headers.{IsHeader, IsSegmentSize, header_bytes};
+ghost use Rattle.pfx_machine.specs.Plain.{Plain, empty};
+ghost use Rattle.pfx_store.specs.Marks.{Covers};
+ghost use Rattle.pfx_store.specs.Standing.{Stands};
+ghost use Rattle.pfx_store.specs.Making.{IsBeforeAnyCall, IsSizeFault, making_calls};
+
+use crate::format::FileHeader;
+use crate::opening::longest_frame;
+use crate::standing::Store;
+use crate::store::Journal;
+use pfx_checkpoint::{freeze, frozen_len};
+use pfx_create::{CreateFault, create_file};
+use pfx_disk::Disk;
+use pfx_header::{SegmentSizeFault, check_segment, header_len, write_header};
+use pfx_jobs::job::Job;
+use pfx_machine::State;
+use pfx_weights::TaskSet;
+use std::alloc::{AllocError, Global};
+use thiserror::Error;
+
+/// Why a store isn't made.
+#[derive(Clone, Copy, Debug, PartialEq, Eq, Error)]
+pub enum InitFault {
+    /// The segment has fewer bytes than the longest batch needs: at least this many.
+    #[error("a segment has at least {least} bytes")]
+    SegmentTooSmall { least: u32 },
+    /// The segment has more than 16,777,216 bytes.
+    #[error("a segment has at most 16777216 bytes")]
+    SegmentTooLarge,
+    /// The disk holds bytes already. Nothing was written.
+    #[error("the disk isn't empty")]
+    NotEmpty,
+    /// The disk failed. Any part of the file may have been written.
+    #[error("the disk failed")]
+    Device,
+    /// A growth of memory was refused. Nothing was written.
+    #[error("out of memory")]
+    NoMemory,
+}
+
+// The bytes of the header.
+fn head_of(alloc: Global, set: &TaskSet, segment: u32) -> Result<Vec<u8>, AllocError>
+    ensures { IfOk result (λ head. head.items ≡ header_bytes (record { set = set.now; segment = segment })) }
+{
+    let mut head = vec![in alloc; 0; header_len(set)]?;
+    write_header(set, segment, &mut head);
+    Ok(head)
+}
+
+// The bytes of the state.
+fn frozen<J: Job>(alloc: Global, state: &State<J>) -> Result<Vec<u8>, AllocError>
+    ensures { IfOk result (λ body. body.items ≡ state_bytes J.kind state.now) }
+{
+    let mut body = vec![in alloc; 0; frozen_len(state)]?;
+    freeze(state, &mut body);
+    Ok(body)
+}
+
+// Makes the file, where all that it takes is there.
+fn placed<D: Disk, J: Job>(
+    disk: D,
+    set: &TaskSet,
+    state: State<J>,
+    head: &[u8],
+    spelled: Vec<u8>,
+    frame: Vec<u8>,
+    segment: u32,
+) -> Result<Journal<D, J>, (InitFault, D)>
+    requires header { IsHeader (record { set = set.now; segment = segment }) }
+    requires empty { state ≡ empty set.now }
+    requires head { head.now ≡ header_bytes (record { set = set.now; segment = segment }) }
+    requires spelled { spelled.items ≡ state_bytes J.kind (empty set.now) }
+    requires room { 32 + 2096 * set.now.workers ≤ vec_capacity frame }
+    ensures fault { IfErr result (λ e. (e.0 ≡ InitFault.Device) ⊎ (e.0 ≡ InitFault.NotEmpty)) }
+    ensures device { IfErr result (λ e. e.0 ≡ InitFault.Device → HasFailed (D.view disk) (D.view e.1)) }
+    ensures not_empty { IsHonest (D.view disk) → IfErr result (λ e. e.0 ≡ InitFault.NotEmpty
+        → 0 < length (D.view disk).contents) }
+    ensures one_call { IfErr result (λ e. e.0 ≡ InitFault.NotEmpty → (D.view e.1).clock ≡ (D.view disk).clock + 1) }
+    ensures unasked { IfErr result (λ e. IsBeforeAnyCall e.0 → e.1 ≡ disk) }
+    ensures vacant { IsHonest (D.view disk) → IfOk result (λ _. (D.view disk).contents ≡ []) }
+    ensures untouched { IsHonest (D.view disk) → 0 < length (D.view disk).contents
+        → IfErr result (λ e. Leaves Same (D.view disk) (D.view e.1)) }
+    ensures calls { IfOk result (λ store. (D.view store.file.disk).clock
+        ≡ (D.view disk).clock + 6 + pieces (store.file.places.len - 1)) }
+    ensures honest { MatchResult result (λ store. IsHonest (D.view disk) ↔ IsHonest (D.view store.file.disk))
+        (λ e. IsHonest (D.view disk) ↔ IsHonest (D.view e.1)) }
+    ensures takes { MatchResult result
+        (λ store. Takes (making_calls set.now segment) (D.view disk) (D.view store.file.disk) result)
+        (λ e. Takes (making_calls set.now segment) (D.view disk) (D.view e.1) result) }
+    ensures left { IfOk result (λ store. steps_left store.file.places ≡ 0) }
+    ensures segment { IfOk result (λ store. store.file.places.segment_len ≡ segment) }
+    ensures made { IfOk result (λ store. store.state ≡ empty set.now) }
+    ensures whole { IfOk result (λ store. store.file.broken ≡ false) }
+    ensures stands { IsHonest (D.view disk) → IfOk result (λ store.
+        Stands J.kind store.file.places store.state store.spelled.items (D.view store.file.disk)) }
+    ensures recovers { IsHonest (D.view disk) → MatchResult result
+        (λ store. IsNoneOrMade (format J.kind) (empty set.now) (D.view disk) (D.view store.file.disk))
+        (λ e. IsNoneOrMade (format J.kind) (empty set.now) (D.view disk) (D.view e.1)) }
+{
+    let _number = state.number();
+    match create_file::<D, FileHeader, State<J>>(disk, head, &spelled, segment as usize) {
+        Ok(file) => Ok(Journal {
+            file,
+            state,
+            spelled,
+            frame,
+        }),
+        Err((CreateFault::Device, disk)) => Err((InitFault::Device, disk)),
+        Err((CreateFault::NotEmpty, disk)) => Err((InitFault::NotEmpty, disk)),
+    }
+}
+
+// Makes the journal of a set at its empty state.
+fn made<D: Disk, J: Job>(
+    alloc: Global,
+    disk: D,
+    set: &TaskSet,
+    segment: u32,
+) -> Result<Journal<D, J>, (InitFault, D)>
+    requires { IsSegmentSize set.now.workers segment }
+    ensures fault { IfErr result (λ e. (e.0 ≡ InitFault.Device) ⊎ ((e.0 ≡ InitFault.NotEmpty) ⊎ (e.0 ≡ InitFault.NoMemory))) }
+    ensures device { IfErr result (λ e. e.0 ≡ InitFault.Device → HasFailed (D.view disk) (D.view e.1)) }
+    ensures not_empty { IsHonest (D.view disk) → IfErr result (λ e. e.0 ≡ InitFault.NotEmpty
+        → 0 < length (D.view disk).contents) }
+    ensures one_call { IfErr result (λ e. e.0 ≡ InitFault.NotEmpty → (D.view e.1).clock ≡ (D.view disk).clock + 1) }
+    ensures unasked { IfErr result (λ e. IsBeforeAnyCall e.0 → e.1 ≡ disk) }
+    ensures vacant { IsHonest (D.view disk) → IfOk result (λ _. (D.view disk).contents ≡ []) }
+    ensures untouched { IsHonest (D.view disk) → 0 < length (D.view disk).contents
+        → IfErr result (λ e. Leaves Same (D.view disk) (D.view e.1)) }
+    ensures calls { IfOk result (λ store. (D.view store.file.disk).clock
+        ≡ (D.view disk).clock + 6 + pieces (store.file.places.len - 1)) }
+    ensures honest { MatchResult result (λ store. IsHonest (D.view disk) ↔ IsHonest (D.view store.file.disk))
+        (λ e. IsHonest (D.view disk) ↔ IsHonest (D.view e.1)) }
+    ensures takes { MatchResult result
+        (λ store. Takes (making_calls set.now segment) (D.view disk) (D.view store.file.disk) result)
+        (λ e. Takes (making_calls set.now segment) (D.view disk) (D.view e.1) result) }
+    ensures left { IfOk result (λ store. steps_left store.file.places ≡ 0) }
+    ensures segment { IfOk result (λ store. store.file.places.segment_len ≡ segment) }
+    ensures made { IfOk result (λ store. store.state ≡ empty set.now) }
+    ensures whole { IfOk result (λ store. store.file.broken ≡ false) }
+    ensures stands { IsHonest (D.view disk) → IfOk result (λ store.
+        Stands J.kind store.file.places store.state store.spelled.items (D.view store.file.disk)) }
+    ensures recovers { IsHonest (D.view disk) → MatchResult result
+        (λ store. IsNoneOrMade (format J.kind) (empty set.now) (D.view disk) (D.view store.file.disk))
+        (λ e. IsNoneOrMade (format J.kind) (empty set.now) (D.view disk) (D.view e.1)) }
+{
+    set.is_of_its_tasks();
+    let Ok(state) = State::new(alloc, set) else {
+        return Err((InitFault::NoMemory, disk));
+    };
+    let Ok(head) = head_of(alloc, set, segment) else {
+        return Err((InitFault::NoMemory, disk));
+    };
+    let Ok(spelled) = frozen(alloc, &state) else {
+        return Err((InitFault::NoMemory, disk));
+    };
+    let Ok(frame) = Vec::with_capacity(alloc, longest_frame(set.workers())) else {
+        return Err((InitFault::NoMemory, disk));
+    };
+    placed(disk, set, state, &head, spelled, frame, segment)
+}
+
+impl<D: Disk, J: Job> Store<D, J> {
+    /// Makes the store of a set on an empty disk, with segments of this many bytes, at its empty state. With a fault the
+    /// disk comes back.
+    ///
+    /// The faults come in this order: those of the segment's length; `NoMemory`, with nothing written; `NotEmpty`, with
+    /// nothing written; `Device`.
+    pub fn init(
+        alloc: Global,
+        disk: D,
+        set: &TaskSet,
+        segment: u32,
+    ) -> Result<Store<D, J>, (InitFault, D)>
+        ensures size { IfErr result (λ e. IsSizeFault set.now.workers segment e.0) }
+        ensures fits { IfOk result (λ _. IsSegmentSize set.now.workers segment) }
+        ensures device { IfErr result (λ e. e.0 ≡ InitFault.Device → HasFailed (D.view disk) (D.view e.1)) }
+        ensures not_empty { IsHonest (D.view disk) → IfErr result (λ e. e.0 ≡ InitFault.NotEmpty
+            → 0 < length (D.view disk).contents) }
+        ensures one_call { IfErr result (λ e. e.0 ≡ InitFault.NotEmpty → (D.view e.1).clock ≡ (D.view disk).clock + 1) }
+        ensures unasked { IfErr result (λ e. IsBeforeAnyCall e.0 → e.1 ≡ disk) }
+
+        // A disk that holds bytes is left as it was.
+        ensures vacant { IsHonest (D.view disk) → IfOk result (λ _. (D.view disk).contents ≡ []) }
+        ensures untouched { IsHonest (D.view disk) → 0 < length (D.view disk).contents
+            → IfErr result (λ e. Leaves Same (D.view disk) (D.view e.1)) }
+
+        // Six calls, and one for each 4,096 bytes behind the first.
+        ensures calls { IfOk result (λ store. (D.view store.file.disk).clock
+            ≡ (D.view disk).clock + 6 + pieces (store.file.places.len - 1)) }
+
+        // No answer takes more calls, and an honest disk is so before as after.
+        ensures honest { MatchResult result (λ store. IsHonest (D.view disk) ↔ IsHonest (D.view store.file.disk))
+            (λ e. IsHonest (D.view disk) ↔ IsHonest (D.view e.1)) }
+        ensures takes { MatchResult result
+            (λ store. Takes (making_calls set.now segment) (D.view disk) (D.view store.file.disk) result)
+            (λ e. Takes (making_calls set.now segment) (D.view disk) (D.view e.1) result) }
+
+        // The store, with segments of that length, at its empty state.
+        ensures segment { IfOk result (λ store. store.file.places.segment_len ≡ segment) }
+        ensures made { IfOk result (λ store. store.state ≡ empty set.now) }
+        ensures whole { IfOk result (λ store. store.file.broken ≡ false) }
+        ensures left { IfOk result (λ store. steps_left store.file.places ≡ 0) }
+
+        // From the return on each image is recovered to the state: a mark stands for it.
+        ensures begins { IsHonest (D.view disk) → IfOk result (λ store. (image : List ℕ)
+            → (D.view store.file.disk).since (D.view store.file.disk).clock image → recovered (format J.kind) image ≡ Ok store.state) }
+        ensures marks { IsHonest (D.view disk) → IfOk result (λ store. Covers J.kind store.state []
+            (record { number = store.state.number; clock = (D.view store.file.disk).clock } ∷ [])
+            store.file.broken store.state (D.view store.file.disk)) }
+
+        // Where the disk was empty since some moment, each image since then is no store's, or the empty state's: at every
+        // moment of the call, whatever it answers.
+        ensures recovers { IsHonest (D.view disk) → MatchResult result
+            (λ store. IsNoneOrMade (format J.kind) (empty set.now) (D.view disk) (D.view store.file.disk))
+            (λ e. IsNoneOrMade (format J.kind) (empty set.now) (D.view disk) (D.view e.1)) }
+    {
+        match check_segment(set, segment) {
+            Ok(()) => match made(alloc, disk, set, segment) {
+                Ok(journal) => Ok(Store { journal }),
+                Err(refused) => Err(refused),
+            },
+            Err(SegmentSizeFault::SegmentTooSmall { least }) => {
+                Err((InitFault::SegmentTooSmall { least }, disk))
+            }
+            Err(SegmentSizeFault::SegmentTooLarge) => Err((InitFault::SegmentTooLarge, disk)),
+        }
+    }
+}

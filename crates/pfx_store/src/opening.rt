@@ -1,0 +1,144 @@
+// Opening a store.
+ghost use Rattle.std.specs.Prelude.{◌≡◌, ◌≤◌, ◌+◌, ◌*◌, ◌∷◌, [], ℕ, List, length, if◌then◌else◌, false, Vec, vec_capacity, Some, Ok, Err, IfOk, IfErr, MatchResult};
+ghost use Rattle.std.specs.declared.alloc.Global.{Global};
+ghost use Rattle.pfx_disk.specs.CallsMade.{HasMade, HasBrokenOff, HasKeptTo};
+ghost use Rattle.pfx_disk.specs.Disk.{IsHonest, HasFailed, Only};
+ghost use Rattle.pfx_disk.specs.Stop.{Sync};
+ghost use Rattle.pfx_format.specs.Format.{format, layout};
+ghost use Rattle.pfx_header.specs.Headers.{Header};
+ghost use Rattle.pfx_machine.specs.Plain.{Plain};
+ghost use Rattle.pfx_recover.specs.Answers.{IsRefusal};
+ghost use Rattle.pfx_recover.specs.Finding.{IsOpened};
+ghost use Rattle.pfx_recover.specs.Looking.{Looks};
+ghost use Rattle.pfx_recovery.specs.Recovery.{Found, found, recovered};
+ghost use Rattle.pfx_store_file.specs.Fitting.{Fits};
+ghost use Rattle.pfx_store_file.specs.Tending.{pieces, steps_left};
+ghost use Rattle.pfx_store.specs.Marks.{Covers};
+ghost use Rattle.pfx_store.specs.Files.{FileOf, HasFile, recovered_file};
+ghost use Rattle.pfx_store.specs.Standing.{Stands};
+
+use crate::format::{FileFormat, FileHeader};
+use crate::standing::Store;
+use crate::store::Journal;
+use pfx_checkpoint::state_len;
+use pfx_disk::Disk;
+use pfx_jobs::job::Job;
+use pfx_machine::State;
+use pfx_recover::{OpenFault, Opened, open};
+use pfx_store_file::StoreFile;
+use std::alloc::{AllocError, Global};
+
+// How many bytes the longest frame takes, with the closed gate behind it.
+pub(crate) fn longest_frame(workers: u32) -> usize
+    ensures { result ≡ 32 + 2096 * workers }
+{
+    32 + 2096 * workers as usize
+}
+
+// The body of the checkpoint in progress, or room for one.
+fn body_of(alloc: Global, middle: Option<Vec<u8>>, len: usize) -> Result<Vec<u8>, AllocError>
+    ensures long { IfOk result (λ body. length body.items ≡ len) }
+    ensures kept { (v : Vec ℕ Global) → middle ≡ Some v → length v.items ≡ len → IfOk result (λ body. body.items ≡ v.items) }
+{
+    match middle {
+        Some(body) if body.len() == len => Ok(body),
+        _ => vec![in alloc; 0; len],
+    }
+}
+
+// The journal of a file, with its room.
+fn furnished<D: Disk, J: Job>(
+    alloc: Global,
+    file: StoreFile<D>,
+    header: &FileHeader,
+    state: State<J>,
+    middle: Option<Vec<u8>>,
+) -> Result<Journal<D, J>, (OpenFault, D)>
+    requires sized { Fits (layout header.now) file.places }
+    requires set { state.ledger.set ≡ header.now.set }
+    ensures file { IfOk result (λ store. store.file ≡ file) }
+    ensures state { IfOk result (λ store. store.state ≡ state) }
+    ensures found { (bytes : List ℕ) → IsOpened (format J.kind) header.now bytes file.places state middle (D.view file.disk)
+        → IfOk result (λ store. recovered (format J.kind) bytes ≡ Ok store.state) }
+    ensures turned { (bytes : List ℕ) → IsOpened (format J.kind) header.now bytes file.places state middle (D.view file.disk)
+        → (f : Found Header (Plain J)) → found (format J.kind) bytes ≡ Ok f
+        → IfOk result (λ store. store.file.places.turned ≡ f.parts.turned) }
+    ensures stands { (bytes : List ℕ) → IsOpened (format J.kind) header.now bytes file.places state middle (D.view file.disk)
+        → IfOk result (λ store. Stands J.kind store.file.places store.state store.spelled.items (D.view store.file.disk)) }
+    ensures fault { IfErr result (λ e. (e.0 ≡ OpenFault.NoMemory) × (e.1 ≡ file.disk)) }
+    ensures place { (bytes : List ℕ) → IsOpened (format J.kind) header.now bytes file.places state middle (D.view file.disk)
+        → IfOk result (λ store. (f : FileOf J) × (recovered_file J.kind bytes ≡ Some (store.state, f))
+        × HasFile J.kind f store.file.places store.spelled.items) }
+{
+    let set = header.set();
+    let Ok(spelled) = body_of(alloc, middle, state_len(set)) else {
+        return Err((OpenFault::NoMemory, file.into_disk()));
+    };
+    let Ok(frame) = Vec::with_capacity(alloc, longest_frame(set.workers())) else {
+        return Err((OpenFault::NoMemory, file.into_disk()));
+    };
+    Ok(Journal {
+        file,
+        state,
+        spelled,
+        frame,
+    })
+}
+
+impl<D: Disk, J: Job> Store<D, J> {
+    /// Opens the store of a file: a sync, and then reads alone. With a fault the disk comes back.
+    ///
+    /// `Refused` names the first test that the file doesn't pass. `Device` comes only where the disk failed, and `NoMemory`
+    /// where a growth of memory was refused.
+    pub fn open(alloc: Global, disk: D) -> Result<Store<D, J>, (OpenFault, D)>
+        ensures found { IsHonest (D.view disk) → IfOk result (λ store.
+            recovered (format J.kind) (D.view disk).contents ≡ Ok store.state) }
+        ensures refused { IsHonest (D.view disk) → IfErr result (λ e. IsRefusal e.0 (λ refusal.
+            recovered (format J.kind) (D.view disk).contents ≡ Err refusal)) }
+        ensures device { IfErr result (λ e. e.0 ≡ OpenFault.Device → HasFailed (D.view disk) (D.view e.1)) }
+        ensures looks { MatchResult result
+            (λ store. Looks (D.view disk) (D.view store.file.disk)) (λ e. Looks (D.view disk) (D.view e.1)) }
+        ensures whole { IfOk result (λ store. store.file.broken ≡ false) }
+        ensures begun { IfOk result (λ store. store.file.places.begun ≡ false) }
+
+        // Where two segments were read a checkpoint is in progress, with all its steps to come; else there is none.
+        ensures left { IsHonest (D.view disk) → IfOk result (λ store. (f : Found Header (Plain J))
+            → found (format J.kind) (D.view disk).contents ≡ Ok f
+            → steps_left store.file.places ≡ (if f.parts.turned then 2 + pieces store.file.places.body else 0)) }
+
+        // From the return on each image is recovered to the state: a mark stands for it.
+        ensures begins { IsHonest (D.view disk) → IfOk result (λ store. (image : List ℕ)
+            → (D.view store.file.disk).since (D.view store.file.disk).clock image → recovered (format J.kind) image ≡ Ok store.state) }
+        ensures marks { IsHonest (D.view disk) → IfOk result (λ store. Covers J.kind store.state []
+            (record { number = store.state.number; clock = (D.view store.file.disk).clock } ∷ [])
+            store.file.broken store.state (D.view store.file.disk)) }
+
+        // The sync, and no other call that a stop would tell: it was made, or it failed; and then a stop leaves what was read.
+        ensures acts { IsHonest (D.view disk) → IfOk result (λ store.
+            HasMade (Sync ∷ []) (D.view disk) (D.view store.file.disk)) }
+        ensures front { IsHonest (D.view disk) → IfErr result (λ e. HasBrokenOff (Sync ∷ []) (D.view disk) (D.view e.1)) }
+        ensures between { IsHonest (D.view disk) → MatchResult result
+            (λ store. HasKeptTo (Sync ∷ []) (D.view disk) (D.view store.file.disk)) (λ e. HasKeptTo (Sync ∷ []) (D.view disk) (D.view e.1)) }
+        ensures only { IsHonest (D.view disk) → IfOk result (λ store. Only (D.view disk).contents (D.view store.file.disk)) }
+        // Its file is the one that is found, with a checkpoint in progress to be begun anew.
+        ensures file { IsHonest (D.view disk) → IfOk result (λ store. (f : FileOf J)
+            × (recovered_file J.kind (D.view disk).contents ≡ Some (store.state, f))
+            × HasFile J.kind f store.file.places store.spelled) }
+    {
+        match open::<FileFormat<J>, D>(alloc, disk) {
+            Err(fault) => Err(fault),
+            Ok(opened) => {
+                let Opened {
+                    file,
+                    header,
+                    state,
+                    middle,
+                } = opened;
+                match furnished(alloc, file, &header, state, middle) {
+                    Ok(journal) => Ok(Store { journal }),
+                    Err(refused) => Err(refused),
+                }
+            }
+        }
+    }
+}

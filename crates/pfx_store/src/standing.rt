@@ -1,0 +1,257 @@
+// A store: a journal that stands for its state.
+ghost use Rattle.std.specs.Prelude.{◌≡◌, ◌↔◌, ◌≤◌, ◌<◌, ◌+◌, ◌++◌, ◌∷◌, [], ℕ, List, length, map, min, true, false, Some, Ok, OnOk, OnErr, IfOk, IsTrue, IsErrOf};
+ghost use Rattle.pfx_disk.specs.CallsMade.{HasMade, HasBrokenOff, HasKeptTo};
+ghost use Rattle.pfx_disk.specs.Disk.{IsHonest};
+ghost use Rattle.pfx_redo.specs.Applying.{applied};
+ghost use Rattle.pfx_format.specs.Format.{format};
+ghost use Rattle.pfx_machine.specs.Plain.{Plain};
+ghost use Rattle.pfx_record.specs.Batches.{batch_bytes, batch_of};
+ghost use Rattle.pfx_record.specs.Records.{plain};
+ghost use Rattle.pfx_recovery.specs.Recovery.{recovered};
+ghost use Rattle.pfx_recovery.specs.Store.{Replays};
+ghost use Rattle.pfx_segment.specs.Segment.{Takes};
+ghost use Rattle.pfx_store_file.specs.Acts.{tended_file, turned_file};
+ghost use Rattle.pfx_store_file.specs.Calls.{Works, GoesOn};
+ghost use Rattle.pfx_store_file.specs.Fitting.{IsTurnable, SameParts};
+ghost use Rattle.pfx_store_file.specs.Holding.{KeepsAll, Survives};
+ghost use Rattle.pfx_store_file.specs.Tending.{IsTurned, StaysPut, TakesFrame, append_calls, calls_left, calls_of, next_step, pieces, steps_left, turn_calls};
+ghost use Rattle.pfx_store_file.specs.declared.checkpoint.TheConstants.{PIECE};
+ghost use Rattle.pfx_store.specs.Files.{FileOf, HasFile, appending, appended, tending, turning};
+ghost use Rattle.pfx_store.specs.Marks.{Covers, marked};
+ghost use Rattle.pfx_store.specs.Standing.{Stands};
+
+use crate::store::{Journal, Mark};
+use pfx_disk::Disk;
+use pfx_jobs::job::Job;
+use pfx_machine::State;
+use pfx_record::Batch;
+use pfx_store_file::{Places, StoreFault, Tended};
+use std::marker::Model;
+
+/// A state, and the file on a disk that keeps it. Where no call of the disk has failed and the disk is honest, the file
+/// stands for the state: no other store can be made.
+#[derive(Drop)]
+pub struct Store<D: Disk, J: Job> {
+    pub(crate) journal: Journal<D, J>,
+}
+
+impl<D: Disk, J: Job> Model for Store<D, J> {
+    ghost use Rattle.std.specs.Prelude.{◌≡◌, false};
+    ghost use Rattle.pfx_disk.specs.Disk.{IsHonest};
+    ghost use Rattle.pfx_store.specs.Standing.{Stands};
+    ghost use Rattle.pfx_store.specs.Stores.{PlainStore};
+
+    ghost Value = { PlainStore D J };
+
+    ghost view = { λ s. record {
+      file = record { disk = s.journal.file.disk; places = s.journal.file.places; broken = s.journal.file.broken };
+      state = s.journal.state;
+      spelled = s.journal.spelled.items;
+    } };
+
+    ghost invariant = { λ s. s.journal.file.broken ≡ false → IsHonest (D.view s.journal.file.disk)
+        → Stands J.kind s.journal.file.places s.journal.state s.journal.spelled.items (D.view s.journal.file.disk) };
+}
+
+impl<D: Disk, J: Job> Store<D, J> {
+    /// The state: that of every command up to the last mark.
+    pub fn state(&self) -> &State<J>
+        ensures { result.now ≡ self.now.state }
+    {
+        &self.journal.state
+    }
+
+    /// Whether the disk has failed in an earlier call: then the store does nothing any more, and has to be opened again.
+    pub fn is_broken(&self) -> bool
+        ensures broken { result ≡ self.now.file.broken }
+
+        // A store that isn't broken stands for its state: each image that a stop now may leave is recovered to it.
+        ensures stands { self.now.file.broken ≡ false → IsHonest (D.view self.now.file.disk)
+            → Stands J.kind self.now.file.places self.now.state self.now.spelled (D.view self.now.file.disk) }
+        ensures recovered { self.now.file.broken ≡ false → IsHonest (D.view self.now.file.disk) → (image : List ℕ)
+            → (D.view self.now.file.disk).now image → recovered (format J.kind) image ≡ Ok self.now.state }
+    {
+        self.journal.file.broken
+    }
+
+    /// Where the parts of the file lie, and how its gates stand.
+    pub fn places(&self) -> Places
+        ensures { result ≡ self.now.file.places }
+    {
+        self.journal.file.places
+    }
+
+    /// The disk.
+    pub fn disk(&self) -> &D
+        ensures { result.now ≡ self.now.file.disk }
+    {
+        &self.journal.file.disk
+    }
+
+    /// The disk.
+    pub fn into_disk(self) -> D
+        ensures { result ≡ self.file.disk }
+    {
+        self.journal.file.into_disk()
+    }
+
+    /// Appends a batch: from the mark on it is durable. Where its frame doesn't fit, the checkpoint in progress is ended
+    /// first, if there is one, and the file turned to its other segment. It takes no memory.
+    ///
+    /// It makes four calls of the disk where the frame fits, and otherwise six more and those of the checkpoint's steps that
+    /// are left: never more than 15 and one for each 4,096 bytes of a slot.
+    ///
+    /// The batch begins with the next number, has rows of the state's workers, and is right at the state. `Device` breaks
+    /// the store, and it keeps its state; a broken store answers `Broken` and does nothing.
+    pub fn append(&mut self, batch: &Batch<J>) -> Result<Mark, StoreFault>
+        requires workers { batch.now.workers ≡ self.old.state.ledger.set.workers }
+        requires first { batch.now.first ≡ self.old.state.number + 1 }
+        requires right { (t : Plain J) × (applied J.kind self.old.state (map plain batch.now.records.items) ≡ Some t) }
+        ensures works { Works (D.view self.old.file.disk) (D.view self.new.file.disk) self.old.file.broken self.new.file.broken result }
+        ensures calls { let n = length (batch_bytes J.kind (batch_of batch.now.first batch.now.records.items)) in
+            Takes (append_calls n self.old.file.places) (D.view self.old.file.disk) (D.view self.new.file.disk) result }
+        ensures at_most { (D.view self.new.file.disk).clock ≤ (D.view self.old.file.disk).clock + 15 + pieces self.old.file.places.body }
+        ensures goes { GoesOn (D.view self.old.file.disk) (D.view self.new.file.disk) }
+        ensures honest { IsHonest (D.view self.new.file.disk) → IsHonest (D.view self.old.file.disk) }
+        ensures kept { IsHonest (D.view self.old.file.disk) → IsHonest (D.view self.new.file.disk) }
+        ensures room { ¬ IsErrOf result StoreFault.NoRoom }
+        ensures broken { IsErrOf result StoreFault.Broken → self.new ≡ self.old }
+        ensures same { OnErr result (self.new.state ≡ self.old.state) }
+        ensures state { OnOk result (applied J.kind self.old.state (map plain batch.now.records.items) ≡ Some self.new.state) }
+        ensures frame { let n = length (batch_bytes J.kind (batch_of batch.now.first batch.now.records.items)) in
+            OnOk result (TakesFrame n self.old.file.places self.new.file.places) }
+        ensures parts { SameParts self.old.file.places self.new.file.places }
+        ensures mark { IfOk result (λ mark. (mark.number ≡ self.new.state.number)
+            × (mark.clock ≡ (D.view self.new.file.disk).clock)) }
+
+        // Each mark is kept, whatever the call answers, and the new one too.
+        ensures marks { IsHonest (D.view self.old.file.disk)
+            → (start : Plain J) → (all : List (List ℕ)) → (marks : List Mark)
+            → Covers J.kind start all marks self.old.file.broken self.old.state (D.view self.old.file.disk)
+            → Covers J.kind start (all ++ batch_bytes J.kind (batch_of batch.now.first batch.now.records.items) ∷ [])
+            (marked result marks) self.new.file.broken self.new.state (D.view self.new.file.disk) }
+
+        // At every moment of the call, whatever it answers, what survived before survives, with the batch or without.
+        ensures keeps { IsHonest (D.view self.old.file.disk)
+            → (start : Plain J) → (all : List (List ℕ)) → Replays (format J.kind) start all self.old.state
+            → KeepsAll (format J.kind) start all (all ++ batch_bytes J.kind (batch_of batch.now.first batch.now.records.items) ∷ [])
+            (D.view self.old.file.disk) (D.view self.new.file.disk) }
+
+        // From the return on, each image has the batch.
+        ensures acknowledged { IsHonest (D.view self.old.file.disk)
+            → (start : Plain J) → (all : List (List ℕ)) → Replays (format J.kind) start all self.old.state
+            → OnOk result ((image : List ℕ) → (D.view self.new.file.disk).since (D.view self.new.file.disk).clock image
+            → Survives (format J.kind) start (all ++ batch_bytes J.kind (batch_of batch.now.first batch.now.records.items) ∷ [])
+            (length all + 1) image) }
+
+        // These calls, one after the other, of a store with this file: all of them, or some of them up to one that failed; and
+        // the file behind them.
+        ensures acts { let frame = batch_bytes J.kind (batch_of batch.now.first batch.now.records.items) in
+            (f : FileOf J) → HasFile J.kind f self.old.file.places self.old.spelled → IsHonest (D.view self.old.file.disk)
+            → OnOk result (HasMade (appending J.kind f self.old.state frame) (D.view self.old.file.disk) (D.view self.new.file.disk)) }
+        ensures front { let frame = batch_bytes J.kind (batch_of batch.now.first batch.now.records.items) in
+            (f : FileOf J) → HasFile J.kind f self.old.file.places self.old.spelled → IsHonest (D.view self.old.file.disk)
+            → IsErrOf result StoreFault.Device → HasBrokenOff (appending J.kind f self.old.state frame) (D.view self.old.file.disk) (D.view self.new.file.disk) }
+        ensures between { let frame = batch_bytes J.kind (batch_of batch.now.first batch.now.records.items) in
+            (f : FileOf J) → HasFile J.kind f self.old.file.places self.old.spelled → IsHonest (D.view self.old.file.disk)
+            → HasKeptTo (appending J.kind f self.old.state frame) (D.view self.old.file.disk) (D.view self.new.file.disk) }
+        ensures file { let frame = batch_bytes J.kind (batch_of batch.now.first batch.now.records.items) in
+            (f : FileOf J) → HasFile J.kind f self.old.file.places self.old.spelled → IsHonest (D.view self.old.file.disk)
+            → OnOk result (HasFile J.kind (appended J.kind f self.old.state frame) self.new.file.places self.new.spelled) }
+    {
+        self.journal.append(batch)
+    }
+
+    /// Takes one step of the checkpoint in progress, if there is one: two calls of the disk for the first, one for each
+    /// piece of at most 4,096 bytes, three for the last. It takes no memory.
+    ///
+    /// The checkpoint holds the state at the turn, whatever was appended since. `Device` breaks the store; a broken store
+    /// answers `Broken` and does nothing.
+    pub fn tend(&mut self) -> Result<Tended, StoreFault>
+        ensures works { Works (D.view self.old.file.disk) (D.view self.new.file.disk) self.old.file.broken self.new.file.broken result }
+        ensures calls { Takes (calls_of (next_step self.old.file.places)) (D.view self.old.file.disk) (D.view self.new.file.disk) result }
+        ensures honest { IsHonest (D.view self.new.file.disk) → IsHonest (D.view self.old.file.disk) }
+        ensures kept { IsHonest (D.view self.old.file.disk) → IsHonest (D.view self.new.file.disk) }
+        ensures room { ¬ IsErrOf result StoreFault.NoRoom }
+        ensures broken { IsErrOf result StoreFault.Broken → self.new ≡ self.old }
+        ensures state { self.new.state ≡ self.old.state }
+        ensures step { IfOk result (λ tended. tended ≡ next_step self.old.file.places) }
+        ensures parts { SameParts self.old.file.places self.new.file.places }
+        ensures stays { StaysPut self.old.file.places self.new.file.places }
+        ensures nothing { self.old.file.places.turned ≡ false
+            → (self.new.file ≡ self.old.file) × (self.new.spelled ≡ self.old.spelled) }
+        ensures piece { result ≡ Ok Tended.Piece
+            → self.new.file.places.done ≡ min self.old.file.places.body (self.old.file.places.done + PIECE) }
+        ensures nearer { self.old.file.places.turned ≡ true
+            → OnOk result (steps_left self.old.file.places ≡ 1 + steps_left self.new.file.places) }
+        ensures fewer { OnOk result (calls_left self.old.file.places
+            ≡ calls_of (next_step self.old.file.places) + calls_left self.new.file.places) }
+
+        // Each mark is kept, whatever the call answers.
+        ensures marks { IsHonest (D.view self.old.file.disk)
+            → (start : Plain J) → (all : List (List ℕ)) → (marks : List Mark)
+            → Covers J.kind start all marks self.old.file.broken self.old.state (D.view self.old.file.disk)
+            → Covers J.kind start all marks self.new.file.broken self.new.state (D.view self.new.file.disk) }
+
+        // At every moment of the call, whatever it answers, what survived before survives.
+        ensures keeps { IsHonest (D.view self.old.file.disk)
+            → (start : Plain J) → (all : List (List ℕ)) → Replays (format J.kind) start all self.old.state
+            → KeepsAll (format J.kind) start all all (D.view self.old.file.disk) (D.view self.new.file.disk) }
+
+        // These calls, one after the other, of a store with this file: all of them, or some of them up to one that failed; and
+        // the file behind them.
+        ensures acts { (f : FileOf J) → HasFile J.kind f self.old.file.places self.old.spelled → IsHonest (D.view self.old.file.disk)
+            → OnOk result (HasMade (tending J.kind f) (D.view self.old.file.disk) (D.view self.new.file.disk)) }
+        ensures front { (f : FileOf J) → HasFile J.kind f self.old.file.places self.old.spelled → IsHonest (D.view self.old.file.disk)
+            → IsErrOf result StoreFault.Device → HasBrokenOff (tending J.kind f) (D.view self.old.file.disk) (D.view self.new.file.disk) }
+        ensures between { (f : FileOf J) → HasFile J.kind f self.old.file.places self.old.spelled → IsHonest (D.view self.old.file.disk)
+            → HasKeptTo (tending J.kind f) (D.view self.old.file.disk) (D.view self.new.file.disk) }
+        ensures file { (f : FileOf J) → HasFile J.kind f self.old.file.places self.old.spelled → IsHonest (D.view self.old.file.disk)
+            → OnOk result (HasFile J.kind (tended_file (format J.kind) f) self.new.file.places self.new.spelled) }
+    {
+        self.journal.tend()
+    }
+
+    /// Turns the store to its other segment, by six calls of the disk: a checkpoint of the state is in progress then.
+    /// `false`, and nothing done, where that isn't lawful: a checkpoint is in progress, or the segment that frames go to has
+    /// none. It takes no memory.
+    ///
+    /// `Device` breaks the store; a broken store answers `Broken` and does nothing.
+    pub fn turn(&mut self) -> Result<bool, StoreFault>
+        ensures works { Works (D.view self.old.file.disk) (D.view self.new.file.disk) self.old.file.broken self.new.file.broken result }
+        ensures calls { Takes (turn_calls self.old.file.places) (D.view self.old.file.disk) (D.view self.new.file.disk) result }
+        ensures honest { IsHonest (D.view self.new.file.disk) → IsHonest (D.view self.old.file.disk) }
+        ensures kept { IsHonest (D.view self.old.file.disk) → IsHonest (D.view self.new.file.disk) }
+        ensures room { ¬ IsErrOf result StoreFault.NoRoom }
+        ensures broken { IsErrOf result StoreFault.Broken → self.new ≡ self.old }
+        ensures state { self.new.state ≡ self.old.state }
+        ensures lawful { IfOk result (λ turned. IsTrue turned ↔ IsTurnable self.old.file.places) }
+        ensures refused { result ≡ Ok false → (self.new.file ≡ self.old.file) × (self.new.spelled ≡ self.old.spelled) }
+        ensures turned { result ≡ Ok true → IsTurned self.new.file.places }
+        ensures parts { SameParts self.old.file.places self.new.file.places }
+
+        // Each mark is kept, whatever the call answers.
+        ensures marks { IsHonest (D.view self.old.file.disk)
+            → (start : Plain J) → (all : List (List ℕ)) → (marks : List Mark)
+            → Covers J.kind start all marks self.old.file.broken self.old.state (D.view self.old.file.disk)
+            → Covers J.kind start all marks self.new.file.broken self.new.state (D.view self.new.file.disk) }
+
+        // At every moment of the call, whatever it answers, what survived before survives.
+        ensures keeps { IsHonest (D.view self.old.file.disk)
+            → (start : Plain J) → (all : List (List ℕ)) → Replays (format J.kind) start all self.old.state
+            → KeepsAll (format J.kind) start all all (D.view self.old.file.disk) (D.view self.new.file.disk) }
+
+        // These calls, one after the other, of a store with this file, where it turns: all of them, or some of them up to one
+        // that failed; and the file behind them.
+        ensures acts { (f : FileOf J) → HasFile J.kind f self.old.file.places self.old.spelled → IsHonest (D.view self.old.file.disk)
+            → result ≡ Ok true → HasMade (turning J.kind f self.old.state) (D.view self.old.file.disk) (D.view self.new.file.disk) }
+        ensures front { (f : FileOf J) → HasFile J.kind f self.old.file.places self.old.spelled → IsHonest (D.view self.old.file.disk)
+            → IsErrOf result StoreFault.Device → HasBrokenOff (turning J.kind f self.old.state) (D.view self.old.file.disk) (D.view self.new.file.disk) }
+        ensures between { (f : FileOf J) → HasFile J.kind f self.old.file.places self.old.spelled → IsHonest (D.view self.old.file.disk)
+            → HasKeptTo (turning J.kind f self.old.state) (D.view self.old.file.disk) (D.view self.new.file.disk) }
+        ensures file { (f : FileOf J) → HasFile J.kind f self.old.file.places self.old.spelled → IsHonest (D.view self.old.file.disk)
+            → result ≡ Ok true → HasFile J.kind (turned_file (format J.kind) f self.old.state) self.new.file.places self.new.spelled }
+    {
+        self.journal.turn()
+    }
+}

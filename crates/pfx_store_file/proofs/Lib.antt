@@ -1,0 +1,5 @@
+pub mod Calling
+pub mod Keeping
+pub mod Ends
+mod Rooms
+pub mod Joins

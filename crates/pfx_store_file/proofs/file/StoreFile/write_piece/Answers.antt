@@ -1,0 +1,123 @@
+use Rattle.std.proofs.Common.{◌≡◌, ◌∙◌, ◌+◌, ◌-◌, ◌≤◌, ap, not, ℕ, List, take, drop, refl, arith}
+use Rattle.std.proofs.Common.{[], ◌∷◌, sym, subst}
+use Rattle.pfx_disk.specs.Stop.{Act, Write}
+use Rattle.pfx_disk.specs.CallsMade.{HasMade, HasBrokenOff, HasKeptTo}
+use Rattle.pfx_disk.proofs.CallsMade.{write_made, write_broken, write_within}
+use Rattle.pfx_store_file.specs.Files.{slot_of}
+use Rattle.pfx_recovery.specs.Layout.{slot_at}
+use Rattle.pfx_store_file.proofs.Keeping.{piece_keeps, piece_holds}
+use Rattle.pfx_store_file.proofs.file.StoreFile.write_piece.Goals as goal
+
+same_piece : (done n : ℕ) (l : List ℕ) → take (done + n - done) (drop done l) ≡ take n (drop done l)
+same_piece done n l = ap (λ (k : ℕ). take k (drop done l)) (less done n)
+  where
+    less : (done n : ℕ) → done + n - done ≡ n
+    less done n = omega arith
+
+pub returns-in_err-write_at-clause-keeps : goal.returns-in_err-write_at-clause-keeps
+returns-in_err-write_at-clause-keeps g c K laws h p s holds start all run =
+    let view = g.D.Disk.view in
+    let old = c.args.self.now in
+    let at_is : c.slot_at-at.result ≡ slot_at (K.layout h) (not p.slot) = c.slot_at-at.ensures.at (K.layout h) holds.fits ∙ ap (λ b. slot_at (K.layout h) (not b)) holds.slot in
+    let spelling = c.args.spelling.now in
+    let piece = take (old.places.done + c.args.n - old.places.done) (drop old.places.done spelling) in
+    let fits : old.places.done + c.args.n ≤ (K.layout h).body = omega (arith, c.requires.fits, holds.fits.body) in
+    piece_keeps K laws h old.places p s spelling (view old.disk) holds c.slot_at-at.result at_is piece c.args.n c.requires.some fits (holds.begun c.requires.begun) (same_piece old.places.done c.args.n spelling) (view c.write_at.new.self) (c.write_at.ensures.leaves holds.honest) start all run
+
+pub returns-clause-keeps : goal.returns-clause-keeps
+returns-clause-keeps g c K laws h p s holds start all run =
+    let view = g.D.Disk.view in
+    let old = c.args.self.now in
+    let at_is : c.slot_at-at.result ≡ slot_at (K.layout h) (not p.slot) = c.slot_at-at.ensures.at (K.layout h) holds.fits ∙ ap (λ b. slot_at (K.layout h) (not b)) holds.slot in
+    let spelling = c.args.spelling.now in
+    let piece = take (old.places.done + c.args.n - old.places.done) (drop old.places.done spelling) in
+    let fits : old.places.done + c.args.n ≤ (K.layout h).body = omega (arith, c.requires.fits, holds.fits.body) in
+    piece_keeps K laws h old.places p s spelling (view old.disk) holds c.slot_at-at.result at_is piece c.args.n c.requires.some fits (holds.begun c.requires.begun) (same_piece old.places.done c.args.n spelling) (view c.write_at.new.self) (c.write_at.ensures.leaves holds.honest) start all run
+
+pub returns-clause-holds : goal.returns-clause-holds
+returns-clause-holds g c K laws h p s holds =
+    let view = g.D.Disk.view in
+    let old = c.args.self.now in
+    let at_is : c.slot_at-at.result ≡ slot_at (K.layout h) (not p.slot) = c.slot_at-at.ensures.at (K.layout h) holds.fits ∙ ap (λ b. slot_at (K.layout h) (not b)) holds.slot in
+    let spelling = c.args.spelling.now in
+    let piece = take (old.places.done + c.args.n - old.places.done) (drop old.places.done spelling) in
+    let fits : old.places.done + c.args.n ≤ (K.layout h).body = omega (arith, c.requires.fits, holds.fits.body) in
+    piece_holds K laws h old.places p s spelling (view old.disk) holds c.slot_at-at.result at_is piece c.args.n c.requires.some fits (holds.begun c.requires.begun) (same_piece old.places.done c.args.n spelling) (view c.write_at.new.self) (c.write_at.ensures.leaves holds.honest)
+    (c.in_ok-write_at.ensures.written holds.honest) _ (record { head = holds.fits.head; body = holds.fits.body; segment = holds.fits.segment }) refl refl refl refl refl refl refl refl
+
+pub returns-in_err-write_at-clause-front : goal.returns-in_err-write_at-clause-front
+returns-in_err-write_at-clause-front g c K f are honest is =
+    let view = g.D.Disk.view in
+    let a = view c.args.self.now.disk in
+    let b = view c.write_at.new.self in
+    let at_is : c.slot_at-at.result ≡ slot_of K f = c.slot_at-at.ensures.at (K.layout f.head) are.are.fits ∙ ap (λ b. slot_at (K.layout f.head) (not b)) are.are.slot in
+    let spelling = c.args.spelling.now in
+    let done = c.args.self.now.places.done in
+    let n = c.args.n in
+    let piece = take (done + n - done) (drop done spelling) in
+    let place : c.slot_at-at.result + 1 + done ≡ slot_of K f + 1 + f.done = omega (arith, at_is, are.done) in
+    let bytes : piece ≡ take n (drop f.done spelling) = same_piece done n spelling ∙ ap (λ (k : ℕ). take n (drop k spelling)) are.done in
+    let l = c.write_at.ensures.leaves honest in
+    subst (λ (k : ℕ). HasBrokenOff (Write k (take n (drop f.done spelling)) ∷ []) a b) place (subst (λ (l : List ℕ). HasBrokenOff (Write (c.slot_at-at.result + 1 + done) l ∷ []) a b) bytes (write_broken a b (c.slot_at-at.result + 1 + done) piece l))
+
+pub returns-in_err-write_at-clause-between : goal.returns-in_err-write_at-clause-between
+returns-in_err-write_at-clause-between g c K f are honest =
+    let view = g.D.Disk.view in
+    let a = view c.args.self.now.disk in
+    let b = view c.write_at.new.self in
+    let at_is : c.slot_at-at.result ≡ slot_of K f = c.slot_at-at.ensures.at (K.layout f.head) are.are.fits ∙ ap (λ b. slot_at (K.layout f.head) (not b)) are.are.slot in
+    let spelling = c.args.spelling.now in
+    let done = c.args.self.now.places.done in
+    let n = c.args.n in
+    let piece = take (done + n - done) (drop done spelling) in
+    let place : c.slot_at-at.result + 1 + done ≡ slot_of K f + 1 + f.done = omega (arith, at_is, are.done) in
+    let bytes : piece ≡ take n (drop f.done spelling) = same_piece done n spelling ∙ ap (λ (k : ℕ). take n (drop k spelling)) are.done in
+    let l = c.write_at.ensures.leaves honest in
+    subst (λ (k : ℕ). HasKeptTo (Write k (take n (drop f.done spelling)) ∷ []) a b) place (subst (λ (l : List ℕ). HasKeptTo (Write (c.slot_at-at.result + 1 + done) l ∷ []) a b) bytes (write_within a b (c.slot_at-at.result + 1 + done) piece l))
+
+pub returns-clause-acts : goal.returns-clause-acts
+returns-clause-acts g c K f are honest =
+    let view = g.D.Disk.view in
+    let a = view c.args.self.now.disk in
+    let b = view c.write_at.new.self in
+    let at_is : c.slot_at-at.result ≡ slot_of K f = c.slot_at-at.ensures.at (K.layout f.head) are.are.fits ∙ ap (λ b. slot_at (K.layout f.head) (not b)) are.are.slot in
+    let spelling = c.args.spelling.now in
+    let done = c.args.self.now.places.done in
+    let n = c.args.n in
+    let piece = take (done + n - done) (drop done spelling) in
+    let place : c.slot_at-at.result + 1 + done ≡ slot_of K f + 1 + f.done = omega (arith, at_is, are.done) in
+    let bytes : piece ≡ take n (drop f.done spelling) = same_piece done n spelling ∙ ap (λ (k : ℕ). take n (drop k spelling)) are.done in
+    let l = c.write_at.ensures.leaves honest in
+    subst (λ (k : ℕ). HasMade (Write k (take n (drop f.done spelling)) ∷ []) a b) place (subst (λ (l : List ℕ). HasMade (Write (c.slot_at-at.result + 1 + done) l ∷ []) a b) bytes (write_made a b (c.slot_at-at.result + 1 + done) piece l (omega (arith, c.args.self.now.inside honest, c.slot_at-at.ensures.inside, c.requires.fits)) (c.in_ok-write_at.ensures.written honest)))
+
+pub returns-clause-between : goal.returns-clause-between
+returns-clause-between g c K f are honest =
+    let view = g.D.Disk.view in
+    let a = view c.args.self.now.disk in
+    let b = view c.write_at.new.self in
+    let at_is : c.slot_at-at.result ≡ slot_of K f = c.slot_at-at.ensures.at (K.layout f.head) are.are.fits ∙ ap (λ b. slot_at (K.layout f.head) (not b)) are.are.slot in
+    let spelling = c.args.spelling.now in
+    let done = c.args.self.now.places.done in
+    let n = c.args.n in
+    let piece = take (done + n - done) (drop done spelling) in
+    let place : c.slot_at-at.result + 1 + done ≡ slot_of K f + 1 + f.done = omega (arith, at_is, are.done) in
+    let bytes : piece ≡ take n (drop f.done spelling) = same_piece done n spelling ∙ ap (λ (k : ℕ). take n (drop k spelling)) are.done in
+    let l = c.write_at.ensures.leaves honest in
+    subst (λ (k : ℕ). HasKeptTo (Write k (take n (drop f.done spelling)) ∷ []) a b) place (subst (λ (l : List ℕ). HasKeptTo (Write (c.slot_at-at.result + 1 + done) l ∷ []) a b) bytes (write_within a b (c.slot_at-at.result + 1 + done) piece l))
+
+pub returns-clause-file : goal.returns-clause-file
+returns-clause-file g c K f are =
+    record {
+      are = record {
+        fits = record { head = are.are.fits.head; body = are.are.fits.body; segment = are.are.fits.segment };
+        slot = are.are.slot;
+        segment = are.are.segment;
+        turned = are.are.turned;
+        gate = are.are.gate;
+        end = are.are.end;
+      };
+      slot_open = are.slot_open;
+      segment_open = are.segment_open;
+      begun = are.begun;
+      done = ap (λ (k : ℕ). k + c.args.n) are.done;
+    }

@@ -1,0 +1,45 @@
+-- A store's file by its parts, and what is known of it besides, as the places of a store have it.
+use Rattle.std.specs.Prelude.{◌≡◌, ℕ, List, Bool, false, not}
+use Rattle.pfx_recovery.specs.Codec.{Codec}
+use Rattle.pfx_recovery.specs.Layout.{Layout, slot_at, segment_at, is_open}
+use Rattle.pfx_recovery.specs.Store.{Parts}
+use Rattle.pfx_store_file.specs.Holding.{ArePlaces}
+use Rattle.pfx_store_file.specs.declared.places.Places.{Places}
+
+-- The header and the parts; whether the gates of the slot and of the segment that aren't in use stand open; whether that
+-- slot was closed for the checkpoint in progress, and how many bytes of it have been written behind that gate.
+pub record File (H S : Type 0) : Type 0 where
+  pub head : H
+  pub parts : Parts S
+  pub slot_open : Bool
+  pub segment_open : Bool
+  pub begun : Bool
+  pub done : ℕ
+
+module _ {H S : Type 0} (K : Codec H S) where
+  -- where the slot that isn't in use stands
+  abbrev pub slot_of : File H S → ℕ
+  slot_of f = slot_at (K.layout f.head) (not f.parts.slot)
+
+  -- where the segment that isn't in use stands
+  abbrev pub segment_of : File H S → ℕ
+  segment_of f = segment_at (K.layout f.head) (not f.parts.segment)
+
+  -- the file that is found in an image: the gates stand as they do there, and a checkpoint in progress begins anew
+  abbrev pub file_in : List ℕ → H → Parts S → File H S
+  file_in image h p = record {
+    head = h;
+    parts = p;
+    slot_open = is_open (slot_at (K.layout h) (not p.slot)) image;
+    segment_open = is_open (segment_at (K.layout h) (not p.segment)) image;
+    begun = false;
+    done = 0;
+  }
+
+  -- the places of a store are those of the file
+  pub record AreOf (f : File H S) (places : Places) : Type 0 where
+    pub are : ArePlaces K f.head f.parts places
+    pub slot_open : places.slot_open ≡ f.slot_open
+    pub segment_open : places.segment_open ≡ f.segment_open
+    pub begun : places.begun ≡ f.begun
+    pub done : places.done ≡ f.done

@@ -1,0 +1,6 @@
+pub mod Acts
+pub mod Files
+pub mod Calls
+pub mod Fitting
+pub mod Holding
+pub mod Tending

@@ -1,0 +1,91 @@
+-- The steps of a checkpoint in progress.
+use Rattle.std.specs.Prelude.{◌≡◌, ℕ, ◌+◌, ◌-◌, ◌/◌, nat_lt, Bool, true, false, if◌then◌else◌}
+use Rattle.pfx_recovery.specs.Store.{Parts, finished, turned_at}
+use Rattle.pfx_store_file.specs.Fitting.{HasRoom, IsEmpty}
+use Rattle.pfx_store_file.specs.declared.places.Places.{Places}
+use Rattle.pfx_store_file.specs.declared.checkpoint.TheConstants.{PIECE}
+use Rattle.pfx_store_file.specs.declared.checkpoint.Tended.{Tended}
+use Rattle.pfx_store_file.specs.declared.checkpoint.Tended.TheVariants.{Nothing, Closed, Piece, Finished}
+
+-- the step that comes next
+abbrev pub next_step : Places → Tended
+next_step places = if places.turned then (if places.begun then (if nat_lt places.done places.body then Piece else Finished) else Closed) else Nothing
+
+-- how many calls of the disk a step takes
+abbrev pub calls_of : Tended → ℕ
+calls_of Nothing = 0
+calls_of Closed = 2
+calls_of Piece = 1
+calls_of Finished = 3
+
+-- how many pieces n bytes are written in
+abbrev pub pieces : ℕ → ℕ
+pieces n = (n + (PIECE - 1)) / PIECE
+
+-- how many steps are to come until the checkpoint in progress has ended: the first, the pieces and the last
+abbrev pub steps_left : Places → ℕ
+steps_left places = if places.turned then (if places.begun then 1 + pieces (places.body - places.done) else 2 + pieces places.body) else 0
+
+-- how many calls of the disk they take
+abbrev pub calls_left : Places → ℕ
+calls_left places = if places.turned then (if places.begun then 3 + pieces (places.body - places.done) else 5 + pieces places.body) else 0
+
+-- how many it takes to make room for a frame of n bytes: none where it fits, else those of the steps to come
+abbrev pub room_calls : ℕ → Places → ℕ
+room_calls n places = if nat_lt (places.gate + n) places.end then 0 else calls_left places
+
+-- how many it takes to append one: four where it fits, else those of the steps to come, of a turn, and four
+abbrev pub append_calls : ℕ → Places → ℕ
+append_calls n places = if nat_lt (places.gate + n) places.end then 4 else 10 + calls_left places
+
+-- how many a turn takes: none where it isn't lawful
+abbrev pub turn_calls : Places → ℕ
+turn_calls places = if places.turned then 0 else (if nat_lt (places.end + 9) (places.gate + places.segment_len) then 6 else 0)
+
+-- behind a turn: the segment that frames go to has none, and the checkpoint in progress has all its steps to come
+pub record IsTurned (places : Places) : Type 0 where
+  pub turned : places.turned ≡ true
+  pub begun : places.begun ≡ false
+  pub empty : IsEmpty places
+
+-- frames go where they went
+pub record StaysPut (old new : Places) : Type 0 where
+  pub segment : new.segment ≡ old.segment
+  pub gate : new.gate ≡ old.gate
+  pub end : new.end ≡ old.end
+
+-- the next frame's gate lies n bytes on, and all else is as it was: what was done of the checkpoint in progress too
+pub record MovesOn (n : ℕ) (old new : Places) : Type 0 where
+  pub gate : new.gate ≡ old.gate + n
+  pub end : new.end ≡ old.end
+  pub slot : new.slot ≡ old.slot
+  pub segment : new.segment ≡ old.segment
+  pub turned : new.turned ≡ old.turned
+  pub slot_open : new.slot_open ≡ old.slot_open
+  pub segment_open : new.segment_open ≡ old.segment_open
+  pub begun : new.begun ≡ old.begun
+  pub done : new.done ≡ old.done
+
+-- behind a turn and a frame of n bytes: that frame alone is in its segment, and the checkpoint has all its steps to come
+pub record IsTurnedBefore (n : ℕ) (places : Places) : Type 0 where
+  pub turned : places.turned ≡ true
+  pub begun : places.begun ≡ false
+  pub gate : places.end + 9 + n ≡ places.gate + places.segment_len
+
+-- how a frame of n bytes moves the places, whether it fits or not
+pub record TakesFrame (n : ℕ) (old new : Places) : Type 0 where
+  pub room : HasRoom n old → MovesOn n old new
+  pub full : ¬ HasRoom n old → IsTurnedBefore n new
+
+-- the parts, where the checkpoint in progress has ended, if there was one
+abbrev pub settled : {S : Type 0} → Parts S → Parts S
+settled p = if p.turned then finished p else p
+
+-- the parts, where it may have ended
+abbrev pub settled_unless : {S : Type 0} → Bool → Parts S → Parts S
+settled_unless turned p = if turned then p else settled p
+
+-- the parts, where room was made for n bytes at this state: the same, where there was room; else turned, behind the end of
+-- the checkpoint in progress
+abbrev pub made_room : {S : Type 0} → ℕ → Places → Parts S → S → Parts S
+made_room n places p s = if nat_lt (places.gate + n) places.end then p else turned_at (settled p) s
