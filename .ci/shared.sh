@@ -111,7 +111,8 @@ copy_tree() {
 }
 
 # Says what the gate would refuse, but only once it has proved what lies below: files that the toolchain's formatter writes
-# otherwise, and wrong bodies whose text isn't there. It looks at a copy of the work tree in the folder $1.
+# otherwise, and wrong bodies whose text isn't there; and what it wouldn't see, where pages and sources differ. It looks at a copy of
+# the work tree in the folder $1.
 says_at_once() {
   local name
   copy_tree "$1" && git -C "$1" add -A || return
@@ -119,6 +120,7 @@ says_at_once() {
     (cd "$1/crates/$name" && "$rt" fmt 2>&1 | sed -n "s/^rt: note: /$name: /p")
   done
   git -C "$1" diff --name-only | sed 's/$/: not as rt fmt writes it/'
+  python3 "$top/.ci/pages" "$1"
 }
 
 # Takes from the copy $1 the tests of its crate $2: the crate itself where it is only tests, else the tests within.
