@@ -1,5 +1,6 @@
 pub mod Standing
 pub mod Stores
+pub mod Working
 pub mod Making
 pub mod Marks
 pub mod Files

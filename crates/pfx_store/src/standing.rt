@@ -1,24 +1,19 @@
 // A store: a journal that stands for its state.
-ghost use Rattle.std.specs.Prelude.{◌≡◌, ◌↔◌, ◌≤◌, ◌<◌, ◌+◌, ◌++◌, ◌∷◌, [], ℕ, List, length, map, min, true, false, Some, Ok, OnOk, OnErr, IfOk, IsTrue, IsErrOf};
-ghost use Rattle.pfx_disk.specs.CallsMade.{HasMade, HasBrokenOff, HasKeptTo};
+ghost use Rattle.std.specs.Prelude.{◌≡◌, ◌++◌, ◌∷◌, [], ℕ, List, length, map, true, false, Ok, OnOk, IfOk};
 ghost use Rattle.pfx_disk.specs.Disk.{IsHonest};
-ghost use Rattle.pfx_redo.specs.Applying.{applied};
 ghost use Rattle.pfx_format.specs.Format.{format};
 ghost use Rattle.pfx_machine.specs.Plain.{Plain};
 ghost use Rattle.pfx_record.specs.Batches.{batch_bytes, batch_of};
 ghost use Rattle.pfx_record.specs.Records.{plain};
 ghost use Rattle.pfx_recovery.specs.Recovery.{recovered};
 ghost use Rattle.pfx_recovery.specs.Store.{Replays};
-ghost use Rattle.pfx_segment.specs.Segment.{Takes};
 ghost use Rattle.pfx_store_file.specs.Acts.{tended_file, turned_file};
-ghost use Rattle.pfx_store_file.specs.Calls.{Works, GoesOn};
-ghost use Rattle.pfx_store_file.specs.Fitting.{IsTurnable, SameParts};
-ghost use Rattle.pfx_store_file.specs.Holding.{KeepsAll, Survives};
-ghost use Rattle.pfx_store_file.specs.Tending.{IsTurned, StaysPut, TakesFrame, append_calls, calls_left, calls_of, next_step, pieces, steps_left, turn_calls};
-ghost use Rattle.pfx_store_file.specs.declared.checkpoint.TheConstants.{PIECE};
-ghost use Rattle.pfx_store.specs.Files.{FileOf, HasFile, appending, appended, tending, turning};
+ghost use Rattle.pfx_store_file.specs.Holding.{KeepsAll};
+ghost use Rattle.pfx_store_file.specs.Tending.{TakesFrame, append_calls, calls_of, next_step, turn_calls};
+ghost use Rattle.pfx_store.specs.Files.{appending, appended, tending, turning};
 ghost use Rattle.pfx_store.specs.Marks.{Covers, marked};
 ghost use Rattle.pfx_store.specs.Standing.{Stands};
+ghost use Rattle.pfx_store.specs.Working.{Commits, IsCall, IsNext, Makes, MovesBy, Tends, Turns};
 
 use crate::store::{Journal, Mark};
 use pfx_disk::Disk;
@@ -104,23 +99,12 @@ impl<D: Disk, J: Job> Store<D, J> {
     /// The batch begins with the next number, has rows of the state's workers, and is right at the state. `Device` breaks
     /// the store, and it keeps its state; a broken store answers `Broken` and does nothing.
     pub fn append(&mut self, batch: &Batch<J>) -> Result<Mark, StoreFault>
-        requires workers { batch.now.workers ≡ self.old.state.ledger.set.workers }
-        requires first { batch.now.first ≡ self.old.state.number + 1 }
-        requires right { (t : Plain J) × (applied J.kind self.old.state (map plain batch.now.records.items) ≡ Some t) }
-        ensures works { Works (D.view self.old.file.disk) (D.view self.new.file.disk) self.old.file.broken self.new.file.broken result }
-        ensures calls { let n = length (batch_bytes J.kind (batch_of batch.now.first batch.now.records.items)) in
-            Takes (append_calls n self.old.file.places) (D.view self.old.file.disk) (D.view self.new.file.disk) result }
-        ensures at_most { (D.view self.new.file.disk).clock ≤ (D.view self.old.file.disk).clock + 15 + pieces self.old.file.places.body }
-        ensures goes { GoesOn (D.view self.old.file.disk) (D.view self.new.file.disk) }
-        ensures honest { IsHonest (D.view self.new.file.disk) → IsHonest (D.view self.old.file.disk) }
-        ensures kept { IsHonest (D.view self.old.file.disk) → IsHonest (D.view self.new.file.disk) }
-        ensures room { ¬ IsErrOf result StoreFault.NoRoom }
-        ensures broken { IsErrOf result StoreFault.Broken → self.new ≡ self.old }
-        ensures same { OnErr result (self.new.state ≡ self.old.state) }
-        ensures state { OnOk result (applied J.kind self.old.state (map plain batch.now.records.items) ≡ Some self.new.state) }
-        ensures frame { let n = length (batch_bytes J.kind (batch_of batch.now.first batch.now.records.items)) in
+        requires next { IsNext J.kind self.old.state batch.now.workers batch.now.first (map plain batch.now.records.items) }
+        ensures call { let n = length (batch_bytes J.kind (batch_of batch.now.first batch.now.records.items)) in
+            IsCall D.view self.old self.new result (append_calls n self.old.file.places) }
+        ensures state { MovesBy J.kind (map plain batch.now.records.items) result self.old.state self.new.state }
+        ensures place { let n = length (batch_bytes J.kind (batch_of batch.now.first batch.now.records.items)) in
             OnOk result (TakesFrame n self.old.file.places self.new.file.places) }
-        ensures parts { SameParts self.old.file.places self.new.file.places }
         ensures mark { IfOk result (λ mark. (mark.number ≡ self.new.state.number)
             × (mark.clock ≡ (D.view self.new.file.disk).clock)) }
 
@@ -131,33 +115,15 @@ impl<D: Disk, J: Job> Store<D, J> {
             → Covers J.kind start (all ++ batch_bytes J.kind (batch_of batch.now.first batch.now.records.items) ∷ [])
             (marked result marks) self.new.file.broken self.new.state (D.view self.new.file.disk) }
 
-        // At every moment of the call, whatever it answers, what survived before survives, with the batch or without.
-        ensures keeps { IsHonest (D.view self.old.file.disk)
-            → (start : Plain J) → (all : List (List ℕ)) → Replays (format J.kind) start all self.old.state
-            → KeepsAll (format J.kind) start all (all ++ batch_bytes J.kind (batch_of batch.now.first batch.now.records.items) ∷ [])
+        // At every moment what survived before survives, with the batch or without; from the return on each image has the batch.
+        ensures commits { IsHonest (D.view self.old.file.disk)
+            → Commits J.kind self.old.state (batch_bytes J.kind (batch_of batch.now.first batch.now.records.items)) result
             (D.view self.old.file.disk) (D.view self.new.file.disk) }
 
-        // From the return on, each image has the batch.
-        ensures acknowledged { IsHonest (D.view self.old.file.disk)
-            → (start : Plain J) → (all : List (List ℕ)) → Replays (format J.kind) start all self.old.state
-            → OnOk result ((image : List ℕ) → (D.view self.new.file.disk).since (D.view self.new.file.disk).clock image
-            → Survives (format J.kind) start (all ++ batch_bytes J.kind (batch_of batch.now.first batch.now.records.items) ∷ [])
-            (length all + 1) image) }
-
-        // These calls, one after the other, of a store with this file: all of them, or some of them up to one that failed; and
-        // the file behind them.
+        // These calls of the disk, and the file after them.
         ensures acts { let frame = batch_bytes J.kind (batch_of batch.now.first batch.now.records.items) in
-            (f : FileOf J) → HasFile J.kind f self.old.file.places self.old.spelled → IsHonest (D.view self.old.file.disk)
-            → OnOk result (HasMade (appending J.kind f self.old.state frame) (D.view self.old.file.disk) (D.view self.new.file.disk)) }
-        ensures front { let frame = batch_bytes J.kind (batch_of batch.now.first batch.now.records.items) in
-            (f : FileOf J) → HasFile J.kind f self.old.file.places self.old.spelled → IsHonest (D.view self.old.file.disk)
-            → IsErrOf result StoreFault.Device → HasBrokenOff (appending J.kind f self.old.state frame) (D.view self.old.file.disk) (D.view self.new.file.disk) }
-        ensures between { let frame = batch_bytes J.kind (batch_of batch.now.first batch.now.records.items) in
-            (f : FileOf J) → HasFile J.kind f self.old.file.places self.old.spelled → IsHonest (D.view self.old.file.disk)
-            → HasKeptTo (appending J.kind f self.old.state frame) (D.view self.old.file.disk) (D.view self.new.file.disk) }
-        ensures file { let frame = batch_bytes J.kind (batch_of batch.now.first batch.now.records.items) in
-            (f : FileOf J) → HasFile J.kind f self.old.file.places self.old.spelled → IsHonest (D.view self.old.file.disk)
-            → OnOk result (HasFile J.kind (appended J.kind f self.old.state frame) self.new.file.places self.new.spelled) }
+            Makes D.view self.old self.new result J.kind (λ f. appending J.kind f self.old.state frame)
+            (λ f. appended J.kind f self.old.state frame) (OnOk result) }
     {
         self.journal.append(batch)
     }
@@ -168,24 +134,9 @@ impl<D: Disk, J: Job> Store<D, J> {
     /// The checkpoint holds the state at the turn, whatever was appended since. `Device` breaks the store; a broken store
     /// answers `Broken` and does nothing.
     pub fn tend(&mut self) -> Result<Tended, StoreFault>
-        ensures works { Works (D.view self.old.file.disk) (D.view self.new.file.disk) self.old.file.broken self.new.file.broken result }
-        ensures calls { Takes (calls_of (next_step self.old.file.places)) (D.view self.old.file.disk) (D.view self.new.file.disk) result }
-        ensures honest { IsHonest (D.view self.new.file.disk) → IsHonest (D.view self.old.file.disk) }
-        ensures kept { IsHonest (D.view self.old.file.disk) → IsHonest (D.view self.new.file.disk) }
-        ensures room { ¬ IsErrOf result StoreFault.NoRoom }
-        ensures broken { IsErrOf result StoreFault.Broken → self.new ≡ self.old }
+        ensures call { IsCall D.view self.old self.new result (calls_of (next_step self.old.file.places)) }
         ensures state { self.new.state ≡ self.old.state }
-        ensures step { IfOk result (λ tended. tended ≡ next_step self.old.file.places) }
-        ensures parts { SameParts self.old.file.places self.new.file.places }
-        ensures stays { StaysPut self.old.file.places self.new.file.places }
-        ensures nothing { self.old.file.places.turned ≡ false
-            → (self.new.file ≡ self.old.file) × (self.new.spelled ≡ self.old.spelled) }
-        ensures piece { result ≡ Ok Tended.Piece
-            → self.new.file.places.done ≡ min self.old.file.places.body (self.old.file.places.done + PIECE) }
-        ensures nearer { self.old.file.places.turned ≡ true
-            → OnOk result (steps_left self.old.file.places ≡ 1 + steps_left self.new.file.places) }
-        ensures fewer { OnOk result (calls_left self.old.file.places
-            ≡ calls_of (next_step self.old.file.places) + calls_left self.new.file.places) }
+        ensures tends { Tends self.old self.new result }
 
         // Each mark is kept, whatever the call answers.
         ensures marks { IsHonest (D.view self.old.file.disk)
@@ -198,16 +149,8 @@ impl<D: Disk, J: Job> Store<D, J> {
             → (start : Plain J) → (all : List (List ℕ)) → Replays (format J.kind) start all self.old.state
             → KeepsAll (format J.kind) start all all (D.view self.old.file.disk) (D.view self.new.file.disk) }
 
-        // These calls, one after the other, of a store with this file: all of them, or some of them up to one that failed; and
-        // the file behind them.
-        ensures acts { (f : FileOf J) → HasFile J.kind f self.old.file.places self.old.spelled → IsHonest (D.view self.old.file.disk)
-            → OnOk result (HasMade (tending J.kind f) (D.view self.old.file.disk) (D.view self.new.file.disk)) }
-        ensures front { (f : FileOf J) → HasFile J.kind f self.old.file.places self.old.spelled → IsHonest (D.view self.old.file.disk)
-            → IsErrOf result StoreFault.Device → HasBrokenOff (tending J.kind f) (D.view self.old.file.disk) (D.view self.new.file.disk) }
-        ensures between { (f : FileOf J) → HasFile J.kind f self.old.file.places self.old.spelled → IsHonest (D.view self.old.file.disk)
-            → HasKeptTo (tending J.kind f) (D.view self.old.file.disk) (D.view self.new.file.disk) }
-        ensures file { (f : FileOf J) → HasFile J.kind f self.old.file.places self.old.spelled → IsHonest (D.view self.old.file.disk)
-            → OnOk result (HasFile J.kind (tended_file (format J.kind) f) self.new.file.places self.new.spelled) }
+        // These calls of the disk, and the file after them.
+        ensures acts { Makes D.view self.old self.new result J.kind (λ f. tending J.kind f) (λ f. tended_file (format J.kind) f) (OnOk result) }
     {
         self.journal.tend()
     }
@@ -218,17 +161,9 @@ impl<D: Disk, J: Job> Store<D, J> {
     ///
     /// `Device` breaks the store; a broken store answers `Broken` and does nothing.
     pub fn turn(&mut self) -> Result<bool, StoreFault>
-        ensures works { Works (D.view self.old.file.disk) (D.view self.new.file.disk) self.old.file.broken self.new.file.broken result }
-        ensures calls { Takes (turn_calls self.old.file.places) (D.view self.old.file.disk) (D.view self.new.file.disk) result }
-        ensures honest { IsHonest (D.view self.new.file.disk) → IsHonest (D.view self.old.file.disk) }
-        ensures kept { IsHonest (D.view self.old.file.disk) → IsHonest (D.view self.new.file.disk) }
-        ensures room { ¬ IsErrOf result StoreFault.NoRoom }
-        ensures broken { IsErrOf result StoreFault.Broken → self.new ≡ self.old }
+        ensures call { IsCall D.view self.old self.new result (turn_calls self.old.file.places) }
         ensures state { self.new.state ≡ self.old.state }
-        ensures lawful { IfOk result (λ turned. IsTrue turned ↔ IsTurnable self.old.file.places) }
-        ensures refused { result ≡ Ok false → (self.new.file ≡ self.old.file) × (self.new.spelled ≡ self.old.spelled) }
-        ensures turned { result ≡ Ok true → IsTurned self.new.file.places }
-        ensures parts { SameParts self.old.file.places self.new.file.places }
+        ensures turns { Turns self.old self.new result }
 
         // Each mark is kept, whatever the call answers.
         ensures marks { IsHonest (D.view self.old.file.disk)
@@ -241,16 +176,9 @@ impl<D: Disk, J: Job> Store<D, J> {
             → (start : Plain J) → (all : List (List ℕ)) → Replays (format J.kind) start all self.old.state
             → KeepsAll (format J.kind) start all all (D.view self.old.file.disk) (D.view self.new.file.disk) }
 
-        // These calls, one after the other, of a store with this file, where it turns: all of them, or some of them up to one
-        // that failed; and the file behind them.
-        ensures acts { (f : FileOf J) → HasFile J.kind f self.old.file.places self.old.spelled → IsHonest (D.view self.old.file.disk)
-            → result ≡ Ok true → HasMade (turning J.kind f self.old.state) (D.view self.old.file.disk) (D.view self.new.file.disk) }
-        ensures front { (f : FileOf J) → HasFile J.kind f self.old.file.places self.old.spelled → IsHonest (D.view self.old.file.disk)
-            → IsErrOf result StoreFault.Device → HasBrokenOff (turning J.kind f self.old.state) (D.view self.old.file.disk) (D.view self.new.file.disk) }
-        ensures between { (f : FileOf J) → HasFile J.kind f self.old.file.places self.old.spelled → IsHonest (D.view self.old.file.disk)
-            → HasKeptTo (turning J.kind f self.old.state) (D.view self.old.file.disk) (D.view self.new.file.disk) }
-        ensures file { (f : FileOf J) → HasFile J.kind f self.old.file.places self.old.spelled → IsHonest (D.view self.old.file.disk)
-            → result ≡ Ok true → HasFile J.kind (turned_file (format J.kind) f self.old.state) self.new.file.places self.new.spelled }
+        // These calls of the disk if it turns, and the file after them.
+        ensures acts { Makes D.view self.old self.new result J.kind (λ f. turning J.kind f self.old.state)
+            (λ f. turned_file (format J.kind) f self.old.state) (λ P. result ≡ Ok true → P) }
     {
         self.journal.turn()
     }

@@ -28,8 +28,30 @@ returns-clause-keeps g c = rw (← c.self.view_is) (λ honest start all replays.
     by_broken j.file.broken (λ whole. c.tend.ensures.keeps (c.self.invariant whole honest) start all replays)
     (λ broken. subst (λ i. KeepsAll (format K) start all all a (g.D.Disk.view i.file.disk)) (sym (c.tend.ensures.broken (c.tend.ensures.works.broken.1 broken))) (keeps_still K start all a))))
 
-pub returns-clause-acts : goal.returns-clause-acts
-returns-clause-acts g c = rw (← c.self.view_is) c.tend.ensures.acts
+pub returns-clause-call : goal.returns-clause-call
+returns-clause-call g c = rw (← c.self.view_is) (record {
+  works = c.tend.ensures.works;
+  takes = c.tend.ensures.calls;
+  honest = (c.tend.ensures.kept, c.tend.ensures.honest);
+  roomy = c.tend.ensures.room;
+  broken = λ is. ap (λ j. record { file = record { disk = j.file.disk; places = j.file.places; broken = j.file.broken }; state = j.state; spelled = j.spelled.items }) (c.tend.ensures.broken is);
+  parts = c.tend.ensures.parts;
+})
 
-pub returns-clause-between : goal.returns-clause-between
-returns-clause-between g c = rw (← c.self.view_is) c.tend.ensures.between
+pub returns-clause-acts : goal.returns-clause-acts
+returns-clause-acts g c = rw (← c.self.view_is) (record {
+  made = c.tend.ensures.acts;
+  broken_off = c.tend.ensures.front;
+  between = c.tend.ensures.between;
+  file = c.tend.ensures.file;
+})
+
+pub returns-clause-tends : goal.returns-clause-tends
+returns-clause-tends g c = rw (← c.self.view_is) (record {
+  step = c.tend.ensures.step;
+  stays = c.tend.ensures.stays;
+  nothing = λ none. (ap (λ i. record { disk = i.disk; places = i.places; broken = i.broken }) (c.tend.ensures.nothing none).0, (ap (λ v. v.items) (c.tend.ensures.nothing none).1));
+  piece = c.tend.ensures.piece;
+  nearer = c.tend.ensures.nearer;
+  fewer = c.tend.ensures.fewer;
+})

@@ -28,11 +28,27 @@ returns-clause-keeps g c = rw (← c.self.view_is) (λ honest start all replays.
     by_broken j.file.broken (λ whole. c.turn.ensures.keeps (c.self.invariant whole honest) start all replays)
     (λ broken. subst (λ i. KeepsAll (format K) start all all a (g.D.Disk.view i.file.disk)) (sym (c.turn.ensures.broken (c.turn.ensures.works.broken.1 broken))) (keeps_still K start all a))))
 
+pub returns-clause-call : goal.returns-clause-call
+returns-clause-call g c = rw (← c.self.view_is) (record {
+  works = c.turn.ensures.works;
+  takes = c.turn.ensures.calls;
+  honest = (c.turn.ensures.kept, c.turn.ensures.honest);
+  roomy = c.turn.ensures.room;
+  broken = λ is. ap (λ j. record { file = record { disk = j.file.disk; places = j.file.places; broken = j.file.broken }; state = j.state; spelled = j.spelled.items }) (c.turn.ensures.broken is);
+  parts = c.turn.ensures.parts;
+})
+
 pub returns-clause-acts : goal.returns-clause-acts
-returns-clause-acts g c = rw (← c.self.view_is) c.turn.ensures.acts
+returns-clause-acts g c = rw (← c.self.view_is) (record {
+  made = c.turn.ensures.acts;
+  broken_off = c.turn.ensures.front;
+  between = c.turn.ensures.between;
+  file = c.turn.ensures.file;
+})
 
-pub returns-clause-front : goal.returns-clause-front
-returns-clause-front g c = rw (← c.self.view_is) c.turn.ensures.front
-
-pub returns-clause-between : goal.returns-clause-between
-returns-clause-between g c = rw (← c.self.view_is) c.turn.ensures.between
+pub returns-clause-turns : goal.returns-clause-turns
+returns-clause-turns g c = rw (← c.self.view_is) (record {
+  lawful = c.turn.ensures.lawful;
+  refused = λ is. (ap (λ i. record { disk = i.disk; places = i.places; broken = i.broken }) (c.turn.ensures.refused is).0, (ap (λ v. v.items) (c.turn.ensures.refused is).1));
+  turned = c.turn.ensures.turned;
+})

@@ -1,0 +1,78 @@
+-- What the calls of a store do.
+use Rattle.std.specs.Prelude.{◌≡◌, ◌↔◌, ◌+◌, ◌++◌, ℕ, List, [], ◌∷◌, length, min, true, false, Bool, Result, Ok, Some, OnOk, OnErr, IfOk, IsErrOf, IsTrue}
+use Rattle.pfx_disk.specs.CallsMade.{HasMade, HasBrokenOff, HasKeptTo}
+use Rattle.pfx_disk.specs.Disk.{View, IsHonest}
+use Rattle.pfx_disk.specs.Stop.{Act}
+use Rattle.pfx_format.specs.Format.{format}
+use Rattle.pfx_jobs.specs.Kind.{Kind}
+use Rattle.pfx_machine.specs.Plain.{Plain}
+use Rattle.pfx_record.specs.Records.{Plain as Recorded}
+use Rattle.pfx_recovery.specs.Store.{Replays}
+use Rattle.pfx_redo.specs.Applying.{applied}
+use Rattle.pfx_segment.specs.Segment.{Takes}
+use Rattle.pfx_store_file.specs.Calls.{Works}
+use Rattle.pfx_store_file.specs.Fitting.{IsTurnable, SameParts}
+use Rattle.pfx_store_file.specs.Holding.{KeepsAll, Survives}
+use Rattle.pfx_store_file.specs.Tending.{IsTurned, StaysPut, calls_left, calls_of, next_step, steps_left}
+use Rattle.pfx_store_file.specs.declared.checkpoint.TheConstants.{PIECE}
+use Rattle.pfx_store_file.specs.declared.checkpoint.Tended.TheVariants.{Piece}
+use Rattle.pfx_store_file.specs.declared.checkpoint.Tended.{Tended}
+use Rattle.pfx_store_file.specs.declared.faults.StoreFault.{StoreFault}
+use Rattle.pfx_store_file.specs.declared.faults.StoreFault.TheVariants.{Broken, Device, NoRoom}
+use Rattle.pfx_store.specs.Files.{FileOf, HasFile}
+use Rattle.pfx_store.specs.Stores.{PlainStore}
+
+-- the records may come next at a state: rows are of its workers, the first number is the next, and each record is right in turn
+pub record IsNext {J : Type 0} (K : Kind J) (s : Plain J) (m n : ℕ) (records : List (Recorded J)) : Type 0 where
+  pub workers : m ≡ s.ledger.set.workers
+  pub first : n ≡ s.number + 1
+  pub right : (t : Plain J) × (applied K s records ≡ Some t)
+
+-- the records move the state on, unless the call failed, and then it stays
+pub record MovesBy {J T : Type 0} (K : Kind J) (records : List (Recorded J)) (result : Result T StoreFault) (old new : Plain J) : Type 0 where
+  pub moved : OnOk result (applied K old records ≡ Some new)
+  pub same : OnErr result (new ≡ old)
+
+-- At every moment of a call what survived before survives, with this frame or without; and once it succeeded each image has it.
+pub record Commits {J T : Type 0} (K : Kind J) (s : Plain J) (frame : List ℕ) (result : Result T StoreFault) (old new : View) : Type 0 where
+  pub keeps : (start : Plain J) → (all : List (List ℕ)) → Replays (format K) start all s → KeepsAll (format K) start all (all ++ frame ∷ []) old new
+  pub acknowledged : (start : Plain J) → (all : List (List ℕ)) → Replays (format K) start all s
+      → OnOk result ((image : List ℕ) → new.since new.clock image → Survives (format K) start (all ++ frame ∷ []) (length all + 1) image)
+
+module _ {D J T : Type 0} (view : D → View) (old new : PlainStore D J) (result : Result T StoreFault) where
+  -- A call of a store that takes so many calls of the disk. A broken store is refused and left as it was; a fault of the device
+  -- means that the disk failed, and breaks the store. An honest disk stays one, and the parts of the file lie where they lay.
+  pub record IsCall (calls : ℕ) : Type 0 where
+    pub works : Works (view old.file.disk) (view new.file.disk) old.file.broken new.file.broken result
+    pub takes : Takes calls (view old.file.disk) (view new.file.disk) result
+    pub honest : IsHonest (view old.file.disk) ↔ IsHonest (view new.file.disk)
+    pub roomy : ¬ IsErrOf result NoRoom
+    pub broken : IsErrOf result Broken → new ≡ old
+    pub parts : SameParts old.file.places new.file.places
+
+  -- The calls of the disk, one after the other, for each file that the store may have: when it went well all of them, and the file
+  -- after them; some of them up to one that failed, where the device did; and no stop in between left anything else.
+  pub record Makes (K : Kind J) (acts : FileOf J → List Act) (next : FileOf J → FileOf J) (went_well : Type 0 → Type 0) : Type 0 where
+    pub made : (f : FileOf J) → HasFile K f old.file.places old.spelled → IsHonest (view old.file.disk)
+        → went_well (HasMade (acts f) (view old.file.disk) (view new.file.disk))
+    pub broken_off : (f : FileOf J) → HasFile K f old.file.places old.spelled → IsHonest (view old.file.disk)
+        → IsErrOf result Device → HasBrokenOff (acts f) (view old.file.disk) (view new.file.disk)
+    pub between : (f : FileOf J) → HasFile K f old.file.places old.spelled → IsHonest (view old.file.disk)
+        → HasKeptTo (acts f) (view old.file.disk) (view new.file.disk)
+    pub file : (f : FileOf J) → HasFile K f old.file.places old.spelled → IsHonest (view old.file.disk)
+        → went_well (HasFile K (next f) new.file.places new.spelled)
+
+-- a step of the checkpoint in progress was taken, the one that comes next; frames go where they went
+pub record Tends {D J : Type 0} (old new : PlainStore D J) (result : Result Tended StoreFault) : Type 0 where
+  pub step : IfOk result (λ tended. tended ≡ next_step old.file.places)
+  pub stays : StaysPut old.file.places new.file.places
+  pub nothing : old.file.places.turned ≡ false → (new.file ≡ old.file) × (new.spelled ≡ old.spelled)
+  pub piece : result ≡ Ok Piece → new.file.places.done ≡ min old.file.places.body (old.file.places.done + PIECE)
+  pub nearer : old.file.places.turned ≡ true → OnOk result (steps_left old.file.places ≡ 1 + steps_left new.file.places)
+  pub fewer : OnOk result (calls_left old.file.places ≡ calls_of (next_step old.file.places) + calls_left new.file.places)
+
+-- the file was turned, exactly if that is lawful; else nothing was done
+pub record Turns {D J : Type 0} (old new : PlainStore D J) (result : Result Bool StoreFault) : Type 0 where
+  pub lawful : IfOk result (λ turned. IsTrue turned ↔ IsTurnable old.file.places)
+  pub refused : result ≡ Ok false → (new.file ≡ old.file) × (new.spelled ≡ old.spelled)
+  pub turned : result ≡ Ok true → IsTurned new.file.places
