@@ -1,12 +1,14 @@
 -- What the calls of a store do.
-use Rattle.std.specs.Prelude.{◌≡◌, ◌↔◌, ◌+◌, ◌++◌, ℕ, List, [], ◌∷◌, length, min, true, false, Bool, Result, Ok, Some, OnOk, OnErr, IfOk, IsErrOf, IsTrue}
+use Rattle.std.specs.Prelude.{◌≡◌, ◌↔◌, ◌+◌, ◌++◌, ℕ, List, [], ◌∷◌, length, min, true, false, Bool, Result, Ok, Some, OnOk, OnErr, IfOk, IfErr, IsErrOf, IsTrue, MatchResult}
 use Rattle.pfx_disk.specs.CallsMade.{HasMade, HasBrokenOff, HasKeptTo}
-use Rattle.pfx_disk.specs.Disk.{View, IsHonest}
-use Rattle.pfx_disk.specs.Stop.{Act}
+use Rattle.pfx_disk.specs.Disk.{View, IsHonest, Only}
+use Rattle.pfx_disk.specs.Stop.{Act, Sync}
 use Rattle.pfx_format.specs.Format.{format}
 use Rattle.pfx_jobs.specs.Kind.{Kind}
 use Rattle.pfx_machine.specs.Plain.{Plain}
 use Rattle.pfx_record.specs.Records.{Plain as Recorded}
+use Rattle.pfx_recover.specs.declared.faults.OpenFault.{OpenFault}
+use Rattle.pfx_recovery.specs.Recovery.{recovered}
 use Rattle.pfx_recovery.specs.Store.{Replays}
 use Rattle.pfx_redo.specs.Applying.{applied}
 use Rattle.pfx_segment.specs.Segment.{Takes}
@@ -19,7 +21,8 @@ use Rattle.pfx_store_file.specs.declared.checkpoint.Tended.TheVariants.{Piece}
 use Rattle.pfx_store_file.specs.declared.checkpoint.Tended.{Tended}
 use Rattle.pfx_store_file.specs.declared.faults.StoreFault.{StoreFault}
 use Rattle.pfx_store_file.specs.declared.faults.StoreFault.TheVariants.{Broken, Device, NoRoom}
-use Rattle.pfx_store.specs.Files.{FileOf, HasFile}
+use Rattle.pfx_store.specs.Files.{FileOf, HasFile, recovered_file}
+use Rattle.pfx_store.specs.Marks.{Covers}
 use Rattle.pfx_store.specs.Stores.{PlainStore}
 
 -- the records may come next at a state: rows are of its workers, the first number is the next, and each record is right in turn
@@ -61,6 +64,21 @@ module _ {D J T : Type 0} (view : D → View) (old new : PlainStore D J) (result
         → HasKeptTo (acts f) (view old.file.disk) (view new.file.disk)
     pub file : (f : FileOf J) → HasFile K f old.file.places old.spelled → IsHonest (view old.file.disk)
         → went_well (HasFile K (next f) new.file.places new.spelled)
+
+-- From now on each image is recovered to the state: a mark stands for it.
+pub record IsDurable {J : Type 0} (K : Kind J) (broken : Bool) (s : Plain J) (disk : View) : Type 0 where
+  pub images : (image : List ℕ) → disk.since disk.clock image → recovered (format K) image ≡ Ok s
+  pub marks : Covers K s [] (record { number = s.number; clock = disk.clock } ∷ []) broken s disk
+
+-- The one call that a later stop could tell is a sync: it was made, or it failed, and no stop in between left anything else. Once it
+-- was made a stop leaves what was read, and the file is the one that is found there, with its checkpoint to be begun anew.
+pub record Opens {D J : Type 0} (view : D → View) (K : Kind J) (disk : D) (result : Result (PlainStore D J) (OpenFault × D)) : Type 0 where
+  pub made : IfOk result (λ store. HasMade (Sync ∷ []) (view disk) (view store.file.disk))
+  pub broken_off : IfErr result (λ e. HasBrokenOff (Sync ∷ []) (view disk) (view e.1))
+  pub between : MatchResult result (λ store. HasKeptTo (Sync ∷ []) (view disk) (view store.file.disk)) (λ e. HasKeptTo (Sync ∷ []) (view disk) (view e.1))
+  pub only : IfOk result (λ store. Only (view disk).contents (view store.file.disk))
+  pub file : IfOk result (λ store. (f : FileOf J)
+      × (recovered_file K (view disk).contents ≡ Some (store.state, f)) × HasFile K f store.file.places store.spelled)
 
 -- a step of the checkpoint in progress was taken, the one that comes next; frames go where they went
 pub record Tends {D J : Type 0} (old new : PlainStore D J) (result : Result Tended StoreFault) : Type 0 where

@@ -1,9 +1,7 @@
 // Opening a store.
-ghost use Rattle.std.specs.Prelude.{◌≡◌, ◌≤◌, ◌+◌, ◌*◌, ◌∷◌, [], ℕ, List, length, if◌then◌else◌, false, Vec, vec_capacity, Some, Ok, Err, IfOk, IfErr, MatchResult};
+ghost use Rattle.std.specs.Prelude.{◌≡◌, ◌≤◌, ◌+◌, ◌*◌, ℕ, List, length, if◌then◌else◌, false, Vec, vec_capacity, Some, Ok, Err, IfOk, IfErr, MatchResult};
 ghost use Rattle.std.specs.declared.alloc.Global.{Global};
-ghost use Rattle.pfx_disk.specs.CallsMade.{HasMade, HasBrokenOff, HasKeptTo};
-ghost use Rattle.pfx_disk.specs.Disk.{IsHonest, HasFailed, Only};
-ghost use Rattle.pfx_disk.specs.Stop.{Sync};
+ghost use Rattle.pfx_disk.specs.Disk.{IsHonest, HasFailed};
 ghost use Rattle.pfx_format.specs.Format.{format, layout};
 ghost use Rattle.pfx_header.specs.Headers.{Header};
 ghost use Rattle.pfx_machine.specs.Plain.{Plain};
@@ -13,9 +11,9 @@ ghost use Rattle.pfx_recover.specs.Looking.{Looks};
 ghost use Rattle.pfx_recovery.specs.Recovery.{Found, found, recovered};
 ghost use Rattle.pfx_store_file.specs.Fitting.{Fits};
 ghost use Rattle.pfx_store_file.specs.Tending.{pieces, steps_left};
-ghost use Rattle.pfx_store.specs.Marks.{Covers};
 ghost use Rattle.pfx_store.specs.Files.{FileOf, HasFile, recovered_file};
 ghost use Rattle.pfx_store.specs.Standing.{Stands};
+ghost use Rattle.pfx_store.specs.Working.{IsDurable, Opens};
 
 use crate::format::{FileFormat, FileHeader};
 use crate::standing::Store;
@@ -98,32 +96,19 @@ impl<D: Disk, J: Job> Store<D, J> {
         ensures device { IfErr result (λ e. e.0 ≡ OpenFault.Device → HasFailed (D.view disk) (D.view e.1)) }
         ensures looks { MatchResult result
             (λ store. Looks (D.view disk) (D.view store.file.disk)) (λ e. Looks (D.view disk) (D.view e.1)) }
-        ensures whole { IfOk result (λ store. store.file.broken ≡ false) }
-        ensures begun { IfOk result (λ store. store.file.places.begun ≡ false) }
+        ensures fresh { IfOk result (λ store. (store.file.broken ≡ false) × (store.file.places.begun ≡ false)) }
 
         // Where two segments were read a checkpoint is in progress, with all its steps to come; else there is none.
         ensures left { IsHonest (D.view disk) → IfOk result (λ store. (f : Found Header (Plain J))
             → found (format J.kind) (D.view disk).contents ≡ Ok f
             → steps_left store.file.places ≡ (if f.parts.turned then 2 + pieces store.file.places.body else 0)) }
 
-        // From the return on each image is recovered to the state: a mark stands for it.
-        ensures begins { IsHonest (D.view disk) → IfOk result (λ store. (image : List ℕ)
-            → (D.view store.file.disk).since (D.view store.file.disk).clock image → recovered (format J.kind) image ≡ Ok store.state) }
-        ensures marks { IsHonest (D.view disk) → IfOk result (λ store. Covers J.kind store.state []
-            (record { number = store.state.number; clock = (D.view store.file.disk).clock } ∷ [])
-            store.file.broken store.state (D.view store.file.disk)) }
+        // From the return on each image is recovered to the state.
+        ensures durable { IsHonest (D.view disk) → IfOk result (λ store.
+            IsDurable J.kind store.file.broken store.state (D.view store.file.disk)) }
 
-        // The sync, and no other call that a stop would tell: it was made, or it failed; and then a stop leaves what was read.
-        ensures acts { IsHonest (D.view disk) → IfOk result (λ store.
-            HasMade (Sync ∷ []) (D.view disk) (D.view store.file.disk)) }
-        ensures front { IsHonest (D.view disk) → IfErr result (λ e. HasBrokenOff (Sync ∷ []) (D.view disk) (D.view e.1)) }
-        ensures between { IsHonest (D.view disk) → MatchResult result
-            (λ store. HasKeptTo (Sync ∷ []) (D.view disk) (D.view store.file.disk)) (λ e. HasKeptTo (Sync ∷ []) (D.view disk) (D.view e.1)) }
-        ensures only { IsHonest (D.view disk) → IfOk result (λ store. Only (D.view disk).contents (D.view store.file.disk)) }
-        // Its file is the one that is found, with a checkpoint in progress to be begun anew.
-        ensures file { IsHonest (D.view disk) → IfOk result (λ store. (f : FileOf J)
-            × (recovered_file J.kind (D.view disk).contents ≡ Some (store.state, f))
-            × HasFile J.kind f store.file.places store.spelled) }
+        // The sync, and no other call that a stop would tell; and the file that is found.
+        ensures acts { IsHonest (D.view disk) → Opens D.view J.kind disk result }
     {
         match open::<FileFormat<J>, D>(alloc, disk) {
             Err(fault) => Err(fault),

@@ -21,48 +21,52 @@ returns-in-Ok-furnished-clause-left g c = λ honest f is.
     (ap (λ i. i.places.begun) c.in-Ok-furnished.ensures.file ∙ c.in-Ok.ensures.unbegun)
     (c.in-Ok-furnished.ensures.turned (g.D.Disk.view c.args.disk).contents (c.in-Ok.ensures.opened honest) f is)
 
-pub returns-in-Ok-furnished-clause-begins : goal.returns-in-Ok-furnished-clause-begins
-returns-in-Ok-furnished-clause-begins g c = λ honest.
+pub returns-in-Ok-furnished-clause-durable : goal.returns-in-Ok-furnished-clause-durable
+returns-in-Ok-furnished-clause-durable g c = λ honest.
     (let V = g.D.Disk.view in
+    let K = g.J.Job.kind in
+    let L = g.met.J.Job.laws in
     let j = c.in-Ok-furnished.journal in
-    recovered_since g.J.Job.kind g.met.J.Job.laws j.file.places j.state j.spelled.items (V j.file.disk)
-    (c.in-Ok-furnished.ensures.stands (V c.args.disk).contents (c.in-Ok.ensures.opened honest)) (g.met.D.Disk.only_now j.file.disk))
-
-pub returns-in-Ok-furnished-clause-marks : goal.returns-in-Ok-furnished-clause-marks
-returns-in-Ok-furnished-clause-marks g c = λ honest.
-    (let V = g.D.Disk.view in
-    let j = c.in-Ok-furnished.journal in
-    covers_begun g.J.Job.kind g.met.J.Job.laws j.file.places j.state j.spelled.items (V j.file.disk)
-    (c.in-Ok-furnished.ensures.stands (V c.args.disk).contents (c.in-Ok.ensures.opened honest)) (g.met.D.Disk.only_now j.file.disk) j.file.broken)
-
-pub returns-in-Err-clause-front : goal.returns-in-Err-clause-front
-returns-in-Err-clause-front g c = λ honest. sync_broken (g.D.Disk.view c.args.disk) (g.D.Disk.view c.in-Err.fault.1) (c.in-Err.ensures.looks.leaves honest)
+    let stands = c.in-Ok-furnished.ensures.stands (V c.args.disk).contents (c.in-Ok.ensures.opened honest) in
+    record {
+      images = recovered_since K L j.file.places j.state j.spelled.items (V j.file.disk) stands (g.met.D.Disk.only_now j.file.disk);
+      marks = covers_begun K L j.file.places j.state j.spelled.items (V j.file.disk) stands (g.met.D.Disk.only_now j.file.disk) j.file.broken;
+    })
 
 pub returns-in-Ok-furnished-clause-acts : goal.returns-in-Ok-furnished-clause-acts
 returns-in-Ok-furnished-clause-acts g c = λ honest.
     (let V = g.D.Disk.view in
     let a = V c.args.disk in
-    subst (λ f. HasMade (Sync ∷ []) a (V f.disk)) (sym c.in-Ok-furnished.ensures.file) (sync_made a (V c.in-Ok.opened.file.disk) (c.in-Ok.ensures.looks.leaves honest) (c.in-Ok.ensures.opened honest).kept.only))
+    let b = V c.in-Ok.opened.file.disk in
+    let opened = c.in-Ok.ensures.opened honest in
+    let leaves = c.in-Ok.ensures.looks.leaves honest in
+    let same = sym c.in-Ok-furnished.ensures.file in
+    record {
+      made = subst (λ f. HasMade (Sync ∷ []) a (V f.disk)) same (sync_made a b leaves opened.kept.only);
+      broken_off = tt;
+      between = subst (λ f. HasKeptTo (Sync ∷ []) a (V f.disk)) same (sync_within a b leaves);
+      only = subst (λ f. Only a.contents (V f.disk)) same opened.kept.only;
+      file = c.in-Ok-furnished.ensures.place a.contents opened;
+    })
 
-pub returns-in-Ok-furnished-clause-between : goal.returns-in-Ok-furnished-clause-between
-returns-in-Ok-furnished-clause-between g c = λ honest.
+pub returns-in-Err-clause-acts : goal.returns-in-Err-clause-acts
+returns-in-Err-clause-acts g c = λ honest.
+    (let a = g.D.Disk.view c.args.disk in
+    let b = g.D.Disk.view c.in-Err.fault.1 in
+    let leaves = c.in-Err.ensures.looks.leaves honest in
+    record { made = tt; broken_off = sync_broken a b leaves; between = sync_within a b leaves; only = tt; file = tt })
+
+pub returns-clause-acts : goal.returns-clause-acts
+returns-clause-acts g c = λ honest.
     (let V = g.D.Disk.view in
     let a = V c.args.disk in
-    subst (λ f. HasKeptTo (Sync ∷ []) a (V f.disk)) (sym c.in-Ok-furnished.ensures.file) (sync_within a (V c.in-Ok.opened.file.disk) (c.in-Ok.ensures.looks.leaves honest)))
-
-pub returns-in-Ok-furnished-clause-only : goal.returns-in-Ok-furnished-clause-only
-returns-in-Ok-furnished-clause-only g c = λ honest.
-    (let V = g.D.Disk.view in
-    subst (λ f. Only (V c.args.disk).contents (V f.disk)) (sym c.in-Ok-furnished.ensures.file) (c.in-Ok.ensures.opened honest).kept.only)
-
-pub returns-clause-front : goal.returns-clause-front
-returns-clause-front g c = λ honest.
-    (let V = g.D.Disk.view in
-    let a = V c.args.disk in
-    subst (λ (d : g.row.D.Denot). HasBrokenOff (Sync ∷ []) a (V d)) (sym c.in-Err-furnished.ensures.fault.1) (sync_broken a (V c.in-Ok.opened.file.disk) (c.in-Ok.ensures.looks.leaves honest)))
-
-pub returns-clause-between : goal.returns-clause-between
-returns-clause-between g c = λ honest.
-    (let V = g.D.Disk.view in
-    let a = V c.args.disk in
-    subst (λ (d : g.row.D.Denot). HasKeptTo (Sync ∷ []) a (V d)) (sym c.in-Err-furnished.ensures.fault.1) (sync_within a (V c.in-Ok.opened.file.disk) (c.in-Ok.ensures.looks.leaves honest)))
+    let b = V c.in-Ok.opened.file.disk in
+    let leaves = c.in-Ok.ensures.looks.leaves honest in
+    let same = sym c.in-Err-furnished.ensures.fault.1 in
+    record {
+      made = tt;
+      broken_off = subst (λ (d : g.row.D.Denot). HasBrokenOff (Sync ∷ []) a (V d)) same (sync_broken a b leaves);
+      between = subst (λ (d : g.row.D.Denot). HasKeptTo (Sync ∷ []) a (V d)) same (sync_within a b leaves);
+      only = tt;
+      file = tt;
+    })
