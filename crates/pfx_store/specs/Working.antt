@@ -1,11 +1,12 @@
 -- What the calls of a store do.
-use Rattle.std.specs.Prelude.{◌≡◌, ◌↔◌, ◌+◌, ◌++◌, ℕ, List, [], ◌∷◌, length, min, true, false, Bool, Result, Ok, Some, OnOk, OnErr, IfOk, IfErr, IsErrOf, IsTrue, MatchResult}
+use Rattle.std.specs.Prelude.{◌≡◌, ◌↔◌, ◌<◌, ◌+◌, ◌-◌, ◌++◌, ℕ, List, [], ◌∷◌, length, min, true, false, Bool, Result, Ok, Some, OnOk, OnErr, IfOk, IfErr, IsErrOf, IsTrue, MatchResult}
 use Rattle.pfx_disk.specs.CallsMade.{HasMade, HasBrokenOff, HasKeptTo}
-use Rattle.pfx_disk.specs.Disk.{View, IsHonest, Only}
+use Rattle.pfx_disk.specs.Disk.{View, HasFailed, IsHonest, Only}
 use Rattle.pfx_disk.specs.Stop.{Act, Sync}
 use Rattle.pfx_format.specs.Format.{format}
+use Rattle.pfx_header.specs.Headers.{IsSegmentSize}
 use Rattle.pfx_jobs.specs.Kind.{Kind}
-use Rattle.pfx_machine.specs.Plain.{Plain}
+use Rattle.pfx_machine.specs.Plain.{Plain, empty}
 use Rattle.pfx_record.specs.Records.{Plain as Recorded}
 use Rattle.pfx_recover.specs.declared.faults.OpenFault.{OpenFault}
 use Rattle.pfx_recovery.specs.Recovery.{recovered}
@@ -15,15 +16,19 @@ use Rattle.pfx_segment.specs.Segment.{Takes}
 use Rattle.pfx_store_file.specs.Calls.{Works}
 use Rattle.pfx_store_file.specs.Fitting.{IsTurnable, SameParts}
 use Rattle.pfx_store_file.specs.Holding.{KeepsAll, Survives}
-use Rattle.pfx_store_file.specs.Tending.{IsTurned, StaysPut, calls_left, calls_of, next_step, steps_left}
+use Rattle.pfx_store_file.specs.Tending.{IsTurned, StaysPut, calls_left, calls_of, next_step, pieces, steps_left}
 use Rattle.pfx_store_file.specs.declared.checkpoint.TheConstants.{PIECE}
 use Rattle.pfx_store_file.specs.declared.checkpoint.Tended.TheVariants.{Piece}
 use Rattle.pfx_store_file.specs.declared.checkpoint.Tended.{Tended}
 use Rattle.pfx_store_file.specs.declared.faults.StoreFault.{StoreFault}
 use Rattle.pfx_store_file.specs.declared.faults.StoreFault.TheVariants.{Broken, Device, NoRoom}
+use Rattle.pfx_store.specs.declared.making.InitFault.{InitFault}
+use Rattle.pfx_store.specs.declared.making.InitFault.TheVariants as init
 use Rattle.pfx_store.specs.Files.{FileOf, HasFile, recovered_file}
+use Rattle.pfx_store.specs.Making.{IsBeforeAnyCall, IsSizeFault}
 use Rattle.pfx_store.specs.Marks.{Covers}
 use Rattle.pfx_store.specs.Stores.{PlainStore}
+use Rattle.pfx_weights.specs.Sets.{FilledSet}
 
 -- the records may come next at a state: rows are of its workers, the first number is the next, and each record is right in turn
 pub record IsNext {J : Type 0} (K : Kind J) (s : Plain J) (m n : ℕ) (records : List (Recorded J)) : Type 0 where
@@ -64,6 +69,28 @@ module _ {D J T : Type 0} (view : D → View) (old new : PlainStore D J) (result
         → HasKeptTo (acts f) (view old.file.disk) (view new.file.disk)
     pub file : (f : FileOf J) → HasFile K f old.file.places old.spelled → IsHonest (view old.file.disk)
         → went_well (HasFile K (next f) new.file.places new.spelled)
+
+-- Why no store was made of a set for m workers: what each fault means, and what it leaves of the disk.
+pub record IsUnmade {D : Type 0} (view : D → View) (m segment : ℕ) (disk : D) (e : InitFault × D) : Type 0 where
+  pub size : IsSizeFault m segment e.0
+  pub device : e.0 ≡ init.Device → HasFailed (view disk) (view e.1)
+  pub not_empty : IsHonest (view disk) → e.0 ≡ init.NotEmpty → 0 < length (view disk).contents
+  pub one_call : e.0 ≡ init.NotEmpty → (view e.1).clock ≡ (view disk).clock + 1
+  pub unasked : IsBeforeAnyCall e.0 → e.1 ≡ disk
+
+-- So many calls of the disk made the store, and no answer took more; an honest disk is one before as after.
+pub record IsMaking {D J : Type 0} (view : D → View) (calls : ℕ) (disk : D) (result : Result (PlainStore D J) (InitFault × D)) : Type 0 where
+  pub calls_made : IfOk result (λ store. (view store.file.disk).clock ≡ (view disk).clock + 6 + pieces (store.file.places.len - 1))
+  pub honest : MatchResult result (λ store. IsHonest (view disk) ↔ IsHonest (view store.file.disk)) (λ e. IsHonest (view disk) ↔ IsHonest (view e.1))
+  pub takes : MatchResult result (λ store. Takes calls (view disk) (view store.file.disk) result) (λ e. Takes calls (view disk) (view e.1) result)
+
+-- the new store of a set, with segments of this length, within the limits; it isn't broken, and no checkpoint is in progress
+pub record IsNew {D J : Type 0} (set : FilledSet) (segment : ℕ) (store : PlainStore D J) : Type 0 where
+  pub size : IsSegmentSize set.workers segment
+  pub segment_len : store.file.places.segment_len ≡ segment
+  pub state : store.state ≡ empty set
+  pub whole : store.file.broken ≡ false
+  pub none_left : steps_left store.file.places ≡ 0
 
 -- From now on each image is recovered to the state: a mark stands for it.
 pub record IsDurable {J : Type 0} (K : Kind J) (broken : Bool) (s : Plain J) (disk : View) : Type 0 where

@@ -8,6 +8,7 @@ ghost use Rattle.pfx_record.specs.Batches.{batch_bytes};
 ghost use Rattle.pfx_record.specs.Batches as batches;
 ghost use Rattle.pfx_record.specs.Records.{plain};
 ghost use Rattle.pfx_store.specs.Groups.{AreRecordsOf, frame_of};
+ghost use Rattle.pfx_store.specs.Working.{IsNext};
 
 use pfx_jobs::job::Job;
 use pfx_machine::State;
@@ -16,14 +17,11 @@ use pfx_record::{Batch, Record};
 /// The batch of these records, which are those of 1 to 16 commands that the state accepts one after the other: it comes next
 /// in the state, and `Store::append` takes it there.
 pub fn batch_of<J: Job>(state: &State<J>, records: Vec<Record<J>>) -> Batch<J>
-    requires some { 0 < length records.items }
-    requires few { length records.items ≤ 16 }
+    requires count { (0 < length records.items) × (length records.items ≤ 16) }
     requires right { (H : List (Command J)) × AreRecordsOf J.kind state.now H (map plain records.items) }
-    ensures workers { result.workers ≡ state.now.ledger.set.workers }
-    ensures first { result.first ≡ state.now.number + 1 }
+    ensures next { IsNext J.kind state.now result.workers result.first (map plain result.records.items) }
     ensures records { result.records ≡ records }
     ensures state { IsState state.now }
-    ensures right { (t : Plain J) × (applied J.kind state.now (map plain result.records.items) ≡ Some t) }
 
     // It leads to the outcome of the commands, and is their frame.
     ensures leads { (H : List (Command J)) → AreRecordsOf J.kind state.now H (map plain records.items)

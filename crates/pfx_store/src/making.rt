@@ -3,14 +3,13 @@ ghost use Rattle.std.specs.Prelude.{◌≡◌, ◌↔◌, ◌<◌, ◌≤◌, �
 ghost use Rattle.pfx_checkpoint.specs.Spelling.{state_bytes};
 ghost use Rattle.pfx_disk.specs.Disk.{IsHonest, HasFailed, Leaves, Same};
 ghost use Rattle.pfx_create.specs.Attempts.{IsNoneOrMade};
-ghost use Rattle.pfx_recovery.specs.Recovery.{recovered};
 ghost use Rattle.pfx_segment.specs.Segment.{Takes};
 ghost use Rattle.pfx_store_file.specs.Tending.{pieces, steps_left};
 ghost use Rattle.pfx_format.specs.Format.{format};
 ghost use Rattle.pfx_header.specs.Headers.{IsHeader, IsSegmentSize, header_bytes};
 ghost use Rattle.pfx_machine.specs.Plain.{Plain, empty};
-ghost use Rattle.pfx_store.specs.Marks.{Covers};
 ghost use Rattle.pfx_store.specs.Standing.{Stands};
+ghost use Rattle.pfx_store.specs.Working.{IsDurable, IsMaking, IsNew, IsUnmade};
 ghost use Rattle.pfx_store.specs.Making.{IsBeforeAnyCall, IsSizeFault, making_calls};
 
 use crate::format::FileHeader;
@@ -181,42 +180,19 @@ impl<D: Disk, J: Job> Store<D, J> {
         set: &TaskSet,
         segment: u32,
     ) -> Result<Store<D, J>, (InitFault, D)>
-        ensures size { IfErr result (λ e. IsSizeFault set.now.workers segment e.0) }
-        ensures fits { IfOk result (λ _. IsSegmentSize set.now.workers segment) }
-        ensures device { IfErr result (λ e. e.0 ≡ InitFault.Device → HasFailed (D.view disk) (D.view e.1)) }
-        ensures not_empty { IsHonest (D.view disk) → IfErr result (λ e. e.0 ≡ InitFault.NotEmpty
-            → 0 < length (D.view disk).contents) }
-        ensures one_call { IfErr result (λ e. e.0 ≡ InitFault.NotEmpty → (D.view e.1).clock ≡ (D.view disk).clock + 1) }
-        ensures unasked { IfErr result (λ e. IsBeforeAnyCall e.0 → e.1 ≡ disk) }
+        ensures unmade { IfErr result (λ e. IsUnmade D.view set.now.workers segment disk e) }
 
-        // A disk that holds bytes is left as it was.
-        ensures vacant { IsHonest (D.view disk) → IfOk result (λ _. (D.view disk).contents ≡ []) }
-        ensures untouched { IsHonest (D.view disk) → 0 < length (D.view disk).contents
-            → IfErr result (λ e. Leaves Same (D.view disk) (D.view e.1)) }
+        // It makes a store on an empty disk alone, and leaves one that holds bytes as it was.
+        ensures vacant { IsHonest (D.view disk) → MatchResult result (λ _. (D.view disk).contents ≡ [])
+            (λ e. 0 < length (D.view disk).contents → Leaves Same (D.view disk) (D.view e.1)) }
 
         // Six calls, and one for each 4,096 bytes behind the first.
-        ensures calls { IfOk result (λ store. (D.view store.file.disk).clock
-            ≡ (D.view disk).clock + 6 + pieces (store.file.places.len - 1)) }
+        ensures calls { IsMaking D.view (making_calls set.now segment) disk result }
+        ensures made { IfOk result (λ store. IsNew set.now segment store) }
 
-        // No answer takes more calls, and an honest disk is so before as after.
-        ensures honest { MatchResult result (λ store. IsHonest (D.view disk) ↔ IsHonest (D.view store.file.disk))
-            (λ e. IsHonest (D.view disk) ↔ IsHonest (D.view e.1)) }
-        ensures takes { MatchResult result
-            (λ store. Takes (making_calls set.now segment) (D.view disk) (D.view store.file.disk) result)
-            (λ e. Takes (making_calls set.now segment) (D.view disk) (D.view e.1) result) }
-
-        // The store, with segments of that length, at its empty state.
-        ensures segment { IfOk result (λ store. store.file.places.segment_len ≡ segment) }
-        ensures made { IfOk result (λ store. store.state ≡ empty set.now) }
-        ensures whole { IfOk result (λ store. store.file.broken ≡ false) }
-        ensures left { IfOk result (λ store. steps_left store.file.places ≡ 0) }
-
-        // From the return on each image is recovered to the state: a mark stands for it.
-        ensures begins { IsHonest (D.view disk) → IfOk result (λ store. (image : List ℕ)
-            → (D.view store.file.disk).since (D.view store.file.disk).clock image → recovered (format J.kind) image ≡ Ok store.state) }
-        ensures marks { IsHonest (D.view disk) → IfOk result (λ store. Covers J.kind store.state []
-            (record { number = store.state.number; clock = (D.view store.file.disk).clock } ∷ [])
-            store.file.broken store.state (D.view store.file.disk)) }
+        // From the return on each image is recovered to the state.
+        ensures durable { IsHonest (D.view disk) → IfOk result (λ store.
+            IsDurable J.kind store.file.broken store.state (D.view store.file.disk)) }
 
         // Where the disk was empty since some moment, each image since then is no store's, or the empty state's: at every
         // moment of the call, whatever it answers.

@@ -11,17 +11,21 @@ new-requires g c =
     let long = length-map c.args.records.items plain in
     records_fit g.J.Job.kind g.met.J.Job.laws c.args.state.now c.requires.right.0 (map plain c.args.records.items) c.number-first.ensures.state c.requires.right.1
     c.workers-workers.result c.number-first.result (c.workers-workers.ensures ∙ ap (λ t. t.set.workers) c.columns.ensures) c.number-first.ensures.number
-    (omega (arith, long, c.requires.some)) (omega (arith, long, c.requires.few))
+    (omega (arith, long, c.requires.count.0)) (omega (arith, long, c.requires.count.1))
 
 pub returns-clause-leads : goal.returns-clause-leads
 returns-clause-leads g c H are =
     let mine : AreRecordsOf g.J.Job.kind c.args.state.now H (map plain c.new.result.records.items) = rw c.new.ensures.records are in
     records_lead g.J.Job.kind g.met.J.Job.laws c.args.state.now H (map plain c.new.result.records.items) c.number-first.ensures.state mine
 
-pub returns-clause-right : goal.returns-clause-right
-returns-clause-right g c =
+pub returns-clause-next : goal.returns-clause-next
+returns-clause-next g c =
     let mine : AreRecordsOf g.J.Job.kind c.args.state.now c.requires.right.0 (map plain c.new.result.records.items) = rw c.new.ensures.records c.requires.right.1 in
-    (outcome g.J.Job.kind c.args.state.now c.requires.right.0, records_lead g.J.Job.kind g.met.J.Job.laws c.args.state.now c.requires.right.0 (map plain c.new.result.records.items) c.number-first.ensures.state mine)
+    record {
+      workers = c.new.ensures.workers ∙ c.workers-workers.ensures ∙ ap (λ t. t.set.workers) c.columns.ensures;
+      first = c.new.ensures.first ∙ ap (λ n. n + 1) c.number-first.ensures.number;
+      right = (outcome g.J.Job.kind c.args.state.now c.requires.right.0, records_lead g.J.Job.kind g.met.J.Job.laws c.args.state.now c.requires.right.0 (map plain c.new.result.records.items) c.number-first.ensures.state mine);
+    }
 
 pub returns-clause-frame : goal.returns-clause-frame
 returns-clause-frame g c H are =

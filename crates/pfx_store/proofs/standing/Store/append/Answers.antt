@@ -53,10 +53,10 @@ returns-clause-commits g c = rw (← c.self.view_is) (λ honest.
     let a : View = g.D.Disk.view j.file.disk in
     record {
       keeps = λ start all replays. by_broken j.file.broken (λ whole. c.append.ensures.keeps (c.self.invariant whole honest) start all replays)
-        (λ broken. subst (λ i. KeepsAll (format K) start all (all ++ batch_bytes K b ∷ []) a (g.D.Disk.view i.file.disk)) (sym (c.append.ensures.broken (c.append.ensures.works.broken.1 broken))) (keeps_more K start all (batch_bytes K b) a a (keeps_still K start all a)));
+          (λ broken. subst (λ i. KeepsAll (format K) start all (all ++ batch_bytes K b ∷ []) a (g.D.Disk.view i.file.disk)) (sym (c.append.ensures.broken (c.append.ensures.works.broken.1 broken))) (keeps_more K start all (batch_bytes K b) a a (keeps_still K start all a)));
       acknowledged = λ start all replays.
-        on_ok_when _ _ _ j.file.broken c.append.new.self.file.broken c.append.result c.append.ensures.works
-        (λ whole. c.append.ensures.acknowledged (c.self.invariant whole honest) start all replays);
+          on_ok_when _ _ _ j.file.broken c.append.new.self.file.broken c.append.result c.append.ensures.works
+          (λ whole. c.append.ensures.acknowledged (c.self.invariant whole honest) start all replays);
     }))
 
 pub returns-clause-acts : goal.returns-clause-acts

@@ -9,18 +9,19 @@ returns-in-Err-SegmentTooSmall-clause-recovers g c honest = still_none g.J.Job.k
 pub returns-in-Err-SegmentTooLarge-clause-recovers : goal.returns-in-Err-SegmentTooLarge-clause-recovers
 returns-in-Err-SegmentTooLarge-clause-recovers g c honest = still_none g.J.Job.kind (empty c.args.set.now) (g.D.Disk.view c.args.disk)
 
-pub returns-in-Err-SegmentTooSmall-clause-untouched : goal.returns-in-Err-SegmentTooSmall-clause-untouched
-returns-in-Err-SegmentTooSmall-clause-untouched g c honest some = left_alone (g.D.Disk.view c.args.disk) honest
+pub returns-in-Err-SegmentTooSmall-clause-vacant : goal.returns-in-Err-SegmentTooSmall-clause-vacant
+returns-in-Err-SegmentTooSmall-clause-vacant g c = λ honest some. left_alone (g.D.Disk.view c.args.disk) honest
 
-pub returns-in-Err-SegmentTooLarge-clause-untouched : goal.returns-in-Err-SegmentTooLarge-clause-untouched
-returns-in-Err-SegmentTooLarge-clause-untouched g c honest some = left_alone (g.D.Disk.view c.args.disk) honest
+pub returns-in-Err-SegmentTooLarge-clause-vacant : goal.returns-in-Err-SegmentTooLarge-clause-vacant
+returns-in-Err-SegmentTooLarge-clause-vacant g c = λ honest some. left_alone (g.D.Disk.view c.args.disk) honest
 
-pub returns-in-Ok-made-clause-begins : goal.returns-in-Ok-made-clause-begins
-returns-in-Ok-made-clause-begins g c = λ honest.
-    (let j = c.in-Ok-made.journal in
-    recovered_since g.J.Job.kind g.met.J.Job.laws j.file.places j.state j.spelled.items (g.D.Disk.view j.file.disk) (c.in-Ok-made.ensures.stands honest) (g.met.D.Disk.only_now j.file.disk))
-
-pub returns-in-Ok-made-clause-marks : goal.returns-in-Ok-made-clause-marks
-returns-in-Ok-made-clause-marks g c = λ honest.
-    (let j = c.in-Ok-made.journal in
-    covers_begun g.J.Job.kind g.met.J.Job.laws j.file.places j.state j.spelled.items (g.D.Disk.view j.file.disk) (c.in-Ok-made.ensures.stands honest) (g.met.D.Disk.only_now j.file.disk) j.file.broken)
+pub returns-in-Ok-made-clause-durable : goal.returns-in-Ok-made-clause-durable
+returns-in-Ok-made-clause-durable g c = λ honest.
+    (let K = g.J.Job.kind in
+    let L = g.met.J.Job.laws in
+    let j = c.in-Ok-made.journal in
+    let disk = g.D.Disk.view j.file.disk in
+    record {
+      images = recovered_since K L j.file.places j.state j.spelled.items disk (c.in-Ok-made.ensures.stands honest) (g.met.D.Disk.only_now j.file.disk);
+      marks = covers_begun K L j.file.places j.state j.spelled.items disk (c.in-Ok-made.ensures.stands honest) (g.met.D.Disk.only_now j.file.disk) j.file.broken;
+    })
