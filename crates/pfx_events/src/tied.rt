@@ -3,12 +3,12 @@ ghost use Rattle.std.specs.Prelude.{◌≡◌, ◌⊎◌, ◌≤◌, ◌+◌, �
 ghost use Rattle.pfx_disk.specs.CallsMade.{IsAfter, LeavesAtMost};
 ghost use Rattle.pfx_disk.specs.Disk.{IsHonest};
 ghost use Rattle.pfx_disk.specs.Stop.{Act};
-ghost use Rattle.pfx_redo.specs.Applying.{applied};
 ghost use Rattle.pfx_events.specs.Batches.{joined, AreSmall, KeepsBatches};
 ghost use Rattle.pfx_events.specs.Reached.{AreAside, IsReached, going_world};
 ghost use Rattle.pfx_events.specs.Store.{store_of};
 ghost use Rattle.pfx_events.specs.Ties.{Carries, IsIn, IsTied, through, broken_off};
 ghost use Rattle.pfx_store.specs.Files.{FileOf, recovered_file};
+ghost use Rattle.pfx_store.specs.Working.{IsNext};
 ghost use Rattle.pfx_machine.specs.Outcome.{outcome};
 ghost use Rattle.pfx_machine.specs.Plain.{Plain, IsState};
 ghost use Rattle.pfx_machine.specs.Sessions.{IsAcceptable};
@@ -40,9 +40,7 @@ pub fn append<D: Disk, J: Job>(
     store: &mut Store<D, J>,
     batch: &Batch<J>,
 ) -> Result<Mark, StoreFault>
-    requires workers { batch.now.workers ≡ store.old.state.ledger.set.workers }
-    requires first { batch.now.first ≡ store.old.state.number + 1 }
-    requires right { (t : Plain J) × (applied J.kind store.old.state (map plain batch.now.records.items) ≡ Some t) }
+    requires next { IsNext J.kind store.old.state batch.now.workers batch.now.first (map plain batch.now.records.items) }
     ensures takes { let S = store_of J.kind in (B : Plain J) → (w : World (store_of J.kind)) → (n : ℕ) → MayHappen S B w (Take n)
         → IsIn J.kind w store.old.file.places store.old.spelled (D.view store.old.file.disk)
         → store.old.state ≡ state_at S B w.book.accepted w.book.taken

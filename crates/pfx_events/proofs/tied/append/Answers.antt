@@ -27,7 +27,7 @@ returns-clause-takes g c B w n may is same carries honest =
     let batch = batch_of c.args.batch.now.first c.args.batch.now.records.items in
     let a = V old.file.disk in
     let b = V new.file.disk in
-    on_ok_both c.append.result (c.append.ensures.acts w.place is.has honest) (c.append.ensures.file w.place is.has honest) (λ made has.
+    on_ok_both c.append.result (c.append.ensures.acts.made w.place is.has honest) (c.append.ensures.acts.file w.place is.has honest) (λ made has.
     let r = all_made K B (happens S B w (Take n)) (S.calls w.place s H) refl may.0.goes_on a b is.after
     (subst (λ l. HasMade l a b) (same_calls K w.place old.state s H batch same carries) made) new.file.places new.spelled
     (subst (λ f. HasFile K f new.file.places new.spelled) (same_file K w.place old.state s H batch same carries) has) in
@@ -45,7 +45,7 @@ returns-clause-breaks_off g c B w n may is same carries honest failed =
     let a = V old.file.disk in
     let b = V c.append.new.self.file.disk in
     let r = broke K B (happens S B w (Take n)) (S.calls w.place s H) refl may.0.goes_on a b is.after
-    (subst (λ l. HasBrokenOff l a b) (same_calls K w.place old.state s H batch same carries) (c.append.ensures.front w.place is.has honest failed)) in
+    (subst (λ l. HasBrokenOff l a b) (same_calls K w.place old.state s H batch same carries) (c.append.ensures.acts.broken_off w.place is.has honest failed)) in
     (r.0, (may, r.1), r.2)
 
 pub returns-clause-onward : goal.returns-clause-onward
@@ -64,7 +64,7 @@ returns-clause-onward g c B w n may tied carries =
     let v = happens S B w (Take n) in
     let calls = S.calls w.place s H in
     let is = tied.there in
-    on_ok_all c.append.result (c.append.ensures.acts w.place is.has tied.honest) (c.append.ensures.file w.place is.has tied.honest) c.append.ensures.state (λ made has led.
+    on_ok_all c.append.result (c.append.ensures.acts.made w.place is.has tied.honest) (c.append.ensures.acts.file w.place is.has tied.honest) c.append.ensures.state.moved (λ made has led.
     let r = all_made K B v calls refl may.0.goes_on a b is.after
     (subst (λ l. HasMade l a b) (same_calls K w.place old.state s H batch tied.state carries) made) new.file.places new.spelled
     (subst (λ f. HasFile K f new.file.places new.spelled) (same_file K w.place old.state s H batch tied.state carries) has) in (
@@ -73,7 +73,7 @@ returns-clause-onward g c B w n may tied carries =
         reached = reached_on S B w (Take n ∷ through calls) tied.reached (may, r.0);
         there = r.1;
         state = kept_state K B v calls refl may.0.goes_on a b is.after new.state (taken_state K L B w n old.state new.state batch tied.reached may tied.state carries led);
-        honest = c.append.ensures.kept tied.honest;
+        honest = c.append.ensures.call.honest.0 tied.honest;
       },
     ))
 
@@ -90,7 +90,7 @@ returns-clause-within g c B w n may tied carries d image past left =
     let b = V c.append.new.self.file.disk in
     let is = tied.there in
     ⊎_elim inl (λ m. inr (m.0, (may, m.1), m.2)) (within K B (happens S B w (Take n)) (S.calls w.place s H) refl may.0.goes_on a b is.after
-    (subst (λ l. HasKeptTo l a b) (same_calls K w.place old.state s H batch tied.state carries) (c.append.ensures.between w.place is.has tied.honest)) d image past left)
+    (subst (λ l. HasKeptTo l a b) (same_calls K w.place old.state s H batch tied.state carries) (c.append.ensures.acts.between w.place is.has tied.honest)) d image past left)
 
 pub returns-clause-keeps : goal.returns-clause-keeps
 returns-clause-keeps g c s batches H state all small at carries honest d n past before image left =
@@ -102,7 +102,7 @@ returns-clause-keeps g c s batches H state all small at carries honest d n past 
     let few = small_grown K L batches H small in
     batches_survive K L s (batches ++ H ∷ []) n image state all small
     (subst (λ l. Survives (format K) s l n image) (frames_grown K L s s t batches H batch at carries)
-    (c.append.ensures.keeps honest s (frames_of K s batches) (frames_led K L s s t batches state front few at) d n past
+    ((c.append.ensures.commits honest).keeps s (frames_of K s batches) (frames_led K L s s t batches state front few at) d n past
     (λ i l. frames_survive K L s batches n i state front few (before i l)) image left))
 
 pub returns-clause-acknowledged : goal.returns-clause-acknowledged
@@ -113,7 +113,7 @@ returns-clause-acknowledged g c s batches H state all small at carries honest =
     let batch = batch_of c.args.batch.now.first c.args.batch.now.records.items in
     let front = front_grown K L s batches H all in
     let few = small_grown K L batches H small in
-    on_ok_then c.append.result (c.append.ensures.acknowledged honest s (frames_of K s batches) (frames_led K L s s t batches state front few at)) (λ each image since.
+    on_ok_then c.append.result ((c.append.ensures.commits honest).acknowledged s (frames_of K s batches) (frames_led K L s s t batches state front few at)) (λ each image since.
     batches_survive K L s (batches ++ H ∷ []) (length batches + 1) image state all small
     (subst (λ n. Survives (format K) s (frames_of K s (batches ++ H ∷ [])) (n + 1) image) (length_frames K L s batches)
     (subst (λ l. Survives (format K) s l (length (frames_of K s batches) + 1) image) (frames_grown K L s s t batches H batch at carries) (each image since))))

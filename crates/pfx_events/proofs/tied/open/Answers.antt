@@ -13,21 +13,21 @@ pub returns-clause-stops : goal.returns-clause-stops
 returns-clause-stops g c B w image may honest before =
     let K = g.J.Job.kind in
     let V = g.D.Disk.view in
-    if_ok_both _ _ _ c.open.result (c.open.ensures.acts honest) (c.open.ensures.file honest) (λ store made found.
+    if_ok_both _ _ _ c.open.result (c.open.ensures.acts honest).made (c.open.ensures.acts honest).file (λ store made found.
     let r = reopened K B w image store.state found.0 (V c.args.disk) (V store.file.disk) store.file.places store.spelled
     (subst (λ i. recovered_file K i ≡ Some (store.state, found.0)) before.contents found.1) before made found.2 in
     ((may, r.0), r.1, r.2))
 
 pub returns-clause-fails : goal.returns-clause-fails
 returns-clause-fails g c image honest before =
-    if_err_then _ _ c.open.result (λ e broken. still_one image (g.D.Disk.view e.1) (broken image [] before)) (c.open.ensures.front honest)
+    if_err_then _ _ c.open.result (λ e broken. still_one image (g.D.Disk.view e.1) (broken image [] before)) (c.open.ensures.acts honest).broken_off
 
 pub returns-clause-onward : goal.returns-clause-onward
 returns-clause-onward g c B w image reached may honest before =
     let K = g.J.Job.kind in
     let S = store_of K in
     let V = g.D.Disk.view in
-    if_ok_all _ _ _ _ c.open.result (c.open.ensures.acts honest) (c.open.ensures.file honest) (match_ok _ _ c.open.result c.open.ensures.looks) (λ store made found looks.
+    if_ok_all _ _ _ _ c.open.result (c.open.ensures.acts honest).made (c.open.ensures.acts honest).file (match_ok _ _ c.open.result c.open.ensures.looks) (λ store made found looks.
     let is = subst (λ i. recovered_file K i ≡ Some (store.state, found.0)) before.contents found.1 in
     let r = reopened K B w image store.state found.0 (V c.args.disk) (V store.file.disk) store.file.places store.spelled is before made found.2 in
     let onward = reached_on S B w (Stop image ∷ Device true ∷ []) reached (may, r.0) in (
@@ -45,7 +45,7 @@ returns-clause-begins g c image honest before =
     let K = g.J.Job.kind in
     let S = store_of K in
     let V = g.D.Disk.view in
-    if_ok_all _ _ _ _ c.open.result (c.open.ensures.acts honest) (c.open.ensures.file honest) (match_ok _ _ c.open.result c.open.ensures.looks) (λ store made found looks.
+    if_ok_all _ _ _ _ c.open.result (c.open.ensures.acts honest).made (c.open.ensures.acts honest).file (match_ok _ _ c.open.result c.open.ensures.looks) (λ store made found looks.
     let is = subst (λ i. recovered_file K i ≡ Some (store.state, found.0)) before.contents found.1 in (
       found.0,
       is,

@@ -12,7 +12,7 @@ show-requires g c =
     let small = batch_small c.args.batch.workers c.args.batch.first c.args.batch.records.items c.args.batch.fits in
     let leads = published_leads g.J.Job.kind g.B.Named.start g.B.Since.failures g.B.Since.clock c.args.share.now c.args.batch c.args.store.now.file.broken c.append.new.self.file.broken
     c.args.store.now.state c.append.new.self.state (g.D.Disk.view c.args.store.now.file.disk) (g.D.Disk.view c.append.new.self.file.disk) c.append.result c.requires.taken small
-    c.args.publisher.now.batches c.requires.shown c.in-Ok.ensures.state in
+    c.args.publisher.now.batches c.requires.shown c.in-Ok.ensures.state.moved in
     subst (λ o. applied g.J.Job.kind o (records_of (c.args.publisher.now.batches ++ c.args.batch ∷ [])) ≡ Some c.append.new.self.state) (sym c.requires.origin) leads
 
 pub mark_in-requires : goal.mark_in-requires
@@ -21,14 +21,14 @@ mark_in-requires g c =
     subst (λ n. c.in-Ok.mark.number ≡ g.B.Named.start.number + length (records_in n)) (sym (c.if-not-show.ensures.shown refl))
     (mark_number g.J.Job.kind g.B.Named.start g.B.Since.failures g.B.Since.clock c.args.share.now c.args.batch c.args.store.now.file.broken c.append.new.self.file.broken
     c.args.store.now.state c.append.new.self.state (g.D.Disk.view c.args.store.now.file.disk) (g.D.Disk.view c.append.new.self.file.disk) c.append.result c.requires.taken small
-    c.in-Ok.mark.number c.in-Ok.ensures.state c.in-Ok.ensures.mark.0)
+    c.in-Ok.mark.number c.in-Ok.ensures.state.moved c.in-Ok.ensures.mark.0)
 
 pub returns-then-not-show-clause-behind : goal.returns-then-not-show-clause-behind
 returns-then-not-show-clause-behind g c =
     let small = batch_small c.args.batch.workers c.args.batch.first c.args.batch.records.items c.args.batch.fits in
     memory_behind g.J.Job.kind g.B.Named.start g.B.Since.failures g.B.Since.clock c.args.share.now c.args.batch c.args.store.now.file.broken c.append.new.self.file.broken
     c.args.store.now.state c.append.new.self.state (g.D.Disk.view c.args.store.now.file.disk) (g.D.Disk.view c.append.new.self.file.disk) c.append.result c.requires.taken small
-    c.show.new.share c.in-Ok.mark (c.if-not-show.ensures.lost refl) c.in-Ok.ensures.state c.in-Ok.ensures.honest c.in-Ok.ensures.marks
+    c.show.new.share c.in-Ok.mark (c.if-not-show.ensures.lost refl) c.in-Ok.ensures.state.moved c.in-Ok.ensures.call.honest.1 c.in-Ok.ensures.marks
 
 pub returns-then-not-show-clause-left : goal.returns-then-not-show-clause-left
 returns-then-not-show-clause-left g c =
@@ -36,7 +36,7 @@ returns-then-not-show-clause-left g c =
     subst (λ b. IsShown g.J.Job.kind g.B.Named.start c.show.new.share b c.append.new.self.state) (sym c.show.ensures.batches)
     (memory_shown g.J.Job.kind g.B.Named.start g.B.Since.failures g.B.Since.clock c.args.share.now c.args.batch c.args.store.now.file.broken c.append.new.self.file.broken
     c.args.store.now.state c.append.new.self.state (g.D.Disk.view c.args.store.now.file.disk) (g.D.Disk.view c.append.new.self.file.disk) c.append.result c.requires.taken small
-    c.show.new.share c.args.publisher.now.batches (c.if-not-show.ensures.lost refl) c.requires.shown c.in-Ok.ensures.state)
+    c.show.new.share c.args.publisher.now.batches (c.if-not-show.ensures.lost refl) c.requires.shown c.in-Ok.ensures.state.moved)
 
 pub returns-else-not-show-clause-step : goal.returns-else-not-show-clause-step
 returns-else-not-show-clause-step g c =
@@ -44,8 +44,8 @@ returns-else-not-show-clause-step g c =
     let noted = c.mark_in.ensures ∙ ap (λ l. l ++ Marked c.in-Ok.mark.number c.in-Ok.mark.clock ∷ []) (c.if-not-show.ensures.shown refl) in
     step_marked g.J.Job.kind g.B.Named.start g.B.Since.failures g.B.Since.clock c.args.share.now c.args.batch c.args.store.now.file.broken c.append.new.self.file.broken
     c.args.store.now.state c.append.new.self.state (g.D.Disk.view c.args.store.now.file.disk) (g.D.Disk.view c.append.new.self.file.disk) c.append.result c.requires.taken small
-    c.mark_in.new.share c.in-Ok.mark noted (c.in-Ok.ensures.works.whole refl) c.in-Ok.ensures.state c.in-Ok.ensures.mark.0
-    c.in-Ok.ensures.goes.no_fewer c.in-Ok.ensures.honest c.in-Ok.ensures.marks
+    c.mark_in.new.share c.in-Ok.mark noted (c.in-Ok.ensures.call.works.whole refl) c.in-Ok.ensures.state.moved c.in-Ok.ensures.mark.0
+    c.in-Ok.ensures.call.takes.no_fewer c.in-Ok.ensures.call.honest.1 c.in-Ok.ensures.marks
 
 pub returns-else-not-show-clause-shown : goal.returns-else-not-show-clause-shown
 returns-else-not-show-clause-shown g c =
@@ -61,14 +61,14 @@ returns-in-Err-clause-behind g c =
     let small = batch_small c.args.batch.workers c.args.batch.first c.args.batch.records.items c.args.batch.fits in
     batch_behind g.J.Job.kind g.B.Named.start g.B.Since.failures g.B.Since.clock c.args.share.now c.args.batch c.args.store.now.file.broken c.append.new.self.file.broken
     c.args.store.now.state c.append.new.self.state (g.D.Disk.view c.args.store.now.file.disk) (g.D.Disk.view c.append.new.self.file.disk) c.append.result c.requires.taken small
-    c.fail_in.new.share c.in-Err._fault c.fail_in.ensures c.in-Err.ensures.same
+    c.fail_in.new.share c.in-Err._fault c.fail_in.ensures c.in-Err.ensures.state.same
     (failed_of (g.D.Disk.view c.args.store.now.file.disk) (g.D.Disk.view c.append.new.self.file.disk) c.args.store.now.file.broken c.append.new.self.file.broken
-    c.append.result c.in-Err._fault c.in-Err.is c.append.ensures.works c.requires.taken.step.whole c.append.ensures.room)
-    c.in-Err.ensures.honest c.in-Err.ensures.marks
+    c.append.result c.in-Err._fault c.in-Err.is c.append.ensures.call.works c.requires.taken.step.whole c.append.ensures.call.roomy)
+    c.in-Err.ensures.call.honest.1 c.in-Err.ensures.marks
 
 pub returns-in-Err-clause-left : goal.returns-in-Err-clause-left
 returns-in-Err-clause-left g c =
     let small = batch_small c.args.batch.workers c.args.batch.first c.args.batch.records.items c.args.batch.fits in
     device_shown g.J.Job.kind g.B.Named.start g.B.Since.failures g.B.Since.clock c.args.share.now c.args.batch c.args.store.now.file.broken c.append.new.self.file.broken
     c.args.store.now.state c.append.new.self.state (g.D.Disk.view c.args.store.now.file.disk) (g.D.Disk.view c.append.new.self.file.disk) c.append.result c.requires.taken small
-    c.fail_in.new.share c.args.publisher.now.batches c.fail_in.ensures c.requires.shown c.in-Err.ensures.same
+    c.fail_in.new.share c.args.publisher.now.batches c.fail_in.ensures c.requires.shown c.in-Err.ensures.state.same

@@ -11,7 +11,7 @@ pub returns-in-Ok-clause-step : goal.returns-in-Ok-clause-step
 returns-in-Ok-clause-step g c = λ _.
     step_tended g.J.Job.kind g.B.Named.start g.B.Since.failures g.B.Since.clock c.args.share.now c.args.store.now.file.broken c.tend.new.self.file.broken
     c.args.store.now.state c.tend.new.self.state (g.D.Disk.view c.args.store.now.file.disk) (g.D.Disk.view c.tend.new.self.file.disk) c.requires
-    c.in-Ok.ensures.state (c.in-Ok.ensures.works.whole refl) c.in-Ok.ensures.calls.no_fewer c.in-Ok.ensures.honest c.in-Ok.ensures.marks
+    c.in-Ok.ensures.state (c.in-Ok.ensures.call.works.whole refl) c.in-Ok.ensures.call.takes.no_fewer c.in-Ok.ensures.call.honest.1 c.in-Ok.ensures.marks
 
 -- src/flusher.rt:188:1
 pub returns-in-Err-clause-behind : goal.returns-in-Err-clause-behind
@@ -20,9 +20,9 @@ returns-in-Err-clause-behind g c = λ _.
     c.args.store.now.state c.tend.new.self.state (g.D.Disk.view c.args.store.now.file.disk) (g.D.Disk.view c.tend.new.self.file.disk) c.requires
     c.fail_in.ensures c.in-Err.ensures.state
     (failed_of (g.D.Disk.view c.args.store.now.file.disk) (g.D.Disk.view c.tend.new.self.file.disk) c.args.store.now.file.broken c.tend.new.self.file.broken
-    c.tend.result c.in-Err._fault c.in-Err.is c.tend.ensures.works c.requires.whole c.tend.ensures.room)
+    c.tend.result c.in-Err._fault c.in-Err.is c.tend.ensures.call.works c.requires.whole c.tend.ensures.call.roomy)
     (λ honest.
-    let before = c.in-Err.ensures.honest honest in
+    let before = c.in-Err.ensures.call.honest.1 honest in
     (c.in-Err.ensures.marks before g.B.Named.start (frames_of g.J.Job.kind c.args.share.now) (marks_of c.args.share.now) (c.requires.covers before)).marks)
 
 pub returns-in-Err-clause-notes : goal.returns-in-Err-clause-notes

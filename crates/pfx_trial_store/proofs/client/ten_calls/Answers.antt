@@ -9,12 +9,6 @@ use Rattle.pfx_recovery.proofs.Answers.{some_same}
 use Rattle.pfx_weights.specs.Sets.{FilledSet}
 use Rattle.pfx_trial_store.proofs.client.ten_calls.Goals as goal
 
-pub append-requires-2-clause-workers : goal.append-requires-2-clause-workers
-append-requires-2-clause-workers g c =
-    let same = c.tend-finished.ensures.state ∙ (c.tend-piece.ensures.state ∙ (c.tend-closed.ensures.state ∙ c.turn-turned.ensures.state)) in
-    let behind = applied_behind g.J.Job.kind c.args.store.now.state c.append.new.self.state (map plain c.args.first.now.records.items) c.in_ok-one.ensures.state in
-    c.requires.workers.1 ∙ sym (ap (λ (s : Plain g.row.J.Denot). s.ledger.set.workers) same ∙ ap (λ (set : FilledSet). set.workers) behind.set)
-
 pub returns-clause-marked : goal.returns-clause-marked
 returns-clause-marked g c = λ honest start all noted covers.
     (let K = g.J.Job.kind in
@@ -22,15 +16,15 @@ returns-clause-marked g c = λ honest start all noted covers.
     let both = one ++ batch_bytes K (batch_of c.args.second.now.first c.args.second.now.records.items) ∷ [] in
     let marks = c.in_ok-one.one ∷ noted in
     let more = c.in_ok-two.two ∷ marks in
-    let h1 = c.append.ensures.kept honest in
-    let h2 = c.turn-turned.ensures.kept h1 in
-    let h3 = c.tend-closed.ensures.kept h2 in
-    let h4 = c.tend-piece.ensures.kept h3 in
-    let h5 = c.tend-finished.ensures.kept h4 in
-    let h6 = c.append-2.ensures.kept h5 in
-    let h7 = c.turn-again.ensures.kept h6 in
-    let h8 = c.tend-step.ensures.kept h7 in
-    let h9 = c.tend-other.ensures.kept h8 in
+    let h1 = c.append.ensures.call.honest.0 honest in
+    let h2 = c.turn-turned.ensures.call.honest.0 h1 in
+    let h3 = c.tend-closed.ensures.call.honest.0 h2 in
+    let h4 = c.tend-piece.ensures.call.honest.0 h3 in
+    let h5 = c.tend-finished.ensures.call.honest.0 h4 in
+    let h6 = c.append-2.ensures.call.honest.0 h5 in
+    let h7 = c.turn-again.ensures.call.honest.0 h6 in
+    let h8 = c.tend-step.ensures.call.honest.0 h7 in
+    let h9 = c.tend-other.ensures.call.honest.0 h8 in
     let m1 = c.in_ok-one.ensures.marks honest start all noted covers in
     let m2 = c.turn-turned.ensures.marks h1 start one marks m1 in
     let m3 = c.tend-closed.ensures.marks h2 start one marks m2 in
@@ -42,22 +36,17 @@ returns-clause-marked g c = λ honest start all noted covers.
     let m9 = c.tend-other.ensures.marks h8 start both more m8 in
     c.tend-last.ensures.marks h9 start both more m9)
 
-pub append-requires-2-clause-right : goal.append-requires-2-clause-right
-append-requires-2-clause-right g c =
+pub append-requires-2-clause-next : goal.append-requires-2-clause-next
+append-requires-2-clause-next g c =
     let K = g.J.Job.kind in
     let r = c.requires.right in
     let t = c.append.new.self.state in
-    let led : applied K c.args.store.now.state (map plain c.args.first.now.records.items) ≡ Some t = c.in_ok-one.ensures.state in
+    let led : applied K c.args.store.now.state (map plain c.args.first.now.records.items) ≡ Some t = c.in_ok-one.ensures.state.moved in
     let at : r.0 ≡ t = some_same r.0 t (sym r.1 ∙ led) in
     let same : c.tend-finished.new.self.state ≡ t = c.tend-finished.ensures.state ∙ (c.tend-piece.ensures.state ∙ (c.tend-closed.ensures.state ∙ c.turn-turned.ensures.state)) in
-    (r.3, ap (λ s. applied K s (map plain c.args.second.now.records.items)) (same ∙ sym at) ∙ r.4)
-
-pub append-requires-2-clause-first : goal.append-requires-2-clause-first
-append-requires-2-clause-first g c =
-    let K = g.J.Job.kind in
-    let r = c.requires.right in
-    let t = c.append.new.self.state in
-    let led : applied K c.args.store.now.state (map plain c.args.first.now.records.items) ≡ Some t = c.in_ok-one.ensures.state in
-    let at : r.0 ≡ t = some_same r.0 t (sym r.1 ∙ led) in
-    let same : c.tend-finished.new.self.state ≡ t = c.tend-finished.ensures.state ∙ (c.tend-piece.ensures.state ∙ (c.tend-closed.ensures.state ∙ c.turn-turned.ensures.state)) in
-    r.2 ∙ ap (λ (s : Plain g.row.J.Denot). s.number + 1) (at ∙ sym same)
+    let behind = applied_behind K c.args.store.now.state t (map plain c.args.first.now.records.items) led in
+    record {
+      workers = c.requires.workers.1 ∙ sym (ap (λ (s : Plain g.row.J.Denot). s.ledger.set.workers) same ∙ ap (λ (set : FilledSet). set.workers) behind.set);
+      first = r.2 ∙ ap (λ (s : Plain g.row.J.Denot). s.number + 1) (at ∙ sym same);
+      right = (r.3, ap (λ s. applied K s (map plain c.args.second.now.records.items)) (same ∙ sym at) ∙ r.4);
+    }
