@@ -1,3 +1,4 @@
+pub mod Executing
 pub mod Failing
 pub mod Faults
 pub mod Keeping

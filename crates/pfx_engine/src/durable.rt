@@ -15,6 +15,7 @@ ghost use Rattle.pfx_program.specs.Promises.{Promise, Laws, AreAnswered, AreDone
 ghost use Rattle.pfx_recovery.specs.Recovery.{recovered};
 ghost use Rattle.pfx_segment.specs.Segment.{Takes};
 ghost use Rattle.pfx_store_file.specs.Calls.{GoesOn};
+ghost use Rattle.pfx_engine.specs.Executing.{CommitsOne, IsExecuted, TakesCalls};
 ghost use Rattle.pfx_engine.specs.Failing.{Fails, IsInDoubt, IsServed, NotAccepted, last_kept, stopped_at};
 ghost use Rattle.pfx_engine.specs.Keeping.{KeepsFrom};
 ghost use Rattle.pfx_engine.specs.KeepingLaws.{keeps_none, keeps_more, keeps_fewer};
@@ -102,21 +103,18 @@ impl<D: Disk> DurableEngine<D> {
         alloc: Global,
         command: Command<AnyJob>,
     ) -> Result<(Mark, Reply), CallFault>
-        ensures number { IfOk result (λ r. r.0.number ≡ self.old.state.number + 1) }
-        ensures clock { IfOk result (λ r. r.0.clock ≡ (D.view self.new.store.file.disk).clock) }
-        ensures reply { IfOk result (λ r. answer any_kind self.old.state command ≡ Ok r.1) }
-        ensures moves { OnOk result (self.new.state ≡ outcome any_kind self.old.state (command ∷ [])) }
-        ensures whole { OnOk result (self.new.store.file.broken ≡ false) }
-        ensures refused { IfErr result (NotAccepted self.old.state command self.new.state) }
-        ensures stays { OnErr result (self.new.store.state ≡ self.old.store.state) }
+        ensures done { IfOk result (IsExecuted self.old.state command self.new.state
+            (D.view self.new.store.file.disk).clock self.new.store.file.broken) }
+        ensures refused { IfErr result (λ e. NotAccepted self.old.state command self.new.state e
+            × (self.new.store.state ≡ self.old.store.state)) }
 
         // What the store fails on is a command that the machine accepts.
         ensures doubt { self.old.store.file.broken ≡ false → IfErr result (IsInDoubt self.old.state command) }
 
         // Where fair schedules of every length go on from the state, as in each store that `init` made, the limits alone refuse
         // a Slot, and such schedules go on from the new state.
-        ensures served { IsEndless self.old.state.ledger → IfErr result (IsServed self.old.state command) }
-        ensures endless { IsEndless self.old.state.ledger → OnOk result (IsEndless self.new.state.ledger) }
+        ensures serves { IsEndless self.old.state.ledger
+            → IfErr result (IsServed self.old.state command) × OnOk result (IsEndless self.new.state.ledger) }
         ensures fails { IfErr result (Fails self.old.store.state.number
             ((self.new.store.file.broken ≡ true) × (self.old.store.file.broken ≡ false → HasFailed (D.view self.old.store.file.disk) (D.view self.new.store.file.disk)))
             ((self.new.state ≡ self.old.state) × (self.new.store ≡ self.old.store))) }
@@ -124,23 +122,12 @@ impl<D: Disk> DurableEngine<D> {
             → (result ≡ Err (CallFault.Failed (stopped_at self.old.store.state.number))) × (self.new.state ≡ self.old.state) × (self.new.store ≡ self.old.store) }
 
         // A step of the checkpoint in progress, if there is one, and the command: so many calls of the disk.
-        ensures calls { Takes (command_calls (frame_len self.old.state (command ∷ [])) self.old.store.file.places)
+        ensures calls { TakesCalls (command_calls (frame_len self.old.state (command ∷ [])) self.old.store.file.places)
             (D.view self.old.store.file.disk) (D.view self.new.store.file.disk) result }
-        ensures goes { GoesOn (D.view self.old.store.file.disk) (D.view self.new.store.file.disk) }
-        ensures honest { IsHonest (D.view self.new.store.file.disk) → IsHonest (D.view self.old.store.file.disk) }
-        ensures kept { IsHonest (D.view self.old.store.file.disk) → IsHonest (D.view self.new.store.file.disk) }
 
-        // From the mark on, each image is recovered to the state behind the command.
-        ensures acknowledged { IsHonest (D.view self.old.store.file.disk)
-            → IfOk result (λ r. (image : List ℕ) → (D.view self.new.store.file.disk).since r.0.clock image
-            → recovered (format any_kind) image ≡ Ok self.new.state) }
-
-        // At every moment of the call, whatever it answers, the commands that survived before survive, with this one or
-        // without.
-        ensures keeps { IsHonest (D.view self.old.store.file.disk)
-            → (start : Plain AnyJob) → (H : List (Command AnyJob))
-            → IsState start → IsAcceptable any_kind start H → self.old.store.state ≡ outcome any_kind start H
-            → KeepsAll start H (H ++ command ∷ []) (D.view self.old.store.file.disk) (D.view self.new.store.file.disk) }
+        // At every moment what survived before survives, with the command or without; from the mark on each image has it.
+        ensures commits { IsHonest (D.view self.old.store.file.disk)
+            → CommitsOne self.old.store.state command self.new.state (D.view self.old.store.file.disk) (D.view self.new.store.file.disk) result }
     {
         if self.store.is_broken() {
             return Err(CallFault::Failed(stopped(&self.store)));

@@ -1,4 +1,4 @@
-use Rattle.std.proofs.Common.{◌≡◌, ◌+◌, refl, [], ◌∷◌, map, None, Some, sym, ◌∙◌, ap, subst}
+use Rattle.std.proofs.Common.{◌≡◌, ◌+◌, refl, [], ◌∷◌, map, false, Ok, None, Some, sym, ◌∙◌, ap, subst}
 use Rattle.std.proofs.lemmas.Bool.{true≢false}
 use Rattle.pfx_redo.specs.Recording.{record_of}
 use Rattle.pfx_kinds.specs.AnyKind.{any_kind}
@@ -19,17 +19,17 @@ use Rattle.pfx_segment.specs.Segment.{Takes}
 use Rattle.std.specs.Prelude.{IsOk}
 use Rattle.pfx_engine.proofs.durable.DurableEngine.execute.Goals as goal
 
-pub returns-then-is_broken-clause-keeps : goal.returns-then-is_broken-clause-keeps
-returns-then-is_broken-clause-keeps g c honest start H h all at = keeps_more start H (c.args.command ∷ []) (g.D.Disk.view c.args.self.now.store.file.disk)
+pub returns-then-is_broken-clause-commits : goal.returns-then-is_broken-clause-commits
+returns-then-is_broken-clause-commits g c = λ honest. record { keeps = λ start H h all at. keeps_more start H (c.args.command ∷ []) (g.D.Disk.view c.args.self.now.store.file.disk); acknowledged = tt }
 
-pub returns-in_default-clause-keeps : goal.returns-in_default-clause-keeps
-returns-in_default-clause-keeps g c honest start H h all at = keeps_more start H (c.args.command ∷ []) (g.D.Disk.view c.args.self.now.store.file.disk)
+pub returns-in_default-clause-commits : goal.returns-in_default-clause-commits
+returns-in_default-clause-commits g c = λ honest. record { keeps = λ start H h all at. keeps_more start H (c.args.command ∷ []) (g.D.Disk.view c.args.self.now.store.file.disk); acknowledged = tt }
 
-pub returns-in-Err-clause-keeps : goal.returns-in-Err-clause-keeps
-returns-in-Err-clause-keeps g c honest start H h all at = keeps_more start H (c.args.command ∷ []) (g.D.Disk.view c.args.self.now.store.file.disk)
+pub returns-in-Err-clause-commits : goal.returns-in-Err-clause-commits
+returns-in-Err-clause-commits g c = λ honest. record { keeps = λ start H h all at. keeps_more start H (c.args.command ∷ []) (g.D.Disk.view c.args.self.now.store.file.disk); acknowledged = tt }
 
-pub returns-in-Err-2-clause-keeps : goal.returns-in-Err-2-clause-keeps
-returns-in-Err-2-clause-keeps g c honest start H h all at = keeps_more start H (c.args.command ∷ []) (g.D.Disk.view c.args.self.now.store.file.disk)
+pub returns-in-Err-2-clause-commits : goal.returns-in-Err-2-clause-commits
+returns-in-Err-2-clause-commits g c = λ honest. record { keeps = λ start H h all at. keeps_more start H (c.args.command ∷ []) (g.D.Disk.view c.args.self.now.store.file.disk); acknowledged = tt }
 
 pub invariant_of-self-in-Ok-run_recorded : goal.invariant_of-self-in-Ok-run_recorded
 invariant_of-self-in-Ok-run_recorded g c = record {
@@ -45,47 +45,57 @@ invariant_of-self-in-Ok-run_recorded g c = record {
       ∙ sym (worked c.commit.result _ _ _ _ c.commit.ensures.works c.commit.ensures.room before whole (c.commit.ensures.state (c.args.command ∷ []) mine)));
 }
 
-pub returns-in-Ok-commit-clause-keeps : goal.returns-in-Ok-commit-clause-keeps
-returns-in-Ok-commit-clause-keeps g c honest start H h all there =
+pub returns-in-Ok-commit-clause-commits : goal.returns-in-Ok-commit-clause-commits
+returns-in-Ok-commit-clause-commits g c = λ honest.
+    (let V = g.D.Disk.view in
     let at = c.args.self.now.same (sym c.is_broken.ensures.broken ∙ c.if-is_broken.false) in
     let done = c.in-Ok-run_recorded.ensures in
     let mine : AreRecordsOf any_kind c.args.self.now.store.state (c.args.command ∷ []) (map plain c.push_reserved.new.self.items) =
     one_record c.args.self.now.store.state c.args.command (map plain c.push_reserved.new.self.items) (subst (λ (t : Plain AnyJob). refusal any_kind t c.args.command ≡ None) at done.exact)
     (rw (c.push_reserved.ensures.items, c.in-Ok.ensures.items) (ap (λ r. r ∷ []) (done.kept_as ∙ ap (λ (t : Plain AnyJob). record_of any_kind t c.args.command) at))) in
-    c.commit.ensures.keeps honest start H (c.args.command ∷ []) h all there mine
+    let new = c.commit.new.store in
+    let whole : new.file.broken ≡ false = c.in-Ok-commit.ensures.works.whole refl in
+    record {
+      keeps = λ start H h all there. c.commit.ensures.keeps honest start H (c.args.command ∷ []) h all there mine;
+      acknowledged = λ image here. c.in-Ok-commit.ensures.acknowledged honest image (subst (λ n. (V new.file.disk).since n image) c.in-Ok-commit.ensures.mark.1 here)
+        ∙ ap Ok (c.in-Ok-commit.ensures.state (c.args.command ∷ []) mine ∙ ap (λ (t : Plain AnyJob). outcome any_kind t (c.args.command ∷ [])) (sym at) ∙ sym (done.outcome c.args.self.now.state [] (sym (outcome-none any_kind c.args.self.now.state))));
+    })
 
-pub returns-clause-keeps : goal.returns-clause-keeps
-returns-clause-keeps g c honest start H h all there =
-    let at = c.args.self.now.same (sym c.is_broken.ensures.broken ∙ c.if-is_broken.false) in
+pub returns-clause-commits : goal.returns-clause-commits
+returns-clause-commits g c = λ honest.
+    (let at = c.args.self.now.same (sym c.is_broken.ensures.broken ∙ c.if-is_broken.false) in
     let done = c.in-Ok-run_recorded.ensures in
     let mine : AreRecordsOf any_kind c.args.self.now.store.state (c.args.command ∷ []) (map plain c.push_reserved.new.self.items) =
     one_record c.args.self.now.store.state c.args.command (map plain c.push_reserved.new.self.items) (subst (λ (t : Plain AnyJob). refusal any_kind t c.args.command ≡ None) at done.exact)
     (rw (c.push_reserved.ensures.items, c.in-Ok.ensures.items) (ap (λ r. r ∷ []) (done.kept_as ∙ ap (λ (t : Plain AnyJob). record_of any_kind t c.args.command) at))) in
-    c.commit.ensures.keeps honest start H (c.args.command ∷ []) h all there mine
+    record {
+      keeps = λ start H h all there. c.commit.ensures.keeps honest start H (c.args.command ∷ []) h all there mine;
+      acknowledged = tt;
+    })
 
-pub returns-in-Ok-commit-clause-endless : goal.returns-in-Ok-commit-clause-endless
-returns-in-Ok-commit-clause-endless g c = λ endless.
+pub returns-in-Ok-commit-clause-serves : goal.returns-in-Ok-commit-clause-serves
+returns-in-Ok-commit-clause-serves g c = λ endless.
     (let done = c.in-Ok-run_recorded.ensures in
     let s = c.args.self.now.state in
-    endless_after s c.run_recorded.new.state c.args.command c.number-number.ensures.state endless done.exact (done.outcome s [] (sym (outcome-none any_kind s))))
+    (tt, endless_after s c.run_recorded.new.state c.args.command c.number-number.ensures.state endless done.exact (done.outcome s [] (sym (outcome-none any_kind s)))))
 
-pub returns-in-Err-2-clause-served : goal.returns-in-Err-2-clause-served
-returns-in-Err-2-clause-served g c = λ endless slot.
+pub returns-in-Err-2-clause-serves : goal.returns-in-Err-2-clause-serves
+returns-in-Err-2-clause-serves g c = λ endless. (λ slot.
     (let s = c.args.self.now.state in
     let refused : refusal any_kind s c.args.command ≡ Some c.in-Err.fault = c.in-Err.ensures.exact.1 (λ is. true≢false (sym (c.is_memory.ensures.1 is) ∙ c.if-is_memory.false)) in
-    limits_refuse s c.in-Err.fault c.number-number.ensures.state endless (subst (λ (d : Command AnyJob). refusal any_kind s d ≡ Some c.in-Err.fault) slot refused))
+    limits_refuse s c.in-Err.fault c.number-number.ensures.state endless (subst (λ (d : Command AnyJob). refusal any_kind s d ≡ Some c.in-Err.fault) slot refused)), tt)
 
 pub returns-then-is_broken-clause-calls : goal.returns-then-is_broken-clause-calls
-returns-then-is_broken-clause-calls g c = takes_no_call (command_calls (frame_len c.args.self.now.state (c.args.command ∷ [])) c.args.self.now.store.file.places) (g.D.Disk.view c.args.self.now.store.file.disk) _
+returns-then-is_broken-clause-calls g c = record { takes = takes_no_call (command_calls (frame_len c.args.self.now.state (c.args.command ∷ [])) c.args.self.now.store.file.places) (g.D.Disk.view c.args.self.now.store.file.disk) _; honest = (λ h. h, λ h. h) }
 
 pub returns-in_default-clause-calls : goal.returns-in_default-clause-calls
-returns-in_default-clause-calls g c = takes_no_call (command_calls (frame_len c.args.self.now.state (c.args.command ∷ [])) c.args.self.now.store.file.places) (g.D.Disk.view c.args.self.now.store.file.disk) _
+returns-in_default-clause-calls g c = record { takes = takes_no_call (command_calls (frame_len c.args.self.now.state (c.args.command ∷ [])) c.args.self.now.store.file.places) (g.D.Disk.view c.args.self.now.store.file.disk) _; honest = (λ h. h, λ h. h) }
 
 pub returns-in-Err-clause-calls : goal.returns-in-Err-clause-calls
-returns-in-Err-clause-calls g c = takes_no_call (command_calls (frame_len c.args.self.now.state (c.args.command ∷ [])) c.args.self.now.store.file.places) (g.D.Disk.view c.args.self.now.store.file.disk) _
+returns-in-Err-clause-calls g c = record { takes = takes_no_call (command_calls (frame_len c.args.self.now.state (c.args.command ∷ [])) c.args.self.now.store.file.places) (g.D.Disk.view c.args.self.now.store.file.disk) _; honest = (λ h. h, λ h. h) }
 
 pub returns-in-Err-2-clause-calls : goal.returns-in-Err-2-clause-calls
-returns-in-Err-2-clause-calls g c = takes_no_call (command_calls (frame_len c.args.self.now.state (c.args.command ∷ [])) c.args.self.now.store.file.places) (g.D.Disk.view c.args.self.now.store.file.disk) _
+returns-in-Err-2-clause-calls g c = record { takes = takes_no_call (command_calls (frame_len c.args.self.now.state (c.args.command ∷ [])) c.args.self.now.store.file.places) (g.D.Disk.view c.args.self.now.store.file.disk) _; honest = (λ h. h, λ h. h) }
 
 pub returns-in-Ok-commit-clause-calls : goal.returns-in-Ok-commit-clause-calls
 returns-in-Ok-commit-clause-calls g c =
@@ -95,8 +105,11 @@ returns-in-Ok-commit-clause-calls g c =
     let mine : AreRecordsOf any_kind c.args.self.now.store.state (c.args.command ∷ []) (map plain c.push_reserved.new.self.items) =
     one_record c.args.self.now.store.state c.args.command (map plain c.push_reserved.new.self.items) (subst (λ (t : Plain AnyJob). refusal any_kind t c.args.command ≡ None) at done.exact)
     (rw (c.push_reserved.ensures.items, c.in-Ok.ensures.items) (ap (λ r. r ∷ []) (done.kept_as ∙ ap (λ (t : Plain AnyJob). record_of any_kind t c.args.command) at))) in
-    takes_as (command_calls (frame_len c.args.self.now.state (c.args.command ∷ [])) c.args.self.now.store.file.places) (V c.args.self.now.store.file.disk) (V c.commit.new.store.file.disk) c.commit.result _ (λ _. subst (λ r. IsOk r) (sym c.in-Ok-commit.is) refl)
-    (subst (λ (t : Plain AnyJob). Takes (command_calls (frame_len t (c.args.command ∷ [])) c.args.self.now.store.file.places) (V c.args.self.now.store.file.disk) (V c.commit.new.store.file.disk) c.commit.result) (sym at) (c.commit.ensures.calls (c.args.command ∷ []) mine))
+    record {
+      takes = takes_as (command_calls (frame_len c.args.self.now.state (c.args.command ∷ [])) c.args.self.now.store.file.places) (V c.args.self.now.store.file.disk) (V c.commit.new.store.file.disk) c.commit.result _ (λ _. subst (λ r. IsOk r) (sym c.in-Ok-commit.is) refl)
+        (subst (λ (t : Plain AnyJob). Takes (command_calls (frame_len t (c.args.command ∷ [])) c.args.self.now.store.file.places) (V c.args.self.now.store.file.disk) (V c.commit.new.store.file.disk) c.commit.result) (sym at) (c.commit.ensures.calls (c.args.command ∷ []) mine));
+      honest = (c.commit.ensures.kept, c.commit.ensures.honest);
+    }
 
 pub returns-clause-calls : goal.returns-clause-calls
 returns-clause-calls g c =
@@ -106,8 +119,11 @@ returns-clause-calls g c =
     let mine : AreRecordsOf any_kind c.args.self.now.store.state (c.args.command ∷ []) (map plain c.push_reserved.new.self.items) =
     one_record c.args.self.now.store.state c.args.command (map plain c.push_reserved.new.self.items) (subst (λ (t : Plain AnyJob). refusal any_kind t c.args.command ≡ None) at done.exact)
     (rw (c.push_reserved.ensures.items, c.in-Ok.ensures.items) (ap (λ r. r ∷ []) (done.kept_as ∙ ap (λ (t : Plain AnyJob). record_of any_kind t c.args.command) at))) in
-    takes_as (command_calls (frame_len c.args.self.now.state (c.args.command ∷ [])) c.args.self.now.store.file.places) (V c.args.self.now.store.file.disk) (V c.commit.new.store.file.disk) c.commit.result _ (λ is. absurd (true≢false (sym is)))
-    (subst (λ (t : Plain AnyJob). Takes (command_calls (frame_len t (c.args.command ∷ [])) c.args.self.now.store.file.places) (V c.args.self.now.store.file.disk) (V c.commit.new.store.file.disk) c.commit.result) (sym at) (c.commit.ensures.calls (c.args.command ∷ []) mine))
+    record {
+      takes = takes_as (command_calls (frame_len c.args.self.now.state (c.args.command ∷ [])) c.args.self.now.store.file.places) (V c.args.self.now.store.file.disk) (V c.commit.new.store.file.disk) c.commit.result _ (λ is. absurd (true≢false (sym is)))
+        (subst (λ (t : Plain AnyJob). Takes (command_calls (frame_len t (c.args.command ∷ [])) c.args.self.now.store.file.places) (V c.args.self.now.store.file.disk) (V c.commit.new.store.file.disk) c.commit.result) (sym at) (c.commit.ensures.calls (c.args.command ∷ []) mine));
+      honest = (c.commit.ensures.kept, c.commit.ensures.honest);
+    }
 
 pub commit-requires-clause-right : goal.commit-requires-clause-right
 commit-requires-clause-right g c =
@@ -118,14 +134,17 @@ commit-requires-clause-right g c =
     (rw (c.push_reserved.ensures.items, c.in-Ok.ensures.items) (ap (λ r. r ∷ []) (done.kept_as ∙ ap (λ (t : Plain AnyJob). record_of any_kind t c.args.command) at))) in
     (c.args.command ∷ [], mine)
 
-pub returns-in-Ok-commit-clause-number : goal.returns-in-Ok-commit-clause-number
-returns-in-Ok-commit-clause-number g c =
+pub returns-in-Ok-commit-clause-done : goal.returns-in-Ok-commit-clause-done
+returns-in-Ok-commit-clause-done g c =
     let at = c.args.self.now.same (sym c.is_broken.ensures.broken ∙ c.if-is_broken.false) in
     let done = c.in-Ok-run_recorded.ensures in
     let mine : AreRecordsOf any_kind c.args.self.now.store.state (c.args.command ∷ []) (map plain c.push_reserved.new.self.items) =
     one_record c.args.self.now.store.state c.args.command (map plain c.push_reserved.new.self.items) (subst (λ (t : Plain AnyJob). refusal any_kind t c.args.command ≡ None) at done.exact)
     (rw (c.push_reserved.ensures.items, c.in-Ok.ensures.items) (ap (λ r. r ∷ []) (done.kept_as ∙ ap (λ (t : Plain AnyJob). record_of any_kind t c.args.command) at))) in
-    c.in-Ok-commit.ensures.mark.0 ∙ ap (λ (t : Plain AnyJob). t.number) (c.in-Ok-commit.ensures.state (c.args.command ∷ []) mine) ∙ ap (λ (t : Plain AnyJob). t.number + 1) (sym at)
-
-pub returns-in-Ok-commit-clause-moves : goal.returns-in-Ok-commit-clause-moves
-returns-in-Ok-commit-clause-moves g c = c.in-Ok-run_recorded.ensures.outcome c.args.self.now.state [] (sym (outcome-none any_kind c.args.self.now.state))
+    record {
+      number = c.in-Ok-commit.ensures.mark.0 ∙ ap (λ (t : Plain AnyJob). t.number) (c.in-Ok-commit.ensures.state (c.args.command ∷ []) mine) ∙ ap (λ (t : Plain AnyJob). t.number + 1) (sym at);
+      clock_now = c.in-Ok-commit.ensures.mark.1;
+      reply = rw done.exact (ap Ok (sym done.reply));
+      state = done.outcome c.args.self.now.state [] (sym (outcome-none any_kind c.args.self.now.state));
+      whole = c.in-Ok-commit.ensures.works.whole refl;
+    }
