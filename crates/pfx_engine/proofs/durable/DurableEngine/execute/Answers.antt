@@ -58,7 +58,7 @@ returns-in-Ok-commit-clause-commits g c = λ honest.
     record {
       keeps = λ start H h all there. c.commit.ensures.keeps honest start H (c.args.command ∷ []) h all there mine;
       acknowledged = λ image here. c.in-Ok-commit.ensures.acknowledged honest image (subst (λ n. (V new.file.disk).since n image) c.in-Ok-commit.ensures.mark.1 here)
-        ∙ ap Ok (c.in-Ok-commit.ensures.state (c.args.command ∷ []) mine ∙ ap (λ (t : Plain AnyJob). outcome any_kind t (c.args.command ∷ [])) (sym at) ∙ sym (done.outcome c.args.self.now.state [] (sym (outcome-none any_kind c.args.self.now.state))));
+          ∙ ap Ok (c.in-Ok-commit.ensures.state (c.args.command ∷ []) mine ∙ ap (λ (t : Plain AnyJob). outcome any_kind t (c.args.command ∷ [])) (sym at) ∙ sym (done.outcome c.args.self.now.state [] (sym (outcome-none any_kind c.args.self.now.state))));
     })
 
 pub returns-clause-commits : goal.returns-clause-commits
@@ -80,10 +80,13 @@ returns-in-Ok-commit-clause-serves g c = λ endless.
     (tt, endless_after s c.run_recorded.new.state c.args.command c.number-number.ensures.state endless done.exact (done.outcome s [] (sym (outcome-none any_kind s)))))
 
 pub returns-in-Err-2-clause-serves : goal.returns-in-Err-2-clause-serves
-returns-in-Err-2-clause-serves g c = λ endless. (λ slot.
-    (let s = c.args.self.now.state in
-    let refused : refusal any_kind s c.args.command ≡ Some c.in-Err.fault = c.in-Err.ensures.exact.1 (λ is. true≢false (sym (c.is_memory.ensures.1 is) ∙ c.if-is_memory.false)) in
-    limits_refuse s c.in-Err.fault c.number-number.ensures.state endless (subst (λ (d : Command AnyJob). refusal any_kind s d ≡ Some c.in-Err.fault) slot refused)), tt)
+returns-in-Err-2-clause-serves g c = λ endless. (
+  λ slot.
+      (let s = c.args.self.now.state in
+      let refused : refusal any_kind s c.args.command ≡ Some c.in-Err.fault = c.in-Err.ensures.exact.1 (λ is. true≢false (sym (c.is_memory.ensures.1 is) ∙ c.if-is_memory.false)) in
+      limits_refuse s c.in-Err.fault c.number-number.ensures.state endless (subst (λ (d : Command AnyJob). refusal any_kind s d ≡ Some c.in-Err.fault) slot refused)),
+  tt,
+)
 
 pub returns-then-is_broken-clause-calls : goal.returns-then-is_broken-clause-calls
 returns-then-is_broken-clause-calls g c = record { takes = takes_no_call (command_calls (frame_len c.args.self.now.state (c.args.command ∷ [])) c.args.self.now.store.file.places) (g.D.Disk.view c.args.self.now.store.file.disk) _; honest = (λ h. h, λ h. h) }
@@ -107,7 +110,7 @@ returns-in-Ok-commit-clause-calls g c =
     (rw (c.push_reserved.ensures.items, c.in-Ok.ensures.items) (ap (λ r. r ∷ []) (done.kept_as ∙ ap (λ (t : Plain AnyJob). record_of any_kind t c.args.command) at))) in
     record {
       takes = takes_as (command_calls (frame_len c.args.self.now.state (c.args.command ∷ [])) c.args.self.now.store.file.places) (V c.args.self.now.store.file.disk) (V c.commit.new.store.file.disk) c.commit.result _ (λ _. subst (λ r. IsOk r) (sym c.in-Ok-commit.is) refl)
-        (subst (λ (t : Plain AnyJob). Takes (command_calls (frame_len t (c.args.command ∷ [])) c.args.self.now.store.file.places) (V c.args.self.now.store.file.disk) (V c.commit.new.store.file.disk) c.commit.result) (sym at) (c.commit.ensures.calls (c.args.command ∷ []) mine));
+          (subst (λ (t : Plain AnyJob). Takes (command_calls (frame_len t (c.args.command ∷ [])) c.args.self.now.store.file.places) (V c.args.self.now.store.file.disk) (V c.commit.new.store.file.disk) c.commit.result) (sym at) (c.commit.ensures.calls (c.args.command ∷ []) mine));
       honest = (c.commit.ensures.kept, c.commit.ensures.honest);
     }
 
@@ -121,7 +124,7 @@ returns-clause-calls g c =
     (rw (c.push_reserved.ensures.items, c.in-Ok.ensures.items) (ap (λ r. r ∷ []) (done.kept_as ∙ ap (λ (t : Plain AnyJob). record_of any_kind t c.args.command) at))) in
     record {
       takes = takes_as (command_calls (frame_len c.args.self.now.state (c.args.command ∷ [])) c.args.self.now.store.file.places) (V c.args.self.now.store.file.disk) (V c.commit.new.store.file.disk) c.commit.result _ (λ is. absurd (true≢false (sym is)))
-        (subst (λ (t : Plain AnyJob). Takes (command_calls (frame_len t (c.args.command ∷ [])) c.args.self.now.store.file.places) (V c.args.self.now.store.file.disk) (V c.commit.new.store.file.disk) c.commit.result) (sym at) (c.commit.ensures.calls (c.args.command ∷ []) mine));
+          (subst (λ (t : Plain AnyJob). Takes (command_calls (frame_len t (c.args.command ∷ [])) c.args.self.now.store.file.places) (V c.args.self.now.store.file.disk) (V c.commit.new.store.file.disk) c.commit.result) (sym at) (c.commit.ensures.calls (c.args.command ∷ []) mine));
       honest = (c.commit.ensures.kept, c.commit.ensures.honest);
     }
 
