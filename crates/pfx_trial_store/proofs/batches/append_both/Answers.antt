@@ -22,10 +22,10 @@ ten_calls-requires-clause-right g c =
     let are = subst (λ (t : Plain g.row.J.Denot). AreRecordsOf K t r.0 (map plain c.in_ok-slots.field-0.items)) same r.1 in
     let led = ap (λ t. applied K t (map plain c.batch_of-one.result.records.items)) (sym c.state-2.ensures)
     ∙ (c.batch_of-one.ensures.leads r.0 are ∙ (ap (λ t. Some (outcome K t r.0)) (sym same) ∙ ap Some (sym r.2))) in
-    let right = c.batch_of-two.ensures.right in (
+    let right = c.batch_of-two.ensures.next.right in (
       c.slots.new.state,
       led,
-      c.batch_of-two.ensures.first ∙ ap (λ (t : Plain g.row.J.Denot). t.number + 1) c.in-Ok-copy_of.ensures,
+      c.batch_of-two.ensures.next.first ∙ ap (λ (t : Plain g.row.J.Denot). t.number + 1) c.in-Ok-copy_of.ensures,
       right.0,
       ap (λ t. applied K t (map plain c.batch_of-two.result.records.items)) (sym c.in-Ok-copy_of.ensures) ∙ right.1,
     )
@@ -35,6 +35,6 @@ unfolding ten_calls-requires-clause-right
 ten_calls-requires-clause-workers g c =
     let led = (ten_calls-requires-clause-right g c).1 in
     let behind = applied_behind g.J.Job.kind c.args.store.now.state c.slots.new.state (map plain c.batch_of-one.result.records.items) led in (
-      c.batch_of-one.ensures.workers ∙ ap (λ (t : Plain g.row.J.Denot). t.ledger.set.workers) c.state-2.ensures,
-      c.batch_of-two.ensures.workers ∙ (ap (λ (t : Plain g.row.J.Denot). t.ledger.set.workers) c.in-Ok-copy_of.ensures ∙ ap (λ (l : FilledSet). l.workers) behind.set),
+      c.batch_of-one.ensures.next.workers ∙ ap (λ (t : Plain g.row.J.Denot). t.ledger.set.workers) c.state-2.ensures,
+      c.batch_of-two.ensures.next.workers ∙ (ap (λ (t : Plain g.row.J.Denot). t.ledger.set.workers) c.in-Ok-copy_of.ensures ∙ ap (λ (l : FilledSet). l.workers) behind.set),
     )

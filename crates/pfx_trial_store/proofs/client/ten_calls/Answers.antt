@@ -36,8 +36,8 @@ returns-clause-marked g c = λ honest start all noted covers.
     let m9 = c.tend-other.ensures.marks h8 start both more m8 in
     c.tend-last.ensures.marks h9 start both more m9)
 
-pub append-requires-2-clause-next : goal.append-requires-2-clause-next
-append-requires-2-clause-next g c =
+pub append-requires-2 : goal.append-requires-2
+append-requires-2 g c =
     let K = g.J.Job.kind in
     let r = c.requires.right in
     let t = c.append.new.self.state in
@@ -46,7 +46,9 @@ append-requires-2-clause-next g c =
     let same : c.tend-finished.new.self.state ≡ t = c.tend-finished.ensures.state ∙ (c.tend-piece.ensures.state ∙ (c.tend-closed.ensures.state ∙ c.turn-turned.ensures.state)) in
     let behind = applied_behind K c.args.store.now.state t (map plain c.args.first.now.records.items) led in
     record {
-      workers = c.requires.workers.1 ∙ sym (ap (λ (s : Plain g.row.J.Denot). s.ledger.set.workers) same ∙ ap (λ (set : FilledSet). set.workers) behind.set);
-      first = r.2 ∙ ap (λ (s : Plain g.row.J.Denot). s.number + 1) (at ∙ sym same);
-      right = (r.3, ap (λ s. applied K s (map plain c.args.second.now.records.items)) (same ∙ sym at) ∙ r.4);
+      next = record {
+        workers = c.requires.workers.1 ∙ sym (ap (λ (s : Plain g.row.J.Denot). s.ledger.set.workers) same ∙ ap (λ (set : FilledSet). set.workers) behind.set);
+        first = r.2 ∙ ap (λ (s : Plain g.row.J.Denot). s.number + 1) (at ∙ sym same);
+        right = (r.3, ap (λ s. applied K s (map plain c.args.second.now.records.items)) (same ∙ sym at) ∙ r.4);
+      };
     }
