@@ -3,7 +3,6 @@ ghost use Rattle.std.specs.Prelude.{◌≡◌};
 ghost use Rattle.pfx_kinds.specs.AnyKind.{any_kind};
 ghost use Rattle.pfx_front.specs.Starting.{Begins};
 
-use crate::stores::thirds_by;
 use pfx_board::reader::Reader;
 use pfx_book::book::Pass;
 use pfx_crew::desk::Desk;
@@ -16,7 +15,6 @@ use pfx_jobs::quantum::{Done, Quantum};
 use pfx_kinds::any::AnyJob;
 use pfx_store::Store;
 use std::alloc::Global;
-use std::marker::Brand;
 use std::sync::Wait;
 use std::thread::Threads;
 use std::time::Clock;
@@ -28,21 +26,8 @@ pub type Served<B, D, K, R> = (
     Vec<Reader<AnyJob, B>>,
 );
 
-/// What a test does with a front that has begun.
-pub trait Session {
-    /// Does it, and ends the front. Whether all was as it should be.
-    fn run<
-        B: Since<AnyJob> + Send + Sync + 'static,
-        K: Desk<Quantum<AnyJob>, Done<AnyJob>> + Drop + Send + Sync + 'static,
-        D: Disk + Drop + Send + 'static,
-        R: Threads + Wait + Clock + Copy + Drop + Send + Sync + 'static,
-    >(self, rt: R, alloc: Global, served: Served<B, D, K, R>) -> Option<bool>
-    where
-        K::Seat: Drop + Send + 'static;
-}
-
 /// Starts a front.
-fn begin<
+pub fn begin<
     B: Since<AnyJob> + Send + Sync + 'static,
     K: Desk<Quantum<AnyJob>, Done<AnyJob>> + Drop + Send + Sync + 'static,
     D: Disk + Drop + Send + 'static,
@@ -104,67 +89,4 @@ pub fn is_kept<B: Since<AnyJob>, D: Disk + Drop>(
 ) -> bool {
     let settled = closed.book.failure().is_none() && closed.book.marked() == number;
     settled && closed.store.state().number() == number && !closed.store.is_broken()
-}
-
-/// A session on a front of a name.
-fn serve<
-    S: Session,
-    B: Since<AnyJob> + Send + Sync + 'static,
-    K: Desk<Quantum<AnyJob>, Done<AnyJob>> + Drop + Send + Sync + 'static,
-    D: Disk + Drop + Send + 'static,
-    R: Threads + Wait + Clock + Copy + Drop + Send + Sync + 'static,
->(
-    rt: R,
-    alloc: Global,
-    names: Names<AnyJob>,
-    store: Store<D, AnyJob>,
-    desk: K,
-    workers: u32,
-    session: S,
-) -> Option<bool>
-where
-    S: Drop,
-    K::Seat: Drop + Send + 'static,
-    requires named { (names.tokens.table.shared.table_id ≡ B.table) × (names.list.seen.book ≡ B.book) × (B.origin ≡ B.start) }
-    requires begins { Begins any_kind B.start B.failures B.clock store.file.broken store.state (D.view store.file.disk) }
-{
-    let served = begin::<B, K, D, R>(rt, alloc, names, store, desk, workers)?;
-    session.run(rt, alloc, served)
-}
-
-/// The same by a name of its own.
-fn serve_named<
-    S: Session + Drop,
-    K: Desk<Quantum<AnyJob>, Done<AnyJob>> + Drop + Send + Sync + 'static,
-    D: Disk + Drop + Send + 'static,
-    R: Threads + Wait + Clock + Copy + Drop + Send + Sync + 'static,
->(
-    rt: R,
-    alloc: Global,
-    names: Names<AnyJob>,
-    store: Store<D, AnyJob>,
-    desk: K,
-    workers: u32,
-    session: S,
-) -> Option<bool>
-where
-    K::Seat: Drop + Send + 'static,
-    requires { Begins any_kind store.state (D.view store.file.disk).failures (D.view store.file.disk).clock store.file.broken store.state (D.view store.file.disk) }
-{
-    serve::<S, Brand, K, D, R>(rt, alloc, names, store, desk, workers, session)
-}
-
-/// A session on the front of a new store, with so many workers and one reader.
-pub fn hold<
-    S: Session + Drop,
-    K: Desk<Quantum<AnyJob>, Done<AnyJob>> + Drop + Send + Sync + 'static,
-    D: Disk + Drop + Send + 'static,
-    R: Threads + Wait + Clock + Copy + Drop + Send + Sync + 'static,
->(rt: R, alloc: Global, disk: D, segment: u32, desk: K, workers: u32, session: S) -> Option<bool>
-where
-    K::Seat: Drop + Send + 'static,
-{
-    let store = thirds_by(alloc, disk, segment)?;
-    let names = Names::new(alloc).ok()?;
-    serve_named(rt, alloc, names, store, desk, workers, session)
 }

@@ -1,18 +1,26 @@
 //! A checkpoint whose first piece is held, or fails: calls are answered meanwhile, and what was marked before stays so.
+ghost use Rattle.std.specs.Prelude.{◌≡◌};
+ghost use Rattle.pfx_disk.specs.Fault.{fault_view};
+ghost use Rattle.pfx_disk.specs.Held.{held_view};
+ghost use Rattle.pfx_disk.specs.Memory.{memory_view};
+ghost use Rattle.pfx_kinds.specs.AnyKind.{any_kind};
+ghost use Rattle.pfx_front.specs.Starting.{Begins};
 
-use crate::fronts::{Served, Session, end, hold, is_kept};
-use crate::stores::{desk, is_number, is_settled, memory};
+use crate::fronts::{begin, end, is_kept};
+use crate::stores::{JobDesk, desk, is_number, is_settled, memory, thirds_by};
 use pfx_book::book::Pass;
 use pfx_crew::desk::Desk;
-use pfx_disk::{Disk, FaultDisk, Gate, GateDisk};
+use pfx_disk::{Disk, FaultDisk, Gate, GateDisk, MemoryDisk};
 use pfx_fault::Cause;
 use pfx_front::calls::Front;
 use pfx_front::closing::Closed;
-use pfx_front::name::Since;
+use pfx_front::name::{Names, Since};
 use pfx_jobs::quantum::{Done, Quantum};
 use pfx_kinds::any::AnyJob;
 use pfx_machine::Command;
+use pfx_store::Store;
 use std::alloc::Global;
+use std::marker::Brand;
 use std::sync::Wait;
 use std::thread::Threads;
 use std::time::Clock;
@@ -64,39 +72,71 @@ fn is_failed<B: Since<AnyJob>, D: Disk + Drop>(closed: &Closed<AnyJob, B, D>) ->
     failed && closed.book.marked() == TURNING && closed.store.state().number() == TURNING
 }
 
-/// The last slot turns the file. With a gate one slot more is called; without one the device fails.
-#[derive(Drop)]
-struct Turning {
+/// A session whose last slot turns the file. With a gate one slot more is called; without one the device fails.
+fn serve<
+    B: Since<AnyJob> + Send + Sync + 'static,
+    K: Desk<Quantum<AnyJob>, Done<AnyJob>> + Drop + Send + Sync + 'static,
+    D: Disk + Drop + Send + 'static,
+    R: Threads + Wait + Clock + Copy + Drop + Send + Sync + 'static,
+>(
+    rt: R,
+    alloc: Global,
+    names: Names<AnyJob>,
+    store: Store<D, AnyJob>,
+    desk: K,
     gate: Option<Gate>,
+) -> Option<bool>
+where
+    K::Seat: Drop + Send + 'static,
+    requires named { (names.tokens.table.shared.table_id ≡ B.table) × (names.list.seen.book ≡ B.book) × (B.origin ≡ B.start) }
+    requires begins { Begins any_kind B.start B.failures B.clock store.file.broken store.state (D.view store.file.disk) }
+{
+    let served = begin::<B, K, D, R>(rt, alloc, names, store, desk, 0)?;
+    let mut pass = served.0.pass(&rt)?;
+    let turned = is_turned(&rt, &served.0, &mut pass);
+    let held = gate.is_some();
+    let answered = match gate {
+        Some(gate) => is_answered(&rt, &served.0, &mut pass, gate),
+        None => true,
+    };
+    let mut passes = Vec::new(alloc);
+    passes.push(pass).ok()?;
+    let closed = end(&rt, served, passes)?;
+    let ended = if held {
+        is_kept(&closed, TURNING + 1)
+    } else {
+        is_failed(&closed)
+    };
+    Some(turned && answered && ended)
 }
 
-impl Session for Turning {
-    fn run<
-        B: Since<AnyJob> + Send + Sync + 'static,
-        K: Desk<Quantum<AnyJob>, Done<AnyJob>> + Drop + Send + Sync + 'static,
-        D: Disk + Drop + Send + 'static,
-        R: Threads + Wait + Clock + Copy + Drop + Send + Sync + 'static,
-    >(self, rt: R, alloc: Global, served: Served<B, D, K, R>) -> Option<bool>
-    where
-        K::Seat: Drop + Send + 'static,
-    {
-        let mut pass = served.0.pass(&rt)?;
-        let turned = is_turned(&rt, &served.0, &mut pass);
-        let held = self.gate.is_some();
-        let answered = match self.gate {
-            Some(gate) => is_answered(&rt, &served.0, &mut pass, gate),
-            None => true,
-        };
-        let mut passes = Vec::new(alloc);
-        passes.push(pass).ok()?;
-        let closed = end(&rt, served, passes)?;
-        let ended = if held {
-            is_kept(&closed, TURNING + 1)
-        } else {
-            is_failed(&closed)
-        };
-        Some(turned && answered && ended)
-    }
+/// With a disk that is held, by a name of its own.
+fn serve_held<R: Threads + Wait + Clock + Copy + Drop + Send + Sync + 'static>(
+    rt: R,
+    alloc: Global,
+    names: Names<AnyJob>,
+    store: Store<GateDisk<MemoryDisk, R>, AnyJob>,
+    desk: JobDesk,
+    gate: Gate,
+) -> Option<bool>
+    requires { Begins any_kind store.state (held_view memory_view store.file.disk).failures (held_view memory_view store.file.disk).clock store.file.broken store.state
+        (held_view memory_view store.file.disk) }
+{
+    serve::<Brand, JobDesk, GateDisk<MemoryDisk, R>, R>(rt, alloc, names, store, desk, Some(gate))
+}
+
+/// With a disk that fails, by a name of its own.
+fn serve_failing<R: Threads + Wait + Clock + Copy + Drop + Send + Sync + 'static>(
+    rt: R,
+    alloc: Global,
+    names: Names<AnyJob>,
+    store: Store<FaultDisk<MemoryDisk>, AnyJob>,
+    desk: JobDesk,
+) -> Option<bool>
+    requires { Begins any_kind store.state (fault_view memory_view store.file.disk).failures (fault_view memory_view store.file.disk).clock store.file.broken store.state
+        (fault_view memory_view store.file.disk) }
+{
+    serve::<Brand, JobDesk, FaultDisk<MemoryDisk>, R>(rt, alloc, names, store, desk, None)
 }
 
 /// Whether a slot is answered while a checkpoint's piece is held.
@@ -105,8 +145,15 @@ fn is_held<R: Threads + Wait + Clock + Copy + Drop + Send + Sync + 'static>(
     alloc: Global,
 ) -> Option<bool> {
     let (disk, gate) = GateDisk::new(rt, alloc, memory(alloc)?, FIRST_PIECE).ok()?;
-    let session = Turning { gate: Some(gate) };
-    hold(rt, alloc, disk, SEGMENT, desk(alloc)?, 0, session)
+    let store = thirds_by(alloc, disk, SEGMENT)?;
+    serve_held(
+        rt,
+        alloc,
+        Names::new(alloc).ok()?,
+        store,
+        desk(alloc)?,
+        gate,
+    )
 }
 
 /// Whether a piece that fails leaves all that was marked, so that the call held above is a checkpoint's and no append's.
@@ -115,15 +162,8 @@ fn is_left<R: Threads + Wait + Clock + Copy + Drop + Send + Sync + 'static>(
     alloc: Global,
 ) -> Option<bool> {
     let disk = FaultDisk::new(memory(alloc)?, FIRST_PIECE);
-    hold(
-        rt,
-        alloc,
-        disk,
-        SEGMENT,
-        desk(alloc)?,
-        0,
-        Turning { gate: None },
-    )
+    let store = thirds_by(alloc, disk, SEGMENT)?;
+    serve_failing(rt, alloc, Names::new(alloc).ok()?, store, desk(alloc)?)
 }
 
 #[test]

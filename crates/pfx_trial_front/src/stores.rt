@@ -20,9 +20,6 @@ use pfx_weights::TaskSet;
 use std::alloc::Global;
 use std::sync::Wait;
 
-/// The length of a segment that holds what most tests do, in bytes.
-pub const SEGMENT: u32 = 8192;
-
 /// The desk of these fronts.
 pub type JobDesk = ChannelDesk<Quantum<AnyJob>, Done<AnyJob>>;
 
@@ -48,6 +45,13 @@ pub fn thirds_by<D: Disk + Drop>(alloc: Global, disk: D, segment: u32) -> Option
         Ok(store) => Some(store),
         Err(_) => None,
     }
+}
+
+/// A new store on a disk, with segments that hold what the tests do.
+pub fn thirds<D: Disk + Drop>(alloc: Global, disk: D) -> Option<Store<D, AnyJob>>
+    ensures { IfSome result (λ s. Begins any_kind s.state (D.view s.file.disk).failures (D.view s.file.disk).clock s.file.broken s.state (D.view s.file.disk)) }
+{
+    thirds_by(alloc, disk, 8192)
 }
 
 /// Gives a task a count of five steps.
