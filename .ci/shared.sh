@@ -110,6 +110,16 @@ copy_tree() {
   done | xargs -0 cp --parents -p -t "$1") && git -C "$1" init -q .
 }
 
+# Moves the edits of each crate of the copy $1 from the folder $2 to wrong-bodies/, where rt ci doesn't try each alone, and removes
+# its other edits.
+set_edits_aside() {
+  local name
+  for name in $(all_crates); do
+    [ ! -d "$1/crates/$name/$2" ] || mv "$1/crates/$name/$2" "$1/crates/$name/wrong-bodies" || return
+    rm -rf "$1/crates/$name/must-fail" "$1/crates/$name/must-fail-more"
+  done
+}
+
 # Says what the gate would refuse, but only once it has proved what lies below: files that the toolchain's formatter writes
 # otherwise, and wrong bodies whose text isn't there; and what it wouldn't see, where pages and sources differ. It looks at a copy of
 # the work tree in the folder $1.
