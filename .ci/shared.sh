@@ -130,6 +130,7 @@ says_at_once() {
     (cd "$1/crates/$name" && "$rt" fmt 2>&1 | sed -n "s/^rt: note: /$name: /p")
   done
   git -C "$1" diff --name-only | sed 's/$/: not as rt fmt writes it/'
+  python3 "$top/.ci/wrong_bodies" "$1" --look
   python3 "$top/.ci/pages" "$1"
 }
 
