@@ -3,8 +3,10 @@
 use crate::failure::Failure;
 use pfx_disk::FileDisk;
 use pfx_engine::DurableEngine;
+use pfx_fault::Fault;
 use pfx_kinds::any::AnyJob;
 use pfx_machine::{Command, JobStatus, Reply};
+use pfx_program::CallFault;
 use std::alloc::Global;
 
 /// How many slots a run has.
@@ -12,6 +14,15 @@ const SLOTS: u32 = 10;
 
 /// How far the jobs count.
 const GOAL: u64 = 1_000;
+
+/// Why a command wasn't accepted.
+fn failure_of(fault: CallFault) -> Failure {
+    match fault {
+        CallFault::Refused(_) => Failure::Refused,
+        CallFault::Failed(Fault::NoMemory) => Failure::NoMemory,
+        CallFault::Failed(_) => Failure::NotDurable,
+    }
+}
 
 /// Gives a count to each task that has no job.
 pub fn submit_all(alloc: Global, engine: &mut DurableEngine<FileDisk>) -> Result<(), Failure> {
@@ -27,11 +38,9 @@ pub fn submit_all(alloc: Global, engine: &mut DurableEngine<FileDisk>) -> Result
             let Ok(job) = AnyJob::start("count", GOAL, b"") else {
                 return Err(Failure::NoMemory);
             };
-            if engine
-                .execute(alloc, Command::Submit { task, job })
-                .is_err()
-            {
-                return Err(Failure::NotDurable);
+            match engine.execute(alloc, Command::Submit { task, job }) {
+                Ok(_) => {}
+                Err(fault) => return Err(failure_of(fault)),
             }
         }
     }
@@ -47,7 +56,8 @@ pub fn run_slots(
     for _more in 0..SLOTS {
         let (number, slot, row) = match engine.execute(alloc, Command::Slot) {
             Ok((mark, Reply::Ran { slot, row })) => (mark.number, slot, row),
-            _ => return Err(Failure::NotDurable),
+            Ok(_) => return Err(Failure::Refused),
+            Err(fault) => return Err(failure_of(fault)),
         };
         let tasks = row.as_slice();
         if println!(rt; "{number}: slot {slot} ran {tasks:?}").is_err() {
