@@ -57,7 +57,8 @@ fn run_by<R: Threads + Wait + Clock + Copy + Drop + Send + Sync + 'static>(
     traces: &Traces,
 ) -> Result<(), Fault>
     requires some { 0 < window }
-    requires begins { Begins any_kind store.state (file_view store.file.disk).failures (file_view store.file.disk).clock store.file.broken store.state (file_view store.file.disk) }
+    requires begins { Begins any_kind store.state (file_view store.file.disk).failures
+        (file_view store.file.disk).clock store.file.broken store.state (file_view store.file.disk) }
 {
     let Ok(desk) = ChannelDesk::<Quantum<AnyJob>, Done<AnyJob>>::new(alloc) else {
         return Err(Fault::NoMemory);

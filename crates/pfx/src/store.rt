@@ -48,7 +48,8 @@ pub(crate) fn init(
 
 /// The store on a disk.
 pub(crate) fn opened(alloc: Global, disk: FileDisk) -> Result<Store<FileDisk, AnyJob>, Fault>
-    ensures { IfOk result (λ s. Begins any_kind s.state (file_view s.file.disk).failures (file_view s.file.disk).clock s.file.broken s.state (file_view s.file.disk)) }
+    ensures { IfOk result
+        (λ s. Begins any_kind s.state (file_view s.file.disk).failures (file_view s.file.disk).clock s.file.broken s.state (file_view s.file.disk)) }
 {
     match Store::open(alloc, disk) {
         Ok(store) => Ok(store),

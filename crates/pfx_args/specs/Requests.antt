@@ -85,7 +85,8 @@ run_of None script workers batch strict json = None
 
 abbrev pub run_in : List Row → Option Asked
 run_in rows =
-    run_of (text_at (codes "FILE") rows) (text_at (codes "SCRIPT") rows) (number_at (codes "workers") rows) (number_at (codes "batch") rows) (flag_at (codes "strict") rows)
+    run_of (text_at (codes "FILE") rows) (text_at (codes "SCRIPT") rows) (number_at (codes "workers") rows)
+    (number_at (codes "batch") rows) (flag_at (codes "strict") rows)
     (flag_at (codes "json") rows)
 
 -- a look at a store, if its word is there, and whether it is printed as JSON

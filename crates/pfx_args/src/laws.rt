@@ -4,7 +4,8 @@ ghost use Rattle.std.specs.Prelude.{◌≡◌, ◌∷◌, [], Some, None, true, 
 ghost use Rattle.std.specs.Str.Parse.{digits_value, starts_with_minus};
 ghost use Rattle.clap.specs.Takes.{takes};
 ghost use Rattle.pfx_args.specs.Commands.{pfx_app};
-ghost use Rattle.pfx_args.specs.Requests.{IsBatch, IsDrawnSlots, IsSlots, IsTask, IsWorkers, asked, check, draw, explain, show, plan, init, run, status, replay};
+ghost use Rattle.pfx_args.specs.Requests.{IsBatch, IsDrawnSlots, IsSlots, IsTask, IsWorkers, asked, check, draw, explain, show, plan, init, run, status};
+ghost use Rattle.pfx_args.specs.Requests.{replay};
 
 /// `pfx plan SET SLOTS`: for any `set` that doesn't begin with a hyphen, and any `slots` of digits that write 0 to
 /// 1,048,576, the command takes these words, and they ask for the plan of that many slots.

@@ -54,7 +54,8 @@ module _ {J : Type 0} where
   -- this is the first quantum of the open slot whose result isn't back
   abbrev pub IsFirstMissing : Option (Opened J) → Deal J → Type 0
   IsFirstMissing None d = ⊥
-  IsFirstMissing (Some o) d = (place : ℕ) × (slice_get o.quanta place ≡ Some d) × (slice_get o.back place ≡ Some None) × ((k : ℕ) → k < place → slice_get o.back k ≢ Some None)
+  IsFirstMissing (Some o) d = (place : ℕ) × (slice_get o.quanta place ≡ Some d) × (slice_get o.back place ≡ Some None)
+      × ((k : ℕ) → k < place → slice_get o.back k ≢ Some None)
 
   -- this quantum's result comes back: the quantum, stepped
   abbrev pub ComesBack : Kind J → Deal J → Register J → Register J → Type 0

@@ -15,7 +15,8 @@ use Rattle.pfx_book.specs.Notes.{Noted, commands_of, Legal, records_in, AllBacke
 module _ {J : Type 0} where
   -- the keeper's lists are the flusher's notes and those of each pass; the notes of the passes are legal from the start, their
   -- commands come to the state, and their records are those that were taken and then those that are pending
-  pub record IsTold (K : Kind J) (start : Plain J) (flushed : List (Note J)) (all : List (ℕ × Note J)) (lists : List (List (Note J))) (passes : ℕ) (state : Plain J) (pending : List (Recorded J)) : Type 0 where
+  pub record IsTold (K : Kind J) (start : Plain J) (flushed : List (Note J)) (all : List (ℕ × Note J))
+      (lists : List (List (Note J))) (passes : ℕ) (state : Plain J) (pending : List (Recorded J)) : Type 0 where
     pub known : lists ≡ flushed ∷ lists_from 1 passes all
     pub tagged : Tagged passes all ≡ true
     pub is_legal : Legal K start [] all
@@ -40,7 +41,8 @@ module _ {J : Type 0} where
     pub failed : HasFailed failure flushed
 
   -- the book's invariant, of its session, its keeper's lists and its numbers
-  pub record IsKept (K : Kind J) (start : Plain J) (session : List (ℕ × Note J)) (lists : List (List (Note J))) (passes : ℕ) (state : Plain J) (pending : List (Recorded J)) (taken marked clock : ℕ) (failure : Option Cause) : Type 0 where
+  pub record IsKept (K : Kind J) (start : Plain J) (session : List (ℕ × Note J)) (lists : List (List (Note J)))
+      (passes : ℕ) (state : Plain J) (pending : List (Recorded J)) (taken marked clock : ℕ) (failure : Option Cause) : Type 0 where
     pub flushed : List (Note J)
     pub all : List (ℕ × Note J)
     pub entries : session ≡ entries_of all
@@ -51,4 +53,5 @@ module _ {J : Type 0} where
   -- session is full, and each result that is back is its quantum's
   abbrev pub OpenFits : Kind J → Plain J → ℕ → Option (Dealt J) → ℕ → ℕ → ℕ → Type 0
   OpenFits K state first None marked entries places = ⊤
-  OpenFits K state first (Some o) marked entries places = StandsAt K state o × (entries < places) × (state.number < first + marked + 64) × (state.number < first + 2 ^ 20) × Answers o.quanta o.back
+  OpenFits K state first (Some o) marked entries places = StandsAt K state o × (entries < places)
+      × (state.number < first + marked + 64) × (state.number < first + 2 ^ 20) × Answers o.quanta o.back

@@ -1,5 +1,6 @@
 //! The locked value, and the tokens that it gives out.
-ghost use Rattle.std.specs.Prelude.{◌≡◌, ◌≢◌, ◌↔◌, ℕ, List, [], ◌∷◌, ◌++◌, ◌<◌, ◌≤◌, ◌+◌, length, map, IfOk, IfErr, OnErr, IfSome, IfNone, Some, None, true, false, IsTrue, vec_capacity};
+ghost use Rattle.std.specs.Prelude.{◌≡◌, ◌≢◌, ◌↔◌, ℕ, List, [], ◌∷◌, ◌++◌, ◌<◌, ◌≤◌, ◌+◌, length, map, IfOk, IfErr, OnErr, IfSome, IfNone, Some, None, true};
+ghost use Rattle.std.specs.Prelude.{false, IsTrue, vec_capacity};
 ghost use Rattle.pfx_machine.specs.Board.{all_lines};
 ghost use Rattle.pfx_machine.specs.Refusals.{reply};
 ghost use Rattle.pfx_world.specs.Session.{IsQuick, MayAsk, asked};
@@ -264,7 +265,8 @@ impl<J: Job, B: Named<J>> Book<J, B> {
         ensures may { IfOk result (λ _. MayAsk J.kind self.old.session command) }
         ensures event { IfOk result (λ r. self.new ≡ entered pass.old.0 (Accepted r.0 command r.1) (asked J.kind command self.old.session) self.old) }
         ensures noted { IfOk result (λ r. pass.new ≡ noted (Accepted r.0 command r.1) pass.old) }
-        ensures answer { IfOk result (λ r. (r.0 ≡ self.old.session.state.number + 1) × (r.1 ≡ reply self.old.session.state command) × (greatest pass.old.1 < r.0)) }
+        ensures answer { IfOk result
+            (λ r. (r.0 ≡ self.old.session.state.number + 1) × (r.1 ≡ reply self.old.session.state command) × (greatest pass.old.1 < r.0)) }
         ensures err { IfErr result (Refuses J.kind command self.old self.new pass.old pass.new) }
     {
         let Book {

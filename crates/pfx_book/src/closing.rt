@@ -33,7 +33,8 @@ impl<J: Job, B: Named<J>> Book<J, B> {
     /// changes.
     pub fn receipt(&mut self, pass: &mut Pass<J, B>, number: u64) -> Result<Receipt, AllocError>
         requires { number ≤ B.start.number + self.old.session.marked }
-        ensures event { IfOk result (λ r. self.new ≡ entered pass.old.0 (Receipted number self.old.session.marked_at) (receipted number self.old.session) self.old) }
+        ensures event { IfOk result
+            (λ r. self.new ≡ entered pass.old.0 (Receipted number self.old.session.marked_at) (receipted number self.old.session) self.old) }
         ensures noted { IfOk result (λ r. pass.new ≡ noted (Receipted number self.old.session.marked_at) pass.old) }
         ensures receipt { IfOk result (λ r. (r.number ≡ number) × (r.clock ≡ self.old.session.marked_at)) }
         ensures err { OnErr result ((self.new ≡ self.old) × (pass.new ≡ pass.old)) }

@@ -33,7 +33,8 @@ impl<J: Job, B: Named<J>> Book<J, B> {
         requires not_shut { self.old.shut ≡ false }
         ensures may { IfOk result (λ _. MayBegin J.kind self.old.session) }
         ensures event { IfOk result (λ _. self.new ≡ record self.old { session = begun J.kind self.old.session; opener = pass.old.0 }) }
-        ensures dealt { IfOk result (λ quanta. map (λ q. deal q.number q.slot q.task q.before) quanta.items ≡ (opening_of J.kind self.old.session.state).quanta) }
+        ensures dealt { IfOk result
+            (λ quanta. map (λ q. deal q.number q.slot q.task q.before) quanta.items ≡ (opening_of J.kind self.old.session.state).quanta) }
         ensures silent { IfOk result (λ _. pass.new ≡ pass.old) }
         ensures err { IfErr result (Refuses J.kind Command.Slot self.old self.new pass.old pass.new) }
     {
@@ -76,7 +77,8 @@ impl<J: Job, B: Named<J>> Book<J, B> {
 
     /// Again the first quantum of the open slot whose result isn't back. `None` where none is missing, or no slot is open.
     pub fn missing(&self) -> Option<Quantum<J>>
-        ensures { MatchOption result (NoneMissing self.now.session.opened) (λ q. IsFirstMissing self.now.session.opened (deal q.number q.slot q.task q.before)) }
+        ensures { MatchOption result (NoneMissing self.now.session.opened)
+            (λ q. IsFirstMissing self.now.session.opened (deal q.number q.slot q.task q.before)) }
     {
         match &self.slot {
             None => None,
@@ -103,7 +105,8 @@ impl<J: Job, B: Named<J>> Book<J, B> {
         ensures may { IfSome result (λ _. MaySeal self.old.session × (self.old.opener ≡ pass.old.0)) }
         ensures event { IfSome result (λ r. self.new ≡ entered pass.old.0 (Accepted r.0 Command.Slot r.1) (sealed self.old.session) self.old) }
         ensures noted { IfSome result (λ r. pass.new ≡ noted (Accepted r.0 Command.Slot r.1) pass.old) }
-        ensures answer { IfSome result (λ r. (r.0 ≡ self.old.session.state.number + 1) × (r.1 ≡ reply self.old.session.state Command.Slot) × (greatest pass.old.1 < r.0)) }
+        ensures answer { IfSome result
+            (λ r. (r.0 ≡ self.old.session.state.number + 1) × (r.1 ≡ reply self.old.session.state Command.Slot) × (greatest pass.old.1 < r.0)) }
         ensures none { IfNone result ((self.new ≡ self.old) × (pass.new ≡ pass.old) × (MaySeal self.old.session → self.old.opener ≢ pass.old.0)) }
     {
         let Book {

@@ -1,5 +1,6 @@
 -- All that is wrong with a set: what is said of it, and what would be said next, were that mended.
-use Rattle.std.specs.Prelude.{codes, ◌≡◌, ◌≢◌, ℕ, zero, suc, ◌==◌, ◌&&◌, nat_lt, nat_le, Bool, if◌then◌else◌, List, [], ◌∷◌, ◌++◌, length, take, slice_index, remove, Option, Some, None}
+use Rattle.std.specs.Prelude.{codes, ◌≡◌, ◌≢◌, ℕ, zero, suc, ◌==◌, ◌&&◌, nat_lt, nat_le, Bool, if◌then◌else◌, List, [], ◌∷◌, ◌++◌, length, take, slice_index}
+use Rattle.std.specs.Prelude.{remove, Option, Some, None}
 use Rattle.pfx_weights.specs.Sets.{FilledSet, Accepts, Refuses}
 use Rattle.pfx_weights.specs.declared.faults.SetFault.{SetFault}
 use Rattle.pfx_weights.specs.declared.faults.SetFault.TheVariants as setfault

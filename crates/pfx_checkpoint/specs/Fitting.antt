@@ -14,4 +14,5 @@ are_fair g (suc n) = are_fair g n && is_fair_at g.slot (task g n)
 
 -- the number and the slot are below their limits, every lag is in range, and the allocations sum to workers times slot
 unfoldable pub fits : {J : Type 0} → Plain J → Bool
-fits s = ((nat_lt s.number (2 ^ 48) && nat_lt s.ledger.slot (2 ^ 40)) && are_fair s.ledger (total s.ledger)) && (sum s.ledger.allocs == s.ledger.set.workers * s.ledger.slot)
+fits s = ((nat_lt s.number (2 ^ 48) && nat_lt s.ledger.slot (2 ^ 40)) && are_fair s.ledger (total s.ledger)) &&
+    (sum s.ledger.allocs == s.ledger.set.workers * s.ledger.slot)

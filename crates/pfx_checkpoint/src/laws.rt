@@ -15,5 +15,6 @@ pub fn frozen_states_are_read<J: Job>()
 
 /// What is read of a set's bytes is a state of the set, and these are its bytes.
 pub fn only_states_are_read<J: Job>()
-    ensures { (set : FilledSet) (bytes : List ℕ) (s : Plain J) → IsFilled set → read_state J.kind set bytes ≡ Some s → IsState s × (s.ledger.set ≡ set) × (state_bytes J.kind s ≡ bytes) }
+    ensures { (set : FilledSet) (bytes : List ℕ) (s : Plain J) → IsFilled set → read_state J.kind set bytes ≡ Some s
+        → IsState s × (s.ledger.set ≡ set) × (state_bytes J.kind s ≡ bytes) }
 {}

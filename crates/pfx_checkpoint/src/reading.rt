@@ -97,7 +97,8 @@ fn ledger_of(
 ) -> Result<Columns, CheckpointFault>
     requires number { length allocs.now ≡ length set.now.weights }
     requires slot { slot < 2 ^ 40 }
-    ensures { MatchResult result (λ g. (g ≡ ledger_at set.now slot allocs.now) × IsLedger g) (λ f. f ≡ CheckpointFault.Damaged → IsLedger (ledger_at set.now slot allocs.now) → ⊥) }
+    ensures { MatchResult result (λ g. (g ≡ ledger_at set.now slot allocs.now) × IsLedger g)
+        (λ f. f ≡ CheckpointFault.Damaged → IsLedger (ledger_at set.now slot allocs.now) → ⊥) }
 {
     match Columns::from_allocations(alloc, set, slot, allocs) {
         Ok(ledger) => Ok(ledger),
@@ -114,7 +115,8 @@ fn compare<J: Job>(
     bytes: &[u8],
 ) -> Result<State<J>, CheckpointFault>
     requires { length bytes.now ≡ state_len state.ledger.set }
-    ensures { MatchResult result (λ s. (s ≡ state) × (bytes.now ≡ state_bytes J.kind state)) (λ f. f ≡ CheckpointFault.Damaged → bytes.now ≢ state_bytes J.kind state) }
+    ensures { MatchResult result (λ s. (s ≡ state) × (bytes.now ≡ state_bytes J.kind state))
+        (λ f. f ≡ CheckpointFault.Damaged → bytes.now ≢ state_bytes J.kind state) }
 {
     let mut room = Vec::new(alloc);
     let Ok(_) = room.resize(bytes.len(), 0) else {

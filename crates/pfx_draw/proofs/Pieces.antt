@@ -26,8 +26,8 @@ pub most_more : (of : ℕ → ℕ) (i : ℕ) → most of (i + 1) ≡ max (most o
 unfolding most
 most_more of i = rw add-one refl
 
-pub count_none : (s : ℕ → Bool) → count 0 s ≡ 0
-count_none s = refl
+pub no_count : (s : ℕ → Bool) → count 0 s ≡ 0
+no_count s = refl
 
 pub count_more : (s : ℕ → Bool) (i : ℕ) → count (i + 1) s ≡ count i s + one (s i)
 count_more s i = rw add-one refl

@@ -19,7 +19,8 @@ Pictures bytes at name slots (Some text) = (file : SetFile) × (g : Ledger) × S
 -- a slot of the plan has no row
 abbrev pub HasNoRow : List ℕ → Option (List ℕ) → ℕ → Fault → Type 0
 HasNoRow bytes at slots f =
-    (file : SetFile) × (g : Ledger) × (cause : ChoiceFault) × (slot : ℕ) × (rows : Schedule) × Starts bytes at file g × IsDoomed g slots slot cause rows × (f ≡ fault_of_choice cause)
+    (file : SetFile) × (g : Ledger) × (cause : ChoiceFault) × (slot : ℕ) × (rows : Schedule) × Starts bytes at file g
+    × IsDoomed g slots slot cause rows × (f ≡ fault_of_choice cause)
 
 -- why there is no picture
 abbrev pub PictureFails : List ℕ → Option (List ℕ) → ℕ → Fault → Type 0

@@ -4,7 +4,8 @@ ghost use Rattle.std.specs.Prelude.{◌≡◌, ◌++◌, ◌≤◌, ◌<◌, OnO
 ghost use Rattle.pfx_columns.specs.Ledgers.{total};
 ghost use Rattle.pfx_set_file.specs.Views.{task_view};
 ghost use Rattle.pfx_program.specs.Lines.{name_of};
-ghost use Rattle.pfx_draw.specs.Drawing.{course_of, marks_of, letters, digits, sizes_of, lane_of, lanes_of, framed, draw_text, IsDrawing, IsTooLarge, DrawFails};
+ghost use Rattle.pfx_draw.specs.Drawing.{course_of, marks_of, letters, digits, sizes_of, lane_of, lanes_of, framed, draw_text, IsDrawing, IsTooLarge};
+ghost use Rattle.pfx_draw.specs.Drawing.{DrawFails};
 ghost use Rattle.pfx_draw.specs.Each.{most};
 ghost use Rattle.pfx_draw.specs.Lags.{IsCourse};
 ghost use Rattle.pfx_draw.specs.Sizes.{IsDrawable};

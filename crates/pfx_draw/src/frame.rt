@@ -3,7 +3,8 @@
 ghost use Rattle.std.specs.Prelude.{◌≡◌, ◌++◌, ◌≤◌, ◌<◌, ◌/◌, ◌*◌, OnOk, IfOk};
 ghost use Rattle.std.specs.List.{list_all};
 ghost use Rattle.pfx_set_file.specs.SetFile.{is_name_byte, is_name};
-ghost use Rattle.pfx_draw.specs.Frame.{named, counted, title, opening, spoken, heading, level_key, key, head, upright, grid_piece, number_piece, ticks, grid_lines, numbers, grid, hyper_slot, hyper_piece, hyper_count, hyper_lines, dashes, foot};
+ghost use Rattle.pfx_draw.specs.Frame.{named, counted, title, opening, spoken, heading, level_key, key, head, upright, grid_piece, number_piece, ticks};
+ghost use Rattle.pfx_draw.specs.Frame.{grid_lines, numbers, grid, hyper_slot, hyper_piece, hyper_count, hyper_lines, dashes, foot};
 ghost use Rattle.pfx_draw.specs.Sizes.{IsDrawable};
 
 use crate::phrases::{Phrase, put_phrase, put_phrase_number};

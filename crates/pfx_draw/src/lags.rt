@@ -137,7 +137,7 @@ pub(crate) fn counted(k: u64, marks: &[u64], i: usize) -> u64
 }
 
 /// The levels before each slot.
-#[tactic(auto, using(crate::proofs::Pieces::each_one, crate::proofs::Pieces::each_none, crate::proofs::Pieces::count_more, crate::proofs::Pieces::count_none))]
+#[tactic(auto, using(crate::proofs::Pieces::each_one, crate::proofs::Pieces::each_none, crate::proofs::Pieces::count_more, crate::proofs::Pieces::no_count))]
 pub(crate) fn levels(alloc: Global, c: Course, marks: &[u64]) -> Result<Vec<u64>, AllocError>
     requires course { IsCourse c }
     requires number { length marks.now ≤ 1440 }
@@ -154,7 +154,7 @@ pub(crate) fn levels(alloc: Global, c: Course, marks: &[u64]) -> Result<Vec<u64>
 }
 
 /// What is said of all slots.
-#[tactic(auto, using(crate::proofs::Pieces::most_more, crate::proofs::Pieces::most_none, crate::proofs::Pieces::count_more, crate::proofs::Pieces::count_none))]
+#[tactic(auto, using(crate::proofs::Pieces::most_more, crate::proofs::Pieces::most_none, crate::proofs::Pieces::count_more, crate::proofs::Pieces::no_count))]
 pub(crate) fn summed(c: Course, marks: &[u64]) -> Summary
     requires course { IsCourse c }
     requires number { length marks.now ≤ 1440 }

@@ -2,7 +2,9 @@
 
 ghost use Rattle.std.specs.Prelude.{◌≡◌, ◌++◌, ◌≤◌, ◌<◌, OnOk, length};
 ghost use Rattle.pfx_draw.specs.Lags.{runs_in, IsCourse};
-ghost use Rattle.pfx_draw.specs.Lane.{hue, colour, task_words, lag_words, shade, stroke, bars, across, bounds, base_line, area, lag_line, name_label, weight_label, lag_label, tall_drawn, words_y, tall_written, level_ink, cells, all_cells, small_name, low_lane, lane_body, lane_by, lane};
+ghost use Rattle.pfx_draw.specs.Lane.{hue, colour, task_words, lag_words, shade, stroke, bars, across, bounds, base_line, area, lag_line, name_label};
+ghost use Rattle.pfx_draw.specs.Lane.{weight_label, lag_label, tall_drawn, words_y, tall_written, level_ink, cells, all_cells, small_name, low_lane, lane_body};
+ghost use Rattle.pfx_draw.specs.Lane.{lane_by, lane};
 ghost use Rattle.pfx_draw.specs.Sizes.{IsDrawable};
 
 use crate::bars::{cell_track, put_bars, run_track};

@@ -43,7 +43,7 @@ fn put_point(
 }
 
 /// Puts the path of the lag, from that before the first slot on, about the height `base` of no lag.
-#[tactic(auto, using(crate::proofs::Pieces::each_more, crate::proofs::Pieces::each_begins, crate::proofs::Pieces::count_more, crate::proofs::Pieces::count_none))]
+#[tactic(auto, using(crate::proofs::Pieces::each_more, crate::proofs::Pieces::each_begins, crate::proofs::Pieces::count_more, crate::proofs::Pieces::no_count))]
 pub(crate) fn put_lag_path(
     alloc: Global,
     text: &mut Vec<u8>,

@@ -22,7 +22,8 @@ pub fn run_draw<R: Read>(
     name: &str,
     slots: u64,
 ) -> Result<Option<Vec<u8>>, Fault>
-    ensures ok { IfOk result (λ r. IfSome (R.remaining input.old) (λ bytes. Pictures bytes (option_map (λ s. s.now) at.entry) name.now slots (option_map (λ v. v.items) r))) }
+    ensures ok { IfOk result
+        (λ r. IfSome (R.remaining input.old) (λ bytes. Pictures bytes (option_map (λ s. s.now) at.entry) name.now slots (option_map (λ v. v.items) r))) }
     ensures err { IfErr result (λ f. IfSome (R.remaining input.old) (λ bytes. PictureFails bytes (option_map (λ s. s.now) at.entry) slots f)) }
 {
     let (file, ledger) = read_start(alloc, input, at)?;

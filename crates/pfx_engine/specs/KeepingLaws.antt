@@ -1,5 +1,6 @@
 -- What is kept of no command, of some commands and then of more: that it is.
-use Rattle.std.proofs.Common.{◌≡◌, ◌≤◌, ℕ, ◌+◌, Bool, false, List, [], ◌∷◌, ◌++◌, length, length-append, take, Option, Some, None, Ok, refl, sym, ap, subst, ◌∙◌, arith}
+use Rattle.std.proofs.Common.{◌≡◌, ◌≤◌, ℕ, ◌+◌, Bool, false, List, [], ◌∷◌, ◌++◌, length, length-append, take, Option, Some, None, Ok, refl, sym, ap, subst}
+use Rattle.std.proofs.Common.{◌∙◌, arith}
 use Rattle.std.proofs.Math.Seq.{take-append-add}
 use Rattle.pfx_disk.specs.Disk.{View}
 use Rattle.pfx_store.specs.Groups.{alone, joined}
@@ -20,7 +21,8 @@ use Rattle.pfx_engine.specs.Keeping.{KeepsFrom, IsAccepted}
 
 -- ---- lists of commands
 
-then_accepted : (s : Plain AnyJob) (H before G : List (Command AnyJob)) → AllAccepted any_kind (outcome any_kind s H) before G → AllAccepted any_kind s (H ++ before) G
+then_accepted : (s : Plain AnyJob) (H before G : List (Command AnyJob)) → AllAccepted any_kind (outcome any_kind s H) before G
+    → AllAccepted any_kind s (H ++ before) G
 then_accepted s H before [] h = tt
 then_accepted s H before (c ∷ G) (one, rest) = (
   subst (λ (t : Plain AnyJob). refusal any_kind t c ≡ None) (outcome-outcome any_kind any_laws s H before) one,
@@ -31,7 +33,8 @@ then_accepted s H before (c ∷ G) (one, rest) = (
     assoc [] b c = refl
     assoc (x ∷ a) b c = ap (λ l. x ∷ l) (assoc a b c)
 
-both_accepted : (s : Plain AnyJob) (before H G : List (Command AnyJob)) → AllAccepted any_kind s before H → AllAccepted any_kind s (before ++ H) G → AllAccepted any_kind s before (H ++ G)
+both_accepted : (s : Plain AnyJob) (before H G : List (Command AnyJob)) → AllAccepted any_kind s before H
+    → AllAccepted any_kind s (before ++ H) G → AllAccepted any_kind s before (H ++ G)
 both_accepted s before [] G h more = subst (λ (l : List (Command AnyJob)). AllAccepted any_kind s l G) (nil before) more
   where
     nil : (l : List (Command AnyJob)) → l ++ [] ≡ l
@@ -44,15 +47,18 @@ both_accepted s before (c ∷ H) G (one, rest) more =
     assoc [] b = refl
     assoc (x ∷ a) b = ap (λ l. x ∷ l) (assoc a b)
 
-pub acceptable_both : (s : Plain AnyJob) (H G : List (Command AnyJob)) → IsAcceptable any_kind s H → IsAcceptable any_kind (outcome any_kind s H) G → IsAcceptable any_kind s (H ++ G)
-acceptable_both s H G first second = both_accepted s [] H G first (subst (λ (l : List (Command AnyJob)). AllAccepted any_kind s l G) (nil H) (then_accepted s H [] G second))
+pub acceptable_both : (s : Plain AnyJob) (H G : List (Command AnyJob)) → IsAcceptable any_kind s H
+    → IsAcceptable any_kind (outcome any_kind s H) G → IsAcceptable any_kind s (H ++ G)
+acceptable_both s H G first second =
+    both_accepted s [] H G first (subst (λ (l : List (Command AnyJob)). AllAccepted any_kind s l G) (nil H) (then_accepted s H [] G second))
   where
     nil : (l : List (Command AnyJob)) → l ++ [] ≡ l
     nil [] = refl
     nil (x ∷ l) = ap (λ k. x ∷ k) (nil l)
 
 -- a command that is answered isn't refused
-answered : (s : Plain AnyJob) (c : Command AnyJob) (o : Option MachineFault) (said : Reply) → refusal any_kind s c ≡ o → answer_by (reply s c) o ≡ Ok said → refusal any_kind s c ≡ None
+answered : (s : Plain AnyJob) (c : Command AnyJob) (o : Option MachineFault) (said : Reply) → refusal any_kind s c ≡ o
+    → answer_by (reply s c) o ≡ Ok said → refusal any_kind s c ≡ None
 answered s c None said is h = is
 answered s c (Some f) said is h = cc
 
@@ -78,7 +84,8 @@ keeps_none disk broken s = record {
   };
 }
 
-pub keeps_more : (a b c : View) (was is : Bool) (s t u : Plain AnyJob) (H G : List (Command AnyJob)) (n : ℕ) → (was ≡ false → is ≡ false) → KeepsFrom a was s H (length H) b t → KeepsFrom b is t G n c u
+pub keeps_more : (a b c : View) (was is : Bool) (s t u : Plain AnyJob) (H G : List (Command AnyJob)) (n : ℕ)
+    → (was ≡ false → is ≡ false) → KeepsFrom a was s H (length H) b t → KeepsFrom b is t G n c u
     → KeepsFrom a was s (H ++ G) (length H + n) c u
 keeps_more a b c was is s t u H G n settled one two =
     let at : t ≡ outcome any_kind s H = one.state (omega arith) in
@@ -102,16 +109,19 @@ keeps_more a b c was is s t u H G n settled one two =
         let most = v.at_most in
         let long : length (H ++ G) ≡ length H + length G = length-append H G in
         let split : joined (take (length H + v.count) (alone (H ++ G))) ≡ H ++ joined (take v.count (alone G)) =
-        joined_alone (length H + v.count) (H ++ G) ∙ (take-append-add H G v.count ∙ ap (λ (l : List (Command AnyJob)). H ++ l) (sym (joined_alone v.count G))) in
+        joined_alone (length H + v.count) (H ++ G)
+        ∙ (take-append-add H G v.count ∙ ap (λ (l : List (Command AnyJob)). H ++ l) (sym (joined_alone v.count G))) in
         record {
           count = length H + v.count;
           at_least = omega (arith, least);
           at_most = omega (arith, most, long, length-alone G, length-alone (H ++ G));
-          recovered = v.recovered ∙ ap Ok (ap (λ (p : Plain AnyJob). outcome any_kind p (joined (take v.count (alone G)))) at ∙ outcome-outcome any_kind any_laws s H (joined (take v.count (alone G)))
+          recovered = v.recovered ∙ ap Ok (ap (λ (p : Plain AnyJob). outcome any_kind p (joined (take v.count (alone G)))) at
+              ∙ outcome-outcome any_kind any_laws s H (joined (take v.count (alone G)))
               ∙ ap (outcome any_kind s) (sym split));
         }
 
-pub keeps_fewer : (a : View) (was : Bool) (s : Plain AnyJob) (H : List (Command AnyJob)) (n m : ℕ) (b : View) (t : Plain AnyJob) → m ≤ n → KeepsFrom a was s H n b t → KeepsFrom a was s H m b t
+pub keeps_fewer : (a : View) (was : Bool) (s : Plain AnyJob) (H : List (Command AnyJob)) (n m : ℕ) (b : View) (t : Plain AnyJob)
+    → m ≤ n → KeepsFrom a was s H n b t → KeepsFrom a was s H m b t
 keeps_fewer a was s H n m b t le h = record {
   accepted = h.accepted;
   state = λ all. h.state (omega (arith, all, le));

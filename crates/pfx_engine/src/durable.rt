@@ -116,10 +116,12 @@ impl<D: Disk> DurableEngine<D> {
         ensures serves { IsEndless self.old.state.ledger
             → IfErr result (IsServed self.old.state command) × OnOk result (IsEndless self.new.state.ledger) }
         ensures fails { IfErr result (Fails self.old.store.state.number
-            ((self.new.store.file.broken ≡ true) × (self.old.store.file.broken ≡ false → HasFailed (D.view self.old.store.file.disk) (D.view self.new.store.file.disk)))
+            ((self.new.store.file.broken ≡ true)
+            × (self.old.store.file.broken ≡ false → HasFailed (D.view self.old.store.file.disk) (D.view self.new.store.file.disk)))
             ((self.new.state ≡ self.old.state) × (self.new.store ≡ self.old.store))) }
         ensures broken { self.old.store.file.broken ≡ true
-            → (result ≡ Err (CallFault.Failed (stopped_at self.old.store.state.number))) × (self.new.state ≡ self.old.state) × (self.new.store ≡ self.old.store) }
+            → (result ≡ Err (CallFault.Failed (stopped_at self.old.store.state.number))) × (self.new.state ≡ self.old.state)
+            × (self.new.store ≡ self.old.store) }
 
         // A step of the checkpoint in progress, if there is one, and the command: so many calls of the disk.
         ensures calls { TakesCalls (command_calls (frame_len self.old.state (command ∷ [])) self.old.store.file.places)
@@ -175,7 +177,8 @@ impl<D: Disk> Engine for DurableEngine<D> {
         ensures fails { IfErr result (Fails self.old.store.state.number (self.new.store.file.broken ≡ true)
             ((self.new.state ≡ self.old.state) × (self.new.store ≡ self.old.store))) }
         ensures broken { self.old.store.file.broken ≡ true
-            → (result ≡ Err (CallFault.Failed (stopped_at self.old.store.state.number))) × (self.new.state ≡ self.old.state) × (self.new.store ≡ self.old.store) }
+            → (result ≡ Err (CallFault.Failed (stopped_at self.old.store.state.number))) × (self.new.state ≡ self.old.state)
+            × (self.new.store ≡ self.old.store) }
         ensures goes { GoesOn (D.view self.old.store.file.disk) (D.view self.new.store.file.disk) }
         ensures honest { IsHonest (D.view self.new.store.file.disk) → IsHonest (D.view self.old.store.file.disk) }
         ensures kept { IsHonest (D.view self.old.store.file.disk) → IsHonest (D.view self.new.store.file.disk) }
@@ -213,7 +216,8 @@ impl<D: Disk> Engine for DurableEngine<D> {
         ensures fails { IfErr result (Fails self.old.store.state.number (self.new.store.file.broken ≡ true)
             ((self.new.state ≡ self.old.state) × (self.new.store ≡ self.old.store))) }
         ensures broken { self.old.store.file.broken ≡ true
-            → (result ≡ Err (CallFault.Failed (stopped_at self.old.store.state.number))) × (self.new.state ≡ self.old.state) × (self.new.store ≡ self.old.store) }
+            → (result ≡ Err (CallFault.Failed (stopped_at self.old.store.state.number))) × (self.new.state ≡ self.old.state)
+            × (self.new.store ≡ self.old.store) }
         ensures goes { GoesOn (D.view self.old.store.file.disk) (D.view self.new.store.file.disk) }
         ensures honest { IsHonest (D.view self.new.store.file.disk) → IsHonest (D.view self.old.store.file.disk) }
         ensures kept { IsHonest (D.view self.old.store.file.disk) → IsHonest (D.view self.new.store.file.disk) }
@@ -281,5 +285,9 @@ impl<D: Disk> Engine for DurableEngine<D> {
         }
     }
 
-    ghost laws = { record { none = λ e. keeps_none _ _ _; more = λ a b c H G n settled one two. keeps_more _ _ _ _ _ _ _ _ H G n settled one two; fewer = λ a b H n m le one. keeps_fewer _ _ _ H n m _ _ le one } };
+    ghost laws = { record {
+      none = λ e. keeps_none _ _ _;
+      more = λ a b c H G n settled one two. keeps_more _ _ _ _ _ _ _ _ H G n settled one two;
+      fewer = λ a b H n m le one. keeps_fewer _ _ _ H n m _ _ le one;
+    } };
 }

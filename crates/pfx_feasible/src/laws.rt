@@ -50,7 +50,8 @@ pub fn pf_keeps_endless()
 
 /// At an endless ledger nothing refuses a row but the last slot and memory: before the last slot one is chosen.
 pub fn only_limits_refuse()
-    ensures faults { (g : Ledger) → IsLedger g → IsEndless g → (fault : ChoiceFault) → Fails g fault → (fault ≡ ChoiceFault.SlotLimit) ⊎ (fault ≡ ChoiceFault.NoMemory) }
+    ensures faults { (g : Ledger) → IsLedger g → IsEndless g → (fault : ChoiceFault) → Fails g fault
+        → (fault ≡ ChoiceFault.SlotLimit) ⊎ (fault ≡ ChoiceFault.NoMemory) }
     ensures row { (g : Ledger) → IsLedger g → IsEndless g → g.slot + 1 < 2 ^ 40 → (row : List ℕ) × (chosen g ≡ Ok row) }
 {}
 
@@ -75,7 +76,8 @@ pub fn no_answer_lacks_a_row<J: Job>()
 /// From a state with an endless ledger, behind each acceptable list the ledger is endless again, and a Slot is refused exactly
 /// where the limits refuse it.
 pub fn commands_keep_endless<J: Job>()
-    ensures endless { (B : Plain J) → IsLedger B.ledger → IsEndless B.ledger → (H : List (Command J)) → IsAcceptable J.kind B H → IsEndless (outcome J.kind B H).ledger }
+    ensures endless { (B : Plain J) → IsLedger B.ledger → IsEndless B.ledger → (H : List (Command J))
+        → IsAcceptable J.kind B H → IsEndless (outcome J.kind B H).ledger }
     ensures served { (B : Plain J) → IsLedger B.ledger → IsEndless B.ledger → (H : List (Command J)) → IsAcceptable J.kind B H
         → refusal J.kind (outcome J.kind B H) Command.Slot ≡ limit_fault (outcome J.kind B H) }
 {}

@@ -33,7 +33,8 @@ record_at K workers (tag ∷ bytes) =
 
 abbrev pub records_at : {J : Type 0} → Kind J → ℕ → ℕ → List ℕ → Option (List (Plain J))
 records_at K workers zero bytes = Some []
-records_at K workers (suc n) bytes = if_some (record_at K workers bytes) (λ done. if_some (records_at K workers n (drop (length (record_bytes K done)) bytes)) (λ records. Some (done ∷ records)))
+records_at K workers (suc n) bytes = if_some (record_at K workers bytes)
+    (λ done. if_some (records_at K workers n (drop (length (record_bytes K done)) bytes)) (λ records. Some (done ∷ records)))
 
 -- the number of a frame's first command, and how many it has
 abbrev pub first_in : List ℕ → ℕ
@@ -48,7 +49,8 @@ begun frame records = record { first = first_in frame; records = records }
 
 -- the batch, if it has a spelling and these very bytes are it
 abbrev pub checked : {J : Type 0} → Kind J → ℕ → List ℕ → List (Plain J) → Option (PlainBatch J)
-checked K workers frame records = if batch_fits workers (begun frame records) && bytes_eq frame (batch_bytes K (begun frame records)) then Some (begun frame records) else None
+checked K workers frame records = if batch_fits workers (begun frame records) && bytes_eq frame (batch_bytes K (begun frame records))
+    then Some (begun frame records) else None
 
 -- the batch that these bytes are, of rows of so many tasks
 unfoldable pub batch_in : {J : Type 0} → Kind J → ℕ → List ℕ → Option (PlainBatch J)

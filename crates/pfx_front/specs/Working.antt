@@ -15,12 +15,14 @@ use Rattle.pfx_front.specs.declared.flusher.Work.TheVariants.{Append, Tend, End}
 module _ {J : Type 0} where
   -- a batch that goes on is taken, and noted; else nothing is noted
   abbrev pub Gives : Kind J → Plain J → List (Note J) → List (Note J) → Work J → Type 0
-  Gives K start old new (Append b) = (new ≡ old ++ Took b.first b.records ∷ []) × GoesOn K start old b.workers b.first (map plain b.records.items) × (16 ≤ vec_capacity b.records)
+  Gives K start old new (Append b) = (new ≡ old ++ Took b.first b.records ∷ [])
+      × GoesOn K start old b.workers b.first (map plain b.records.items) × (16 ≤ vec_capacity b.records)
   Gives K start old new (Tend room) = (new ≡ old) × (room.items ≡ []) × (16 ≤ vec_capacity room)
   Gives K start old new End = new ≡ old
 
   -- this batch was taken last, and the store has all before it
-  pub record IsTaken (K : Kind J) (start : Plain J) (failures clock : ℕ) (notes : List (Note J)) (batch : Batch J) (broken : Bool) (s : Plain J) (disk : View) : Type 0 where
+  pub record IsTaken (K : Kind J) (start : Plain J) (failures clock : ℕ) (notes : List (Note J)) (batch : Batch J)
+      (broken : Bool) (s : Plain J) (disk : View) : Type 0 where
     pub before : List (Note J)
     pub noted : notes ≡ before ++ Took batch.first batch.records ∷ []
     pub goes : GoesOn K start before batch.workers batch.first (map plain batch.records.items)

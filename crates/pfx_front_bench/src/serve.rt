@@ -244,7 +244,8 @@ pub fn serve_file<R: Threads + Wait + Clock + Print + Copy + Drop + Send + Sync 
     desk: JobDesk,
     plan: Plan,
 ) -> Result<Outcome, Failure>
-    requires { Begins any_kind store.state (file_view store.file.disk).failures (file_view store.file.disk).clock store.file.broken store.state (file_view store.file.disk) }
+    requires { Begins any_kind store.state (file_view store.file.disk).failures
+        (file_view store.file.disk).clock store.file.broken store.state (file_view store.file.disk) }
 {
     serve::<Brand, JobDesk, FileDisk, R>(rt, alloc, names, store, desk, plan)
 }

@@ -132,7 +132,8 @@ fn init<R: Print>(rt: &R, alloc: Global, disk: FileDisk) -> Option<Store<FileDis
 
 /// The store that is on a disk.
 fn open<R: Print>(rt: &R, alloc: Global, disk: FileDisk) -> Option<Store<FileDisk, AnyJob>>
-    ensures { IfSome result (λ s. Begins any_kind s.state (file_view s.file.disk).failures (file_view s.file.disk).clock s.file.broken s.state (file_view s.file.disk)) }
+    ensures { IfSome result
+        (λ s. Begins any_kind s.state (file_view s.file.disk).failures (file_view s.file.disk).clock s.file.broken s.state (file_view s.file.disk)) }
 {
     let mut disk = disk;
     for _try in 0..2 {
@@ -352,7 +353,8 @@ fn serve_file<R: Threads + Wait + Clock + Print + Copy + Drop + Send + Sync + 's
     desk: JobDesk,
     names: Names<AnyJob>,
 ) -> Result<bool, Store<FileDisk, AnyJob>>
-    requires { Begins any_kind store.state (file_view store.file.disk).failures (file_view store.file.disk).clock store.file.broken store.state (file_view store.file.disk) }
+    requires { Begins any_kind store.state (file_view store.file.disk).failures
+        (file_view store.file.disk).clock store.file.broken store.state (file_view store.file.disk) }
     ensures back { IfErr result (λ s. s ≡ store) }
 {
     serve::<Brand, JobDesk, FileDisk, R>(rt, alloc, names, store, desk)
@@ -364,7 +366,8 @@ fn start<R: Threads + Wait + Clock + Print + Copy + Drop + Send + Sync + 'static
     alloc: Global,
     store: Store<FileDisk, AnyJob>,
 ) -> Result<bool, Store<FileDisk, AnyJob>>
-    requires { Begins any_kind store.state (file_view store.file.disk).failures (file_view store.file.disk).clock store.file.broken store.state (file_view store.file.disk) }
+    requires { Begins any_kind store.state (file_view store.file.disk).failures
+        (file_view store.file.disk).clock store.file.broken store.state (file_view store.file.disk) }
     ensures back { IfErr result (λ s. s ≡ store) }
 {
     match (ChannelDesk::new(alloc), Names::new(alloc)) {

@@ -105,5 +105,9 @@ where
         }
     }
 
-    ghost laws = { record { none = λ e. keeps_none _ _; more = λ a b c H G n settled one two. keeps_more _ _ _ _ H G n one two; fewer = λ a b H n m le one. keeps_fewer _ _ H n m _ le one } };
+    ghost laws = { record {
+      none = λ e. keeps_none _ _;
+      more = λ a b c H G n settled one two. keeps_more _ _ _ _ H G n one two;
+      fewer = λ a b H n m le one. keeps_fewer _ _ H n m _ le one;
+    } };
 }

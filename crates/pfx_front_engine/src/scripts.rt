@@ -77,7 +77,8 @@ where
     requires some { 0 < window }
     requires named { (names.tokens.table.shared.table_id ≡ B.table) × (names.list.seen.book ≡ B.book) × (B.origin ≡ B.start) }
     requires begins { Begins any_kind B.start B.failures B.clock store.file.broken store.state (D.view store.file.disk) }
-    ensures { IsServedRun form B.start script.old script.new.failed (W.contents output.old) (W.contents output.new) (D.view result.store.file.disk) result.result }
+    ensures { IsServedRun form B.start script.old script.new.failed (W.contents output.old) (W.contents output.new)
+        (D.view result.store.file.disk) result.result }
 {
     let number = store.state().number();
     let Ok(mut passes) = Vec::with_capacity(alloc, 1) else {
@@ -134,8 +135,10 @@ fn serve_named<
 where
     K::Seat: Drop + Send + 'static,
     requires some { 0 < window }
-    requires begins { Begins any_kind store.state (D.view store.file.disk).failures (D.view store.file.disk).clock store.file.broken store.state (D.view store.file.disk) }
-    ensures { IsServedRun form store.state script.old script.new.failed (W.contents output.old) (W.contents output.new) (D.view result.store.file.disk) result.result }
+    requires begins { Begins any_kind store.state (D.view store.file.disk).failures
+        (D.view store.file.disk).clock store.file.broken store.state (D.view store.file.disk) }
+    ensures { IsServedRun form store.state script.old script.new.failed (W.contents output.old) (W.contents output.new)
+        (D.view result.store.file.disk) result.result }
 {
     serve::<I, W, D, Brand, K, R>(
         rt, alloc, names, store, desk, workers, script, window, form, output,
@@ -172,8 +175,10 @@ pub fn run_served<
 where
     K::Seat: Drop + Send + 'static,
     requires some { 0 < window }
-    requires begins { Begins any_kind store.state (D.view store.file.disk).failures (D.view store.file.disk).clock store.file.broken store.state (D.view store.file.disk) }
-    ensures { IsServedRun form store.state script.old script.new.failed (W.contents output.old) (W.contents output.new) (D.view result.store.file.disk) result.result }
+    requires begins { Begins any_kind store.state (D.view store.file.disk).failures
+        (D.view store.file.disk).clock store.file.broken store.state (D.view store.file.disk) }
+    ensures { IsServedRun form store.state script.old script.new.failed (W.contents output.old) (W.contents output.new)
+        (D.view result.store.file.disk) result.result }
 {
     match Names::new(alloc) {
         Ok(names) => serve_named(

@@ -1,5 +1,6 @@
 -- The header of a store's file: a task set, and how many bytes a segment has.
-use Rattle.std.specs.Prelude.{ℕ, zero, suc, ◌+◌, ◌*◌, ◌^◌, ◌≤◌, ◌==◌, ◌&&◌, nat_lt, nat_le, if◌then◌else◌, Bool, List, [], ◌∷◌, ◌++◌, length, take, drop, slice_index, Option, Some, None, Result, Ok, Err}
+use Rattle.std.specs.Prelude.{ℕ, zero, suc, ◌+◌, ◌*◌, ◌^◌, ◌≤◌, ◌==◌, ◌&&◌, nat_lt, nat_le, if◌then◌else◌, Bool, List, [], ◌∷◌, ◌++◌, length, take, drop}
+use Rattle.std.specs.Prelude.{slice_index, Option, Some, None, Result, Ok, Err}
 use Rattle.std.specs.Str.{bytes_eq}
 use Rattle.byteorder.specs.Endian.{little_bytes, little_number}
 use Rattle.pfx_disk.specs.declared.gates.TheConstants.{GATE_OPEN}
@@ -94,7 +95,8 @@ sized segment (Some s) = if is_segment_size s.workers segment then Ok (record { 
 
 -- bytes for all the real tasks
 unfoldable pub read_tasks : List ℕ → Result Header Refusal
-read_tasks bytes = if nat_le (17 + 8 * real_at bytes) (length bytes) then sized (segment_at bytes) (set_of (workers_at bytes) (tasks_at bytes)) else Err NotAStore
+read_tasks bytes = if nat_le (17 + 8 * real_at bytes) (length bytes) then sized (segment_at bytes) (set_of (workers_at bytes) (tasks_at bytes))
+    else Err NotAStore
 
 abbrev pub are_counts : ℕ → ℕ → Bool
 are_counts m n = (nat_lt 0 m && nat_le m 64) && (nat_lt 0 n && nat_le n 1024)

@@ -79,7 +79,8 @@ impl<J: Job> Quantum<J> {
 impl<J: Job> Done<J> {
     /// Whether this is the result of that quantum: the same number, slot and task, and the same state before.
     pub fn answers(&self, quantum: &Quantum<J>) -> bool
-        ensures { IsTrue result ↔ (self.now.number ≡ quantum.now.number) × (self.now.slot ≡ quantum.now.slot) × (self.now.task ≡ quantum.now.task) × (self.now.before ≡ quantum.now.before) }
+        ensures { IsTrue result ↔ (self.now.number ≡ quantum.now.number) × (self.now.slot ≡ quantum.now.slot)
+            × (self.now.task ≡ quantum.now.task) × (self.now.before ≡ quantum.now.before) }
     {
         self.number == quantum.number
             && self.slot == quantum.slot

@@ -58,7 +58,8 @@ pub decoded-scan : (bytes : List ℕ) → slice_index bytes 0 ≡ 3 → any_deco
 unfolding any_decoded
 decoded-scan bytes e = rw e refl
 
-pub decoded-other : (bytes : List ℕ) → nat_eq (slice_index bytes 0) 1 ≡ false → nat_eq (slice_index bytes 0) 2 ≡ false → nat_eq (slice_index bytes 0) 3 ≡ false → any_decoded bytes ≡ None
+pub decoded-other : (bytes : List ℕ) → nat_eq (slice_index bytes 0) 1 ≡ false → nat_eq (slice_index bytes 0) 2 ≡ false
+    → nat_eq (slice_index bytes 0) 3 ≡ false → any_decoded bytes ≡ None
 unfolding any_decoded
 decoded-other bytes a b c = rw (a, b, c) refl
 
@@ -78,13 +79,15 @@ round_trip (Count job) = decoded-count (count_kind.spelling job) refl ∙ ap (op
 round_trip (Rule job) = decoded-rule (rule_kind.spelling job) refl ∙ ap (option_map Rule) (rule_laws.round_trip job)
 round_trip (Scan job) = decoded-scan (scan_kind.spelling job) refl ∙ ap (option_map Scan) (scan_laws.round_trip job)
 
-mapped-only : {A : Type 0} (f : A → AnyJob) (bytes : List ℕ) (o : Option A) (s : AnyJob) → ((t : A) → o ≡ Some t → any_spelling (f t) ≡ bytes) → option_map f o ≡ Some s → any_spelling s ≡ bytes
+mapped-only : {A : Type 0} (f : A → AnyJob) (bytes : List ℕ) (o : Option A) (s : AnyJob)
+    → ((t : A) → o ≡ Some t → any_spelling (f t) ≡ bytes) → option_map f o ≡ Some s → any_spelling s ≡ bytes
 mapped-only f bytes None s h e = absurd cc
 mapped-only f bytes (Some t) s h e =
     let is : f t ≡ s = cc in
     ap any_spelling (sym is) ∙ h t refl
 
-read_as-only : (count rule scan : Bool) (as_count : Option count_type.Count) (as_rule : Option rule_type.Rule) (as_scan : Option scan_type.Scan) (bytes : List ℕ) (s : AnyJob)
+read_as-only : (count rule scan : Bool) (as_count : Option count_type.Count) (as_rule : Option rule_type.Rule)
+    (as_scan : Option scan_type.Scan) (bytes : List ℕ) (s : AnyJob)
     → ((t : count_type.Count) → as_count ≡ Some t → any_spelling (Count t) ≡ bytes)
     → ((t : rule_type.Rule) → as_rule ≡ Some t → any_spelling (Rule t) ≡ bytes)
     → ((t : scan_type.Scan) → as_scan ≡ Some t → any_spelling (Scan t) ≡ bytes)

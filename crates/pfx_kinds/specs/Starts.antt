@@ -1,5 +1,6 @@
 -- What a job is at its start: of the kind's name, the goal and the data, in this order.
-use Rattle.std.specs.Prelude.{ℕ, ◌+◌, ◌-◌, ◌^◌, Bool, ◌&&◌, ◌||◌, nat_lt, nat_eq, cond, List, [], ◌∷◌, ◌++◌, length, take, drop, replicate, slice_index, position, codes, Option, Some, None, Result, Ok, Err}
+use Rattle.std.specs.Prelude.{ℕ, ◌+◌, ◌-◌, ◌^◌, Bool, ◌&&◌, ◌||◌, nat_lt, nat_eq, cond, List, [], ◌∷◌, ◌++◌, length, take, drop, replicate, slice_index}
+use Rattle.std.specs.Prelude.{position, codes, Option, Some, None, Result, Ok, Err}
 use Rattle.std.specs.Option.{option_map, option_and_then}
 use Rattle.std.specs.List.{list_all}
 use Rattle.std.specs.Char.{is_ascii_digit}
@@ -25,7 +26,8 @@ or_bad_data (Some a) = Ok a
 
 -- the value of 1 to n decimal digits, if it is at most m
 abbrev pub decimal_within : ℕ → ℕ → List ℕ → Option ℕ
-decimal_within n m text = cond (nat_lt 0 (length text) && nat_lt (length text) (n + 1) && list_all is_ascii_digit text && nat_lt (digits_value 10 text) (m + 1)) (Some (digits_value 10 text)) None
+decimal_within n m text = cond (nat_lt 0 (length text) && nat_lt (length text) (n + 1) && list_all is_ascii_digit text && nat_lt (digits_value 10 text) (m + 1))
+    (Some (digits_value 10 text)) None
 
 -- the parts before and behind the first colon
 abbrev pub is_colon : ℕ → Bool
@@ -63,11 +65,13 @@ abbrev pub rule_in : ℕ → List ℕ → List ℕ → Option RuleFields
 rule_in goal front cells = option_and_then (λ number. cond (is_ring cells) (Some (rule_of goal number cells)) None) (decimal_within 3 255 front)
 
 unfoldable pub rule_start : ℕ → List ℕ → Result RuleFields StartFault
-rule_start goal text = cond (is_count_of_steps goal) (or_bad_data (option_and_then (λ at. rule_in goal (take at text) (drop (at + 1) text)) (at_colon text))) (Err BadGoal)
+rule_start goal text =
+    cond (is_count_of_steps goal) (or_bad_data (option_and_then (λ at. rule_in goal (take at text) (drop (at + 1) text)) (at_colon text))) (Err BadGoal)
 
 -- Scan: a needle of 1 to 16 bytes, a colon, a text of at most 64 and at least as many, all of them printable
 abbrev pub is_search : List ℕ → List ℕ → Bool
-is_search needle text = nat_lt 0 (length needle) && nat_lt (length needle) 17 && nat_lt (length needle) (length text + 1) && nat_lt (length text) 65 && are_searched needle text
+is_search needle text = nat_lt 0 (length needle) && nat_lt (length needle) 17 && nat_lt (length needle) (length text + 1) &&
+    nat_lt (length text) 65 && are_searched needle text
 
 abbrev pub scan_of : List ℕ → List ℕ → ScanFields
 scan_of needle text = record {

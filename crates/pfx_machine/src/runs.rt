@@ -26,7 +26,8 @@ pub fn run<J: Job>(
 ) -> Result<Vec<Answer>, AllocError>
     ensures answers { IfOk result (λ given. given.items ≡ answers J.kind state.old commands.items) }
     ensures outcome { OnOk result (state.new ≡ outcome J.kind state.old (accepted J.kind state.old commands.items)) }
-    ensures beginning { OnErr result ((front : List (Command J)) × (rest : List (Command J)) × (commands.items ≡ front ++ rest) × (state.new ≡ outcome J.kind state.old (accepted J.kind state.old front))) }
+    ensures beginning { OnErr result ((front : List (Command J)) × (rest : List (Command J)) × (commands.items ≡ front ++ rest)
+        × (state.new ≡ outcome J.kind state.old (accepted J.kind state.old front))) }
 {
     let mut given = Vec::with_capacity(alloc, commands.len())?;
     for command in commands {
@@ -40,7 +41,8 @@ pub fn run<J: Job>(
 /// state is as it was.
 fn answer_one<J: Job>(state: &mut State<J>, command: Command<J>) -> Result<Answer, AllocError>
     ensures answer { IfOk result (λ given. given ≡ answer J.kind state.old command) }
-    ensures outcome { OnOk result ((B : Plain J) (H : List (Command J)) → state.old ≡ outcome J.kind B H → state.new ≡ outcome J.kind B (with_accepted H command (refusal J.kind state.old command))) }
+    ensures outcome { OnOk result ((B : Plain J) (H : List (Command J)) → state.old ≡ outcome J.kind B H
+        → state.new ≡ outcome J.kind B (with_accepted H command (refusal J.kind state.old command))) }
     ensures kept { OnErr result (state.new ≡ state.old) }
 {
     match state.apply(command) {

@@ -12,7 +12,8 @@ use std::alloc::{AllocError, Global};
 
 /// The quantum of one task, if it has an unfinished job.
 fn deal_one<J: Job>(number: u64, slot: u64, task: u16, jobs: &[Option<J>]) -> Option<Quantum<J>>
-    ensures { MatchOption result (deal_at J.kind number slot task (slice_get jobs.now task) ≡ []) (λ q. deal_at J.kind number slot task (slice_get jobs.now task) ≡ deal q.number q.slot q.task q.before ∷ []) }
+    ensures { MatchOption result (deal_at J.kind number slot task (slice_get jobs.now task) ≡ [])
+        (λ q. deal_at J.kind number slot task (slice_get jobs.now task) ≡ deal q.number q.slot q.task q.before ∷ []) }
 {
     match jobs.get(usize::from(task)) {
         Some(Some(job)) => {
@@ -48,7 +49,8 @@ pub fn deal_all<J: Job>(
 
 /// Runs the quanta, one after the other, and gives their results in the same order.
 pub fn run_all<J: Job>(alloc: Global, quanta: Vec<Quantum<J>>) -> Result<Vec<Done<J>>, AllocError>
-    ensures { IfOk result (λ dones. map (λ d. deal d.number d.slot d.task d.before) dones.items ≡ map (λ q. deal q.number q.slot q.task q.before) quanta.items) }
+    ensures { IfOk result
+        (λ dones. map (λ d. deal d.number d.slot d.task d.before) dones.items ≡ map (λ q. deal q.number q.slot q.task q.before) quanta.items) }
 {
     let mut dones = Vec::with_capacity(alloc, quanta.len())?;
     for quantum in quanta {

@@ -44,7 +44,8 @@ slot_object slot names = object (texts_at (codes "run") names (number_at (codes 
 
 -- what a job of each kind has computed, with its task's number, as `{"job":"count","left":98,"task":0,"value":12}`
 abbrev pub count_object : ℕ → count_type.Count → Data
-count_object x c = object (text_at (codes "job") (codes "count") (number_at (codes "left") c.left (number_at (codes "task") x (number_at (codes "value") c.value no_members))))
+count_object x c =
+    object (text_at (codes "job") (codes "count") (number_at (codes "left") c.left (number_at (codes "task") x (number_at (codes "value") c.value no_members))))
 
 abbrev pub rule_object : ℕ → rule_type.Rule → Data
 rule_object x r = object (text_at (codes "cells") (cells_text r.cells 0 r.width) (text_at (codes "job") (codes "rule")
@@ -66,7 +67,8 @@ abbrev pub task_object : ℕ → List ℕ → ℕ → Data
 task_object n did task = object (text_at (codes "did") did (number_at (codes "number") n (number_at (codes "task") task no_members)))
 
 abbrev pub ran_object : ℕ → ℕ → List ℕ → Data
-ran_object n slot row = object (text_at (codes "did") (codes "ran") (number_at (codes "number") n (number_at (codes "slot") slot (numbers_at (codes "tasks") row no_members))))
+ran_object n slot row =
+    object (text_at (codes "did") (codes "ran") (number_at (codes "number") n (number_at (codes "slot") slot (numbers_at (codes "tasks") row no_members))))
 
 abbrev pub reply_object : ℕ → Reply → Data
 reply_object n (reply.Submitted task) = task_object n (codes "submitted") task
@@ -92,7 +94,8 @@ fault_fields other = no_members
 
 -- a refused command: `{"refused":{"fields":{"task":0},"name":"TaskBusy","number":32}}`
 abbrev pub fault_object : Fault → Data
-fault_object f = object (member (codes "fields") (object (fault_fields f)) (text_at (codes "name") (name_of f) (number_at (codes "number") (number_of f) no_members)))
+fault_object f =
+    object (member (codes "fields") (object (fault_fields f)) (text_at (codes "name") (name_of f) (number_at (codes "number") (number_of f) no_members)))
 
 abbrev pub refused_object : Fault → Data
 refused_object f = object (member (codes "refused") (fault_object f) no_members)
@@ -123,4 +126,5 @@ line_objects x (t ∷ ts) = line_object x t ∷ line_objects (x + 1) ts
 
 -- `{"number":4,"slot":3,"tasks":[{"alloc":1,"job":"none","lag":-1,"period":3,"task":0}]}`
 abbrev pub board_object : ℕ → ℕ → List TaskLine → Data
-board_object n slot lines = object (number_at (codes "number") n (number_at (codes "slot") slot (member (codes "tasks") (array (items_of (line_objects 0 lines))) no_members)))
+board_object n slot lines =
+    object (number_at (codes "number") n (number_at (codes "slot") slot (member (codes "tasks") (array (items_of (line_objects 0 lines))) no_members)))

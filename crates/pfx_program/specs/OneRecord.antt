@@ -15,7 +15,8 @@ IsUntouched old new was is = (new ≡ old) × (is ≡ was)
 
 -- The first record that was left was read, and none behind it: the others are left. What it asks for was carried out, and exactly
 -- its text was written.
-pub record Answered {E : Type 0} (P : Promise E) (form : Form) (script next : Records) (accepted later : ℕ) (old new : E) (was is : Option (List ℕ)) : Type 0 where
+pub record Answered {E : Type 0} (P : Promise E) (form : Form) (script next : Records) (accepted later : ℕ)
+    (old new : E) (was is : Option (List ℕ)) : Type 0 where
   pub fields : Fields
   pub read : Takes script fields next
   pub verb : Said
@@ -37,7 +38,8 @@ pub record IsFormless {E : Type 0} (script next : Records) (old new : E) (was is
   pub untouched : IsUntouched old new was is
 
 -- what it asks for was begun, and stopped
-pub record IsHalted {E : Type 0} (P : Promise E) (form : Form) (most : ℕ) (script next : Records) (accepted : ℕ) (old new : E) (was is : Option (List ℕ)) (f : Fault) : Type 0 where
+pub record IsHalted {E : Type 0} (P : Promise E) (form : Form) (most : ℕ) (script next : Records) (accepted : ℕ)
+    (old new : E) (was is : Option (List ℕ)) (f : Fault) : Type 0 where
   pub fields : Fields
   pub read : Takes script fields next
   pub verb : Said

@@ -46,7 +46,8 @@ pub record IsLedgerRefused (file : SetFile) (at : Option (List ℕ)) (text : Lis
 -- the plan of so many slots for the bytes of a file, from the ledger on that a text gives, if there is one: its text, and the fault at its end
 abbrev pub IsPlanText : Form → List ℕ → Option (List ℕ) → ℕ → List ℕ → Option Fault → Type 0
 IsPlanText form bytes at slots text end =
-    MatchOption (set_of_bytes bytes) ((text ≡ []) × (end ≡ Some fault.BadSet)) (λ file. IsPlanned form file at slots text end ⊎ (IsSetRefused file text end ⊎ IsLedgerRefused file at text end))
+    MatchOption (set_of_bytes bytes) ((text ≡ []) × (end ≡ Some fault.BadSet))
+    (λ file. IsPlanned form file at slots text end ⊎ (IsSetRefused file text end ⊎ IsLedgerRefused file at text end))
 
 -- the plan with this end was written, and nothing else
 abbrev pub Prints : Form → List ℕ → Option (List ℕ) → ℕ → Option (List ℕ) → Option (List ℕ) → Option Fault → Type 0
@@ -54,7 +55,8 @@ Prints form bytes at slots old new end = (text : List ℕ) × IsPlanText form by
 
 -- a beginning of the plan was written, and nothing else
 abbrev pub PrintsFront : Form → List ℕ → Option (List ℕ) → ℕ → Option (List ℕ) → Option (List ℕ) → Type 0
-PrintsFront form bytes at slots old new = (front rest : List ℕ) × (end : Option Fault) × IsPlanText form bytes at slots (front ++ rest) end × Appends old new front
+PrintsFront form bytes at slots old new = (front rest : List ℕ) × (end : Option Fault)
+    × IsPlanText form bytes at slots (front ++ rest) end × Appends old new front
 
 -- the lines of some first slots were written, or nothing was
 abbrev pub PrintsSome : Form → List ℕ → Option (List ℕ) → ℕ → Option (List ℕ) → Option (List ℕ) → Type 0

@@ -27,7 +27,8 @@ pub record Promise (E : Type 0) : Type 1 where
 -- what is kept of no command, of some commands and then of more, and that fewer are kept where more are
 pub record Laws {E : Type 0} (P : Promise E) : Type 0 where
   pub none : (e : E) → P.keeps e [] 0 e
-  pub more : (a b c : E) (H G : List (Command AnyJob)) (n : ℕ) → (P.settled a → P.settled b) → P.keeps a H (length H) b → P.keeps b G n c → P.keeps a (H ++ G) (length H + n) c
+  pub more : (a b c : E) (H G : List (Command AnyJob)) (n : ℕ) → (P.settled a → P.settled b) → P.keeps a H (length H) b
+      → P.keeps b G n c → P.keeps a (H ++ G) (length H + n) c
   pub fewer : (a b : E) (H : List (Command AnyJob)) (n m : ℕ) → m ≤ n → P.keeps a H n b → P.keeps a H m b
 
 -- a fault of an engine's call

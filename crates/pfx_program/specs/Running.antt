@@ -1,5 +1,6 @@
 -- What a run of a script leaves, by its answer: of what was printed, of the engine's state, and of what is kept.
-use Rattle.std.specs.Prelude.{◌≡◌, ◌≤◌, ◌⊎◌, ℕ, ◌+◌, ◌-◌, ◌++◌, nat_lt, if◌then◌else◌, Bool, true, length, List, [], ◌∷◌, map, Option, Some, None, Result, Ok, Err, IfSome}
+use Rattle.std.specs.Prelude.{◌≡◌, ◌≤◌, ◌⊎◌, ℕ, ◌+◌, ◌-◌, ◌++◌, nat_lt, if◌then◌else◌, Bool, true, length, List, [], ◌∷◌, map, Option, Some, None, Result, Ok}
+use Rattle.std.specs.Prelude.{Err, IfSome}
 use Rattle.std.specs.Io.KnownBytes.{Appends, Keeps}
 use Rattle.pfx_kinds.specs.AnyKind.{any_kind}
 use Rattle.pfx_kinds.specs.declared.any.AnyJob.{AnyJob}
@@ -57,8 +58,10 @@ first_text (x ∷ steps) = x.text
 
 -- Why a run stopped behind the steps that it printed, with some tried besides: of the first of these the writer took a
 -- beginning, or nothing was written. `reading` says that the script's reading has failed.
-abbrev pub Halts : Type 0 → (Plain AnyJob → Fault → Type 0) → Plain AnyJob → List ℕ → List Step → Plain AnyJob → Option (List ℕ) → Option (List ℕ) → Fault → Type 0
-Halts reading faults s text tried t was is fault.OutputFailed = (t ≡ outcome any_kind s (commands_of tried)) × (front rest : List ℕ) × (first_text tried ≡ front ++ rest) × Appends was is (text ++ front)
+abbrev pub Halts : Type 0 → (Plain AnyJob → Fault → Type 0) → Plain AnyJob → List ℕ → List Step → Plain AnyJob
+    → Option (List ℕ) → Option (List ℕ) → Fault → Type 0
+Halts reading faults s text tried t was is fault.OutputFailed = (t ≡ outcome any_kind s (commands_of tried))
+    × (front rest : List ℕ) × (first_text tried ≡ front ++ rest) × Appends was is (text ++ front)
 Halts reading faults s text tried t was is fault.InputFailed = reading × (t ≡ s) × Appends was is text
 Halts reading faults s text tried t was is fault.NoMemory = ((t ≡ s) ⊎ (t ≡ outcome any_kind s (commands_of tried))) × Appends was is text
 Halts reading faults s text tried t was is (fault.BadScript at) = ⊥
@@ -66,7 +69,8 @@ Halts reading faults s text tried t was is other = faults s other × ((t ≡ s) 
 
 -- some first steps were carried out and printed, whole, and so many more were tried at the most; the commands of those that
 -- were printed are kept
-pub record Stopped {E : Type 0} (P : Promise E) (most : ℕ) (reading : Type 0) (steps : List Step) (old new : E) (was is : Option (List ℕ)) (f : Fault) : Type 0 where
+pub record Stopped {E : Type 0} (P : Promise E) (most : ℕ) (reading : Type 0) (steps : List Step) (old new : E)
+    (was is : Option (List ℕ)) (f : Fault) : Type 0 where
   pub printed : List Step
   pub tried : List Step
   pub rest : List Step
@@ -92,7 +96,8 @@ Ends P most reading course old new was is (Err other) = Stopped P most reading c
 
 -- The records are the script's, as far as it is known, and the run ended so on their course, with so many steps at the most
 -- tried at once.
-pub record Runs {E : Type 0} (P : Promise E) (form : Form) (most : ℕ) (script : Records) (failed : Bool) (old new : E) (was is : Option (List ℕ)) (result : Result (Unit {0}) Fault) : Type 0 where
+pub record Runs {E : Type 0} (P : Promise E) (form : Form) (most : ℕ) (script : Records) (failed : Bool)
+    (old new : E) (was is : Option (List ℕ)) (result : Result (Unit {0}) Fault) : Type 0 where
   pub records : List Fields
   pub known : IfSome script.left (λ all. all ≡ records)
   pub ends : Ends P most (failed ≡ true) (course_from (script.place + 1) (at_start form (P.state old)) records) old new was is result

@@ -1,4 +1,5 @@
--- What a run of a script does: steps, each with what it prints and the command that it carries out; a function of the script's records and of the state that it begins with.
+-- What a run of a script does: steps, each with what it prints and the command that it carries out; a function of the
+-- script's records and of the state that it begins with.
 use Rattle.std.specs.Prelude.{◌++◌, ℕ, zero, suc, ◌+◌, nat_lt, if◌then◌else◌, Bool, length, List, [], ◌∷◌, Option, Some, None, is_some, Result, Ok, Err}
 use Rattle.pfx_kinds.specs.AnyKind.{any_kind, any_decoded}
 use Rattle.pfx_kinds.specs.Counts.{count_bytes}

@@ -22,7 +22,8 @@ ghost use Rattle.pfx_program.specs.Script.{at_start, commands_of, course_from};
 /// The commands that a script's course carries out are acceptable one after the other from the state that it begins with,
 /// so that all that the machine promises of such lists holds of them.
 pub fn courses_are_acceptable()
-    ensures { (form : Form) (s : Plain AnyJob) (at : ℕ) (records : List Fields) → IsAcceptable any_kind s (commands_of (course_from at (at_start form s) records).steps) }
+    ensures { (form : Form) (s : Plain AnyJob) (at : ℕ) (records : List Fields)
+        → IsAcceptable any_kind s (commands_of (course_from at (at_start form s) records).steps) }
 {}
 
 /// What a plan begins with is a ledger: fair, below the last slot, each slot before it given away.

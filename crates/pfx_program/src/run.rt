@@ -6,7 +6,8 @@ ghost use Rattle.pfx_kinds.specs.Starts.{any_start};
 ghost use Rattle.pfx_script.specs.Verbs.{said_by};
 ghost use Rattle.pfx_fault.specs.declared.refusals.Fault.TheVariants as fault;
 ghost use Rattle.pfx_program.specs.Answers.{reply_line, refused_line, settled_line, closed_line};
-ghost use Rattle.pfx_program.specs.Script.{Step, at_start, command_step, slot_steps, text_of, job_by, submitted, jobs_step, verb_steps, shown, board_of, is_carried, commands_of};
+ghost use Rattle.pfx_program.specs.Script.{Step, at_start, command_step, slot_steps, text_of, job_by, submitted, jobs_step, verb_steps, shown, board_of};
+ghost use Rattle.pfx_program.specs.Script.{is_carried, commands_of};
 ghost use Rattle.pfx_program.specs.Jobs.{shown_jobs};
 ghost use Rattle.pfx_program.specs.OneRecord.{Answers, IsUnanswered};
 ghost use Rattle.pfx_program.specs.Running.{run_of, ran_steps, LineFails, LinesFail, Carried, Slotted, Stopped, Runs};
@@ -86,10 +87,13 @@ fn run_command<W: Write, E: Engine>(
     output: &mut W,
     engine: &mut E,
 ) -> Result<bool, Fault>
-    ensures ok { OnOk result (Carried E.promise (command_step (run_of E.promise form engine.old accepted.old) command ∷ []) engine.old engine.new (W.contents output.old) (W.contents output.new)) }
+    ensures ok { OnOk result (Carried E.promise (command_step (run_of E.promise form engine.old accepted.old) command ∷ []) engine.old engine.new
+        (W.contents output.old) (W.contents output.new)) }
     ensures told { IfOk result (λ went. went ≡ is_carried (command_step (run_of E.promise form engine.old accepted.old) command)) }
-    ensures counts { OnOk result (accepted.new ≡ accepted.old + length (commands_of (command_step (run_of E.promise form engine.old accepted.old) command ∷ []))) }
-    ensures err { IfErr result (Stopped E.promise 1 ⊥ (command_step (run_of E.promise form engine.old accepted.old) command ∷ []) engine.old engine.new (W.contents output.old) (W.contents output.new)) }
+    ensures counts { OnOk result
+        (accepted.new ≡ accepted.old + length (commands_of (command_step (run_of E.promise form engine.old accepted.old) command ∷ []))) }
+    ensures err { IfErr result (Stopped E.promise 1 ⊥ (command_step (run_of E.promise form engine.old accepted.old) command ∷ []) engine.old engine.new
+        (W.contents output.old) (W.contents output.new)) }
 {
     if *accepted >= MOST {
         put_refused(alloc, form, output, Fault::SessionFull)?;
@@ -147,7 +151,8 @@ fn run_window<W: Write, E: Engine>(
     requires some { 0 < window }
     ensures ok { IfOk result (λ ran. Slotted E.promise form left ran accepted.old engine.old engine.new (W.contents output.old) (W.contents output.new)) }
     ensures counts { IfOk result (λ ran. accepted.new ≡ accepted.old + ran) }
-    ensures err { IfErr result (Stopped E.promise window ⊥ (slot_steps (run_of E.promise form engine.old accepted.old) left) engine.old engine.new (W.contents output.old) (W.contents output.new)) }
+    ensures err { IfErr result (Stopped E.promise window ⊥ (slot_steps (run_of E.promise form engine.old accepted.old) left) engine.old engine.new
+        (W.contents output.old) (W.contents output.new)) }
 {
     if *accepted >= MOST {
         put_refused(alloc, form, output, Fault::SessionFull)?;
@@ -179,9 +184,11 @@ fn run_slots<W: Write, E: Engine>(
     engine: &mut E,
 ) -> Result<(), Fault>
     requires some { 0 < window }
-    ensures ok { OnOk result (Carried E.promise (slot_steps (run_of E.promise form engine.old accepted.old) count) engine.old engine.new (W.contents output.old) (W.contents output.new)) }
+    ensures ok { OnOk result (Carried E.promise (slot_steps (run_of E.promise form engine.old accepted.old) count) engine.old engine.new
+        (W.contents output.old) (W.contents output.new)) }
     ensures counts { OnOk result (accepted.new ≡ accepted.old + length (commands_of (slot_steps (run_of E.promise form engine.old accepted.old) count))) }
-    ensures err { IfErr result (Stopped E.promise window ⊥ (slot_steps (run_of E.promise form engine.old accepted.old) count) engine.old engine.new (W.contents output.old) (W.contents output.new)) }
+    ensures err { IfErr result (Stopped E.promise window ⊥ (slot_steps (run_of E.promise form engine.old accepted.old) count) engine.old engine.new
+        (W.contents output.old) (W.contents output.new)) }
 {
     let mut left = count;
     while left > 0 {
@@ -204,9 +211,12 @@ fn run_submit<W: Write, E: Engine>(
     output: &mut W,
     engine: &mut E,
 ) -> Result<(), Fault>
-    ensures ok { OnOk result (Carried E.promise (submitted (run_of E.promise form engine.old accepted.old) task job ∷ []) engine.old engine.new (W.contents output.old) (W.contents output.new)) }
-    ensures counts { OnOk result (accepted.new ≡ accepted.old + length (commands_of (submitted (run_of E.promise form engine.old accepted.old) task job ∷ []))) }
-    ensures err { IfErr result (Stopped E.promise 1 ⊥ (submitted (run_of E.promise form engine.old accepted.old) task job ∷ []) engine.old engine.new (W.contents output.old) (W.contents output.new)) }
+    ensures ok { OnOk result (Carried E.promise (submitted (run_of E.promise form engine.old accepted.old) task job ∷ []) engine.old engine.new
+        (W.contents output.old) (W.contents output.new)) }
+    ensures counts { OnOk result
+        (accepted.new ≡ accepted.old + length (commands_of (submitted (run_of E.promise form engine.old accepted.old) task job ∷ []))) }
+    ensures err { IfErr result (Stopped E.promise 1 ⊥ (submitted (run_of E.promise form engine.old accepted.old) task job ∷ []) engine.old engine.new
+        (W.contents output.old) (W.contents output.new)) }
 {
     match job {
         Ok(job) => {
@@ -230,8 +240,10 @@ fn run_settle<W: Write, E: Engine>(
     output: &mut W,
     engine: &mut E,
 ) -> Result<(), Fault>
-    ensures ok { OnOk result (Carried E.promise (shown (settled_line form (E.promise.state engine.old).number) ∷ []) engine.old engine.new (W.contents output.old) (W.contents output.new)) }
-    ensures err { IfErr result (Stopped E.promise 1 ⊥ (shown (settled_line form (E.promise.state engine.old).number) ∷ []) engine.old engine.new (W.contents output.old) (W.contents output.new)) }
+    ensures ok { OnOk result (Carried E.promise (shown (settled_line form (E.promise.state engine.old).number) ∷ []) engine.old engine.new
+        (W.contents output.old) (W.contents output.new)) }
+    ensures err { IfErr result (Stopped E.promise 1 ⊥ (shown (settled_line form (E.promise.state engine.old).number) ∷ []) engine.old engine.new
+        (W.contents output.old) (W.contents output.new)) }
 {
     let number = engine.settled(alloc)?;
     match settled_line(alloc, form, number) {
@@ -248,9 +260,11 @@ pub fn run_status<W: Write, E: Engine>(
     output: &mut W,
     engine: &mut E,
 ) -> Result<(), Fault>
-    ensures ok { OnOk result (Carried E.promise (shown (board_of form (E.promise.state engine.old)) ∷ []) engine.old engine.new (W.contents output.old) (W.contents output.new)) }
+    ensures ok { OnOk result
+        (Carried E.promise (shown (board_of form (E.promise.state engine.old)) ∷ []) engine.old engine.new (W.contents output.old) (W.contents output.new)) }
     ensures settled { OnOk result (E.promise.settled engine.new) }
-    ensures err { IfErr result (Stopped E.promise 1 ⊥ (shown (board_of form (E.promise.state engine.old)) ∷ []) engine.old engine.new (W.contents output.old) (W.contents output.new)) }
+    ensures err { IfErr result (Stopped E.promise 1 ⊥ (shown (board_of form (E.promise.state engine.old)) ∷ []) engine.old engine.new
+        (W.contents output.old) (W.contents output.new)) }
 {
     let board = engine.status(alloc)?;
     match board_shown(alloc, form, &board) {
@@ -267,9 +281,11 @@ fn run_jobs<W: Write, E: Engine>(
     output: &mut W,
     engine: &mut E,
 ) -> Result<(), Fault>
-    ensures ok { OnOk result (Carried E.promise (jobs_step form (shown_jobs form (E.promise.state engine.old).jobs task) ∷ []) engine.old engine.new (W.contents output.old) (W.contents output.new)) }
+    ensures ok { OnOk result (Carried E.promise (jobs_step form (shown_jobs form (E.promise.state engine.old).jobs task) ∷ []) engine.old engine.new
+        (W.contents output.old) (W.contents output.new)) }
     ensures settled { OnOk result (E.promise.settled engine.new) }
-    ensures err { IfErr result (Stopped E.promise 1 ⊥ (jobs_step form (shown_jobs form (E.promise.state engine.old).jobs task) ∷ []) engine.old engine.new (W.contents output.old) (W.contents output.new)) }
+    ensures err { IfErr result (Stopped E.promise 1 ⊥ (jobs_step form (shown_jobs form (E.promise.state engine.old).jobs task) ∷ []) engine.old engine.new
+        (W.contents output.old) (W.contents output.new)) }
 {
     let state = engine.state(alloc)?;
     match shown(alloc, form, &state, task) {
@@ -287,9 +303,11 @@ fn close<W: Write, E: Engine>(
     output: &mut W,
     engine: &mut E,
 ) -> Result<(), Fault>
-    ensures ok { OnOk result (Carried E.promise (shown (closed_line form (E.promise.state engine.old).number) ∷ []) engine.old engine.new (W.contents output.old) (W.contents output.new)) }
+    ensures ok { OnOk result (Carried E.promise (shown (closed_line form (E.promise.state engine.old).number) ∷ []) engine.old engine.new
+        (W.contents output.old) (W.contents output.new)) }
     ensures settled { OnOk result (E.promise.settled engine.new) }
-    ensures err { IfErr result (Stopped E.promise 1 ⊥ (shown (closed_line form (E.promise.state engine.old).number) ∷ []) engine.old engine.new (W.contents output.old) (W.contents output.new)) }
+    ensures err { IfErr result (Stopped E.promise 1 ⊥ (shown (closed_line form (E.promise.state engine.old).number) ∷ []) engine.old engine.new
+        (W.contents output.old) (W.contents output.new)) }
 {
     let last = engine.settled(alloc)?;
     match closed_line(alloc, form, last) {
@@ -308,9 +326,12 @@ fn run_verb<W: Write, E: Engine>(
     engine: &mut E,
 ) -> Result<(), Fault>
     requires some { 0 < window }
-    ensures ok { OnOk result (Carried E.promise (verb_steps (run_of E.promise form engine.old accepted.old) (said_by verb.entry)) engine.old engine.new (W.contents output.old) (W.contents output.new)) }
-    ensures counts { OnOk result (accepted.new ≡ accepted.old + length (commands_of (verb_steps (run_of E.promise form engine.old accepted.old) (said_by verb.entry)))) }
-    ensures err { IfErr result (Stopped E.promise window ⊥ (verb_steps (run_of E.promise form engine.old accepted.old) (said_by verb.entry)) engine.old engine.new (W.contents output.old) (W.contents output.new)) }
+    ensures ok { OnOk result (Carried E.promise (verb_steps (run_of E.promise form engine.old accepted.old) (said_by verb.entry)) engine.old engine.new
+        (W.contents output.old) (W.contents output.new)) }
+    ensures counts { OnOk result
+        (accepted.new ≡ accepted.old + length (commands_of (verb_steps (run_of E.promise form engine.old accepted.old) (said_by verb.entry)))) }
+    ensures err { IfErr result (Stopped E.promise window ⊥ (verb_steps (run_of E.promise form engine.old accepted.old) (said_by verb.entry))
+        engine.old engine.new (W.contents output.old) (W.contents output.new)) }
 {
     match verb {
         Verb::Submit {
@@ -359,8 +380,10 @@ pub fn run_record<R: Read + Drop, W: Write, E: Engine>(
     engine: &mut E,
 ) -> Result<bool, Fault>
     requires some { 0 < window }
-    ensures answers { IfOk result (λ more. Answers E.promise form script.old more script.new accepted.old accepted.new engine.old engine.new (W.contents output.old) (W.contents output.new)) }
-    ensures fails { IfErr result (IsUnanswered E.promise form window script.old script.new accepted.old engine.old engine.new (W.contents output.old) (W.contents output.new)) }
+    ensures answers { IfOk result (λ more. Answers E.promise form script.old more script.new accepted.old accepted.new engine.old engine.new
+        (W.contents output.old) (W.contents output.new)) }
+    ensures fails { IfErr result
+        (IsUnanswered E.promise form window script.old script.new accepted.old engine.old engine.new (W.contents output.old) (W.contents output.new)) }
     ensures counts { script.new.place < 2 ^ 64 }
 {
     if !script.next(row)? {

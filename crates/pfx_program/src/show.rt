@@ -175,7 +175,8 @@ pub fn run_show<W: Write>(
     state: &State<AnyJob>,
     task: Option<u16>,
 ) -> Result<(), Fault>
-    ensures ok { OnOk result ((text : List ℕ) × (shown_jobs form state.now.jobs task ≡ Ok text) × Appends (W.contents output.old) (W.contents output.new) text) }
+    ensures ok { OnOk result
+        ((text : List ℕ) × (shown_jobs form state.now.jobs task ≡ Ok text) × Appends (W.contents output.old) (W.contents output.new) text) }
     ensures err { IfErr result (ShowFails (shown_jobs form state.now.jobs task) (W.contents output.old) (W.contents output.new)) }
 {
     let text = shown(alloc, form, state, task)?;

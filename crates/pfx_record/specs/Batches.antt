@@ -20,7 +20,8 @@ all_fit workers records = list_all (record_fits workers) records
 
 -- 1 to 16 commands, whose numbers are 1 to 2 ^ 48 - 1, and rows of 1 to 64 tasks
 abbrev pub counts_fit : ℕ → ℕ → ℕ → Bool
-counts_fit workers first count = (nat_lt 0 workers && nat_le workers 64) && ((nat_lt 0 count && nat_le count 16) && (nat_lt 0 first && nat_le (first + count) (2 ^ 48)))
+counts_fit workers first count = (nat_lt 0 workers && nat_le workers 64) &&
+    ((nat_lt 0 count && nat_le count 16) && (nat_lt 0 first && nat_le (first + count) (2 ^ 48)))
 
 -- the batch has a spelling where the rows have so many tasks
 abbrev pub batch_fits : {J : Type 0} → ℕ → PlainBatch J → Bool

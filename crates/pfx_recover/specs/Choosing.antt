@@ -14,7 +14,8 @@ module _ {H S : Type 0} (K : Codec H S) (h : H) (bytes : List ℕ) where
 
   -- the state in this slot
   abbrev pub slot_state : Bool → Result S Refusal
-  slot_state second = on_some (K.read_state h (body_at (K.layout h) (slot_at (K.layout h) second) bytes)) (Damaged (slot_at (K.layout h) second) Checkpoint) (λ s. Ok s)
+  slot_state second =
+      on_some (K.read_state h (body_at (K.layout h) (slot_at (K.layout h) second) bytes)) (Damaged (slot_at (K.layout h) second) Checkpoint) (λ s. Ok s)
 
   -- it is the segment that was to be chosen, the other's gate stands so, and the other has this number
   pub record IsSegment (choice : Choice) (read : Result Bool Refusal) : Type 0 where

@@ -22,7 +22,8 @@ abbrev pub small_after : ℕ → List ℕ → Option ℕ
 small_after n frame = if slice_index frame 5 == n + 1 then (if nat_lt (n + 1) 200 then Some (n + 1) else None) else None
 
 abbrev pub small_apply : ℕ × ℕ → List ℕ → Option (ℕ × ℕ)
-small_apply s frame = if slice_index frame 5 == s.0 + 1 then (if slice_index frame 15 == 0 then None else small (s.0 + 1) (s.1 + slice_index frame 15)) else None
+small_apply s frame = if slice_index frame 5 == s.0 + 1 then (if slice_index frame 15 == 0 then None else small (s.0 + 1) (s.1 + slice_index frame 15))
+    else None
 
 abbrev pub is_small : ℕ → ℕ × ℕ → Type 0
 is_small room s = (s.0 < 200) × (s.1 < 100)

@@ -1,5 +1,6 @@
 -- The codec of small files meets the laws.
-use Rattle.std.proofs.Common.{◌≡◌, ℕ, ◌+◌, ◌<◌, ◌≤◌, List, [], ◌∷◌, length, get_or, take, refl, sym, ◌∙◌, ap, subst, arith, cond, nat_lt, ◌==◌, Bool, true, false, Some, None, Ok, Err}
+use Rattle.std.proofs.Common.{◌≡◌, ℕ, ◌+◌, ◌<◌, ◌≤◌, List, [], ◌∷◌, length, get_or, take, refl, sym, ◌∙◌, ap, subst, arith, cond, nat_lt, ◌==◌, Bool, true}
+use Rattle.std.proofs.Common.{false, Some, None, Ok, Err}
 use Rattle.std.proofs.lemmas.Bool.{eqb-true, ltb-true, lt-ltb}
 use Rattle.pfx_recovery.specs.Codec.{Laws}
 use Rattle.pfx_recovery.specs.Refusals.{Refusal, NotAStore, WrongVersion, IsOfHeader}
@@ -47,7 +48,8 @@ after_is n frame m is =
     let f = if_some (nat_lt (n + 1) 200) (some (n + 1)) m e.1 in
     (eqb-true (get_or frame 5 0) (n + 1) e.0, some_same (n + 1) m f.1, ltb-true (n + 1) 200 f.0)
 
-applied : (s : ℕ × ℕ) (frame : List ℕ) (t : ℕ × ℕ) → small_apply s frame ≡ Some t → (get_or frame 5 0 ≡ s.0 + 1) × (small (s.0 + 1) (s.1 + get_or frame 15 0) ≡ Some t)
+applied : (s : ℕ × ℕ) (frame : List ℕ) (t : ℕ × ℕ) → small_apply s frame ≡ Some t
+    → (get_or frame 5 0 ≡ s.0 + 1) × (small (s.0 + 1) (s.1 + get_or frame 15 0) ≡ Some t)
 applied s frame t is =
     let e = if_some (get_or frame 5 0 == s.0 + 1) (cond (get_or frame 15 0 == 0) None (small (s.0 + 1) (s.1 + get_or frame 15 0))) t is in
     (eqb-true (get_or frame 5 0) (s.0 + 1) e.0, by (get_or frame 15 0 == 0) e.1)

@@ -15,12 +15,14 @@ use pfx_jobs::job::Job;
 /// outcome: what was recorded is what was done.
 pub fn records_are_outcomes<J: Job>()
     ensures right { (s : Plain J) (c : Command J) → IsState s → refusal J.kind s c ≡ None → IsTrue (is_right J.kind s (record_of J.kind s c)) }
-    ensures outcome { (s : Plain J) (c : Command J) → IsState s → refusal J.kind s c ≡ None → after_record s (record_of J.kind s c) ≡ outcome J.kind s (c ∷ []) }
+    ensures outcome { (s : Plain J) (c : Command J) → IsState s → refusal J.kind s c ≡ None
+        → after_record s (record_of J.kind s c) ≡ outcome J.kind s (c ∷ []) }
 {}
 
 /// So the records of an acceptable list, taken over one after the other, lead to the outcome of the list.
 pub fn records_of_lists_are_outcomes<J: Job>()
-    ensures { (s : Plain J) (H : List (Command J)) → IsState s → IsAcceptable J.kind s H → applied J.kind s (records_of J.kind s H) ≡ Some (outcome J.kind s H) }
+    ensures { (s : Plain J) (H : List (Command J)) → IsState s → IsAcceptable J.kind s H
+        → applied J.kind s (records_of J.kind s H) ≡ Some (outcome J.kind s H) }
 {}
 
 /// Records that are right lead from a state to a state of the same set, each by one number.

@@ -43,7 +43,8 @@ fn places_of<J: Job>(
     row: &Row,
     dones: &[Done<J>],
 ) -> Result<Vec<Place<J>>, AllocError>
-    ensures { IfOk result (λ places. places.items ≡ map (λ x. record { task = x; state = after_in J.kind x (map (λ d. deal d.number d.slot d.task d.before) dones.now) }) row.now) }
+    ensures { IfOk result (λ places. places.items ≡ map
+        (λ x. record { task = x; state = after_in J.kind x (map (λ d. deal d.number d.slot d.task d.before) dones.now) }) row.now) }
 {
     let mut places = Vec::with_capacity(alloc, row.len())?;
     for i in 0..row.len() {
@@ -61,7 +62,8 @@ fn run_slot<J: Job>(alloc: Global, state: &mut State<J>) -> Result<Recorded<J>, 
     ensures exact { MatchResult result (λ _. refusal J.kind state.old Command.Slot ≡ None) (λ fault. IsFaultOf J.kind state.old Command.Slot fault) }
     ensures reply { IfOk result (λ done. done.reply ≡ reply state.old Command.Slot) }
     ensures kept_as { IfOk result (λ done. plain done.entry ≡ record_of J.kind state.old Command.Slot) }
-    ensures outcome { OnOk result ((B : Plain J) (H : List (Command J)) → state.old ≡ outcome J.kind B H → state.new ≡ outcome J.kind B (H ++ Command.Slot ∷ [])) }
+    ensures outcome { OnOk result
+        ((B : Plain J) (H : List (Command J)) → state.old ≡ outcome J.kind B H → state.new ≡ outcome J.kind B (H ++ Command.Slot ∷ [])) }
     ensures kept { OnErr result (state.new ≡ state.old) }
 {
     let (row, quanta) = state.open_slot(alloc)?;

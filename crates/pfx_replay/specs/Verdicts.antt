@@ -54,4 +54,5 @@ module _ {J : Type 0} (K : Kind J) where
   IsVerdict h (Agrees number) = Leads h × Follow K h.checkpoint h.behind × (number ≡ h.checkpoint.number + length h.behind)
   IsVerdict h (Differs number Row) = IsFirstIn Row h number
   IsVerdict h (Differs number State) = IsFirstIn State h number
-  IsVerdict h (Differs number Checkpoint) = Follow K h.start h.before × (h.checkpoint ≢ outcome K h.start (commands_of h.before)) × (number ≡ h.checkpoint.number)
+  IsVerdict h (Differs number Checkpoint) = Follow K h.start h.before × (h.checkpoint ≢ outcome K h.start (commands_of h.before))
+      × (number ≡ h.checkpoint.number)

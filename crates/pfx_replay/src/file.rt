@@ -60,7 +60,8 @@ fn file_records<J: Job>(
     requires { length image.now ≡ file_len (layout header.now) }
     ensures { IfOk result (λ found. (before frames : List (List ℕ))
         → (turned ≡ false → before ≡ [])
-        → (turned ≡ true → AreFrames (segment_at (layout header.now) (not segment) + 9) (segment_at (layout header.now) (not segment) + (layout header.now).segment) before image.now)
+        → (turned ≡ true → AreFrames (segment_at (layout header.now) (not segment) + 9)
+        (segment_at (layout header.now) (not segment) + (layout header.now).segment) before image.now)
         → AreFrames (segment_at (layout header.now) segment + 9) (segment_at (layout header.now) segment + (layout header.now).segment) frames image.now
         → MatchOption found ⊥ (λ records. map plain records.items ≡ records_in J.kind header.now.set.workers (before ++ frames))) }
 {

@@ -46,7 +46,8 @@ pub record ReadsScripts {R : Type 0} (r : Reader R) : Type 0 where
 
 -- a record was read: it is the first of those that were left, and the others are left
 abbrev pub Takes : Records → Fields → Records → Type 0
-Takes old fields new = (new.place ≡ old.place + 1) × (new.failed ≡ false) × IfSome old.left (λ rows. (rest : List Fields) × (rows ≡ fields ∷ rest) × (new.left ≡ Some rest))
+Takes old fields new = (new.place ≡ old.place + 1) × (new.failed ≡ false)
+    × IfSome old.left (λ rows. (rest : List Fields) × (rows ≡ fields ∷ rest) × (new.left ≡ Some rest))
 
 -- whether there was a record
 abbrev pub Reads : Records → Bool → Fields → Records → Type 0
@@ -55,7 +56,8 @@ Reads old false fields new = (new.place ≡ old.place) × (new.failed ≡ false)
 
 -- why no record was read: the next one is no text and so has no form, or the reader or the memory failed
 abbrev pub ReadFails : Records → Fault → Type 0
-ReadFails old (fault.BadScript at) = (at ≡ old.place + 1) × IfSome old.left (λ rows. (fields : Fields) × (rest : List Fields) × (rows ≡ fields ∷ rest) × (verb_of fields ≡ None))
+ReadFails old (fault.BadScript at) = (at ≡ old.place + 1)
+    × IfSome old.left (λ rows. (fields : Fields) × (rest : List Fields) × (rows ≡ fields ∷ rest) × (verb_of fields ≡ None))
 ReadFails old fault.InputFailed = ⊤
 ReadFails old fault.NoMemory = ⊤
 ReadFails old other = ⊥

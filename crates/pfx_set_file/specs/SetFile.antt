@@ -1,5 +1,6 @@
 -- What a set file says, in the words of `toml`.
-use Rattle.std.specs.Prelude.{codes, ℕ, ℤ, pos, negsuc, Bool, true, not, ◌==◌, ◌&&◌, ◌||◌, nat_lt, nat_le, if◌then◌else◌, List, [], ◌∷◌, length, map, Option, Some, None, option_map, option_and_then}
+use Rattle.std.specs.Prelude.{codes, ℕ, ℤ, pos, negsuc, Bool, true, not, ◌==◌, ◌&&◌, ◌||◌, nat_lt, nat_le, if◌then◌else◌, List, [], ◌∷◌, length, map, Option}
+use Rattle.std.specs.Prelude.{Some, None, option_map, option_and_then}
 use Rattle.std.specs.Char.{is_ascii_alphanumeric}
 use Rattle.std.specs.List.{list_all}
 use Rattle.std.specs.Str.{is_utf8, bytes_eq}

@@ -1,5 +1,6 @@
 //! The open slot.
-ghost use Rattle.std.specs.Prelude.{◌≡◌, ◌≤◌, ℕ, List, length, map, [], MatchOption, MatchResult, IfOk, IfErr, OnOk, OnErr, IfSome, Some, None, option_map, vec_len, vec_capacity};
+ghost use Rattle.std.specs.Prelude.{◌≡◌, ◌≤◌, ℕ, List, length, map, [], MatchOption, MatchResult, IfOk, IfErr, OnOk, OnErr, IfSome, Some, None, option_map};
+ghost use Rattle.std.specs.Prelude.{vec_len, vec_capacity};
 ghost use Rattle.pfx_machine.specs.Slots.{deal};
 ghost use Rattle.pfx_crew.specs.Gathering.{Puts, Refuses};
 ghost use Rattle.pfx_redo.specs.Recording.{after_in};
@@ -36,7 +37,8 @@ impl<J: Job> Model for OpenSlot<J> {
       back = map (option_map (λ d. deal d.number d.slot d.task d.before)) o.back.items;
     } };
 
-    ghost invariant = { λ o. (Answers (map (λ q. deal q.number q.slot q.task q.before) o.quanta.items) (map (option_map (λ d. deal d.number d.slot d.task d.before)) o.back.items))
+    ghost invariant = { λ o.
+        (Answers (map (λ q. deal q.number q.slot q.task q.before) o.quanta.items) (map (option_map (λ d. deal d.number d.slot d.task d.before)) o.back.items))
         × (length o.back.items ≡ length o.quanta.items) × (o.dones.items ≡ []) × (o.places.items ≡ [])
         × (length o.back.items ≤ vec_capacity o.dones) × (length o.row ≤ vec_capacity o.places) };
 }
@@ -55,7 +57,8 @@ fn copy_quantum<J: Job>(quantum: &Quantum<J>) -> Quantum<J>
 
 // Copies of all quanta.
 fn copies<J: Job>(alloc: Global, quanta: &[Quantum<J>]) -> Result<Vec<Quantum<J>>, AllocError>
-    ensures { IfOk result (λ copies. map (λ q. deal q.number q.slot q.task q.before) copies.items ≡ map (λ q. deal q.number q.slot q.task q.before) quanta.now) }
+    ensures { IfOk result
+        (λ copies. map (λ q. deal q.number q.slot q.task q.before) copies.items ≡ map (λ q. deal q.number q.slot q.task q.before) quanta.now) }
 {
     let mut copies = Vec::with_capacity(alloc, quanta.len())?;
     for quantum in quanta {
@@ -113,7 +116,8 @@ fn collect<J: Job>(dones: Vec<Done<J>>, back: Vec<Option<Done<J>>>) -> Option<Ve
     requires empty { dones.items ≡ [] }
     requires room { length back.items ≤ vec_capacity dones }
     requires all { AllBack (map (option_map (λ d. deal d.number d.slot d.task d.before)) back.items) }
-    ensures { MatchOption result ⊥ (λ all. map (λ d. Some (deal d.number d.slot d.task d.before)) all.items ≡ map (option_map (λ d. deal d.number d.slot d.task d.before)) back.items) }
+    ensures { MatchOption result ⊥
+        (λ all. map (λ d. Some (deal d.number d.slot d.task d.before)) all.items ≡ map (option_map (λ d. deal d.number d.slot d.task d.before)) back.items) }
 {
     let mut all = dones;
     for place in back {
@@ -146,7 +150,8 @@ impl<J: Job> OpenSlot<J> {
         ensures row { IfOk result (λ r. r.0.row ≡ row) }
         ensures quanta { IfOk result (λ r. r.0.quanta ≡ map (λ q. deal q.number q.slot q.task q.before) quanta.items) }
         ensures none_back { IfOk result (λ r. r.0.back ≡ map (λ q. None) quanta.items) }
-        ensures dealt { IfOk result (λ r. map (λ q. deal q.number q.slot q.task q.before) r.1.items ≡ map (λ q. deal q.number q.slot q.task q.before) quanta.items) }
+        ensures dealt { IfOk result
+            (λ r. map (λ q. deal q.number q.slot q.task q.before) r.1.items ≡ map (λ q. deal q.number q.slot q.task q.before) quanta.items) }
     {
         let copies = copies(alloc, &quanta)?;
         let back = empty_places(alloc, &quanta)?;
@@ -166,7 +171,8 @@ impl<J: Job> OpenSlot<J> {
 
     /// Puts a result at its quantum's place, or refuses it. It takes no memory.
     pub fn give(&mut self, done: Done<J>) -> Result<(), GatherFault>
-        ensures ok { OnOk result (Puts self.old.quanta (deal done.number done.slot done.task done.before) self.old.back self.new.back (Some (deal done.number done.slot done.task done.before))) }
+        ensures ok { OnOk result (Puts self.old.quanta (deal done.number done.slot done.task done.before) self.old.back self.new.back
+            (Some (deal done.number done.slot done.task done.before))) }
         ensures err { IfErr result (λ fault. Refuses self.old.quanta (deal done.number done.slot done.task done.before) self.old.back fault) }
         ensures kept { OnErr result (self.new ≡ self.old) }
         ensures same { (self.new.row ≡ self.old.row) × (self.new.quanta ≡ self.old.quanta) }
@@ -189,7 +195,8 @@ impl<J: Job> OpenSlot<J> {
     /// The row, the results and what is recorded, once all are back. It takes no memory.
     pub fn end(self) -> Option<Ended<J>>
         requires all { AllBack self.back }
-        ensures { MatchOption result ⊥ (λ e. (e.row ≡ self.row) × (map (λ d. deal d.number d.slot d.task d.before) e.dones.items ≡ self.quanta) × (e.places.items ≡ places_with J.kind self.row self.quanta)) }
+        ensures { MatchOption result ⊥ (λ e. (e.row ≡ self.row) × (map (λ d. deal d.number d.slot d.task d.before) e.dones.items ≡ self.quanta)
+            × (e.places.items ≡ places_with J.kind self.row self.quanta)) }
     {
         let OpenSlot {
             row,

@@ -1,5 +1,6 @@
 -- What the calls of a store do.
-use Rattle.std.specs.Prelude.{◌≡◌, ◌↔◌, ◌<◌, ◌+◌, ◌-◌, ◌++◌, ℕ, List, [], ◌∷◌, length, min, true, false, Bool, Result, Ok, Some, OnOk, OnErr, IfOk, IfErr, IsErrOf, IsTrue, MatchResult}
+use Rattle.std.specs.Prelude.{◌≡◌, ◌↔◌, ◌<◌, ◌+◌, ◌-◌, ◌++◌, ℕ, List, [], ◌∷◌, length, min, true, false, Bool, Result, Ok, Some, OnOk, OnErr, IfOk, IfErr}
+use Rattle.std.specs.Prelude.{IsErrOf, IsTrue, MatchResult}
 use Rattle.pfx_disk.specs.CallsMade.{HasMade, HasBrokenOff, HasKeptTo}
 use Rattle.pfx_disk.specs.Disk.{View, HasFailed, IsHonest, Only}
 use Rattle.pfx_disk.specs.Stop.{Act, Sync}

@@ -1,5 +1,6 @@
 // Making a store.
-ghost use Rattle.std.specs.Prelude.{◌≡◌, ◌↔◌, ◌<◌, ◌≤◌, ◌+◌, ◌-◌, ◌*◌, ◌^◌, ◌⊎◌, ◌∷◌, [], ℕ, List, length, false, vec_capacity, Ok, IfOk, IfErr, MatchResult, IsErr};
+ghost use Rattle.std.specs.Prelude.{◌≡◌, ◌↔◌, ◌<◌, ◌≤◌, ◌+◌, ◌-◌, ◌*◌, ◌^◌, ◌⊎◌, ◌∷◌, [], ℕ, List, length, false, vec_capacity, Ok, IfOk, IfErr, MatchResult};
+ghost use Rattle.std.specs.Prelude.{IsErr};
 ghost use Rattle.pfx_checkpoint.specs.Spelling.{state_bytes};
 ghost use Rattle.pfx_disk.specs.Disk.{IsHonest, HasFailed, Leaves, Same};
 ghost use Rattle.pfx_create.specs.Attempts.{IsNoneOrMade};

@@ -1,5 +1,6 @@
 // A state and the file that keeps it, with nothing said yet of whether they agree.
-ghost use Rattle.std.specs.Prelude.{◌≡◌, ◌≤◌, ◌<◌, ◌+◌, ◌*◌, ◌^◌, ◌++◌, ◌∷◌, [], ℕ, List, length, map, take, slice_index, vec_capacity, Some, OnOk, OnErr, IfOk, IsErrOf};
+ghost use Rattle.std.specs.Prelude.{◌≡◌, ◌≤◌, ◌<◌, ◌+◌, ◌*◌, ◌^◌, ◌++◌, ◌∷◌, [], ℕ, List, length, map, take, slice_index, vec_capacity, Some, OnOk, OnErr};
+ghost use Rattle.std.specs.Prelude.{IfOk, IsErrOf};
 ghost use Rattle.byteorder.specs.Endian.{little_number};
 ghost use Rattle.pfx_checkpoint.specs.Spelling.{state_bytes, state_len};
 ghost use Rattle.pfx_disk.specs.CallsMade.{HasMade, HasBrokenOff, HasKeptTo};
@@ -204,7 +205,8 @@ impl<D: Disk, J: Job> Journal<D, J> {
             → OnOk result (HasMade (appending J.kind f self.old.state frame) (D.view self.old.file.disk) (D.view self.new.file.disk)) }
         ensures front { let frame = batch_bytes J.kind (batch_of batch.now.first batch.now.records.items) in
             (f : FileOf J) → HasFile J.kind f self.old.file.places self.old.spelled.items → IsHonest (D.view self.old.file.disk)
-            → IsErrOf result StoreFault.Device → HasBrokenOff (appending J.kind f self.old.state frame) (D.view self.old.file.disk) (D.view self.new.file.disk) }
+            → IsErrOf result StoreFault.Device
+            → HasBrokenOff (appending J.kind f self.old.state frame) (D.view self.old.file.disk) (D.view self.new.file.disk) }
         ensures between { let frame = batch_bytes J.kind (batch_of batch.now.first batch.now.records.items) in
             (f : FileOf J) → HasFile J.kind f self.old.file.places self.old.spelled.items → IsHonest (D.view self.old.file.disk)
             → HasKeptTo (appending J.kind f self.old.state frame) (D.view self.old.file.disk) (D.view self.new.file.disk) }

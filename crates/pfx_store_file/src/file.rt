@@ -1,5 +1,6 @@
 // A store's file: its disk, its places, and appending to it.
-ghost use Rattle.std.specs.Prelude.{◌≡◌, ◌≢◌, ◌≤◌, ◌<◌, ◌+◌, ◌++◌, ◌∷◌, ◌↔◌, [], ℕ, List, take, drop, length, not, Ok, Some, true, false, OnOk, OnErr, IsTrue, IsErrOf};
+ghost use Rattle.std.specs.Prelude.{◌≡◌, ◌≢◌, ◌≤◌, ◌<◌, ◌+◌, ◌++◌, ◌∷◌, ◌↔◌, [], ℕ, List, take, drop, length, not, Ok, Some, true, false, OnOk, OnErr, IsTrue};
+ghost use Rattle.std.specs.Prelude.{IsErrOf};
 ghost use Rattle.pfx_disk.specs.CallsMade.{HasMade, HasBrokenOff, HasKeptTo};
 ghost use Rattle.pfx_disk.specs.Disk.{IsHonest, Only};
 ghost use Rattle.pfx_disk.specs.declared.gates.TheConstants.{GATE_OPEN};

@@ -86,7 +86,8 @@ fn serve_named<R: Threads + Wait + Clock + Copy + Drop + Send + Sync + 'static>(
     desk: JobDesk,
     gate: Gate,
 ) -> Option<bool>
-    requires { Begins any_kind store.state (held_view memory_view store.file.disk).failures (held_view memory_view store.file.disk).clock store.file.broken store.state
+    requires { Begins any_kind store.state (held_view memory_view store.file.disk).failures
+        (held_view memory_view store.file.disk).clock store.file.broken store.state
         (held_view memory_view store.file.disk) }
 {
     serve::<Brand, JobDesk, GateDisk<MemoryDisk, R>, R>(rt, alloc, names, store, desk, gate)

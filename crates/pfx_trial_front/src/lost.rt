@@ -87,7 +87,8 @@ fn serve_named<R: Threads + Wait + Clock + Copy + Drop + Send + Sync + 'static>(
     store: Store<FaultDisk<MemoryDisk>, AnyJob>,
     desk: JobDesk,
 ) -> Option<bool>
-    requires { Begins any_kind store.state (fault_view memory_view store.file.disk).failures (fault_view memory_view store.file.disk).clock store.file.broken store.state
+    requires { Begins any_kind store.state (fault_view memory_view store.file.disk).failures
+        (fault_view memory_view store.file.disk).clock store.file.broken store.state
         (fault_view memory_view store.file.disk) }
 {
     serve::<Brand, JobDesk, FaultDisk<MemoryDisk>, R>(rt, alloc, names, store, desk)

@@ -54,7 +54,8 @@ fn serve_named<R: Threads + Wait + Clock + Copy + Drop + Send + Sync + 'static>(
     store: Store<MemoryDisk, AnyJob>,
     desk: JobDesk,
 ) -> Option<bool>
-    requires { Begins any_kind store.state (memory_view store.file.disk).failures (memory_view store.file.disk).clock store.file.broken store.state (memory_view store.file.disk) }
+    requires { Begins any_kind store.state (memory_view store.file.disk).failures
+        (memory_view store.file.disk).clock store.file.broken store.state (memory_view store.file.disk) }
 {
     serve::<Brand, JobDesk, MemoryDisk, R>(rt, alloc, names, store, desk)
 }

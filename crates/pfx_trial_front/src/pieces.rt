@@ -119,7 +119,8 @@ fn serve_held<R: Threads + Wait + Clock + Copy + Drop + Send + Sync + 'static>(
     desk: JobDesk,
     gate: Gate,
 ) -> Option<bool>
-    requires { Begins any_kind store.state (held_view memory_view store.file.disk).failures (held_view memory_view store.file.disk).clock store.file.broken store.state
+    requires { Begins any_kind store.state (held_view memory_view store.file.disk).failures
+        (held_view memory_view store.file.disk).clock store.file.broken store.state
         (held_view memory_view store.file.disk) }
 {
     serve::<Brand, JobDesk, GateDisk<MemoryDisk, R>, R>(rt, alloc, names, store, desk, Some(gate))
@@ -133,7 +134,8 @@ fn serve_failing<R: Threads + Wait + Clock + Copy + Drop + Send + Sync + 'static
     store: Store<FaultDisk<MemoryDisk>, AnyJob>,
     desk: JobDesk,
 ) -> Option<bool>
-    requires { Begins any_kind store.state (fault_view memory_view store.file.disk).failures (fault_view memory_view store.file.disk).clock store.file.broken store.state
+    requires { Begins any_kind store.state (fault_view memory_view store.file.disk).failures
+        (fault_view memory_view store.file.disk).clock store.file.broken store.state
         (fault_view memory_view store.file.disk) }
 {
     serve::<Brand, JobDesk, FaultDisk<MemoryDisk>, R>(rt, alloc, names, store, desk, None)

@@ -262,7 +262,8 @@ fn serve_memory<R: Threads + Wait + Clock + Copy + Drop + Send + Sync + 'static>
     store: Store<MemoryDisk, AnyJob>,
     desk: JobDesk,
 ) -> Option<(Outcome, MemoryDisk)>
-    requires { Begins any_kind store.state (memory_view store.file.disk).failures (memory_view store.file.disk).clock store.file.broken store.state (memory_view store.file.disk) }
+    requires { Begins any_kind store.state (memory_view store.file.disk).failures
+        (memory_view store.file.disk).clock store.file.broken store.state (memory_view store.file.disk) }
 {
     serve::<Brand, JobDesk, MemoryDisk, R>(rt, alloc, names, store, desk, None)
 }
@@ -276,7 +277,8 @@ fn serve_held<R: Threads + Wait + Clock + Copy + Drop + Send + Sync + 'static>(
     desk: JobDesk,
     gate: Gate,
 ) -> Option<(Outcome, GateDisk<MemoryDisk, R>)>
-    requires { Begins any_kind store.state (held_view memory_view store.file.disk).failures (held_view memory_view store.file.disk).clock store.file.broken store.state
+    requires { Begins any_kind store.state (held_view memory_view store.file.disk).failures
+        (held_view memory_view store.file.disk).clock store.file.broken store.state
         (held_view memory_view store.file.disk) }
 {
     serve::<Brand, JobDesk, GateDisk<MemoryDisk, R>, R>(rt, alloc, names, store, desk, Some(gate))
@@ -290,7 +292,8 @@ fn serve_failing<R: Threads + Wait + Clock + Copy + Drop + Send + Sync + 'static
     store: Store<FaultDisk<MemoryDisk>, AnyJob>,
     desk: JobDesk,
 ) -> Option<(Outcome, FaultDisk<MemoryDisk>)>
-    requires { Begins any_kind store.state (fault_view memory_view store.file.disk).failures (fault_view memory_view store.file.disk).clock store.file.broken store.state
+    requires { Begins any_kind store.state (fault_view memory_view store.file.disk).failures
+        (fault_view memory_view store.file.disk).clock store.file.broken store.state
         (fault_view memory_view store.file.disk) }
 {
     serve::<Brand, JobDesk, FaultDisk<MemoryDisk>, R>(rt, alloc, names, store, desk, None)

@@ -45,7 +45,8 @@ made left seed place = record { left = left; seed = seed; place = place }
 same_fields : (l s p left seed place : ℕ) → l ≡ left → s ≡ seed → p ≡ place → made l s p ≡ made left seed place
 same_fields l s p left seed place e f g = ap (λ x. made x s p) e ∙ (ap (λ x. made left x p) f ∙ ap (λ x. made left seed x) g)
 
-pub walk_found-walk_bytes : (left seed place : ℕ) → IsTrue (walk_fits left seed place) → walk_found (walk_bytes (record { left = left; seed = seed; place = place })) ≡ record { left = left; seed = seed; place = place }
+pub walk_found-walk_bytes : (left seed place : ℕ) → IsTrue (walk_fits left seed place)
+    → walk_found (walk_bytes (record { left = left; seed = seed; place = place })) ≡ record { left = left; seed = seed; place = place }
 unfolding walk_bytes
 walk_found-walk_bytes left seed place h =
     let a = walk_fits-left left seed place h in
