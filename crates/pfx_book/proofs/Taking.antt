@@ -11,7 +11,7 @@ use Rattle.pfx_machine.specs.Plain.{Plain, IsState}
 use Rattle.pfx_machine.specs.Outcome.{outcome}
 use Rattle.pfx_machine.specs.declared.command.Command.{Command}
 use Rattle.pfx_machine.proofs.Compose.{outcome-none, outcome-outcome}
-use Rattle.pfx_checkpoint.specs.Fitting.{fits}
+use Rattle.pfx_machine.specs.Fitting.{fits}
 use Rattle.pfx_columns.specs.Ledgers.{total}
 use Rattle.pfx_redo.specs.Applying.{applied, is_right, is_apt, after_record}
 use Rattle.pfx_redo.specs.Recording.{record_of, records_of}

@@ -1,3 +1,2 @@
-pub mod Fits
 pub mod Fronts
 pub mod Readings

@@ -15,11 +15,11 @@ use Rattle.pfx_jobs.specs.Kind.{Kind, Laws}
 use Rattle.pfx_jobs.proofs.Codings.{bytes_eq-same, bytes_eq-true}
 use Rattle.pfx_machine.specs.Plain.{Plain, IsState}
 use Rattle.pfx_checkpoint.specs.Spelling.{job_bytes, task_bytes, front_bytes, state_bytes, place_of}
-use Rattle.pfx_checkpoint.specs.Fitting.{fits}
+use Rattle.pfx_machine.specs.Fitting.{fits}
 use Rattle.pfx_checkpoint.specs.Found.{number_at, allocs_at, job_at, jobs_at, plain_at, read_state, Reads}
 use Rattle.pfx_checkpoint.specs.declared.faults.CheckpointFault.{CheckpointFault}
 use Rattle.pfx_checkpoint.specs.declared.faults.CheckpointFault.TheVariants.{Damaged, NoMemory}
-use Rattle.pfx_checkpoint.proofs.Fits.{Fitting, fits_of, fitting, state_fits, and_true, and_parts}
+use Rattle.pfx_machine.proofs.Fits.{Fitting, fits_of, fitting, state_fits, and_true, and_parts}
 use Rattle.pfx_checkpoint.proofs.Fronts.{length-front, length-eight, front_split, front_begins, place_in}
 
 -- what is read

@@ -9,7 +9,7 @@ use Rattle.pfx_machine.specs.Plain.{Plain}
 use Rattle.pfx_checkpoint.specs.declared.faults.CheckpointFault.{CheckpointFault}
 use Rattle.pfx_checkpoint.specs.declared.faults.CheckpointFault.TheVariants.{Damaged, NoMemory}
 use Rattle.pfx_checkpoint.specs.Spelling.{place_of, state_bytes}
-use Rattle.pfx_checkpoint.specs.Fitting.{fits}
+use Rattle.pfx_machine.specs.Fitting.{fits}
 
 -- the number that stands in eight bytes from a place on
 abbrev pub number_at : ℕ → List ℕ → ℕ

@@ -4,10 +4,10 @@ use Rattle.std.specs.Str.{bytes_eq}
 use Rattle.std.proofs.Common.{sym, ◌∙◌, ap, arith, subst}
 use Rattle.std.proofs.lemmas.Option.{none-some}
 use Rattle.byteorder.specs.Numbers.{little_from-take}
-use Rattle.pfx_checkpoint.specs.Fitting.{fits}
+use Rattle.pfx_machine.specs.Fitting.{fits}
 use Rattle.pfx_checkpoint.specs.Found.{number_at, plain_at, read_state}
 use Rattle.pfx_checkpoint.specs.Spelling.{state_bytes}
-use Rattle.pfx_checkpoint.proofs.Fits.{Fitting, fitting}
+use Rattle.pfx_machine.proofs.Fits.{Fitting, fitting}
 use Rattle.pfx_redo.proofs.States.{applied_behind}
 use Rattle.pfx_header.specs.Headers.{Header}
 use Rattle.pfx_header.proofs.Alone.{alone, enough}

@@ -8,7 +8,8 @@ use Rattle.std.proofs.lemmas.List.Elements.{All-head, All-tail}
 use Rattle.byteorder.specs.Endian.{little_number}
 use Rattle.pfx_weights.specs.Rows.{is_in, IsFullRow, IsRow}
 use Rattle.pfx_columns.specs.Ledgers.{IsFair, IsLedger, after, total}
-use Rattle.pfx_redo.specs.Applying.{is_busy, is_flagged}
+use Rattle.pfx_machine.specs.Jobs.{is_busy}
+use Rattle.pfx_redo.specs.Applying.{is_flagged}
 use Rattle.pfx_redo.proofs.Effects.{after-ran}
 use Rattle.pfx_redo.proofs.Rightness.{row_right}
 use Rattle.pfx_redo.proofs.Rows.{row_is}

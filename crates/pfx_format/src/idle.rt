@@ -1,14 +1,14 @@
 // Slots in which no task has a state recorded, as those of stores without jobs: their rows are read without a list of places.
 ghost use Rattle.std.specs.Prelude.{◌≡◌, ◌≤◌, ◌+◌, ◌*◌, slice_get, not, IsTrue, IsFalse};
 ghost use Rattle.std.specs.List.{list_all};
-ghost use Rattle.pfx_redo.specs.Applying.{is_busy};
+ghost use Rattle.pfx_machine.specs.Jobs.{is_busy};
 ghost use Rattle.pfx_record.specs.Reading.{IsRecord};
 ghost use Rattle.pfx_record.specs.Records.{ran};
 ghost use Rattle.pfx_format.specs.Idle.{idle, idle_len, IsPassed};
 
 use byteorder::{ByteOrder, LittleEndian};
 use pfx_jobs::job::Job;
-use pfx_machine::State;
+use pfx_machine::{State, is_busy};
 use pfx_weights::Row;
 
 /// How many bytes the record of such a slot takes.
@@ -42,23 +42,12 @@ fn read_idle<J: Job>(workers: u32, bytes: &[u8], row: &mut Row) -> bool
     true
 }
 
-// Whether a task has no unfinished job.
-fn is_idle<J: Job>(jobs: &[Option<J>], task: u16) -> bool
-    ensures { result ≡ not (is_busy J.kind (slice_get jobs.now task)) }
-{
-    match jobs.get(usize::from(task)) {
-        None => true,
-        Some(None) => true,
-        Some(Some(job)) => job.is_done(),
-    }
-}
-
 // Whether none of these tasks has an unfinished job.
 fn are_idle<J: Job>(jobs: &[Option<J>], tasks: &[u16]) -> bool
     ensures { result ≡ list_all (λ task. not (is_busy J.kind (slice_get jobs.now task))) tasks.now }
 {
     for task in tasks {
-        if !is_idle(jobs, *task) {
+        if is_busy(jobs, *task) {
             return false;
         }
     }

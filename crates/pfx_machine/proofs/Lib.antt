@@ -1,5 +1,6 @@
 pub mod Compose
 pub mod Dealt
+pub mod Fits
 pub mod Keeping
 pub mod Places
 pub mod PlainLemmas

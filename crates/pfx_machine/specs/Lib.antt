@@ -1,6 +1,8 @@
 pub mod Board
 pub mod Faults
+pub mod Fitting
 pub mod Happenings
+pub mod Jobs
 pub mod Outcome
 pub mod Plain
 pub mod Refusals

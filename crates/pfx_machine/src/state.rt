@@ -14,6 +14,7 @@ ghost use Rattle.pfx_machine.specs.Slots.{deal, deals_in};
 ghost use Rattle.pfx_machine.specs.declared.command.Command.{Command};
 
 use crate::faults::fault_of_choice;
+use crate::jobs::{has_job, is_free};
 use crate::slot::{deal_all, serve_all, write_back};
 use crate::{Command, MachineFault, Reply};
 use pfx_choice::{Chooser, give};
@@ -52,28 +53,26 @@ impl<J: Job> Model for State<J> {
 fn fault_of_submit<J: Job>(jobs: &[Option<J>], task: u16) -> Option<MachineFault>
     ensures { result ≡ submit_fault J.kind task (slice_get jobs.now task) }
 {
-    match jobs.get(usize::from(task)) {
-        None => Some(MachineFault::NoSuchTask { task }),
-        Some(None) => None,
-        Some(Some(job)) => {
-            if job.is_done() {
-                None
-            } else {
-                Some(MachineFault::TaskBusy { task })
-            }
-        }
+    if usize::from(task) >= jobs.len() {
+        return Some(MachineFault::NoSuchTask { task });
     }
+    if is_free(jobs, task) {
+        return None;
+    }
+    Some(MachineFault::TaskBusy { task })
 }
 
 /// Why a task's job can't be taken away.
 fn fault_of_withdraw<J: Job>(jobs: &[Option<J>], task: u16) -> Option<MachineFault>
     ensures { result ≡ withdraw_fault task (slice_get jobs.now task) }
 {
-    match jobs.get(usize::from(task)) {
-        None => Some(MachineFault::NoSuchTask { task }),
-        Some(None) => Some(MachineFault::NoJob { task }),
-        Some(Some(_)) => None,
+    if usize::from(task) >= jobs.len() {
+        return Some(MachineFault::NoSuchTask { task });
     }
+    if has_job(jobs, task) {
+        return None;
+    }
+    Some(MachineFault::NoJob { task })
 }
 
 fn copy_one<J: Job>(place: &Option<J>) -> Option<J>
@@ -174,6 +173,8 @@ impl<J: Job> State<J> {
     }
 
     /// Puts a job, or none, at the place of a real task.
+    ///
+    /// This bypasses acceptance, as `pass_row` and `count` do: a command that is taken over from its record was accepted before.
     pub fn put_job(&mut self, task: u16, job: Option<J>)
         requires { task < length self.old.jobs }
         ensures { self.new ≡ record self.old { jobs = slice_set self.old.jobs task job } }
@@ -183,7 +184,7 @@ impl<J: Job> State<J> {
 
     /// Gives each task of the row a slot, and goes to the next one. No job is stepped and no number taken. Where the row
     /// doesn't give each worker one of the set's tasks, the slot limit is reached, or a lag would be out of range,
-    /// nothing changes.
+    /// nothing changes. This bypasses acceptance: the row need not be the chosen one.
     pub fn pass_row(&mut self, row: &Row) -> bool
         ensures right { IsTrue result ↔ (IsFullRow self.old.ledger.set.workers (length self.old.ledger.set.weights) row.now)
             × (self.old.ledger.slot + 1 < 2 ^ 40) × IsFair (after self.old.ledger (is_in row.now)) }
@@ -205,7 +206,7 @@ impl<J: Job> State<J> {
         }
     }
 
-    /// Takes the next number.
+    /// Takes the next number. This bypasses acceptance: nothing else changes.
     pub fn count(&mut self)
         requires { self.old.number + 1 < 2 ^ 48 }
         ensures { self.new ≡ record self.old { number = self.old.number + 1 } }

@@ -10,8 +10,8 @@ use Rattle.pfx_weights.specs.Rows.{is_in, IsFullRow}
 use Rattle.pfx_columns.specs.Ledgers.{IsFair, after, total}
 use Rattle.pfx_choice.specs.PfRows.{chosen}
 use Rattle.pfx_choice.proofs.Planning.{pf_full}
-use Rattle.pfx_checkpoint.specs.Fitting.{fits}
-use Rattle.pfx_checkpoint.proofs.Fits.{fits_of, state_fits}
+use Rattle.pfx_machine.specs.Fitting.{fits}
+use Rattle.pfx_machine.proofs.Fits.{fits_of, state_fits}
 use Rattle.pfx_jobs.specs.Kind.{Kind, Laws}
 use Rattle.pfx_machine.specs.Plain.{IsState}
 use Rattle.pfx_machine.specs.Plain as machine
@@ -32,7 +32,8 @@ use Rattle.pfx_record.specs.Effect.{holds, instead_of, jobs_from, state_in}
 use Rattle.pfx_record.specs.Records.{Plain, submitted, ran, withdrawn, record_fits, rises_from, tasks_of}
 use Rattle.pfx_record.specs.declared.record.Place.{Place}
 use Rattle.pfx_record.proofs.Rising.{both, of_both, rises-from}
-use Rattle.pfx_redo.specs.Applying.{after_record, applied, has_job, is_apt, is_busy, is_flagged, is_free, is_right}
+use Rattle.pfx_machine.specs.Jobs.{has_job, is_busy, is_free}
+use Rattle.pfx_redo.specs.Applying.{after_record, applied, is_apt, is_flagged, is_right}
 use Rattle.pfx_redo.specs.Recording.{place_of, record_of, records_of, state_after_step}
 use Rattle.pfx_redo.proofs.Effects.{after-ran, after-submitted, after-withdrawn, submitted-jobs, withdrawn-jobs}
 use Rattle.pfx_redo.proofs.Rightness.{free_is_real, job_is_real, submit_right, withdraw_right, row_right}

@@ -8,15 +8,16 @@ use Rattle.std.proofs.lemmas.Option.{slice_get_past}
 use Rattle.pfx_weights.specs.Rows.{is_in, IsFullRow}
 use Rattle.pfx_columns.specs.Ledgers.{IsFair, IsLedger, after, total}
 use Rattle.pfx_columns.proofs.Shown.{ledger_after}
-use Rattle.pfx_checkpoint.specs.Fitting.{fits}
-use Rattle.pfx_checkpoint.proofs.Fits.{Fitting, fits_of, fitting, state_fits}
+use Rattle.pfx_machine.specs.Fitting.{fits}
+use Rattle.pfx_machine.proofs.Fits.{Fitting, fits_of, fitting, state_fits}
 use Rattle.pfx_jobs.specs.Kind.{Kind}
 use Rattle.pfx_machine.specs.Plain as machine
 use Rattle.pfx_record.specs.Effect.{jobs_from}
 use Rattle.pfx_record.specs.Records.{Plain, submitted, ran, withdrawn, record_fits, rises_from, tasks_of}
 use Rattle.pfx_record.specs.declared.record.Place.{Place}
 use Rattle.pfx_record.proofs.Rising.{both, of_both}
-use Rattle.pfx_redo.specs.Applying.{after_record, has_job, is_apt, is_flagged, is_free, is_right}
+use Rattle.pfx_machine.specs.Jobs.{has_job, is_free}
+use Rattle.pfx_redo.specs.Applying.{after_record, is_apt, is_flagged, is_right}
 use Rattle.pfx_redo.proofs.Rows.{strict, tasks_below}
 use Rattle.pfx_redo.proofs.Effects.{after-ran, after-submitted, after-withdrawn}
 

@@ -12,7 +12,8 @@ use Rattle.pfx_record.specs.Effect.{holds}
 use Rattle.pfx_record.specs.Records.{tasks_of, rises_from}
 use Rattle.pfx_record.specs.declared.record.Place.{Place}
 use Rattle.pfx_record.proofs.Rising.{both, rises}
-use Rattle.pfx_redo.specs.Applying.{is_busy, is_flagged}
+use Rattle.pfx_machine.specs.Jobs.{is_busy}
+use Rattle.pfx_redo.specs.Applying.{is_flagged}
 
 pub holds-is_in : {J : Type 0} (row : List (Place J)) (x : ℕ) → holds row x ≡ is_in (tasks_of row) x
 holds-is_in [] x = refl

@@ -2,8 +2,8 @@
 use Rattle.std.specs.Prelude.{◌≡◌, ℕ, ◌+◌, ◌==◌, ◌&&◌, if◌then◌else◌, Bool, true, false, List, [], ◌∷◌, length, Option, Some, None, IsTrue, refl}
 use Rattle.std.proofs.Common.{suc, sym, ◌∙◌, ap, arith, subst}
 use Rattle.std.proofs.lemmas.Option.{none-some}
-use Rattle.pfx_checkpoint.specs.Fitting.{fits}
-use Rattle.pfx_checkpoint.proofs.Fits.{fitting}
+use Rattle.pfx_machine.specs.Fitting.{fits}
+use Rattle.pfx_machine.proofs.Fits.{fitting}
 use Rattle.pfx_jobs.specs.Kind.{Kind}
 use Rattle.pfx_machine.specs.Plain.{IsState}
 use Rattle.pfx_machine.specs.Plain as machine

@@ -4,7 +4,8 @@ use Rattle.std.specs.List.{list_all}
 use Rattle.pfx_jobs.specs.Kind.{Kind}
 use Rattle.pfx_columns.specs.Ledgers.{ledger_at, total}
 use Rattle.pfx_machine.specs.Plain as machine
-use Rattle.pfx_checkpoint.specs.Fitting.{fits}
+use Rattle.pfx_machine.specs.Jobs.{has_job, is_busy, is_free}
+use Rattle.pfx_machine.specs.Fitting.{fits}
 use Rattle.pfx_record.specs.Effect.{Standing, recorded_one}
 use Rattle.pfx_record.specs.Records.{Plain, submitted, ran, withdrawn, record_fits}
 use Rattle.pfx_record.specs.declared.record.Place.{Place}
@@ -18,22 +19,6 @@ abbrev pub after_record : {J : Type 0} → machine.Plain J → Plain J → machi
 after_record s done =
     let next = recorded_one (standing_of s) done in
     record { number = next.number; ledger = ledger_at s.ledger.set next.slot next.allocations; jobs = next.jobs }
-
--- by a task's place in the list of jobs: it is a real one without an unfinished job; it has a job; it has an unfinished one
-abbrev pub is_free : {J : Type 0} → Kind J → Option (Option J) → Bool
-is_free K None = false
-is_free K (Some None) = true
-is_free K (Some (Some s)) = K.left s == 0
-
-abbrev pub has_job : {J : Type 0} → Option (Option J) → Bool
-has_job None = false
-has_job (Some None) = false
-has_job (Some (Some s)) = true
-
-abbrev pub is_busy : {J : Type 0} → Kind J → Option (Option J) → Bool
-is_busy K None = false
-is_busy K (Some None) = false
-is_busy K (Some (Some s)) = not (K.left s == 0)
 
 -- a place of a row has a state exactly where its task has an unfinished job
 abbrev pub is_flagged : {J : Type 0} → Kind J → List (Option J) → Place J → Bool

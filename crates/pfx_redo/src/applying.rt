@@ -5,45 +5,13 @@ ghost use Rattle.std.specs.List.Sorted.{IsStrictlyIncreasing};
 ghost use Rattle.pfx_columns.specs.Ledgers.{total};
 ghost use Rattle.pfx_record.specs.Records.{plain, ran, record_fits, rises_from, tasks_of};
 ghost use Rattle.pfx_record.specs.Effect.{jobs_from};
-ghost use Rattle.pfx_redo.specs.Applying.{after_record, applied, has_job, is_busy, is_flagged, is_free, is_right};
+ghost use Rattle.pfx_machine.specs.Jobs.{has_job, is_busy, is_free};
+ghost use Rattle.pfx_redo.specs.Applying.{after_record, applied, is_flagged, is_right};
 
 use pfx_jobs::job::Job;
-use pfx_machine::State;
+use pfx_machine::{State, has_job, is_busy, is_free};
 use pfx_record::{Place, Record, record_fits};
 use pfx_weights::Row;
-
-// Whether a task is a real one without an unfinished job.
-fn is_free<J: Job>(jobs: &[Option<J>], task: u16) -> bool
-    ensures { result ≡ is_free J.kind (slice_get jobs.now task) }
-{
-    match jobs.get(usize::from(task)) {
-        None => false,
-        Some(None) => true,
-        Some(Some(job)) => job.is_done(),
-    }
-}
-
-// Whether a task has a job.
-fn has_job<J: Job>(jobs: &[Option<J>], task: u16) -> bool
-    ensures { result ≡ has_job (slice_get jobs.now task) }
-{
-    match jobs.get(usize::from(task)) {
-        None => false,
-        Some(None) => false,
-        Some(Some(_)) => true,
-    }
-}
-
-// Whether a task has an unfinished job.
-fn is_busy<J: Job>(jobs: &[Option<J>], task: u16) -> bool
-    ensures { result ≡ is_busy J.kind (slice_get jobs.now task) }
-{
-    match jobs.get(usize::from(task)) {
-        None => false,
-        Some(None) => false,
-        Some(Some(job)) => !job.is_done(),
-    }
-}
 
 // Whether a place of a row has a state exactly where its task has an unfinished job.
 fn is_flagged<J: Job>(jobs: &[Option<J>], place: &Place<J>) -> bool

@@ -3,7 +3,7 @@ use Rattle.std.specs.Prelude.{◌≡◌, ◌≢◌, ◌<◌, ◌+◌, ◌^◌, �
 use Rattle.std.proofs.Common.{sym, ◌∙◌, ap, inl, inr}
 use Rattle.std.proofs.lemmas.Bool.{cond-true, cases_lt, lt-ltb}
 use Rattle.pfx_choice.specs.PfRows.{chosen}
-use Rattle.pfx_checkpoint.specs.Fitting.{fits}
+use Rattle.pfx_machine.specs.Fitting.{fits}
 use Rattle.pfx_columns.specs.Ledgers.{total}
 use Rattle.pfx_jobs.specs.Kind.{Kind}
 use Rattle.pfx_machine.specs.Happenings.{row_or_none}
@@ -15,7 +15,8 @@ use Rattle.pfx_machine.specs.declared.faults.MachineFault.TheVariants.{NumberLim
 use Rattle.pfx_record.specs.Records.{Plain, submitted, ran, withdrawn, record_fits, tasks_of}
 use Rattle.pfx_record.specs.declared.record.Place.{Place}
 use Rattle.pfx_record.proofs.Rising.{both}
-use Rattle.pfx_redo.specs.Applying.{after_record, has_job, is_apt, is_free, is_right}
+use Rattle.pfx_machine.specs.Jobs.{has_job, is_free}
+use Rattle.pfx_redo.specs.Applying.{after_record, is_apt, is_right}
 use Rattle.pfx_redo.specs.Recording.{place_of, record_of}
 use Rattle.pfx_redo.proofs.Rightness.{number_wrong}
 

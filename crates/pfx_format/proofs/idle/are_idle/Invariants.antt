@@ -1,6 +1,6 @@
 use Rattle.std.proofs.Common.{◌≡◌, not, drop, slice_get}
 use Rattle.std.specs.List.{list_all}
-use Rattle.pfx_redo.specs.Applying.{is_busy}
+use Rattle.pfx_machine.specs.Jobs.{is_busy}
 use Rattle.pfx_format.proofs.idle.are_idle.Given as goal
 
 -- what is left decides

@@ -2,7 +2,8 @@ use Rattle.std.proofs.Common.{◌≡◌, ◌+◌, ◌<◌, ◌≤◌, ◌^◌, s
 use Rattle.std.specs.Prelude.{Some, None, slice_get, slice_set}
 use Rattle.pfx_columns.specs.Ledgers.{IsLedger}
 use Rattle.pfx_record.specs.Records.{plain, record_fits, submitted, withdrawn}
-use Rattle.pfx_redo.specs.Applying.{has_job, is_free, is_right}
+use Rattle.pfx_machine.specs.Jobs.{has_job, is_free}
+use Rattle.pfx_redo.specs.Applying.{is_right}
 use Rattle.pfx_redo.proofs.Effects.{after-submitted, after-withdrawn}
 use Rattle.pfx_redo.proofs.Rightness.{free_is_real, job_is_real, number_wrong, submit_right, withdraw_right}
 use Rattle.pfx_redo.proofs.applying.apply_record.Goals as goal

@@ -1,11 +1,12 @@
 -- What the tests of a state say.
-use Rattle.std.specs.Prelude.{◌≡◌, ℕ, zero, suc, ◌*◌, ◌^◌, ◌<◌, ◌&&◌, nat_lt, Bool, true, false, sum, refl}
+use Rattle.std.specs.Prelude.{◌≡◌, ℕ, zero, suc, ◌*◌, length, ◌^◌, ◌<◌, ◌&&◌, nat_lt, Bool, true, false, sum, refl}
 use Rattle.std.proofs.Common.{sym, ◌∙◌, subst, arith, eq-eqb, inl, inr}
 use Rattle.std.proofs.lemmas.Bool.{cases_lt, lt-ltb, le-ltb, eqb-true, false≢true}
+use Rattle.pfx_weights.specs.Sets.{IsFilled}
 use Rattle.pfx_columns.specs.Ledgers.{Ledger, Task, task, total, IsFair, IsFairTask}
 use Rattle.pfx_columns.proofs.Steps.{fair_low, fair_high, fair_from}
 use Rattle.pfx_machine.specs.Plain.{Plain, IsState}
-use Rattle.pfx_checkpoint.specs.Fitting.{is_fair_at, are_fair, fits}
+use Rattle.pfx_machine.specs.Fitting.{is_fair_at, are_fair, fits}
 
 pub and_true : (a b : Bool) → a ≡ true → b ≡ true → (a && b) ≡ true
 and_true true true p q = refl
@@ -70,3 +71,9 @@ fitting s h =
 
 pub state_fits : {J : Type 0} (s : Plain J) → IsState s → Fitting s
 state_fits s h = record { number = h.number; slot = h.ledger.slot; fair = h.ledger.fair; sum = h.ledger.sum }
+
+pub fitting_state : {J : Type 0} (s : Plain J) → IsFilled s.ledger.set → length s.ledger.allocs ≡ length s.ledger.set.weights →
+    length s.jobs ≡ s.ledger.set.real → fits s ≡ true → IsState s
+fitting_state s filled long jobs test =
+    let h = fitting s test in
+    record { number = h.number; ledger = record { set = filled; slot = h.slot; length = long; fair = h.fair; sum = h.sum }; jobs = jobs }

@@ -1,0 +1,34 @@
+// What job a task has.
+ghost use Rattle.std.specs.Prelude.{◌≡◌, slice_get};
+ghost use Rattle.pfx_machine.specs.Jobs.{has_job, is_busy, is_free};
+
+use pfx_jobs::job::Job;
+
+/// Whether a task is a real one without an unfinished job.
+pub fn is_free<J: Job>(jobs: &[Option<J>], task: u16) -> bool
+    ensures { result ≡ is_free J.kind (slice_get jobs.now task) }
+{
+    match jobs.get(usize::from(task)) {
+        None => false,
+        Some(None) => true,
+        Some(Some(job)) => job.is_done(),
+    }
+}
+
+/// Whether a task has a job, be it done or not.
+pub fn has_job<J: Job>(jobs: &[Option<J>], task: u16) -> bool
+    ensures { result ≡ has_job (slice_get jobs.now task) }
+{
+    match jobs.get(usize::from(task)) {
+        None => false,
+        Some(None) => false,
+        Some(Some(_)) => true,
+    }
+}
+
+/// Whether a task has an unfinished job.
+pub fn is_busy<J: Job>(jobs: &[Option<J>], task: u16) -> bool
+    ensures { result ≡ is_busy J.kind (slice_get jobs.now task) }
+{
+    has_job(jobs, task) && !is_free(jobs, task)
+}
