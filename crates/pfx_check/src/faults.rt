@@ -7,7 +7,7 @@ ghost use Rattle.pfx_check.specs.Going.{IsFollowedBy};
 
 use crate::candidate::Candidate;
 use pfx_fault::Fault;
-use pfx_header::LONGEST_SEGMENT;
+use pfx_header::{LONGEST_SEGMENT, least_for};
 use std::alloc::{AllocError, Global};
 
 const MOST_TASKS: usize = 1024;
@@ -92,7 +92,7 @@ fn segment_fault(workers: u32, segment: u32) -> Option<Fault>
     ensures { segment_faults workers segment ≡ option_to_list result }
 {
     if 1 <= workers && workers <= MOST_WORKERS {
-        let least = 41 + 2096 * workers;
+        let least = least_for(workers);
         if segment < least {
             return Some(Fault::SegmentTooSmall { least });
         }

@@ -10,8 +10,14 @@ use pfx_jobs::job::Job;
 use pfx_machine::State;
 use pfx_weights::TaskSet;
 
-/// How many bytes a real task takes.
-const REAL: usize = 137;
+/// How many bytes the numbers at the front of a state take: the last command's, and the slot.
+pub(crate) const FRONT: usize = 16;
+
+/// How many bytes the place of a job takes: a flag, and the job in 128.
+pub(crate) const FLAGGED: usize = 129;
+
+/// How many bytes a real task takes: its allocations in eight, and the place of its job.
+pub(crate) const REAL: usize = 137;
 
 /// Where a task begins, where so many are real.
 pub(crate) fn place_of(real: usize, task: usize) -> usize
@@ -20,9 +26,9 @@ pub(crate) fn place_of(real: usize, task: usize) -> usize
     ensures { result ≡ place_of real task }
 {
     if task < real {
-        16 + REAL * task
+        FRONT + REAL * task
     } else {
-        16 + REAL * real + 8 * (task - real)
+        FRONT + REAL * real + 8 * (task - real)
     }
 }
 
@@ -59,7 +65,7 @@ fn put_flagged(bytes: &mut [u8], at: usize, flag: u8, spelled: &[u8; 128])
     ensures long { length bytes.new ≡ length bytes.old }
 {
     bytes[at] = flag;
-    bytes[at + 1..at + 129].copy_from_slice(spelled);
+    bytes[at + 1..at + FLAGGED].copy_from_slice(spelled);
 }
 
 /// Writes a task's job at its place: a flag and 128 bytes.

@@ -6,7 +6,7 @@ ghost use Rattle.pfx_checkpoint.specs.Spelling.{state_bytes, state_len};
 ghost use Rattle.pfx_checkpoint.specs.Found.{number_at, allocs_at, job_at, jobs_at, read_state, Reads};
 
 use crate::CheckpointFault;
-use crate::freezing::{freeze, place_of};
+use crate::freezing::{FLAGGED, FRONT, REAL, freeze, place_of};
 use byteorder::{ByteOrder, LittleEndian};
 use pfx_columns::{Columns, LedgerFault};
 use pfx_jobs::job::Job;
@@ -43,7 +43,7 @@ fn job_at<J: Job>(bytes: &[u8], at: usize) -> Option<J>
         return None;
     }
     let mut spelled = [0; 128];
-    spelled.copy_from_slice(&bytes[at + 1..at + 129]);
+    spelled.copy_from_slice(&bytes[at + 1..at + FLAGGED]);
     J::decode(&spelled).ok()
 }
 
@@ -55,7 +55,7 @@ fn jobs_at<J: Job>(alloc: Global, real: usize, bytes: &[u8]) -> Result<Vec<Optio
 {
     let mut jobs = Vec::with_capacity(alloc, real)?;
     for task in 0..real {
-        jobs.push(job_at(bytes, 16 + 137 * task + 8))?;
+        jobs.push(job_at(bytes, FRONT + REAL * task + 8))?;
     }
     Ok(jobs)
 }

@@ -8,8 +8,9 @@ use crate::idle::{idle_len, pass_idle};
 use byteorder::{ByteOrder, LittleEndian};
 use pfx_jobs::job::Job;
 use pfx_machine::State;
-use pfx_record::{read_head, read_next};
+use pfx_record::{head_of, read_head, read_next};
 use pfx_redo::apply_record;
+use pfx_segment::FRAME_HEAD;
 use std::alloc::{AllocError, Global};
 
 /// The number of eight bytes, the lowest first.
@@ -26,18 +27,17 @@ pub fn number_after(last: u64, frame: &[u8]) -> Option<u64>
     requires { last < 2 ^ 48 }
     ensures { result ≡ number_after last frame.now }
 {
-    if frame.len() < 15 {
+    if frame.len() < FRAME_HEAD {
         return None;
     }
-    let first = LittleEndian::read_u64(&frame[5..]);
-    let count = LittleEndian::read_u16(&frame[13..]);
-    if count == 0 || count > 16 {
+    let head = head_of(frame);
+    if head.count == 0 || head.count > 16 {
         return None;
     }
-    if first != last + 1 {
+    if head.first != last + 1 {
         return None;
     }
-    let next = last + u64::from(count);
+    let next = last + u64::from(head.count);
     if next >= 1 << 48 { None } else { Some(next) }
 }
 
@@ -94,11 +94,11 @@ pub fn apply_frame<J: Job>(
     match read_head(workers, frame) {
         None => Ok(false),
         Some(head) => {
-            let end = 15 + head.len as usize;
+            let end = FRAME_HEAD + head.len as usize;
             if end != frame.len() {
                 return Ok(false);
             }
-            take_records(alloc, state, workers, head.count, &frame[15..end])
+            take_records(alloc, state, workers, head.count, &frame[FRAME_HEAD..end])
         }
     }
 }

@@ -23,5 +23,7 @@ mod writing;
 
 pub use faults::{HeaderFault, SegmentSizeFault};
 pub use reading::read_header;
-pub use sizes::{HEADER_MOST, LONGEST_SEGMENT, check_segment, header_len, least_segment};
+pub use sizes::{
+    HEADER_MOST, LONGEST_SEGMENT, check_segment, header_len, least_for, least_segment,
+};
 pub use writing::write_header;

@@ -6,7 +6,7 @@ ghost use Rattle.pfx_header.specs.Answers.{Reads};
 
 use crate::HeaderFault;
 use crate::sets::set_of;
-use crate::sizes::check_segment;
+use crate::sizes::{FRONT, check_segment};
 use crate::writing::{MARK, VERSION};
 use byteorder::{ByteOrder, LittleEndian};
 use pfx_weights::TaskSet;
@@ -16,7 +16,7 @@ use std::alloc::{AllocError, Global};
 fn is_store(bytes: &[u8]) -> bool
     ensures { result ≡ is_store bytes.now }
 {
-    bytes.len() >= 17 && bytes.starts_with(&MARK)
+    bytes.len() >= FRONT && bytes.starts_with(&MARK)
 }
 
 /// Whether there are 1 to 64 workers and 1 to 1,024 tasks.
@@ -45,7 +45,7 @@ fn tasks_at(alloc: Global, real: usize, bytes: &[u8]) -> Result<Vec<(u32, u32)>,
 {
     let mut tasks = Vec::with_capacity(alloc, real)?;
     for task in 0..real {
-        tasks.push(task_at(bytes, 17 + 8 * task))?;
+        tasks.push(task_at(bytes, FRONT + 8 * task))?;
     }
     Ok(tasks)
 }
@@ -77,7 +77,7 @@ fn read_tasks(
     ensures { Reads (read_tasks bytes.now) result }
 {
     let real = usize::from(real);
-    if bytes.len() < 17 + 8 * real {
+    if bytes.len() < FRONT + 8 * real {
         return Err(HeaderFault::NotAStore);
     }
     let segment = LittleEndian::read_u32(&bytes[13..]);

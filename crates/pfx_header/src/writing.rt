@@ -4,6 +4,7 @@ ghost use Rattle.std.specs.Prelude.{◌≡◌, ◌+◌, ◌≤◌, ◌++◌, len
 ghost use Rattle.byteorder.specs.Endian.{little_bytes};
 ghost use Rattle.pfx_header.specs.Headers.{header_len, header_bytes, front_bytes, task_bytes};
 
+use crate::sizes::FRONT;
 use byteorder::{ByteOrder, LittleEndian};
 use pfx_disk::GATE_OPEN;
 use pfx_weights::TaskSet;
@@ -65,6 +66,6 @@ pub fn write_header(set: &TaskSet, segment: u32, out: &mut [u8])
     let _total = set.total();
     put_front(set, segment, out);
     for task in 0..set.real() {
-        put_task(out, 17 + 8 * task, set.weight(task));
+        put_task(out, FRONT + 8 * task, set.weight(task));
     }
 }

@@ -1,10 +1,10 @@
 -- Batches as contracts see them, and their one spelling.
-use Rattle.std.specs.Prelude.{ℕ, ◌+◌, ◌^◌, Bool, ◌&&◌, nat_lt, nat_le, List, [], ◌∷◌, ◌++◌, length, map}
+use Rattle.std.specs.Prelude.{ℕ, ◌+◌, ◌*◌, ◌^◌, Bool, ◌&&◌, nat_lt, nat_le, List, [], ◌∷◌, ◌++◌, length, map}
 use Rattle.std.specs.List.{list_all}
 use Rattle.pfx_jobs.specs.Kind.{Kind}
 use Rattle.pfx_record.specs.Numbers.{number_bytes}
 use Rattle.pfx_record.specs.Records.{Plain, plain, record_fits, records_bytes}
-use Rattle.pfx_record.specs.declared.numbers.TheConstants.{OPEN}
+use Rattle.pfx_disk.specs.declared.gates.TheConstants.{GATE_OPEN}
 use Rattle.pfx_record.specs.declared.record.Record.{Record}
 
 -- the number of the first command, and the records of it and those behind it
@@ -29,10 +29,14 @@ batch_fits workers batch = counts_fit workers batch.first (length batch.records)
 
 -- an open gate, the length of the records, the first number and the count
 abbrev pub head_bytes : ℕ → ℕ → ℕ → List ℕ
-head_bytes len first count = (OPEN ∷ []) ++ number_bytes 4 len ++ number_bytes 8 first ++ number_bytes 2 count
+head_bytes len first count = (GATE_OPEN ∷ []) ++ number_bytes 4 len ++ number_bytes 8 first ++ number_bytes 2 count
 
 -- the spelling: the head and the records
 unfoldable pub batch_bytes : {J : Type 0} → Kind J → PlainBatch J → List ℕ
 batch_bytes K batch =
     let body = records_bytes K batch.records in
     head_bytes (length body) batch.first (length batch.records) ++ body
+
+-- how many bytes a batch has at the most where rows have so many tasks: the head, and 16 slots with a state for each task
+abbrev pub batch_most : ℕ → ℕ
+batch_most workers = 31 + 2096 * workers

@@ -31,6 +31,6 @@ mod write;
 
 pub use batch::{Batch, fits, record_fits};
 pub use faults::{BatchFault, Part};
-pub use read::{Head, read_batch, read_head, read_next};
+pub use read::{FrameHead, head_of, read_batch, read_head, read_next};
 pub use record::{Place, Record};
-pub use write::{batch_len, write_batch};
+pub use write::{batch_len, batch_most, write_batch};

@@ -1,12 +1,10 @@
 // Numbers in bytes, the lowest byte first.
 ghost use Rattle.std.specs.Prelude.{◌≡◌, ◌≤◌, ◌+◌, ◌++◌, length, drop, vec_len, vec_capacity};
+ghost use Rattle.byteorder.specs.Endian.{little_number};
 ghost use Rattle.pfx_record.specs.Begins.{Begins};
 ghost use Rattle.pfx_record.specs.Numbers.{number_bytes};
 
 use byteorder::{ByteOrder, LittleEndian};
-
-/// The first byte of a frame that counts, the open gate before it.
-pub const OPEN: u8 = 0xC3;
 
 #[tactic(auto, unfolding(crate::specs::Numbers::number_bytes))]
 pub fn push_u16(out: &mut Vec<u8>, n: u16)
@@ -46,21 +44,24 @@ pub fn push_u64(out: &mut Vec<u8>, n: u64)
 
 pub fn u16_at(bytes: &[u8], at: usize) -> u16
     requires { at + 2 ≤ length bytes.now }
-    ensures { Begins (drop at bytes.now) (number_bytes 2 result) }
+    ensures begins { Begins (drop at bytes.now) (number_bytes 2 result) }
+    ensures value { result ≡ little_number 2 (drop at bytes.now) }
 {
     LittleEndian::read_u16(&bytes[at..])
 }
 
 pub fn u32_at(bytes: &[u8], at: usize) -> u32
     requires { at + 4 ≤ length bytes.now }
-    ensures { Begins (drop at bytes.now) (number_bytes 4 result) }
+    ensures begins { Begins (drop at bytes.now) (number_bytes 4 result) }
+    ensures value { result ≡ little_number 4 (drop at bytes.now) }
 {
     LittleEndian::read_u32(&bytes[at..])
 }
 
 pub fn u64_at(bytes: &[u8], at: usize) -> u64
     requires { at + 8 ≤ length bytes.now }
-    ensures { Begins (drop at bytes.now) (number_bytes 8 result) }
+    ensures begins { Begins (drop at bytes.now) (number_bytes 8 result) }
+    ensures value { result ≡ little_number 8 (drop at bytes.now) }
 {
     LittleEndian::read_u64(&bytes[at..])
 }

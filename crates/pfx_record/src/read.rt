@@ -1,20 +1,25 @@
 // Reading a batch.
 ghost use Rattle.std.specs.Prelude.{◌≡◌, ◌≤◌, ◌<◌, ◌+◌, ◌^◌, ℕ, length, drop, map, IfOk, IfErr, IfSome, IfNone, IsTrue};
+ghost use Rattle.byteorder.specs.Endian.{little_number};
 ghost use Rattle.pfx_record.specs.Batches.{batch_of};
+ghost use Rattle.pfx_record.specs.Begins.{Begins};
+ghost use Rattle.pfx_record.specs.Numbers.{number_bytes};
 ghost use Rattle.pfx_record.specs.Records.{plain};
 ghost use Rattle.pfx_record.specs.Reading.{AreRecords, IsBatch, IsDamaged, IsHead, IsRecord, NoBatch, NoRecord, OnDamage, StopAt};
 
 use crate::batch::{Batch, counts_fit};
 use crate::faults::{BatchFault, Part};
-use crate::numbers::{OPEN, u16_at, u32_at, u64_at};
+use crate::numbers::{u16_at, u32_at, u64_at};
 use crate::read_record::read_record;
 use crate::record::Record;
+use pfx_disk::GATE_OPEN;
 use pfx_jobs::job::Job;
+use pfx_segment::{COUNT_AT, FIRST_AT, FRAME_HEAD, LENGTH_AT};
 use std::alloc::{AllocError, Global};
 
 /// The head of a frame.
 #[derive(Drop)]
-pub struct Head {
+pub struct FrameHead {
     /// How long its records are.
     pub len: u32,
     /// The number of its first command.
@@ -23,27 +28,40 @@ pub struct Head {
     pub count: u16,
 }
 
+/// What a frame's head says, whatever that is. Heads are read here alone; how long a frame is, its own crate tells too.
+pub fn head_of(bytes: &[u8]) -> FrameHead
+    requires { FRAME_HEAD ≤ length bytes.now }
+    ensures len_at { Begins (drop 1 bytes.now) (number_bytes 4 result.len) }
+    ensures first_at { Begins (drop 5 bytes.now) (number_bytes 8 result.first) }
+    ensures count_at { Begins (drop 13 bytes.now) (number_bytes 2 result.count) }
+    ensures first { result.first ≡ little_number 8 (drop 5 bytes.now) }
+    ensures count { result.count ≡ little_number 2 (drop 13 bytes.now) }
+{
+    let len = u32_at(bytes, LENGTH_AT);
+    let first = u64_at(bytes, FIRST_AT);
+    let count = u16_at(bytes, COUNT_AT);
+    FrameHead { len, first, count }
+}
+
 /// The head that bytes begin with, if they are as long as the frame.
-pub fn read_head(workers: u32, bytes: &[u8]) -> Option<Head>
+pub fn read_head(workers: u32, bytes: &[u8]) -> Option<FrameHead>
     ensures found { IfSome result (λ head. IsHead workers bytes.now head.len head.first head.count) }
     ensures none { IfNone result ((len first count : ℕ) → IsHead workers bytes.now len first count → ⊥) }
 {
-    if bytes.len() < 15 {
+    if bytes.len() < FRAME_HEAD {
         return None;
     }
-    if bytes[0] != OPEN {
+    if bytes[0] != GATE_OPEN {
         return None;
     }
-    let len = u32_at(bytes, 1);
-    let first = u64_at(bytes, 5);
-    let count = u16_at(bytes, 13);
-    if bytes.len() - 15 < len as usize {
+    let head = head_of(bytes);
+    if bytes.len() - FRAME_HEAD < head.len as usize {
         return None;
     }
-    if !counts_fit(workers, first, u64::from(count)) {
+    if !counts_fit(workers, head.first, u64::from(head.count)) {
         return None;
     }
-    Some(Head { len, first, count })
+    Some(head)
 }
 
 /// The record that bytes begin with, where rows have so many tasks, and how many bytes it takes.
@@ -78,7 +96,7 @@ fn read_records<J: Job>(
         match read_record(alloc, workers, &body[at..])? {
             None => {
                 return Err(BatchFault::Damaged {
-                    at: 15 + at,
+                    at: FRAME_HEAD + at,
                     what: Part::Record,
                 });
             }
@@ -90,7 +108,7 @@ fn read_records<J: Job>(
     }
     if at < body.len() {
         return Err(BatchFault::Damaged {
-            at: 15 + at,
+            at: FRAME_HEAD + at,
             what: Part::Record,
         });
     }
@@ -119,8 +137,8 @@ pub fn read_batch<J: Job>(
             what: Part::Frame,
         }),
         Some(head) => {
-            let end = 15 + head.len as usize;
-            match read_records(alloc, workers, head.count, &bytes[15..end]) {
+            let end = FRAME_HEAD + head.len as usize;
+            match read_records(alloc, workers, head.count, &bytes[FRAME_HEAD..end]) {
                 Err(fault) => Err(fault),
                 Ok(records) => {
                     let batch = Batch {

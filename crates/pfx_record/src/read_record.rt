@@ -5,7 +5,7 @@ ghost use Rattle.pfx_record.specs.Records.{place_bytes, plain, ran};
 ghost use Rattle.pfx_record.specs.Reading.{IsRecord, NoRecord};
 
 use crate::numbers::u16_at;
-use crate::record::{Place, Record};
+use crate::record::{FULL_PLACE, GIVEN, Place, Record};
 use pfx_jobs::job::Job;
 use std::alloc::{AllocError, Global};
 
@@ -44,14 +44,14 @@ fn place_at<J: Job>(bytes: &[u8], at: usize, low: u32) -> Option<(Place<J>, usiz
     if bytes[at + 2] != 1 {
         return None;
     }
-    if bytes.len() - at < 131 {
+    if bytes.len() - at < FULL_PLACE {
         return None;
     }
     match state_at(bytes, at + 3) {
         None => None,
         Some(state) => {
             let state = Some(state);
-            Some((Place { task, state }, 131))
+            Some((Place { task, state }, FULL_PLACE))
         }
     }
 }
@@ -92,13 +92,13 @@ fn read_submit<J: Job>(bytes: &[u8]) -> Option<(Record<J>, usize)>
     ensures found { (workers : ℕ) → IfSome result (λ f. IsRecord J.kind workers bytes.now (plain f.0) f.1) }
     ensures none { (workers : ℕ) → IfNone result (NoRecord J.kind workers bytes.now) }
 {
-    if bytes.len() < 131 {
+    if bytes.len() < GIVEN {
         return None;
     }
     let task = u16_at(bytes, 1);
     match state_at(bytes, 3) {
         None => None,
-        Some(job) => Some((Record::Submit { task, job }, 131)),
+        Some(job) => Some((Record::Submit { task, job }, GIVEN)),
     }
 }
 

@@ -1,5 +1,11 @@
 use pfx_jobs::job::Job;
 
+/// How many bytes the record of a job given takes: a tag, the task in two, and the job in 128.
+pub(crate) const GIVEN: usize = 131;
+
+/// How many bytes a task of a row takes that has a state: the task in two, a flag, and the state in 128.
+pub(crate) const FULL_PLACE: usize = 131;
+
 /// A task of a slot's row.
 #[derive(Drop)]
 pub struct Place<J> {

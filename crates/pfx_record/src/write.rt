@@ -1,12 +1,14 @@
 // Writing a batch.
 ghost use Rattle.std.specs.Prelude.{◌≡◌, ◌≤◌, ◌<◌, ◌+◌, ◌*◌, ◌^◌, ◌++◌, ◌∷◌, [], length, map, vec_len, vec_capacity, IsTrue};
-ghost use Rattle.pfx_record.specs.Batches.{batch_bytes, batch_of, all_fit};
+ghost use Rattle.pfx_record.specs.Batches.{batch_bytes, batch_most, batch_of, all_fit};
 ghost use Rattle.pfx_record.specs.Records.{place_bytes, plain, record_bytes, record_fits, records_bytes, row_bytes, state_bytes};
 
 use crate::batch::Batch;
-use crate::numbers::{OPEN, push_u16, push_u32, push_u64};
-use crate::record::{Place, Record};
+use crate::numbers::{push_u16, push_u32, push_u64};
+use crate::record::{FULL_PLACE, GIVEN, Place, Record};
+use pfx_disk::GATE_OPEN;
 use pfx_jobs::job::Job;
+use pfx_segment::FRAME_HEAD;
 
 // What the pushes write stands behind what was there, and takes no memory where there is room.
 fn push_byte(out: &mut Vec<u8>, byte: u8)
@@ -92,7 +94,7 @@ fn place_len<J: Job>(place: &Place<J>) -> usize
 {
     match &place.state {
         None => 3,
-        Some(_) => 131,
+        Some(_) => FULL_PLACE,
     }
 }
 
@@ -112,7 +114,7 @@ fn record_len<J: Job>(entry: &Record<J>) -> usize
     ensures { result ≡ length (record_bytes J.kind (plain entry.now)) }
 {
     match entry {
-        Record::Submit { task: _, job: _ } => 131,
+        Record::Submit { task: _, job: _ } => GIVEN,
         Record::Slot { row } => 1 + row_len(row),
         Record::Withdraw { task: _ } => 3,
     }
@@ -129,12 +131,20 @@ fn records_len<J: Job>(records: &[Record<J>]) -> usize
     len
 }
 
+/// How many bytes a batch has at the most where rows have so many tasks: the head, and 16 slots, each with a tag and a state
+/// for each task.
+pub fn batch_most(workers: u32) -> usize
+    ensures { result ≡ batch_most workers }
+{
+    FRAME_HEAD + 16 * (1 + FULL_PLACE * workers as usize)
+}
+
 /// How many bytes the batch's spelling has.
 pub fn batch_len<J: Job>(batch: &Batch<J>) -> usize
     ensures value { result ≡ length (batch_bytes J.kind (batch_of batch.now.first batch.now.records.items)) }
-    ensures bound { result ≤ 31 + 2096 * batch.now.workers }
+    ensures bound { result ≤ batch_most batch.now.workers }
 {
-    15 + records_len(&batch.records)
+    FRAME_HEAD + records_len(&batch.records)
 }
 
 /// Appends the batch's spelling to a vector that has room for it, and takes no memory.
@@ -147,7 +157,7 @@ pub fn write_batch<J: Job>(batch: &Batch<J>, out: &mut Vec<u8>)
     ensures room { vec_capacity out.old ≤ vec_capacity out.new }
 {
     let len = records_len(&batch.records);
-    push_byte(out, OPEN);
+    push_byte(out, GATE_OPEN);
     push_u32(out, len as u32);
     push_u64(out, batch.first);
     push_u16(out, batch.records.len() as u16);

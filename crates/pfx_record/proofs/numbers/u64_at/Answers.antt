@@ -4,8 +4,11 @@ use Rattle.byteorder.specs.Endian.{little_number}
 use Rattle.pfx_record.proofs.Again.{begins_number}
 use Rattle.pfx_record.proofs.numbers.u64_at.Goals as goal
 
-pub returns : goal.returns
-returns c =
+pub returns-clause-value : goal.returns-clause-value
+returns-clause-value c = c.read_u64.ensures ∙ ap (λ (l : List ℕ). little_number 8 l) (take_rest c.args.bytes.now c.args.at)
+
+pub returns-clause-begins : goal.returns-clause-begins
+returns-clause-begins c =
     let bytes = c.args.bytes.now in
     let rest = drop c.args.at bytes in
     let is : c.read_u64.result ≡ little_number 8 rest = c.read_u64.ensures ∙ ap (λ (l : List ℕ). little_number 8 l) (take_rest bytes c.args.at) in

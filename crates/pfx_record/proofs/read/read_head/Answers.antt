@@ -6,25 +6,25 @@ use Rattle.pfx_record.proofs.read.read_head.Goals as goal
 
 pub returns-then-bytes-len-clause-none : goal.returns-then-bytes-len-clause-none
 returns-then-bytes-len-clause-none c len first count head =
-    let same = same_numbers c.args.workers c.args.bytes.now c.u32_at-len.result c.u64_at-first.result c.u16_at-count.result len first count (omega arith) (omega arith) (omega arith) c.u32_at-len.ensures c.u64_at-first.ensures c.u16_at-count.ensures head in
+    let same = same_numbers c.args.workers c.args.bytes.now c.head_of-head.result.len c.head_of-head.result.first c.head_of-head.result.count len first count (omega arith) (omega arith) (omega arith) c.head_of-head.ensures.len_at c.head_of-head.ensures.first_at c.head_of-head.ensures.count_at head in
     omega (arith, same.lens, head.whole)
 
 pub returns-then-not-counts_fit-clause-none : goal.returns-then-not-counts_fit-clause-none
 returns-then-not-counts_fit-clause-none c len first count head =
-    let same = same_numbers c.args.workers c.args.bytes.now c.u32_at-len.result c.u64_at-first.result c.u16_at-count.result len first count (omega arith) (omega arith) (omega arith) c.u32_at-len.ensures c.u64_at-first.ensures c.u16_at-count.ensures head in
-    let not : counts_fit c.args.workers c.u64_at-first.result c.from.result ≡ false = sym c.counts_fit.ensures ∙ c.if-not-counts_fit.true in
-    let there : counts_fit c.args.workers first count ≡ counts_fit c.args.workers c.u64_at-first.result c.from.result = ap₂ (counts_fit c.args.workers) same.firsts (same.counts ∙ sym c.from.ensures) in
+    let same = same_numbers c.args.workers c.args.bytes.now c.head_of-head.result.len c.head_of-head.result.first c.head_of-head.result.count len first count (omega arith) (omega arith) (omega arith) c.head_of-head.ensures.len_at c.head_of-head.ensures.first_at c.head_of-head.ensures.count_at head in
+    let not : counts_fit c.args.workers c.head_of-head.result.first c.from.result ≡ false = sym c.counts_fit.ensures ∙ c.if-not-counts_fit.true in
+    let there : counts_fit c.args.workers first count ≡ counts_fit c.args.workers c.head_of-head.result.first c.from.result = ap₂ (counts_fit c.args.workers) same.firsts (same.counts ∙ sym c.from.ensures) in
     false≢true (sym not ∙ sym there ∙ head.counts)
 
 pub returns-clause-found : goal.returns-clause-found
 returns-clause-found c = record {
   short = omega arith;
-  begins = head_from c.args.bytes.now c.u32_at-len.result c.u64_at-first.result c.u16_at-count.result (omega arith) (record {
+  begins = head_from c.args.bytes.now c.head_of-head.result.len c.head_of-head.result.first c.head_of-head.result.count (omega arith) (record {
     gate = c.if-bytes.false;
-    len_at = c.u32_at-len.ensures;
-    first_at = c.u64_at-first.ensures;
-    count_at = c.u16_at-count.ensures;
+    len_at = c.head_of-head.ensures.len_at;
+    first_at = c.head_of-head.ensures.first_at;
+    count_at = c.head_of-head.ensures.count_at;
   });
-  counts = ap (counts_fit c.args.workers c.u64_at-first.result) (sym c.from.ensures) ∙ sym c.counts_fit.ensures ∙ c.if-not-counts_fit.false;
+  counts = ap (counts_fit c.args.workers c.head_of-head.result.first) (sym c.from.ensures) ∙ sym c.counts_fit.ensures ∙ c.if-not-counts_fit.false;
   whole = omega arith;
 }

@@ -8,11 +8,11 @@ returns-then-bytes-at-lt3-clause-none g c place above small b =
 
 pub returns-then-from-low-clause-none : goal.returns-then-from-low-clause-none
 returns-then-from-low-clause-none g c place above small b =
-    low_task g.J.Job.kind g.met.J.Job.laws c.args.bytes.now c.args.at c.u16_at-task.result c.args.low (omega arith) c.u16_at-task.ensures (omega (arith, c.from.ensures)) place above small b
+    low_task g.J.Job.kind g.met.J.Job.laws c.args.bytes.now c.args.at c.u16_at-task.result c.args.low (omega arith) c.u16_at-task.ensures.begins (omega (arith, c.from.ensures)) place above small b
 
 pub returns-then-bytes-at-eq0-clause-found : goal.returns-then-bytes-at-eq0-clause-found
 returns-then-bytes-at-eq0-clause-found g c =
-    without_state g.J.Job.kind g.met.J.Job.laws c.args.bytes.now c.args.at c.u16_at-task.result c.u16_at-task.ensures (omega arith) c.if-bytes-at-eq0.true
+    without_state g.J.Job.kind g.met.J.Job.laws c.args.bytes.now c.args.at c.u16_at-task.result c.u16_at-task.ensures.begins (omega arith) c.if-bytes-at-eq0.true
 
 pub returns-then-bytes-at-eq0-clause-long : goal.returns-then-bytes-at-eq0-clause-long
 returns-then-bytes-at-eq0-clause-long g c = length_without g.J.Job.kind g.met.J.Job.laws c.args.bytes.now c.args.at c.u16_at-task.result
@@ -31,7 +31,7 @@ returns-in-None-clause-none g c place above small b =
 
 pub returns-in-Some-clause-found : goal.returns-in-Some-clause-found
 returns-in-Some-clause-found g c =
-    with_state g.J.Job.kind g.met.J.Job.laws c.args.bytes.now c.args.at c.u16_at-task.result c.u16_at-task.ensures (omega arith) c.if-bytes-at-ne1.false c.in-Some.state c.in-Some.ensures.found
+    with_state g.J.Job.kind g.met.J.Job.laws c.args.bytes.now c.args.at c.u16_at-task.result c.u16_at-task.ensures.begins (omega arith) c.if-bytes-at-ne1.false c.in-Some.state c.in-Some.ensures.found
 
 pub returns-in-Some-clause-long : goal.returns-in-Some-clause-long
 returns-in-Some-clause-long g c = length_with g.J.Job.kind g.met.J.Job.laws c.args.bytes.now c.args.at c.u16_at-task.result c.in-Some.state

@@ -10,4 +10,4 @@ returns-in-None-clause-none g c = submit_only g.J.Job.kind g.met.J.Job.laws c.ar
 
 pub returns-in-Some-clause-found : goal.returns-in-Some-clause-found
 returns-in-Some-clause-found g c =
-    submit_is g.J.Job.kind g.met.J.Job.laws c.args.bytes.now c.u16_at-task.result c.in-Some.job c.requires.some c.requires.tag (omega arith) c.u16_at-task.ensures c.in-Some.ensures.found
+    submit_is g.J.Job.kind g.met.J.Job.laws c.args.bytes.now c.u16_at-task.result c.in-Some.job c.requires.some c.requires.tag (omega arith) c.u16_at-task.ensures.begins c.in-Some.ensures.found

@@ -7,4 +7,4 @@ returns-then-bytes-lt3-clause-none g c = withdraw_only g.J.Job.kind g.met.J.Job.
 
 pub returns-clause-found : goal.returns-clause-found
 returns-clause-found g c =
-    withdraw_is g.J.Job.kind g.met.J.Job.laws c.args.bytes.now c.u16_at-task.result c.requires.some c.requires.tag (omega arith) c.u16_at-task.ensures
+    withdraw_is g.J.Job.kind g.met.J.Job.laws c.args.bytes.now c.u16_at-task.result c.requires.some c.requires.tag (omega arith) c.u16_at-task.ensures.begins
