@@ -44,7 +44,7 @@ enum {
     PFX_WRONG_SUM = 25,               /* the allocations don't sum to the workers times the slot */
     PFX_BAD_LEDGER = 26,              /* a slot of 2^40 or more, or not one allocation for each task */
     PFX_NO_ROOM = 57,                 /* too few places for the rows */
-    PFX_NO_MEMORY = 90                /* a growth of memory was refused */
+    PFX_NO_MEMORY = 90                /* an allocation failed */
 };
 
 /* e of every p slots, 1 <= e < p. */

@@ -28,7 +28,7 @@ pub(crate) fn check(
     }
 }
 
-/// Prints the line of the first fault, and behind it those of the further ones, each with what is said below it. The exit status is that
+/// Prints the line of the first fault, and after it those of the further ones, each with what is said below it. The exit status is that
 /// of the first.
 pub(crate) fn refused_by_all(
     rt: &HostRuntime,

@@ -19,7 +19,7 @@ fn name_of(path: &str) -> &str {
     }
 }
 
-/// Prints the picture; `false` where it would be too large, with nothing printed.
+/// Prints the picture; `false` if it would be too large, with nothing printed.
 pub(crate) fn draw(
     rt: &HostRuntime,
     alloc: Global,

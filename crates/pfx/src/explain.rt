@@ -5,7 +5,7 @@ use crate::traces::{Traces, output_of};
 use pfx_explain::{entry_named, put_entry};
 use pfx_fault::Fault;
 
-/// Prints what is to be known of the fault that a word names; `false` where it names none, with nothing printed.
+/// Prints what is to be known of the fault that a word names; `false` if it names none, with nothing printed.
 pub(crate) fn explain(rt: &HostRuntime, word: &str, traces: &Traces) -> Result<bool, Fault> {
     let Some(entry) = entry_named(word) else {
         return Ok(false);

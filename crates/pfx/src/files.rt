@@ -44,7 +44,7 @@ impl Read for Source {
     }
 }
 
-/// What is read: standard input where the path is `-`, else the file.
+/// What is read: standard input if the path is `-`, else the file.
 pub(crate) fn input(rt: &HostRuntime, path: &str) -> Result<Source, Fault> {
     if path == "-" {
         return Ok(Source::Standard(rt.stdin()));
@@ -55,7 +55,7 @@ pub(crate) fn input(rt: &HostRuntime, path: &str) -> Result<Source, Fault> {
     }
 }
 
-/// Keeps the places of the three standard streams: where one of them is closed, a file that is opened would else become it, and
+/// Keeps the places of the three standard streams: if one of them is closed, a file that is opened would else become it, and
 /// a store's file would take what is printed. What is returned has to live as long as any file is open.
 pub(crate) fn taken_streams(rt: &HostRuntime) -> [io::Result<File>; 3] {
     [
@@ -84,7 +84,7 @@ fn lock_fault(error: TryLockError) -> Fault
     }
 }
 
-/// A store's file for its one writer, made where it is missing and `create` says so. `Busy` comes where another process has
+/// A store's file for its one writer, made if it is missing and `create` says so. `Busy` comes if another process has
 /// it open: the file is locked before anything of it is read, as long as it is open.
 pub(crate) fn disk(rt: &HostRuntime, path: &str, create: bool) -> Result<FileDisk, Fault> {
     let file = opened(rt, path, create)?;
@@ -112,7 +112,7 @@ pub(crate) fn sync_directory(rt: &HostRuntime, path: &str) -> Result<(), Fault>
     }
 }
 
-/// A store's file for a reader, one of any number. `Busy` comes where a writer has had it open for a second.
+/// A store's file for a reader, one of any number. `Busy` comes if a writer has had it open for a second.
 pub(crate) fn shared_disk(rt: &HostRuntime, path: &str) -> Result<FileDisk, Fault> {
     let file = opened(rt, path, false)?;
     for _ in 0..TRIES {

@@ -1,11 +1,11 @@
 //! The program `pfx`.
 //!
 //! It does what its words ask for, over the system's own files. Where that fails it prints one fault line on standard
-//! error and ends with the fault's exit status: 3 where the set, the ledger or the plan is refused, 4 where the store is or
-//! its disk failed, 5 where memory ran out, 7 where the script has a record without form, 8 where a file or an output
+//! error and ends with the fault's exit status: 3 if the set, the ledger or the plan is refused, 4 if the store is or
+//! its disk failed, 5 if memory ran out, 7 if the script has a record without form, 8 if a file or an output
 //! failed. Help and version end with 0, words that it doesn't take with 2, a replay that finds a difference with 6, a
 //! strict run with a refused record with 7. Below the fault line at most three lines say where the mistake stands, what is
-//! wrong and what to change. Where the output's reader has gone nothing is said, and the status is 8.
+//! wrong and what to change. If the output's reader has gone nothing is said, and the status is 8.
 #![tactic(auto)]
 
 ghost use Rattle.std.specs.Prelude.{◌≡◌};
@@ -58,7 +58,7 @@ const REFUSED: u8 = 7;
 const TOO_LARGE: &str =
     "more than 262144 slots over the lanes of all tasks; draw fewer, and further ones with --at";
 
-// Prints the fault's line. Where standard error fails too, the status still tells.
+// Prints the fault's line. If standard error fails too, the status still tells.
 fn failed(rt: &HostRuntime, fault: Fault) -> u8
     ensures { result ≡ status_of fault }
 {
@@ -93,7 +93,7 @@ fn form_of(json: bool) -> Form {
     if json { Form::Json } else { Form::Text }
 }
 
-// Does what is asked for, and answers the exit status where nothing fails.
+// Does what is asked for, and answers the exit status if nothing fails.
 fn carried_out<R: Threads + Wait + Clock + Copy + Drop + Send + Sync + 'static>(
     rt: &HostRuntime,
     threads: R,

@@ -81,7 +81,7 @@ fn unread_note(alloc: Global, named: Named, path: &str) -> Result<Option<Note>, 
     }
 }
 
-// The first of two notes, where there is one.
+// The first of two notes, if there is one.
 fn first_of(
     note: Option<Note>,
     other: Result<Option<Note>, AllocError>,
@@ -131,7 +131,7 @@ fn input_failed(
     }
 }
 
-// What stands in a plain file that isn't too long, where it can be read.
+// What stands in a plain file that isn't too long, if it can be read.
 fn text_of(rt: &HostRuntime, path: &str) -> Option<Vec<u8>> {
     if path == "-" {
         return None;

@@ -21,7 +21,7 @@ struct Course {
     told: Instant,
 }
 
-/// A writer whose lines are counted. Where standard error is a terminal and standard output isn't, their number is told there
+/// A writer whose lines are counted. If standard error is a terminal and standard output isn't, their number is told there
 /// once a second, in place: nobody would see that anything goes on.
 #[derive(Drop)]
 pub(crate) struct Told<'a, W> {
@@ -33,7 +33,7 @@ pub(crate) struct Told<'a, W> {
     course: Option<Course>,
 }
 
-// The course of an output at its begin, where somebody is to be told of it.
+// The course of an output at its begin, if somebody is to be told of it.
 fn begun(rt: &HostRuntime) -> Option<Course> {
     if !rt.stderr().is_terminal() || rt.stdout().is_terminal() {
         return None;
@@ -86,7 +86,7 @@ fn line_of(
 }
 
 impl<'a, W> Told<'a, W> {
-    /// A writer whose lines are slots, or whatever is said, of as many where that is known.
+    /// A writer whose lines are slots, or whatever is said, of as many if that is known.
     pub(crate) fn new(
         rt: &'a HostRuntime,
         alloc: Global,
@@ -104,7 +104,7 @@ impl<'a, W> Told<'a, W> {
         }
     }
 
-    // Counts lines, and tells of them where a second has gone by.
+    // Counts lines, and tells of them if a second has gone by.
     fn count(&mut self, lines: u64)
         ensures { self.new.output ≡ self.old.output }
     {

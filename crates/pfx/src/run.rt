@@ -79,8 +79,8 @@ fn run_by<R: Threads + Wait + Clock + Copy + Drop + Send + Sync + 'static>(
     served.result
 }
 
-/// Runs a script on the store of a file by so many workers, as many as its set has where none are said, or for 0 by one thread. Up
-/// to `window` slots of a record are kept at once; where that isn't said, it is 1, or 64 with workers. Lines are printed as they come.
+/// Runs a script on the store of a file by so many workers, as many as its set has if none are said, or for 0 by one thread. Up
+/// to `window` slots of a record are kept at once; if that isn't said, it is 1, or 64 with workers. Lines are printed as they come.
 pub(crate) fn run<R: Threads + Wait + Clock + Copy + Drop + Send + Sync + 'static>(
     rt: &HostRuntime,
     threads: R,

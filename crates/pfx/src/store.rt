@@ -18,7 +18,7 @@ use pfx_store::Store;
 use std::alloc::Global;
 use std::io::{BufWriter, Write};
 
-/// Makes a store of a set in a file, which is made where it is missing, and prints its line. The set's refusals and the
+/// Makes a store of a set in a file, which is made if it is missing, and prints its line. The set's refusals and the
 /// segment's come before the file is touched. The file's directory is synced before the line is printed.
 pub(crate) fn init(
     rt: &HostRuntime,

@@ -1,4 +1,4 @@
-//! What a command leaves for what is said behind it: the text of the set that it read, and what it printed.
+//! What a command leaves for what is said after it: the text of the set that it read, and what it printed.
 
 ghost use Rattle.std.specs.Prelude.{◌≤◌, length};
 
@@ -11,10 +11,10 @@ use std::io::{Error, ErrorKind, Printer, Read, Write};
 /// How many bytes of a refusal are kept.
 const KEPT: usize = 96;
 
-/// How many bytes of a script are read at once, where each line of it is given alone.
+/// How many bytes of a script are read at once, if each line of it is given alone.
 const ROOM: usize = 4096;
 
-// What a refusal says: the words behind its first one, or its object.
+// What a refusal says: the words after its first one, or its object.
 fn refusal_of(bytes: &[u8]) -> Option<&[u8]> {
     if let Some(words) = bytes.strip_prefix(b"refused ") {
         return Some(words);
@@ -47,10 +47,10 @@ pub(crate) struct Seen {
     pub(crate) shown: u64,
     /// How many answers are refusals.
     pub(crate) refused: u64,
-    /// What the first refusal says behind its first word, or its object, and how many bytes of it.
+    /// What the first refusal says after its first word, or its object, and how many bytes of it.
     pub(crate) refusal: [u8; KEPT],
     pub(crate) len: usize,
-    /// Whether a script ends behind its first refusal.
+    /// Whether a script ends after its first refusal.
     strict: bool,
     // Whether a line begins with what is written next.
     fresh: bool,
@@ -132,12 +132,12 @@ impl Traces {
         }
     }
 
-    /// Whether a strict script has ended behind a refusal.
+    /// Whether a strict script has ended after a refusal.
     pub(crate) fn has_ended(&self) -> bool {
         self.seen.get().has_ended()
     }
 
-    /// Makes a script end behind its first refusal, where it is strict.
+    /// Makes a script end after its first refusal, if it is strict.
     pub(crate) fn be_strict(&mut self, strict: bool) {
         let mut seen = self.seen.get();
         seen.strict = strict;
@@ -182,7 +182,7 @@ impl Write for Watched<'_> {
     }
 }
 
-/// A set's source, whose bytes are kept as they are read. Where there is no room for all of them, none are.
+/// A set's source, whose bytes are kept as they are read. If there is no room for all of them, none are.
 #[derive(Drop)]
 pub(crate) struct Kept<'a> {
     source: Source,
@@ -210,7 +210,7 @@ impl Read for Kept<'_> {
     }
 }
 
-/// A script's source. A strict one gives a line at a time, and nothing behind the first refusal.
+/// A script's source. A strict one gives a line at a time, and nothing after the first refusal.
 #[derive(Drop)]
 pub(crate) struct Lines<'a> {
     source: Source,

@@ -29,7 +29,7 @@ asks_for_most_slots = refl
 
 -- ---- a ledger to begin with
 
--- `plan` with a ledger behind its words
+-- `plan` with a ledger after its words
 abbrev from_two : List Text
 from_two = pfx (codes "plan" ∷ codes "a.toml" ∷ codes "4" ∷ codes "--at" ∷ codes "2:2,1,1" ∷ [])
 
@@ -78,7 +78,7 @@ pub takes_a_run : takes pfx_app run_script ≡ true
 unfolding clap_on_literals
 takes_a_run = refl
 
--- with a number of workers, the least and the greatest, behind the words or before them
+-- with a number of workers, the least and the greatest, after the words or before them
 abbrev run_by_none : List Text
 run_by_none = pfx (codes "run" ∷ codes "a.pfx" ∷ codes "a.csv" ∷ codes "--workers" ∷ codes "0" ∷ [])
 

@@ -63,7 +63,7 @@ plan_takes_steps : (program set slots : Text) → takes pfx_app (program ∷ cod
 unfolding clap_on_literals
 plan_takes_steps program set slots = and_true (level_passes plan_built [] nothing_held (set ∷ slots ∷ flag) false)
 
--- the number is looked at where the flag follows
+-- the number is looked at if the flag follows
 plan_walks_well : (set slots : Text) → is_signed_in (pos 0) (pos 1048576) slots ≡ true
     → (step_passes plan_built 1 nothing_held value && (step_passes plan_built 2 (after_set set).held value && walk_passes plan_built [] (after_both set slots) flag)) ≡ true
 unfolding clap_on_literals

@@ -76,7 +76,7 @@ init_of None file = None
 abbrev pub init_in : List Row → Option Asked
 init_in rows = init_of (text_at (codes "SET") rows) (text_at (codes "FILE") rows)
 
--- a run, if both its words are there, with the number of workers and that of slots kept at once, where there are any, whether it
+-- a run, if both its words are there, with the number of workers and that of slots kept at once, if there are any, whether it
 -- ends at its first refused record, and whether its lines are JSON
 abbrev pub run_of : Option Text → Option Text → Option ℕ → Option ℕ → Bool → Bool → Option Asked
 run_of (Some file) (Some script) workers batch strict json = Some (run file script workers batch strict json)

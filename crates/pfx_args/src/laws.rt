@@ -148,7 +148,7 @@ pub fn standard_check(program: &str)
     ensures asked { asked (program.now ∷ codes "check" ∷ codes "-" ∷ []) ≡ Some (check (codes "-")) }
 {}
 
-/// `pfx run FILE SCRIPT --strict`: the same words as of `pfx run FILE SCRIPT` with the flag ask for a run that ends behind its first
+/// `pfx run FILE SCRIPT --strict`: the same words as of `pfx run FILE SCRIPT` with the flag ask for a run that ends after its first
 /// refused record.
 pub fn plain_strict(program: &str, file: &str, script: &str)
     requires file { starts_with_minus file.now ≡ false }

@@ -2,7 +2,7 @@
 //!
 //! What it keeps true: the command is exactly `pfx_app` of `specs/Commands.antt`; the request of
 //! words that it takes is one stated function of them, `asked` of `specs/Requests.antt`; words that
-//! it takes are refused only where memory runs out, and other words are refused always, by an error
+//! it takes are refused only if memory runs out, and other words are refused always, by an error
 //! whose text says what was expected. `--help` and `--version` come as such an error too, whose exit
 //! status is 0; that of a wrong word is 2.
 #![tactic(auto)]

@@ -90,9 +90,9 @@ fn request_in<'a>(matches: &ArgMatches<'a>) -> Option<Request<'a>>
 
 /// What the words of a command line ask for. The first word is the program's own name.
 ///
-/// An `Err` has the text to print and the exit status: 2 and what was expected where the command
-/// doesn't take the words, 0 where they ask for help or for the version. `OutOfMemory` is its kind
-/// where memory ran out. `None` comes where the words ask for nothing, which the command refuses.
+/// An `Err` has the text to print and the exit status: 2 and what was expected if the command
+/// doesn't take the words, 0 if they ask for help or for the version. `OutOfMemory` is its kind
+/// if memory ran out. `None` comes if the words ask for nothing, which the command refuses.
 pub fn read_words<'a>(alloc: Global, words: &'a [&'a str]) -> Result<Option<Request<'a>>, Error>
     ensures ok { IfOk result (λ r. option_map asked_by r ≡ asked (texts words.entry.now)) }
     ensures taken { IfErr result (λ e. takes pfx_app (texts words.entry.now) ≡ true → kind_of e ≡ ErrorKind.OutOfMemory) }

@@ -27,13 +27,13 @@ pub enum Request<'a> {
         file: &'a str,
         /// The path of the script, in CSV; `-` is standard input.
         script: &'a str,
-        /// How many workers run the jobs, 0 to 64, where the words say so; 0 is one thread for all. Else it is as many as the
+        /// How many workers run the jobs, 0 to 64, if the words say so; 0 is one thread for all. Else it is as many as the
         /// store's set has.
         workers: Option<u32>,
-        /// How many slots of a record are kept at once at the most, 1 to 16, where the words say so; else it is 1, or 64 with
+        /// How many slots of a record are kept at once at the most, 1 to 16, if the words say so; else it is 1, or 64 with
         /// workers.
         batch: Option<u32>,
-        /// Whether the script ends behind its first refused record.
+        /// Whether the script ends after its first refused record.
         strict: bool,
         /// Whether each line is an object of JSON.
         json: bool,
@@ -54,7 +54,7 @@ pub enum Request<'a> {
     Show {
         /// The path of the store's file.
         file: &'a str,
-        /// The number of the task, 0 to 65,535, where one alone is asked for.
+        /// The number of the task, 0 to 65,535, if one alone is asked for.
         task: Option<u32>,
         /// Whether each line is an object of JSON.
         json: bool,

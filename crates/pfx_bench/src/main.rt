@@ -67,7 +67,7 @@ fn take_classes(ledger: &Columns, out: &mut [u8])
     );
 }
 
-/// The class of one task for the slot to come, where all are taken, eight times over.
+/// The class of one task for the slot to come, if all are taken, eight times over.
 fn class_of_one(ledger: &Columns, out: &mut [u8]) -> Result<u64, Fail> {
     for _again in 0..8 {
         if out.len() == ledger.total() {

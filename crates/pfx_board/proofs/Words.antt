@@ -21,7 +21,7 @@ prefix_both (x ∷ xs) [] p q = absurd (cc (p.1))
 prefix_both (x ∷ xs) (y ∷ ys) p q =
     let rest = prefix_both xs ys (p.0, cc (p.1)) (q.0, cc (q.1)) in cc (p.1, rest)
 
--- the test that a list has no more entries, where it holds
+-- the test that a list has no more entries, if it holds
 pub begins_if : {A : Type 0} (xs ys : List A) (b : Bool) → MatchBool b (IsPrefix xs ys) (IsPrefix ys xs) → IsTrue b → IsPrefix xs ys
 begins_if xs ys true m h = m
 begins_if xs ys false m h = absurd (false≢true h)
@@ -33,7 +33,7 @@ module _ {J : Type 0} where
       let first = map plain b.records.items in
       ap (λ w. first ++ w) (records_append xs ys) ∙ sym (append_assoc first (records_of xs) (records_of ys))
 
-  -- a batch more has its records behind those before it
+  -- a batch more has its records after those before it
   pub records_more : (xs : List (Batch J)) (b : Batch J) → records_of (xs ++ b ∷ []) ≡ records_of xs ++ map plain b.records.items
   records_more xs b = records_append xs (b ∷ []) ∙ ap (λ w. records_of xs ++ w) (append-nil (map plain b.records.items))
 

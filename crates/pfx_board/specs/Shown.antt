@@ -8,7 +8,7 @@ use Rattle.pfx_record.specs.declared.batch.Batch.{Batch}
 use Rattle.pfx_redo.specs.Applying.{applied}
 use Rattle.pfx_board.specs.Word.{records_of}
 
--- the board of the state behind these batches, which go on from the origin
+-- the board of the state after these batches, which go on from the origin
 pub record IsBoardOf {J : Type 0} (K : Kind J) (origin : Plain J) (batches : List (Batch J)) (board : Board) : Type 0 where
   pub state : Plain J
   pub leads : applied K origin (records_of batches) ≡ Some state

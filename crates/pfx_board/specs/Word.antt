@@ -10,6 +10,6 @@ module _ {J : Type 0} where
   records_of [] = []
   records_of (b ∷ batches) = map plain b.records.items ++ records_of batches
 
-  -- the number of the last command behind the batches, which go on from this state
+  -- the number of the last command after the batches, which go on from this state
   abbrev pub last_of : Plain J → List (Batch J) → ℕ
   last_of origin batches = origin.number + length (records_of batches)

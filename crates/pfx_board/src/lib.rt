@@ -1,7 +1,7 @@
 //! The board: what readers see of the durable commands, without waiting for anybody.
 //!
-//! The flusher appends batches to the store, one after the other. Behind each it publishes the batch, and the board then shows
-//! the state behind it: its number, its slot, and a line for each task. Readers look at the board of the last publication, in
+//! The flusher appends batches to the store, one after the other. After each it publishes the batch, and the board then shows
+//! the state after it: its number, its slot, and a line for each task. Readers look at the board of the last publication, in
 //! one of two copies of it, while the writer changes the other; so no reader takes a lock.
 //!
 //! - `word`: a `Word` is a beginning of the durable batches. It may be copied and given to any thread.
@@ -11,7 +11,7 @@
 //! - `reader`: a reader knows a word: all that it saw and was told of. It shows no less.
 //!
 //! What types keep: the batches that a reader knows, and those that are shown, begin the durable ones; what is shown is the
-//! board of the state behind them. That a reader does get to see what was published before it was told, and so isn't answered
+//! board of the state after them. That a reader does get to see what was published before it was told, and so isn't answered
 //! `BoardShut`, is shown by tests alone.
 #![tactic(auto)]
 

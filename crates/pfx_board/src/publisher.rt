@@ -51,7 +51,7 @@ impl<J: Job, B: Begun<J>, T: Absorb<T, State = [Batch<J>; 0]> + Drop, R: Wait + 
 }
 
 impl<J: Job, B: Begun<J>, R: Wait + Drop> BoardWriter<J, B, Shown<J, B>, R> {
-    /// A board of this state, with no batch behind it, and so many readers. `AllocError` where memory is refused.
+    /// A board of this state, with no batch after it, and so many readers. `AllocError` if an allocation fails.
     pub fn new(
         alloc: Global,
         rt: R,
@@ -81,7 +81,7 @@ impl<J: Job, B: Begun<J>, R: Wait + Drop> BoardWriter<J, B, Shown<J, B>, R> {
     }
 
     /// The batch, which is durable now, is the next one of the durable list, and the state that it leads to is shown. It waits
-    /// for readers that still look at the board of the publication before the last. `AllocError` where memory is refused: then
+    /// for readers that still look at the board of the publication before the last. `AllocError` if an allocation fails: then
     /// the list has the batch, and what was shown is shown.
     pub fn publish<W: Wait>(
         &mut self,

@@ -18,8 +18,8 @@ use thiserror::Error;
 /// Why no board is shown.
 #[derive(Clone, Copy, Debug, PartialEq, Eq, Error)]
 pub enum StatusFault {
-    /// A growth of memory was refused.
-    #[error("memory is refused")]
+    /// An allocation failed.
+    #[error("out of memory")]
     NoMemory,
     /// The writer is gone, or shows less than the reader knows.
     #[error("the board is shut")]
@@ -70,8 +70,8 @@ impl<J: Job, B: Begun<J>> Reader<J, B> {
         self.hear(&receipt.word);
     }
 
-    /// The board of the state behind durable batches that begin with all that this reader saw or was told of. It waits for
-    /// nobody. `BoardShut` where the writer is gone; after a fault the reader is as before.
+    /// The board of the state after durable batches that begin with all that this reader saw or was told of. It waits for
+    /// nobody. `BoardShut` if the writer is gone; after a fault the reader is as before.
     pub fn status(&mut self, alloc: Global) -> Result<Board, StatusFault>
         ensures later { IsPrefix self.old self.new }
         ensures board { IfOk result (λ board. IsBoardOf J.kind B.origin self.new board) }

@@ -16,7 +16,7 @@ use std::alloc::{AllocError, Global};
 use std::marker::Model;
 
 /// A board, with the word that it is of. Contracts see it as the batches of that word. Its type keeps that the board is that
-/// of the state behind them.
+/// of the state after them.
 #[derive(Drop)]
 pub struct Shown<J: Job, B: Begun<J>> {
     board: Board,
@@ -36,7 +36,7 @@ impl<J: Job, B: Begun<J>> Model for Shown<J, B> {
 }
 
 impl<J: Job, B: Begun<J>> Shown<J, B> {
-    /// The board of the state behind a word. `AllocError` where memory is refused.
+    /// The board of the state after a word. `AllocError` if an allocation fails.
     pub(crate) fn of(
         alloc: Global,
         state: &State<J>,
@@ -66,7 +66,7 @@ impl<J: Job, B: Begun<J>> Shown<J, B> {
         self.word.begins(word) && word.begins(&self.word)
     }
 
-    /// The board, in this vector, where a reader that knows this word may see it; the reader then knows the board's.
+    /// The board, in this vector, if a reader that knows this word may see it; the reader then knows the board's.
     pub(crate) fn look(
         &self,
         known: &mut Word<J, B>,

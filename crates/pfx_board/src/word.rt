@@ -28,7 +28,7 @@ impl<J, B: Begun<J>> Model for Word<J, B> {
 }
 
 impl<J, B: Begun<J>> Word<J, B> {
-    /// The word that nothing is durable yet behind the state that the board begins with, whose number this is.
+    /// The word that nothing is durable yet after the state that the board begins with, whose number this is.
     pub(crate) fn new(number: u64, past: Past<Batch<J>, B>) -> Word<J, B>
         requires empty { past ≡ [] }
         requires number { number ≡ B.origin.number }
@@ -37,7 +37,7 @@ impl<J, B: Begun<J>> Word<J, B> {
         Word { number, past }
     }
 
-    /// The number of its last command, or that of the state that the board began with where it has none.
+    /// The number of its last command, or that of the state that the board began with if it has none.
     pub fn number(&self) -> u64
         ensures { result ≡ last_of B.origin self.now }
     {

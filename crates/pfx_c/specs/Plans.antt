@@ -28,8 +28,8 @@ pub record IsPlanned (g next : Ledger) (made : ℕ) (old new : List ℕ) : Type 
   pub leads : next ≡ past g rows
   pub placed : new ≡ laid rows ++ drop (length (laid rows)) old
 
--- a plan from g on of so many slots ends behind these rows, at the ledger `next`, by this fault; unless that is the last slot of
--- all or memory was refused, no fair schedule from g on is longer
+-- a plan from g on of so many slots ends after these rows, at the ledger `next`, by this fault; unless that is the last slot of
+-- all or an allocation failed, no fair schedule from g on is longer
 pub record EndsEarly (g next : Ledger) (slots made : ℕ) (f : ChoiceFault) : Type 0 where
   pub early : made < slots
   pub why : Fails next f

@@ -49,10 +49,10 @@ pub fn given_ledger(
 
 /// Whether a slot and allocations are a ledger of the set.
 ///
-/// They are one where the slot is below 2^40, there is an allocation for each task (idle ones too), every task's lag is strictly
+/// They are one if the slot is below 2^40, there is an allocation for each task (idle ones too), every task's lag is strictly
 /// between minus one and one, and the allocations sum to the workers times the slot. The answer is 0 then, or else the number of
-/// the refusal: the set's (11 to 17), 26 where the slot or the number of allocations is out of range, 24 where a task's lag is,
-/// 25 where the sum is another, or 90. `task` is as it was, unless the refusal names a task (14, 16, 24): the first such one.
+/// the refusal: the set's (11 to 17), 26 if the slot or the number of allocations is out of range, 24 where a task's lag is,
+/// 25 if the sum is another, or 90. `task` is as it was, unless the refusal names a task (14, 16, 24): the first such one.
 #[unsafe(no_mangle)]
 pub extern "C" fn pfx_check(
     alloc: Global,

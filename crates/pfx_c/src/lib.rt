@@ -6,12 +6,12 @@
 //! product's table (`pfx_fault`), with nothing changed but what the call's page names. 0 says that the call did what it is for.
 //!
 //! - `sets`: `pfx_total` and `pfx_set`, what a set is: how many tasks it has, its hyperperiod and its load.
-//! - `checks`: `pfx_check`, whether numbers are a ledger of a set, and which task is out of range where they aren't.
+//! - `checks`: `pfx_check`, whether numbers are a ledger of a set, and which task is out of range if they aren't.
 //! - `nexts`: `pfx_next`, PF's row at a ledger.
 //! - `plans`: `pfx_plan`, PF's rows of many slots, with the ledger taken along.
 //! - `laws`: what a call answers is determined by its arguments, but for 90.
 //!
-//! Memory is refused by 90 wherever a growth is, also where the call would succeed.
+//! 90 is answered if any allocation fails, also if the call would succeed.
 #![tactic(auto)]
 
 mod checks;

@@ -42,8 +42,8 @@ fn put_next(
 /// Puts PF's row at a ledger into the first places of `row`: the numbers of the tasks that run in the slot, one for each worker,
 /// rising. A number that isn't below the number of weights is that of an idle task. What stands behind stays as it is.
 ///
-/// The answer is 0, or the number of the refusal, and then `row` is as it was: one of `pfx_check`'s; 57 where `row` has fewer
-/// places than there are workers; and where no row is chosen at the ledger 21 (more tasks have to run than there are workers),
+/// The answer is 0, or the number of the refusal, and then `row` is as it was: one of `pfx_check`'s; 57 if `row` has fewer
+/// places than there are workers; and if no row is chosen at the ledger 21 (more tasks have to run than there are workers),
 /// 22 (fewer may run), 23 (the slot is 2^40 - 1, the last one), or 90.
 #[unsafe(no_mangle)]
 pub extern "C" fn pfx_next(

@@ -43,7 +43,7 @@ fn lay_rows(
     (slots, Ok(()))
 }
 
-/// The ledger of these numbers, where the caller has the places for its next slots.
+/// The ledger of these numbers, if the caller has the places for its next slots.
 fn ledger_with_room(
     alloc: Global,
     workers: u32,
@@ -78,12 +78,12 @@ fn put_ledger(ledger: &Columns, slot: &mut u64, allocs: &mut [u64])
 }
 
 /// Plans the next `slots` slots of a ledger, lays PF's rows into `rows` from the front on, one number for each worker and slot,
-/// and takes the ledger along: `slot` and `allocs` become those behind the rows. How many rows there are goes to `made`.
+/// and takes the ledger along: `slot` and `allocs` become those after the rows. How many rows there are goes to `made`.
 ///
-/// The answer is 0 where all were made. Where nothing can be made it is the number of the refusal, `made` becomes 0 and all else
-/// is as it was: one of `pfx_check`'s, or 57 where `rows` has fewer than `slots * workers` places. Where no row is chosen at one
+/// The answer is 0 if all were made. If nothing can be made it is the number of the refusal, `made` becomes 0 and all else
+/// is as it was: one of `pfx_check`'s, or 57 if `rows` has fewer than `slots * workers` places. If no row is chosen at one
 /// of the slots, it is that refusal's number (21, 22, 23 or 90), and the rows before that slot are made and the ledger is taken
-/// there: behind 21 and 22 no schedule that is fair and gives each worker a task in every slot is any longer.
+/// there: after 21 and 22 no schedule that is fair and gives each worker a task in every slot is any longer.
 #[unsafe(no_mangle)]
 pub extern "C" fn pfx_plan(
     alloc: Global,

@@ -17,7 +17,7 @@ use std::alloc::Global;
 pub struct PfxSet {
     /// The hyperperiod in slots, 2 to 1,048,576: the least common multiple of the periods.
     pub hyper: u32,
-    /// How many idle tasks the set is filled with, at most 128. They have the numbers behind those of the weights.
+    /// How many idle tasks the set is filled with, at most 128. They have the numbers after those of the weights.
     pub idle: u32,
     /// How many slots of a hyperperiod the weights take, over all workers: they sum to `load / hyper`.
     pub load: u64,

@@ -28,7 +28,7 @@ ends_on t why before now refused is grown = (told t why ∷ [], (why, refused, r
 pub ends_taken : (t : Tried) (before : List Fault) → IsTaken t → IsFollowedBy t before before
 ends_taken t before taken = ([], taken, sym (append-nil before))
 
--- Where the counts are right, a refusal that names no task is the last one.
+-- If the counts are right, a refusal that names no task is the last one.
 pub names_no_task : (t : Tried) (why : SetFault) → IsWorkerCount t.workers → IsTaskCount (length t.tasks) → IsRefusedBy t why
     → ((x : ℕ) → why ≡ setfault.BadWeight x → ⊥) → ((x : ℕ) → why ≡ setfault.HyperperiodTooLarge x → ⊥) → mended t why ≡ None
 names_no_task t setfault.NoTasks m n refused a b = absurd (omega (arith, n.0, refused.0))
@@ -57,7 +57,7 @@ numbers_cut zero n k e =
 numbers_cut (suc d) zero k e = absurd (omega (arith, e))
 numbers_cut (suc d) (suc n) k e = take-append-le k (upto n) (n ∷ []) (omega (arith, length-upto n, e)) ∙ numbers_cut d n k (omega (arith, e))
 
--- the first 1,024 tasks, where there are more, numbered as they are
+-- the first 1,024 tasks, if there are more, numbered as they are
 pub first_tasks : (m : ℕ) (tasks first : List (ℕ × ℕ)) → 1024 < length tasks → first ≡ take 1024 tasks → mended (tried_of m tasks) setfault.TooManyTasks ≡ Some (tried_of m first)
 first_tasks m tasks first more is =
     let number : length first ≡ 1024 = ap length is ∙ length-take-le 1024 tasks (omega (arith, more)) in

@@ -37,7 +37,7 @@ Checks bytes text = (file : SetFile) × (set_of_bytes bytes ≡ Some file) × Is
 abbrev pub AreFaultsIn : SetFile → List Fault → Type 0
 AreFaultsIn file all = AreAllFaults file.workers (weights_of file) file.segment all
 
--- what is said first and what is said next are that, or memory was refused
+-- what is said first and what is said next are that, or an allocation failed
 abbrev pub FileFails : SetFile → Fault → List Fault → Type 0
 FileFails file first further = AreFaultsIn file (first ∷ further) ⊎ ((first ≡ fault.NoMemory) × (further ≡ []))
 
@@ -46,6 +46,6 @@ abbrev pub AreFaultsOf : List ℕ → List Fault → Type 0
 AreFaultsOf bytes all =
     ((set_of_bytes bytes ≡ None) × (all ≡ fault.BadSet ∷ [])) ⊎ ((file : SetFile) × (set_of_bytes bytes ≡ Some file) × AreFaultsIn file all)
 
--- what is said first and what is said next are that, or the bytes weren't read, or memory was refused
+-- what is said first and what is said next are that, or the bytes weren't read, or an allocation failed
 abbrev pub CheckFails : List ℕ → Fault → List Fault → Type 0
 CheckFails bytes first further = AreFaultsOf bytes (first ∷ further) ⊎ (IsInputFault first × (further ≡ []))

@@ -44,8 +44,8 @@ without t x = record t { numbers = remove t.numbers x; tasks = remove t.tasks x 
 abbrev pub others : Tried → ℕ → Option Tried
 others t x = if length t.tasks == 1 then None else Some (without t x)
 
--- What is tried next: a task of half a slot where there is none, the first 1,024 where there are more, 64 workers for a number out
--- of its limits, the others where a task is named. Behind an overload nothing is.
+-- What is tried next: a task of half a slot where there is none, the first 1,024 if there are more, 64 workers for a number out
+-- of its limits, the others if a task is named. Behind an overload nothing is.
 abbrev pub mended : Tried → SetFault → Option Tried
 mended t setfault.NoTasks = Some (tried_of t.workers ((1, 2) ∷ []))
 mended t setfault.TooManyTasks = Some (record t { numbers = take 1024 t.numbers; tasks = take 1024 t.tasks })
@@ -61,7 +61,7 @@ AreFaults None fs = fs ≡ []
 AreFaults (Some t) [] = IsTaken t
 AreFaults (Some t) (f ∷ fs) = (why : SetFault) × IsRefusedBy t why × (f ≡ told t why) × AreFaults (mended t why) fs
 
--- a segment is below the least of m workers, where they are workers, or above the longest
+-- a segment is below the least of m workers, if they are workers, or above the longest
 abbrev pub is_short : ℕ → ℕ → Bool
 is_short m segment = (nat_lt 0 m && nat_le m 64) && nat_lt segment (least_segment m)
 

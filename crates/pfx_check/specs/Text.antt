@@ -30,6 +30,6 @@ store_text h =
     ++ line (codes "least") (decimal (least_segment h.set.workers))
     ++ line (codes "size") (decimal (file_len (layout h)))
 
--- what is printed of the set of these tasks and of its store, where the load is divided by this number
+-- what is printed of the set of these tasks and of its store, if the load is divided by this number
 abbrev pub check_text : List (ℕ × ℕ) → Header → ℕ → List ℕ
 check_text tasks h by = tasks_text tasks h.set by ++ store_text h

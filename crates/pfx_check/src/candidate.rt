@@ -80,7 +80,7 @@ impl Candidate {
         }
     }
 
-    /// Leaves a task out; `false` where no other is left, and then nothing is done.
+    /// Leaves a task out; `false` if no other is left, and then nothing is done.
     fn leave_out(&mut self, x: usize) -> bool
         requires { x < length self.old.tasks }
         ensures left { others self.old x ≡ (if result then Some self.new else None) }
@@ -94,7 +94,7 @@ impl Candidate {
         true
     }
 
-    /// Becomes what is tried after a refusal; `false` where nothing is, and then nothing is done.
+    /// Becomes what is tried after a refusal; `false` if nothing is, and then nothing is done.
     pub(crate) fn mend(&mut self, why: SetFault) -> bool
         requires { IsRefusedBy self.old why }
         ensures next { mended self.old why ≡ (if result then Some self.new else None) }

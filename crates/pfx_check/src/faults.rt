@@ -14,7 +14,7 @@ const MOST_TASKS: usize = 1024;
 
 const MOST_WORKERS: u32 = 64;
 
-/// What is tried where a set has no task.
+/// What is tried if a set has no task.
 const HALF: [(u32, u32); 1] = [(1, 2)];
 
 fn are_workers(workers: u32) -> bool
@@ -23,7 +23,7 @@ fn are_workers(workers: u32) -> bool
     1 <= workers && workers <= MOST_WORKERS
 }
 
-/// The faults, and behind them those of what is tried next.
+/// The faults, and after them those of what is tried next.
 fn followed(
     alloc: Global,
     mut candidate: Candidate,

@@ -7,7 +7,7 @@ ghost use Rattle.pfx_fault.specs.declared.refusals.Fault.{Fault};
 ghost use Rattle.pfx_check.specs.Faults.{AreAllFaults};
 ghost use Rattle.pfx_check.specs.Laws.{IsFirst};
 
-/// What is said first is why the set is refused, and where it isn't, that its segment is too small or too large.
+/// What is said first is why the set is refused, and if it isn't, that its segment is too small or too large.
 pub fn first_is_the_sets()
     ensures { (m : ℕ) (tasks : List (ℕ × ℕ)) (segment : ℕ) (f : Fault) (fs : List Fault)
         → AreAllFaults m tasks segment (f ∷ fs) → IsFirst m tasks segment f fs }
@@ -19,7 +19,7 @@ pub fn faults_are_one()
         → AreAllFaults m tasks segment fs → AreAllFaults m tasks segment gs → fs ≡ gs }
 {}
 
-/// It has none exactly where it is accepted and a store of it can have such a segment.
+/// It has none exactly if it is accepted and a store of it can have such a segment.
 pub fn none_is_a_store()
     ensures none { (m : ℕ) (tasks : List (ℕ × ℕ)) (segment : ℕ)
         → AreAllFaults m tasks segment [] → ((s : FilledSet) × Accepts m tasks s) × IsSegmentSize m segment }

@@ -36,7 +36,7 @@ impl Refusal {
     }
 }
 
-// The faults as the first one and the further ones, where there are any.
+// The faults as the first one and the further ones, if there are any.
 fn refusal_of(mut faults: Vec<Fault>) -> Option<Refusal>
     ensures { MatchOption result (faults.items ≡ []) (λ r. faults.items ≡ r.first ∷ r.further.items) }
 {
@@ -91,8 +91,8 @@ fn checked(alloc: Global, file: &SetText) -> Result<Vec<u8>, Refusal>
 /// `load` in lowest terms, `segment` in bytes, the `least` that one has, and the `size` of a store's file in bytes.
 ///
 /// An `Err` has all that is wrong with the set. The first fault is the one of `run_plan`, or `SegmentTooSmall` or
-/// `SegmentTooLarge` where that one has none; behind it come those that would be said next, were each task that is named taken
-/// out of the set. `InputFailed` where the reader fails, and `NoMemory` where a growth was refused, stand alone.
+/// `SegmentTooLarge` if that one has none; after it come those that would be said next, were each task that is named taken
+/// out of the set. `InputFailed` if the reader fails, and `NoMemory` if an allocation failed, stand alone.
 pub fn run_check<R: Read>(alloc: Global, input: &mut R) -> Result<Vec<u8>, Refusal>
     ensures ok { IfOk result (λ text. IfSome (R.remaining input.old) (λ bytes. Checks bytes text.items)) }
     ensures err { IfErr result (λ r. IfSome (R.remaining input.old) (λ bytes. CheckFails bytes r.first r.further.items)) }

@@ -91,7 +91,7 @@ front_begins K s (suc x) =
           ∙ ap (λ t. little_bytes 8 s.number ++ t) (append_assoc (little_bytes 8 s.ledger.slot) before.0 more)),
     )
 
--- one task written behind those before it
+-- one task written after those before it
 
 pub task_put_in : {J : Type 0} (K : Kind J) (s : Plain J) (x at next : ℕ) (old numbered all : List ℕ) (o : Option J) → slice_get s.jobs x ≡ Some o →
     take at old ≡ front_bytes K s x → take (at + 8) numbered ≡ take at old ++ little_bytes 8 (slice_index_or s.ledger.allocs x 0) →

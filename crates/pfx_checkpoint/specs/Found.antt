@@ -15,7 +15,7 @@ use Rattle.pfx_machine.specs.Fitting.{fits}
 abbrev pub number_at : ℕ → List ℕ → ℕ
 number_at at bytes = little_number 8 (drop at bytes)
 
--- the allocations of the first x tasks, where n are real
+-- the allocations of the first x tasks, if n are real
 abbrev pub allocs_at : ℕ → ℕ → List ℕ → List ℕ
 allocs_at n zero bytes = []
 allocs_at n (suc x) bytes = allocs_at n x bytes ++ number_at (place_of n x) bytes ∷ []
@@ -41,7 +41,7 @@ plain_at K s bytes = record {
 unfoldable pub read_state : {J : Type 0} → Kind J → FilledSet → List ℕ → Option (Plain J)
 read_state K s bytes = if fits (plain_at K s bytes) && bytes_eq bytes (state_bytes K (plain_at K s bytes)) then Some (plain_at K s bytes) else None
 
--- what was answered is the state that the bytes are, or that they are none, unless memory was refused
+-- what was answered is the state that the bytes are, or that they are none, unless an allocation failed
 abbrev pub Reads : {J : Type 0} → Option (Plain J) → Result (Plain J) CheckpointFault → Type 0
 Reads read (Ok s) = read ≡ Some s
 Reads read (Err Damaged) = read ≡ None

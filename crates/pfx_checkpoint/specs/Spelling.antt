@@ -7,7 +7,7 @@ use Rattle.pfx_columns.specs.Ledgers.{total}
 use Rattle.pfx_jobs.specs.Kind.{Kind}
 use Rattle.pfx_machine.specs.Plain.{Plain}
 
--- a task's place for a job: idle tasks have none; a flag, and the job's encoding, or zeros where there is no job
+-- a task's place for a job: idle tasks have none; a flag, and the job's encoding, or zeros if there is no job
 abbrev pub job_bytes : {J : Type 0} → Kind J → Option (Option J) → List ℕ
 job_bytes K None = []
 job_bytes K (Some None) = 0 ∷ replicate 128 0
@@ -26,7 +26,7 @@ front_bytes K s (suc n) = front_bytes K s n ++ task_bytes K s n
 unfoldable pub state_bytes : {J : Type 0} → Kind J → Plain J → List ℕ
 state_bytes K s = front_bytes K s (total s.ledger)
 
--- where task x begins, where n tasks are real: a real task takes 137 bytes and an idle one 8
+-- where task x begins, if n tasks are real: a real task takes 137 bytes and an idle one 8
 abbrev pub place_of : ℕ → ℕ → ℕ
 place_of n x = if nat_lt x n then 16 + 137 * x else 16 + 137 * n + 8 * (x - n)
 

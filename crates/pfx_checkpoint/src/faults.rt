@@ -8,7 +8,7 @@ pub enum CheckpointFault {
     /// The bytes are those of no state of the set.
     #[error("the bytes are no state of the set")]
     Damaged,
-    /// A growth of memory was refused.
+    /// An allocation failed.
     #[error("out of memory")]
     NoMemory,
 }

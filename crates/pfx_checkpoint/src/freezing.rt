@@ -19,7 +19,7 @@ pub(crate) const FLAGGED: usize = 129;
 /// How many bytes a real task takes: its allocations in eight, and the place of its job.
 pub(crate) const REAL: usize = 137;
 
-/// Where a task begins, where so many are real.
+/// Where a task begins, if so many are real.
 pub(crate) fn place_of(real: usize, task: usize) -> usize
     requires real { real ≤ 1024 }
     requires few { task ≤ 1152 }

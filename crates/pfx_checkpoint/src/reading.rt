@@ -34,7 +34,7 @@ fn allocs_at(alloc: Global, set: &TaskSet, bytes: &[u8]) -> Result<Vec<u64>, All
     Ok(allocs)
 }
 
-/// The job at a place, where there is a flag and a job can be read.
+/// The job at a place, if there is a flag and a job can be read.
 fn job_at<J: Job>(bytes: &[u8], at: usize) -> Option<J>
     requires { at + 129 ≤ length bytes.now }
     ensures { result ≡ job_at J.kind at bytes.now }
@@ -60,9 +60,9 @@ fn jobs_at<J: Job>(alloc: Global, real: usize, bytes: &[u8]) -> Result<Vec<Optio
     Ok(jobs)
 }
 
-/// The state of a set that the bytes are, or `Damaged` where they are none.
+/// The state of a set that the bytes are, or `Damaged` if they are none.
 ///
-/// There are as many bytes as `state_len` says. `NoMemory` comes only where a growth of memory was refused.
+/// There are as many bytes as `state_len` says. `NoMemory` comes only if an allocation failed.
 pub fn read<J: Job>(alloc: Global, set: &TaskSet, bytes: &[u8]) -> Result<State<J>, CheckpointFault>
     requires { length bytes.now ≡ state_len set.now }
     ensures { Reads (read_state J.kind set.now bytes.now) result }
@@ -88,7 +88,7 @@ pub fn read<J: Job>(alloc: Global, set: &TaskSet, bytes: &[u8]) -> Result<State<
     }
 }
 
-/// The ledger of these allocations, or `Damaged` where they are none.
+/// The ledger of these allocations, or `Damaged` if they are none.
 fn ledger_of(
     alloc: Global,
     set: &TaskSet,

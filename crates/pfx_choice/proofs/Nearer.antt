@@ -137,7 +137,7 @@ lesser_place e p a n f q b m t e_some e_less f_some f_less x y x_at y_at less =
     let v : place_of f q b t m ≡ min (m - 1) 254 = place_contending f q b t m y in
     nearer_greater e p a n f q b m t e_some e_less f_some f_less x y x_at y_at (min_less n m (omega (arith, less, u, v)))
 
--- one slot on: an end is nearer by one where the task rests, and where it runs it is that of the next subtask
+-- one slot on: an end is nearer by one if the task rests, and if it runs it is that of the next subtask
 pub ahead_rests : (e p a t n : ℕ) → 0 < e → IsFairAt e p a (t + 1) → IsAhead e p a t n → IsAhead e p a (t + 1) (n - 1)
 ahead_rests e p a t zero some next h = absurd (let high : e * (t + 1) < p * a + p = fair_high e p a (t + 1) next in omega (arith, h.reach))
 ahead_rests e p a t (suc n) some next h =

@@ -2,15 +2,15 @@
 use Rattle.std.specs.Prelude.{◌≡◌, ◌≢◌, ℕ, ◌+◌, ◌-◌, ◌*◌, ◌/◌, ◌<◌, min, nat_lt, if◌then◌else◌, List, length, slice_index_or}
 use Rattle.pfx_columns.specs.Ledgers.{Ledger, total, task}
 
--- the slots before the one at whose end the task's next subtask ends: where its lag is l, (p - l - 1) / e
+-- the slots before the one at whose end the task's next subtask ends: if its lag is l, (p - l - 1) / e
 abbrev pub lead : ℕ → ℕ → ℕ → ℕ → ℕ
 lead e p a t = (p * a + p - e * t - 1) / e
 
--- so many, or 254 where they are more
+-- so many, or 254 if they are more
 abbrev pub near : Ledger → ℕ → ℕ
 near g x = min (lead (task g x).e (task g x).p (task g x).alloc g.slot) 254
 
--- 255 where it may not run now, else so many slots, at most 254; 0 is a task that has to run now
+-- 255 if it may not run now, else so many slots, at most 254; 0 is a task that has to run now
 abbrev pub place_by : ℕ → ℕ → ℕ → ℕ → ℕ → ℕ
 place_by e p a t k = if nat_lt (p * a) (e * (t + 1)) then min k 254 else 255
 

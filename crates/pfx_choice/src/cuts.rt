@@ -67,7 +67,7 @@ fn find_near(places: &[u8], workers: usize, guess: u8) -> Option<Cut>
     cut_between(places, next, last, workers, guess + 1)
 }
 
-/// The place, where no more tasks than workers are below it, and more up to it.
+/// The place, if no more tasks than workers are below it, and more up to it.
 fn cut_between(places: &[u8], first: usize, next: usize, workers: usize, d: u8) -> Option<Cut>
     requires place { (0 < d) × (d < 255) }
     requires first { first ≡ below places.now d }

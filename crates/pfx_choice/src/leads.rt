@@ -1,6 +1,6 @@
 //! Each task's lead: the slots before the one at whose end its next subtask ends.
 //!
-//! It is guessed by that of the slot before, which was one more where the task rested, and tested by a product. Only where the
+//! It is guessed by that of the slot before, which was one more if the task rested, and tested by a product. Only if the
 //! guess is wrong, as for the tasks that ran, a division gives it. So no answer rests on what was kept.
 
 ghost use Rattle.std.specs.Prelude.{◌≡◌, ◌≢◌, ℕ, ◌-◌, ◌/◌, ◌<◌, ◌≤◌, ◌^◌, min, pos, neg_ℤ, ◌≤ℤ◌, ◌-ℤ◌, length, slice_index_or, OnOk};
@@ -17,7 +17,7 @@ const FAR: u8 = 254;
 /// What stands for no lead.
 const UNKNOWN: u8 = 255;
 
-/// Takes the lead of each task, or 254 where it is more, guessed by what stands there.
+/// Takes the lead of each task, or 254 if it is more, guessed by what stands there.
 pub fn take_leads(leads: &mut Vec<u8>, ledger: &Columns) -> Result<(), AllocError>
     ensures { OnOk result (AreLeadsIn ledger.now leads.new.items) }
 {
@@ -30,7 +30,7 @@ pub fn take_leads(leads: &mut Vec<u8>, ledger: &Columns) -> Result<(), AllocErro
     Ok(())
 }
 
-/// Guesses each lead by the last one; 255 stands where the guess is wrong.
+/// Guesses each lead by the last one; 255 stands if the guess is wrong.
 fn guess_leads(leads: &mut [u8], ledger: &Columns)
     requires { length leads.old ≡ total ledger.now }
     ensures { AreNear ledger.now leads.new }
@@ -78,7 +78,7 @@ fn guess_by(last: u8) -> u8 {
     }
 }
 
-/// The guess where it is right, and else 255.
+/// The guess if it is right, and else 255.
 fn tested(guess: u8, e: u32, left: u32) -> u8
     requires weight { (1 ≤ e) × (e ≤ 2 ^ 20) }
     requires left { 1 ≤ left }
@@ -92,7 +92,7 @@ fn tested(guess: u8, e: u32, left: u32) -> u8
     }
 }
 
-/// A task's lead, or 254 where it is more.
+/// A task's lead, or 254 if it is more.
 fn divided(ledger: &Columns, x: usize) -> u8
     requires { x < total ledger.now }
     ensures { result ≡ near ledger.now x }
@@ -102,7 +102,7 @@ fn divided(ledger: &Columns, x: usize) -> u8
     quotient(natural(es[x]), left_of(ps[x], lags[x]))
 }
 
-/// The quotient, or 254 where it is more.
+/// The quotient, or 254 if it is more.
 fn quotient(e: u32, left: u32) -> u8
     requires { (1 ≤ e) × (1 ≤ left) }
     ensures { result ≡ min ((left - 1) / e) 254 }

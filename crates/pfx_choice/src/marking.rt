@@ -12,7 +12,7 @@ use pfx_columns::Columns;
 use pfx_symbols::Rank;
 use std::alloc::AllocError;
 
-/// Marks the tasks before the cut in place of all places, and gathers those at it, where workers are left for some.
+/// Marks the tasks before the cut in place of all places, and gathers those at it, if workers are left for some.
 pub fn mark_before(
     places: &mut [u8],
     found: &mut Vec<Rank>,

@@ -8,7 +8,7 @@ ghost use Rattle.pfx_choice.specs.Places.{near, place, AreLeadsIn, ArePlacesIn};
 use pfx_columns::Columns;
 use std::alloc::AllocError;
 
-/// Takes the place of each task: 0 urgent, 255 tnegru, else its lead, or 254 where that is more.
+/// Takes the place of each task: 0 urgent, 255 tnegru, else its lead, or 254 if that is more.
 pub fn take_places(places: &mut Vec<u8>, leads: &[u8], ledger: &Columns) -> Result<(), AllocError>
     requires { AreLeadsIn ledger.now leads.now }
     ensures { OnOk result (ArePlacesIn ledger.now places.new.items) }
@@ -34,7 +34,7 @@ fn put_places(places: &mut [u8], leads: &[u8], ledger: &Columns)
     }
 }
 
-/// The place of a task: its lead where it may run.
+/// The place of a task: its lead if it may run.
 fn place_by(ledger: &Columns, x: usize, lag: i32, e: i32, lead: u8) -> u8
     requires within { x < total ledger.now }
     requires lag { lag ≡ lag_in ledger.now x }

@@ -6,7 +6,7 @@ ghost use Rattle.pfx_weights.specs.Rows.{one};
 ghost use Rattle.pfx_columns.specs.Lags.{lag_of};
 
 /// A lag's step is the lag one slot on: from the lag before slot `t` of a task that got `a` slots, the step that adds `e`,
-/// and takes away `p` where the task runs, gives the lag before slot `t + 1` with the slots that it got by then.
+/// and takes away `p` if the task runs, gives the lag before slot `t + 1` with the slots that it got by then.
 pub fn steps_are_lags()
     ensures { (e p a t : ℕ) (runs : Bool) → lag_next (lag_of e p a t) (pos e) (pos p) (one runs) ≡ lag_of e p (a + one runs) (t + 1) }
 {}

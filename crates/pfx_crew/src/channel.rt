@@ -27,7 +27,7 @@ pub struct ChannelSeat<Q: Drop, D: Drop> {
 }
 
 impl<Q: Drop, D: Drop> ChannelDesk<Q, D> {
-    /// A desk on which nothing lies. `AllocError` where memory is refused.
+    /// A desk on which nothing lies. `AllocError` if an allocation fails.
     pub fn new(alloc: Global) -> Result<ChannelDesk<Q, D>, AllocError> {
         Ok(ChannelDesk {
             quanta: Quay::new(alloc, ROOM)?,

@@ -23,7 +23,7 @@ pub trait Desk<Q, D> {
     /// The results that it collected.
     ghost collected: { Self.Seat → List D };
 
-    /// A seat, for any thread. `AllocError` where memory is refused.
+    /// A seat, for any thread. `AllocError` if an allocation fails.
     fn seat<R: Wait>(&self, rt: &R) -> Result<Self::Seat, AllocError>
         ensures { IfOk result (λ s. (dealt s ≡ []) × (took s ≡ []) × (handed s ≡ []) × (collected s ≡ [])) };
 
@@ -39,7 +39,7 @@ pub trait Desk<Q, D> {
         ensures none { IfNone result (took seat.new ≡ took seat.old) }
         ensures same { (dealt seat.new ≡ dealt seat.old) × (handed seat.new ≡ handed seat.old) × (collected seat.new ≡ collected seat.old) };
 
-    /// Hands a result back, or gives it back where it can't.
+    /// Hands a result back, or gives it back if it can't.
     fn hand_back<R: Wait>(&self, rt: &R, seat: &mut Self::Seat, done: D) -> Result<(), D>
         ensures handed { MatchResult result (λ _. handed seat.new ≡ handed seat.old ++ done ∷ [])
             (λ d. (d ≡ done) × (handed seat.new ≡ handed seat.old)) }

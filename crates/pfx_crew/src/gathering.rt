@@ -24,7 +24,7 @@ pub enum GatherFault {
     },
 }
 
-/// The place of the first quantum that a result answers, from this place on. `None` where it answers none.
+/// The place of the first quantum that a result answers, from this place on. `None` if it answers none.
 fn place_from<J: Job>(quanta: &[Quantum<J>], done: &Done<J>, from: usize) -> Option<usize>
     requires { from ≤ length quanta.now }
     ensures some { IfSome result (λ at. (at < length quanta.now) × IsFirst (map (λ q. deal q.number q.slot q.task q.before) quanta.now)
@@ -40,8 +40,8 @@ fn place_from<J: Job>(quanta: &[Quantum<J>], done: &Done<J>, from: usize) -> Opt
     None
 }
 
-/// Puts a result at its quantum's place, or refuses it with nothing changed: as a `Stranger` where it answers no quantum of the
-/// slot, and as a `Double` where its place is taken. There is a place for each quantum. It takes no memory.
+/// Puts a result at its quantum's place, or refuses it with nothing changed: as a `Stranger` if it answers no quantum of the
+/// slot, and as a `Double` if its place is taken. There is a place for each quantum. It takes no memory.
 pub fn gather<J: Job>(
     quanta: &[Quantum<J>],
     places: &mut [Option<Done<J>>],

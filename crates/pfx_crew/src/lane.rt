@@ -52,7 +52,7 @@ impl<T: Drop> Model for Berth<T> {
 }
 
 impl<T: Drop> Berth<T> {
-    /// The first place at a lane of its own, which has room for so many messages. `AllocError` where memory is refused.
+    /// The first place at a lane of its own, which has room for so many messages. `AllocError` if an allocation fails.
     pub fn new(alloc: Global, room: usize) -> Result<Berth<T>, AllocError>
         requires { 0 < room }
         ensures { IfOk result (λ b. (b.put ≡ []) × (b.taken ≡ [])) }
@@ -65,7 +65,7 @@ impl<T: Drop> Berth<T> {
         })
     }
 
-    /// One more place at the same lane. `AllocError` where memory is refused.
+    /// One more place at the same lane. `AllocError` if an allocation fails.
     pub fn another(&mut self) -> Result<Berth<T>, AllocError>
         ensures same { self.new ≡ self.old }
         ensures fresh { IfOk result (λ b. (b.put ≡ []) × (b.taken ≡ [])) }
@@ -150,7 +150,7 @@ impl<T: Drop> Berth<T> {
     }
 
     #[tactic(auto, using(crate::proofs::Items::items_more, crate::proofs::Items::ends_more))]
-    /// Waits for a message, asleep behind some turns, and takes it out.
+    /// Waits for a message, asleep after some turns, and takes it out.
     fn receive<R: Wait>(&mut self, rt: &R) -> Message<T>
         ensures taken { (self.new.taken ≡ self.old.taken ++ items_of (result ∷ []))
             × (self.new.ends_taken ≡ self.old.ends_taken + ends_of (result ∷ [])) }
@@ -194,7 +194,7 @@ pub struct Quay<T: Drop> {
 }
 
 impl<T: Drop> Quay<T> {
-    /// A lane of its own, with room for so many messages. `AllocError` where memory is refused.
+    /// A lane of its own, with room for so many messages. `AllocError` if an allocation fails.
     pub fn new(alloc: Global, room: usize) -> Result<Quay<T>, AllocError>
         requires { 0 < room }
     {
@@ -203,7 +203,7 @@ impl<T: Drop> Quay<T> {
         })
     }
 
-    /// A place at the lane. `AllocError` where memory is refused.
+    /// A place at the lane. `AllocError` if an allocation fails.
     pub fn berth<R: Wait>(&self, rt: &R) -> Result<Berth<T>, AllocError>
         ensures { IfOk result (λ b. (b.put ≡ []) × (b.taken ≡ [])) }
     {

@@ -5,7 +5,7 @@ ghost use Rattle.pfx_jobs.specs.Kind.{Kind};
 ghost use Rattle.pfx_machine.specs.Slots.{Deal, deals};
 ghost use Rattle.pfx_crew.specs.Laws.{NoTaskTwice, ComeOut};
 
-/// Every order of arrival gives the row's results. Where no two quanta of a slot are of one task, their results, gathered in
+/// Every order of arrival gives the row's results. If no two quanta of a slot are of one task, their results, gathered in
 /// any order, are all taken, and then each place has its quantum's result.
 pub fn every_order<J, D>()
     ensures { (asked : D → Deal J) (results arrivals : List D) → NoTaskTwice (map asked results) → IsPermutation results arrivals

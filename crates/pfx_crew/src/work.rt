@@ -7,7 +7,7 @@ use pfx_jobs::job::Job;
 use pfx_jobs::quantum::{Done, Quantum};
 use std::sync::Wait;
 
-/// Takes one quantum and hands back its result. False where the desk gave none or didn't take the result.
+/// Takes one quantum and hands back its result. False if the desk gave none or didn't take the result.
 fn serve<J: Job, R: Wait, K: Desk<Quantum<J>, Done<J>>>(
     rt: &R,
     desk: &K,

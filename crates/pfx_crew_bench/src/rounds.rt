@@ -127,7 +127,7 @@ fn round_at<R: Wait>(
     bench.sum()
 }
 
-/// The sum over rounds at a desk, which is closed behind them.
+/// The sum over rounds at a desk, which is closed after them.
 fn rounds_at<R: Wait>(
     rt: &R,
     desk: &JobDesk,

@@ -4,7 +4,7 @@ use Rattle.std.proofs.Common.{◌≡◌, ℕ, ◌+◌, ◌-◌, ◌*◌, ◌/◌
 pub product_within : (a b c d : ℕ) → a ≤ c → b ≤ d → a * b ≤ c * d
 product_within a b c d h k = mul-le-mul h k
 
--- so many times the divisor is within the number, where it isn't above the quotient
+-- so many times the divisor is within the number, if it isn't above the quotient
 pub within_quotient : (i a b : ℕ) → 1 ≤ b → i ≤ a / b → i * b ≤ a
 within_quotient i a b some h =
     let times : i * b ≤ (a / b) * b = (let same : b ≤ b = omega arith in mul-le-mul h same) in

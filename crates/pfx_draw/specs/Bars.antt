@@ -6,7 +6,7 @@ use Rattle.pfx_draw.specs.Text.{move_to, across_to}
 use Rattle.pfx_draw.specs.declared.bars.Track.{Track}
 use Rattle.pfx_draw.specs.declared.sizes.Sizes.{Sizes}
 
--- a slot has the mark; none behind the last has it
+-- a slot has the mark; none after the last has it
 abbrev pub has : List ℕ → ℕ → ℕ → Bool
 has marks mark i = nat_lt i (length marks) && (slice_index_or marks i 0 == mark)
 
@@ -14,7 +14,7 @@ has marks mark i = nat_lt i (length marks) && (slice_index_or marks i 0 == mark)
 abbrev pub had : List ℕ → ℕ → ℕ → Bool
 had marks mark i = nat_lt 0 i && has marks mark (i - 1)
 
--- A run begins with a slot behind one without the mark, and ends with one before such a slot. On a track whose bars are apart
+-- A run begins with a slot after one without the mark, and ends with one before such a slot. On a track whose bars are apart
 -- each slot with the mark is a run of its own.
 abbrev pub begins : Track → List ℕ → ℕ → ℕ → Bool
 begins track marks mark i = has marks mark i && (track.apart || not (had marks mark i))

@@ -6,7 +6,7 @@ unfoldable pub each : (ℕ → List ℕ) → ℕ → List ℕ
 each piece zero = []
 each piece (suc n) = each piece n ++ piece n
 
--- the greatest of these numbers for 0, 1 and so on below n; 0 where there is none
+-- the greatest of these numbers for 0, 1 and so on below n; 0 if there is none
 unfoldable pub most : (ℕ → ℕ) → ℕ → ℕ
 most of zero = 0
 most of (suc n) = max (most of n) (of n)

@@ -10,7 +10,7 @@ use Rattle.pfx_draw.specs.declared.phrases.Phrase.{Phrase}
 use Rattle.pfx_draw.specs.declared.phrases.Phrase.TheVariants as phrase
 use Rattle.pfx_draw.specs.declared.sizes.Sizes.{Sizes}
 
--- a set's name before a colon, where it is a name as tasks have them; nothing of any other text
+-- a set's name before a colon, if it is a name as tasks have them; nothing of any other text
 abbrev pub named : List ℕ → List ℕ
 named name = if is_name name then name ++ say phrase.Colon else []
 
@@ -73,7 +73,7 @@ numbers s = each (number_piece s) (ticks s)
 unfoldable pub grid : Sizes → List ℕ
 grid s = say phrase.PathBegin ++ grid_lines s ++ say phrase.GridEnd ++ numbers s
 
--- how far behind the first slot the k-th one lies that begins a hyperperiod of l slots
+-- how far after the first slot the k-th one lies that begins a hyperperiod of l slots
 abbrev pub hyper_slot : Sizes → ℕ → ℕ → ℕ
 hyper_slot s l k = (s.first / l + 1 + k) * l - s.first
 
@@ -86,7 +86,7 @@ hyper_count s l = (s.first + s.slots) / l - s.first / l
 abbrev pub hyper_lines : Sizes → ℕ → List ℕ
 hyper_lines s l = each (hyper_piece s l) (hyper_count s l)
 
--- a dashed line at each, where there are 40 at the most
+-- a dashed line at each, if there are 40 at the most
 unfoldable pub dashes : Sizes → ℕ → List ℕ
 dashes s l =
     if nat_lt 0 (hyper_count s l) && nat_le (hyper_count s l) 40

@@ -8,7 +8,7 @@ use Rattle.pfx_draw.specs.Text.{with_number}
 use Rattle.pfx_draw.specs.declared.lags.Course.{Course}
 use Rattle.pfx_draw.specs.declared.lags.Summary.{Summary}
 
--- a task of weight e/p that got `alloc` of the slots before the first: behind i more slots, of which it got k, it is due more
+-- a task of weight e/p that got `alloc` of the slots before the first: after i more slots, of which it got k, it is due more
 -- than it got by so many p-ths of a slot, or got more
 abbrev pub behind_by : Course → ℕ → ℕ → ℕ
 behind_by c i k = c.e * (c.slot + i) - c.p * (c.alloc + k)
@@ -30,7 +30,7 @@ level_by behind ahead = if nat_lt 0 behind then behind else (if nat_lt 0 ahead t
 abbrev pub level : Course → ℕ → ℕ → ℕ
 level c i k = level_by (4 * behind_by c i k / c.p) (4 * ahead_by c i k / c.p)
 
--- how many of the first i slots a task got, by its marks: 1 where it runs
+-- how many of the first i slots a task got, by its marks: 1 if it runs
 abbrev pub runs_in : List ℕ → ℕ → ℕ
 runs_in marks i = count i (has marks 1)
 
@@ -41,7 +41,7 @@ level_piece c marks i = level c i (runs_in marks i) ∷ []
 abbrev pub levels : Course → List ℕ → List ℕ
 levels c marks = each (level_piece c marks) (length marks)
 
--- behind the i-th slot
+-- after the i-th slot
 abbrev pub behind_at : Course → List ℕ → ℕ → ℕ
 behind_at c marks i = behind_by c (i + 1) (runs_in marks (i + 1))
 

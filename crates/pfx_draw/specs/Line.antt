@@ -7,15 +7,15 @@ use Rattle.pfx_draw.specs.Text.{move_to, line_to}
 use Rattle.pfx_draw.specs.declared.lags.Course.{Course}
 use Rattle.pfx_draw.specs.declared.sizes.Sizes.{Sizes}
 
--- how high the line is: above the line of no lag where the task is behind, below it where it is ahead, rounded towards it
+-- how high the line is: above the line of no lag if the task is behind, below it if it is ahead, rounded towards it
 abbrev pub lag_y : Sizes → Course → ℕ → ℕ → ℕ → ℕ
 lag_y s c base i k = base + ahead_by c i k * s.heights.lag / c.p - behind_by c i k * s.heights.lag / c.p
 
--- its point behind i slots, of which the task got k
+-- its point after i slots, of which the task got k
 abbrev pub line_point : Sizes → Course → ℕ → ℕ → ℕ → List ℕ
 line_point s c base i k = line_to (x_at s i) (lag_y s c base i k)
 
--- the point behind the i-th slot
+-- the point after the i-th slot
 abbrev pub line_piece : Sizes → Course → ℕ → List ℕ → ℕ → List ℕ
 line_piece s c base marks i = line_point s c base (i + 1) (runs_in marks (i + 1))
 

@@ -81,6 +81,6 @@ say phrase.AheadQuarter = codes "#FBE0C4"
 say phrase.AheadHalf = codes "#F4B77A"
 say phrase.AheadMost = codes "#E08A2E"
 
--- words and a number behind them
+-- words and a number after them
 abbrev pub say_number : Phrase → ℕ → List ℕ
 say_number p n = say p ++ decimal n

@@ -11,7 +11,7 @@ use Rattle.pfx_program.specs.Faults.{fault_of_choice}
 use Rattle.pfx_draw.specs.Drawing.{IsDrawing, IsTooLarge}
 use Rattle.pfx_draw.specs.Start.{Starts, HasNoStart}
 
--- the picture of the plan with which the bytes and a text begin; none where it would be too large
+-- the picture of the plan with which the bytes and a text begin; none if it would be too large
 abbrev pub Pictures : List ℕ → Option (List ℕ) → List ℕ → ℕ → Option (List ℕ) → Type 0
 Pictures bytes at name slots None = (file : SetFile) × (g : Ledger) × Starts bytes at file g × IsTooLarge (total g) slots
 Pictures bytes at name slots (Some text) = (file : SetFile) × (g : Ledger) × Starts bytes at file g × IsDrawing name file.tasks g slots text

@@ -14,7 +14,7 @@ Starts bytes at file g = (set_of_bytes bytes ≡ Some file) × IsStart file at g
 abbrev pub HasNoStart : List ℕ → Option (List ℕ) → Fault → Type 0
 HasNoStart bytes at f = ((set_of_bytes bytes ≡ None) × (f ≡ fault.BadSet)) ⊎ ((file : SetFile) × (set_of_bytes bytes ≡ Some file) × StartFails file at f)
 
--- or they weren't read, or memory was refused
+-- or they weren't read, or an allocation failed
 abbrev pub StartIsRefused : List ℕ → Option (List ℕ) → Fault → Type 0
 StartIsRefused bytes at fault.InputFailed = ⊤
 StartIsRefused bytes at fault.NoMemory = ⊤

@@ -2,7 +2,7 @@
 use Rattle.std.specs.Prelude.{codes, ℕ, List, ◌++◌}
 use Rattle.std.specs.Fmt.{decimal}
 
--- words and a number behind them
+-- words and a number after them
 abbrev pub with_number : List ℕ → ℕ → List ℕ
 with_number words n = words ++ decimal n
 

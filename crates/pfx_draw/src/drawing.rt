@@ -28,7 +28,7 @@ pub enum DrawFault {
     TooLarge,
     /// This slot has no row, for this cause.
     NoRow { slot: u64, cause: ChoiceFault },
-    /// A growth of memory was refused.
+    /// An allocation failed.
     NoMemory,
 }
 
@@ -242,9 +242,9 @@ fn is_too_large(lanes: usize, slots: u64) -> bool
 /// The picture of the plan of `slots` slots from a ledger on, as the text of an SVG: a lane for each task, whose name is
 /// that of `tasks`, or `*j` for idle task `j`; in it a bar in each slot in which the task runs, and its lag.
 ///
-/// It is `draw_text` of the rows of proportionate progress. `name` stands in the title where it is a name as tasks have
-/// them. `TooLarge` comes first: for no slots, for more than 1,440, and where tasks times slots are above 2^18; `NoRow`
-/// where a slot has no row, as `plan` says; `NoMemory` where a growth was refused.
+/// It is `draw_text` of the rows of proportionate progress. `name` stands in the title if it is a name as tasks have
+/// them. `TooLarge` comes first: for no slots, for more than 1,440, and if tasks times slots are above 2^18; `NoRow`
+/// if a slot has no row, as `plan` says; `NoMemory` if an allocation failed.
 pub fn draw(
     alloc: Global,
     name: &str,

@@ -281,7 +281,7 @@ fn put_hyper_lines(
     Ok(())
 }
 
-/// Puts a dashed line at each multiple of the hyperperiod, where there are few.
+/// Puts a dashed line at each multiple of the hyperperiod, if there are few.
 #[tactic(auto, unfolding(crate::specs::Frame::dashes))]
 pub(crate) fn put_dashes(
     alloc: Global,

@@ -27,13 +27,13 @@ pub struct Course {
 pub struct Summary {
     /// In how many of them the task runs.
     pub runs: u64,
-    /// The greatest lag behind one of them, in p-ths of a slot, where the task is behind,
+    /// The greatest lag behind one of them, in p-ths of a slot, if the task is behind,
     pub behind: u64,
-    /// and where it is ahead.
+    /// and if it is ahead.
     pub ahead: u64,
 }
 
-/// What a task is due behind `i` slots, in p-ths of a slot.
+/// What a task is due after `i` slots, in p-ths of a slot.
 #[tactic(auto, using(crate::proofs::Bounds::product_within))]
 fn due(c: Course, i: u64) -> u64
     requires course { IsCourse c }
@@ -44,7 +44,7 @@ fn due(c: Course, i: u64) -> u64
     c.e * (c.slot + i)
 }
 
-/// What it got, where it got `k` of them.
+/// What it got, if it got `k` of them.
 #[tactic(auto, using(crate::proofs::Bounds::product_within))]
 fn got(c: Course, k: u64) -> u64
     requires course { IsCourse c }
@@ -87,7 +87,7 @@ fn put_signed(alloc: Global, text: &mut Vec<u8>, behind: u64, ahead: u64) -> Res
     }
 }
 
-/// Puts the lag behind `i` slots, of which the task got `k`, as `-1/3`.
+/// Puts the lag after `i` slots, of which the task got `k`, as `-1/3`.
 pub(crate) fn put_lag(
     alloc: Global,
     text: &mut Vec<u8>,
@@ -128,7 +128,7 @@ fn level(c: Course, i: u64, k: u64) -> u64
     level_by(behind, ahead)
 }
 
-/// How many slots a task got with the `i`-th, where it got `k` of those before.
+/// How many slots a task got with the `i`-th, if it got `k` of those before.
 pub(crate) fn counted(k: u64, marks: &[u64], i: usize) -> u64
     requires { k ≤ 1440 }
     ensures { result ≡ k + one (has marks.now 1 i) }

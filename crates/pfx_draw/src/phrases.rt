@@ -190,7 +190,7 @@ pub(crate) fn put_phrase(text: &mut Vec<u8>, phrase: Phrase) -> Result<(), Alloc
     put_bytes(text, words_of(phrase).as_bytes())
 }
 
-/// Puts words and a number behind them.
+/// Puts words and a number after them.
 pub(crate) fn put_phrase_number(
     alloc: Global,
     text: &mut Vec<u8>,

@@ -11,7 +11,7 @@ use std::alloc::Global;
 use std::io::Read;
 
 /// The picture of the plan of `slots` slots of the set that the reader gives, from slot 0 or from the ledger on that `at`
-/// gives, as the text of an SVG; `None` where it would be too large, as `draw` says.
+/// gives, as the text of an SVG; `None` if it would be too large, as `draw` says.
 ///
 /// Faults come as from `read_start`, and then that of a slot without a row: `TooManyUrgent`, `TooFewEligible` or
 /// `SlotLimit`.

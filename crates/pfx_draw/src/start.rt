@@ -15,7 +15,7 @@ use std::io::Read;
 /// that `at` gives as `T:A,A,..`.
 ///
 /// The refusals are those of `run_plan`: `BadSet` and the set's own, `BadLedger`, `OutOfRange` and `WrongSum` of the
-/// ledger; `InputFailed` where the reader fails, `NoMemory` where a growth was refused.
+/// ledger; `InputFailed` if the reader fails, `NoMemory` if an allocation failed.
 pub fn read_start<R: Read>(
     alloc: Global,
     input: &mut R,

@@ -22,7 +22,7 @@ pub(crate) fn put_number(alloc: Global, text: &mut Vec<u8>, n: u64) -> Result<()
     put_bytes(text, digits.as_bytes())
 }
 
-/// Puts words and a number behind them.
+/// Puts words and a number after them.
 pub(crate) fn put_with_number(
     alloc: Global,
     text: &mut Vec<u8>,

@@ -66,7 +66,7 @@ keeps_behind start H more a b c h all later one two from n le before =
     two from n (omega (arith, le, later))
     (λ other was. to_groups any_kind any_laws start (alone H) h in_groups small n other (one from n le (λ image here. to_frames any_kind any_laws start (alone H) h in_groups small n image (before image here)) other was))
 
--- an image in which one frame survives is recovered to the state behind it
+-- an image in which one frame survives is recovered to the state after it
 pub one_recovered : (s t : Plain AnyJob) (frame image : List ℕ) → state_after any_kind s frame ≡ Some t → frames.Survives (format any_kind) s (frame ∷ []) 1 image → recovered (format any_kind) image ≡ Ok t
 one_recovered s t frame image leads v =
     let least = v.at_least in

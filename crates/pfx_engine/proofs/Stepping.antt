@@ -43,7 +43,7 @@ takes_step_alone n old a b first (Ok x) e fails one = absurd fails
 pub takes_no_call : {T F : Type 0} (n : ℕ) (a : View) (fault : F) → Takes {T = T} n a a (Err fault)
 takes_no_call n a fault = record { ok = λ is. absurd (true≢false (sym is)); later = omega arith; at_most = omega arith; no_fewer = omega arith }
 
--- an append behind a step
+-- an append after a step
 pub takes_both : {S T E F : Type 0} (n k : ℕ) (old mid : Places) (a b c : View) (step : S) (result : Result T F) → n ≡ k → StaysPut old mid → calls_left old ≡ calls_of (next_step old) + calls_left mid →
     Takes {E = E} (calls_of (next_step old)) a b (Ok step) → Takes (append_calls n mid) b c result → Takes (command_calls k old) a c result
 takes_both n k old mid a b c step result same put fewer one two =

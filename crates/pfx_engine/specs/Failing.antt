@@ -1,4 +1,4 @@
--- What an engine answers where its store has failed.
+-- What an engine answers if its store has failed.
 use Rattle.std.specs.Prelude.{◌≡◌, ℕ, Bool, if◌then◌else◌, Some, Result, Ok, Err, ⊤}
 use Rattle.pfx_feasible.specs.Commands.{limit_fault}
 use Rattle.pfx_fault.specs.declared.parts.Cause.TheVariants as cause
@@ -18,12 +18,12 @@ use Rattle.pfx_program.specs.declared.engine.CallFault.TheVariants as callfault
 abbrev pub stopped_at : ℕ → Fault
 stopped_at marked = fault.StoreFailed marked cause.Device
 
--- the number of the last command that is kept, where the store isn't broken
+-- the number of the last command that is kept, if the store isn't broken
 abbrev pub last_kept : Bool → ℕ → Result ℕ Fault
 last_kept broken marked = if broken then Err (stopped_at marked) else Ok marked
 
--- Why a command wasn't accepted: the machine refuses it, or memory was refused, and then this stayed the same; or the disk
--- failed, so, behind this number.
+-- Why a command wasn't accepted: the machine refuses it, or an allocation failed, and then this stayed the same; or the disk
+-- failed, so, after this number.
 abbrev pub Fails : ℕ → Type 0 → Type 0 → CallFault → Type 0
 Fails marked failed same (callfault.Refused f) = same
 Fails marked failed same (callfault.Failed fault.NoMemory) = same
@@ -34,12 +34,12 @@ abbrev pub NotAccepted : Plain AnyJob → Command AnyJob → Plain AnyJob → Ca
 NotAccepted s c new (callfault.Refused f) = (answer any_kind s c ≡ Err f) × (new ≡ s)
 NotAccepted s c new (callfault.Failed f) = ⊤
 
--- where a Slot is refused, the limits on numbers and slots refuse it
+-- if a Slot is refused, the limits on numbers and slots refuse it
 abbrev pub IsServed : Plain AnyJob → Command AnyJob → CallFault → Type 0
 IsServed s c (callfault.Refused f) = c ≡ Slot → limit_fault s ≡ Some f
 IsServed s c (callfault.Failed f) = ⊤
 
--- where the store was whole and has failed, the machine accepts the command
+-- if the store was whole and has failed, the machine accepts the command
 abbrev pub IsInDoubt : Plain AnyJob → Command AnyJob → CallFault → Type 0
 IsInDoubt s c (callfault.Refused f) = ⊤
 IsInDoubt s c (callfault.Failed fault.NoMemory) = ⊤

@@ -18,7 +18,7 @@ abbrev pub Anchors : View → Plain AnyJob → Type 0
 Anchors disk s = (image : List ℕ) → disk.since disk.clock image → recovered (format any_kind) image ≡ Ok s
 
 -- Each image that a stop now may leave is recovered to the outcome of a beginning of these commands, with n of them at least;
--- where that is all of them, to the state, and each image since this moment is.
+-- if that is all of them, to the state, and each image since this moment is.
 pub record Kept (s : Plain AnyJob) (H : List (Command AnyJob)) (n : ℕ) (new : View) (t : Plain AnyJob) : Type 0 where
   pub honest : IsHonest new
   pub anchored : length H ≤ n → Anchors new t

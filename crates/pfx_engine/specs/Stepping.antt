@@ -12,7 +12,7 @@ use Rattle.pfx_store_file.specs.declared.places.Places.{Places}
 abbrev pub frame_len : Plain AnyJob → List (Command AnyJob) → ℕ
 frame_len s group = length (frame_of any_kind s group)
 
--- how many calls of the disk commands take whose frame has n bytes: those of the checkpoint's next step, and four; where the
+-- how many calls of the disk commands take whose frame has n bytes: those of the checkpoint's next step, and four; if the
 -- frame doesn't fit, those of all the steps to come, of a turn, and four
 abbrev pub command_calls : ℕ → Places → ℕ
 command_calls n places = if nat_lt (places.gate + n) places.end then calls_of (next_step places) + 4 else 10 + calls_left places

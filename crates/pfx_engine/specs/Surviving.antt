@@ -28,7 +28,7 @@ frames_of s H = groups.frames_of any_kind s (alone H)
 abbrev pub Survives : Plain AnyJob → List (Command AnyJob) → ℕ → List ℕ → Type 0
 Survives start H n image = groups.Survives any_kind start (alone H) n image
 
--- Where n of these commands at least survive in each image since some moment, they do so after the call too, in each image
+-- If n of these commands at least survive in each image since some moment, they do so after the call too, in each image
 -- since that moment; there may be more of them then.
 abbrev pub KeepsAll : Plain AnyJob → List (Command AnyJob) → List (Command AnyJob) → View → View → Type 0
 KeepsAll start H more old new = groups.KeepsAll any_kind start (alone H) (alone more) old new

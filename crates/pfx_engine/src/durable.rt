@@ -54,7 +54,7 @@ fn stopped<D: Disk>(store: &Store<D, AnyJob>) -> Fault
 }
 
 impl<D: Disk> DurableEngine<D> {
-    /// The engine over a store, at the store's state. Where a growth of memory was refused, the store is given back.
+    /// The engine over a store, at the store's state. If an allocation failed, the store is given back.
     pub fn new(
         alloc: Global,
         store: Store<D, AnyJob>,
@@ -76,7 +76,7 @@ impl<D: Disk> DurableEngine<D> {
         self.store
     }
 
-    /// The number of the last command, which is durable as all before it are. Where the disk has failed in an earlier
+    /// The number of the last command, which is durable as all before it are. If the disk has failed in an earlier
     /// call it is `StoreFailed`, with the number of the last command that is known to be durable: the store has to be
     /// opened again.
     pub fn last_kept(&self) -> Result<u64, Fault>
@@ -111,7 +111,7 @@ impl<D: Disk> DurableEngine<D> {
         // What the store fails on is a command that the machine accepts.
         ensures doubt { self.old.store.file.broken ≡ false → IfErr result (IsInDoubt self.old.state command) }
 
-        // Where fair schedules of every length go on from the state, as in each store that `init` made, the limits alone refuse
+        // If fair schedules of every length go on from the state, as in each store that `init` made, the limits alone refuse
         // a Slot, and such schedules go on from the new state.
         ensures serves { IsEndless self.old.state.ledger
             → IfErr result (IsServed self.old.state command) × OnOk result (IsEndless self.new.state.ledger) }
@@ -135,7 +135,7 @@ impl<D: Disk> DurableEngine<D> {
             return Err(CallFault::Failed(stopped(&self.store)));
         }
         let _number = self.state.number();
-        // The growths come first: once the state has moved, only the disk can fail.
+        // The allocations come first: once the state has moved, only the disk can fail.
         let Ok(mut records) = Vec::with_capacity(alloc, 1) else {
             return Err(CallFault::Failed(Fault::NoMemory));
         };
@@ -154,7 +154,7 @@ impl<D: Disk> DurableEngine<D> {
 }
 
 impl<D: Disk> Engine for DurableEngine<D> {
-    // The state is that of the store: the one behind the commands that are known to be durable.
+    // The state is that of the store: the one after the commands that are known to be durable.
     ghost promise = { record {
       state = λ engine. engine.store.state;
       faults = λ s f. f ≡ stopped_at s.number;
@@ -170,7 +170,7 @@ impl<D: Disk> Engine for DurableEngine<D> {
         ensures whole { OnOk result (self.new.store.file.broken ≡ false) }
         ensures refused { IfErr result (NotAccepted self.old.state command self.new.state) }
 
-        // Where fair schedules of every length go on from the state, as in each store that `init` made, the limits alone refuse
+        // If fair schedules of every length go on from the state, as in each store that `init` made, the limits alone refuse
         // a Slot, and such schedules go on from the new state.
         ensures served { IsEndless self.old.state.ledger → IfErr result (IsServed self.old.state command) }
         ensures endless { IsEndless self.old.state.ledger → OnOk result (IsEndless self.new.state.ledger) }
@@ -183,7 +183,7 @@ impl<D: Disk> Engine for DurableEngine<D> {
         ensures honest { IsHonest (D.view self.new.store.file.disk) → IsHonest (D.view self.old.store.file.disk) }
         ensures kept { IsHonest (D.view self.old.store.file.disk) → IsHonest (D.view self.new.store.file.disk) }
 
-        // From the return on, each image is recovered to the state behind the command.
+        // From the return on, each image is recovered to the state after the command.
         ensures acknowledged { IsHonest (D.view self.old.store.file.disk)
             → OnOk result ((image : List ℕ) → (D.view self.new.store.file.disk).since (D.view self.new.store.file.disk).clock image
             → recovered (format any_kind) image ≡ Ok self.new.state) }
@@ -222,7 +222,7 @@ impl<D: Disk> Engine for DurableEngine<D> {
         ensures honest { IsHonest (D.view self.new.store.file.disk) → IsHonest (D.view self.old.store.file.disk) }
         ensures kept { IsHonest (D.view self.old.store.file.disk) → IsHonest (D.view self.new.store.file.disk) }
 
-        // From the return on, each image is recovered to the state behind the Slots.
+        // From the return on, each image is recovered to the state after the Slots.
         ensures acknowledged { IsHonest (D.view self.old.store.file.disk)
             → OnOk result ((image : List ℕ) → (D.view self.new.store.file.disk).since (D.view self.new.store.file.disk).clock image
             → recovered (format any_kind) image ≡ Ok self.new.state) }

@@ -24,7 +24,7 @@ use pfx_store::{Mark, Store, batch_of};
 use pfx_store_file::StoreFault;
 
 /// Takes a step of the checkpoint in progress, if there is one, and then appends the records of 1 to 16 commands that the
-/// store's state accepts one after the other, in one batch. The step comes first, so that no reply waits behind it.
+/// store's state accepts one after the other, in one batch. The step comes first, so that no reply waits after it.
 pub(crate) fn commit<D: Disk>(
     store: &mut Store<D, AnyJob>,
     records: Vec<Record<AnyJob>>,
@@ -54,7 +54,7 @@ pub(crate) fn commit<D: Disk>(
         → AreRecordsOf any_kind store.old.state G (map plain records.items)
         → KeepsAll start H (H ++ G) (D.view store.old.file.disk) (D.view store.new.file.disk) }
 
-    // From the return on, each image is recovered to the state behind the commands.
+    // From the return on, each image is recovered to the state after the commands.
     ensures acknowledged { IsHonest (D.view store.old.file.disk)
         → OnOk result ((image : List ℕ) → (D.view store.new.file.disk).since (D.view store.new.file.disk).clock image
         → recovered (format any_kind) image ≡ Ok store.new.state) }

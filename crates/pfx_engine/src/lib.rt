@@ -3,7 +3,7 @@
 //! A `DurableEngine` has a store of jobs of any kind, and a state of its own that commands are run on. For every disk that
 //! behaves as its model says, at every moment and through repeated stops:
 //! 1. a command that is answered is durable: from its mark on, each image that a stop may leave is recovered to the state
-//!    behind it;
+//!    after it;
 //! 2. whatever a call answers, the commands that survived before it survive, with the call's commands or without them: what
 //!    is recovered is the outcome of a beginning of the accepted commands, with every answered one;
 //! 3. a refused command changes neither the state nor the store; nor does a command for which there is no memory;

@@ -19,7 +19,7 @@ use std::io::{Read, Write};
 ///
 /// Of the slots of a record up to `window` share a frame, 1 or more, and 16 at the most. By `form` lines are text or JSON.
 ///
-/// A printed line is a receipt: whatever the run answers, each image that a stop may leave behind it is recovered to the
+/// A printed line is a receipt: whatever the run answers, each image that a stop may leave after it is recovered to the
 /// outcome of a beginning of the script's accepted commands which holds every command whose line was printed. It takes an
 /// honest disk, and a store that was whole and all of whose images were those of its state, as `init` and `open` leave it.
 pub fn run_durable<R: Read + Drop, W: Write, D: Disk>(

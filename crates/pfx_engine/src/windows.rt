@@ -23,14 +23,14 @@ pub(crate) struct Window {
     pub(crate) records: Vec<Record<AnyJob>>,
 }
 
-// Whether a growth of memory was refused.
+// Whether an allocation failed.
 pub(crate) fn is_memory(fault: MachineFault) -> bool
     ensures { IsTrue result ↔ (fault ≡ MachineFault.NoMemory) }
 {
     matches!(fault, MachineFault::NoMemory)
 }
 
-/// Runs Slots on the state, at least one and at most `count`, up to the first that is refused. Where that is the first of
+/// Runs Slots on the state, at least one and at most `count`, up to the first that is refused. If that is the first of
 /// all, or there is no memory for it, the state stays.
 pub(crate) fn run_slots(
     alloc: Global,

@@ -180,7 +180,7 @@ module _ {J : Type 0} (K : Kind J) (B : Plain J) where
       let after = made image [] before in
       record { none = refl; has = has; after = record { contents = after.contents; images = after.images } }
 
--- the calls and the file of an append, where the batch is of these commands at this state
+-- the calls and the file of an append, if the batch is of these commands at this state
 module _ {J : Type 0} (K : Kind J) (f : FileOf J) (s t : Plain J) (H : List (Command J)) (batch : PlainBatch J) (same : s ≡ t) (carries : Carries K s H batch) where
   pub same_calls : appending K f s (batch_bytes K batch) ≡ (store_of K).calls f t H
   same_calls = ap (λ b. appending K f s (batch_bytes K b)) carries ∙ ap (λ (u : Plain J). appending K f u (frame_of K u H)) same

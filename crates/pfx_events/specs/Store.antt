@@ -5,7 +5,7 @@ use Rattle.pfx_jobs.specs.Kind.{Kind}
 use Rattle.pfx_store.specs.Files.{FileOf, spelled, appending, appended, tending, recovered_file}
 use Rattle.pfx_store_file.specs.Acts.{tended_file}
 use Rattle.pfx_world.specs.Setting.{Setting}
--- the frame of a batch behind a state
+-- the frame of a batch after a state
 pub use Rattle.pfx_store.specs.Groups.{frame_of}
 
 -- this product's store of a kind of job, as the world of events sees one

@@ -27,15 +27,15 @@ use pfx_store::{Mark, Store};
 use pfx_store_file::{StoreFault, Tended};
 use std::alloc::Global;
 
-/// `Store::append`, in each world whose store this is, where the flusher may take the batch's commands.
+/// `Store::append`, in each world whose store this is, if the flusher may take the batch's commands.
 ///
-/// Where it succeeds, `Take` and its calls, all of which go through, lead to a world whose store this still is. Where the
+/// If it succeeds, `Take` and its calls, all of which go through, lead to a world whose store this still is. If the
 /// disk fails, some of them go through and the next fails, and a stop leaves no image but those of the world after that.
 ///
-/// Where a run has led to that world and the store has its state, it is so of the next world too: runs chain by themselves.
-/// A stop within the call, whatever it answers, is a stop behind some of these calls, or one that might have come before.
+/// If a run has led to that world and the store has its state, it is so of the next world too: runs chain by themselves.
+/// A stop within the call, whatever it answers, is a stop after some of these calls, or one that might have come before.
 ///
-/// Said of lists of batches: what survived of them does so at every moment, and behind success the new one survives as well.
+/// Said of lists of batches: what survived of them does so at every moment, and after success the new one survives as well.
 pub fn append<D: Disk, J: Job>(
     store: &mut Store<D, J>,
     batch: &Batch<J>,
@@ -84,7 +84,7 @@ pub fn append<D: Disk, J: Job>(
     store.append(batch)
 }
 
-/// `Store::tend`, in each world whose store this is, where the flusher may take a step of a checkpoint: `Tend` and its
+/// `Store::tend`, in each world whose store this is, if the flusher may take a step of a checkpoint: `Tend` and its
 /// calls, as for `append`.
 pub fn tend<D: Disk, J: Job>(store: &mut Store<D, J>) -> Result<Tended, StoreFault>
     ensures tends { let S = store_of J.kind in (B : Plain J) → (w : World (store_of J.kind)) → MayHappen S B w Tend
@@ -133,7 +133,7 @@ pub fn open<D: Disk, J: Job>(alloc: Global, disk: D) -> Result<Store<D, J>, (Ope
     Store::open(alloc, disk)
 }
 
-/// What happens with which the store has nothing to do leaves it tied as it is; and where none of its calls has failed, a run
+/// What happens with which the store has nothing to do leaves it tied as it is; and if none of its calls has failed, a run
 /// of its own begins there, at its state, whatever pieces of a checkpoint the disk still keeps back.
 pub fn meanwhile<D: Disk, J: Job>(store: &Store<D, J>)
     ensures stays { let S = store_of J.kind in (B : Plain J) → (w : World (store_of J.kind)) → (events : List (Event J))

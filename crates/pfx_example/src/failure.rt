@@ -11,7 +11,7 @@ pub enum Failure {
     /// What the file has is no store, or no store could be made in it.
     #[error("there is no store in the file, and none could be made")]
     NoStore,
-    /// The machine refuses a command, which changes nothing: the last slot or number is behind the store, say.
+    /// The machine refuses a command, which changes nothing: the last slot or number is after the store, say.
     #[error("a command is refused")]
     Refused,
     /// The disk has failed: the command may be durable, and the store has to be opened again.

@@ -1,9 +1,9 @@
 //! The whole of a program that embeds the durable store: three tasks of 2/3 share two workers, and each run goes on where the last
 //! one left off, however that ended once it had made the store.
 //!
-//! `pfx_example FILE` makes the store where FILE is empty or missing, and gives each task a count to 1,000; else it opens the store
+//! `pfx_example FILE` makes the store if FILE is empty or missing, and gives each task a count to 1,000; else it opens the store
 //! that FILE has. Then it runs ten slots, prints the row of each once the slot is durable, and at last how each task stands. The
-//! status is 1 where the file, the store or standard output fails, and 2 where the words are wrong.
+//! status is 1 if the file, the store or standard output fails, and 2 if the words are wrong.
 #![tactic(auto)]
 
 mod failure;

@@ -11,7 +11,7 @@ use std::fs::OpenOptions;
 /// How long a segment of the journal is, in bytes.
 const SEGMENT: u32 = 65_536;
 
-/// A file as a disk, made where it is missing, and locked as long as it is open: one process a file.
+/// A file as a disk, made if it is missing, and locked as long as it is open: one process a file.
 pub fn locked(rt: &HostRuntime, path: &str) -> Result<FileDisk, Failure> {
     let mut options = OpenOptions::new();
     options.read(true).write(true).create(true);
@@ -24,7 +24,7 @@ pub fn locked(rt: &HostRuntime, path: &str) -> Result<FileDisk, Failure> {
     }
 }
 
-/// The store on a disk: a new one of three tasks of 2/3 on two workers where the disk is empty.
+/// The store on a disk: a new one of three tasks of 2/3 on two workers if the disk is empty.
 pub fn store_in(alloc: Global, mut disk: FileDisk) -> Result<Store<FileDisk, AnyJob>, Failure> {
     let Ok(length) = disk.len() else {
         return Err(Failure::NoFile);

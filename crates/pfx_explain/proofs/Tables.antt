@@ -8,7 +8,7 @@ use Rattle.pfx_fault.specs.declared.refusals.Fault.TheVariants as fault
 use Rattle.pfx_explain.specs.Explaining.{AreSpared, faults_of, names}
 use Rattle.pfx_explain.specs.declared.entries.Entry.{Entry}
 
--- what holds where there is no value
+-- what holds if there is no value
 pub if_none : {T : Type 0} (o : Option T) {P Q : Type 0} → (P → Q) → IfNone o P → IfNone o Q
 if_none None f h = f h
 if_none (Some x) f h = h

@@ -33,7 +33,7 @@ fn entry_in(word: &str, entries: &[Entry]) -> Option<Entry>
     None
 }
 
-/// The entry of the fault that a word names by its number or by its name; `None` where it names no fault.
+/// The entry of the fault that a word names by its number or by its name; `None` if it names no fault.
 pub fn entry_named(word: &str) -> Option<Entry>
     ensures found { IfSome result (λ entry. names word.now entry.fault ≡ true) }
     ensures none { IfNone result ((fault : Fault) → names word.now fault ≡ false) }

@@ -50,8 +50,8 @@ fn put_further(alloc: Global, lines: &mut Vec<u8>, text: &Option<String>) -> Res
 }
 
 impl Note {
-    /// The note's lines, each with two spaces in front and a line feed behind. Within a line there is none: bytes that aren't seen are
-    /// shown as question marks. Fails only where memory runs out.
+    /// The note's lines, each with two spaces in front and a line feed after. Within a line there is none: bytes that aren't seen are
+    /// shown as question marks. Fails only if memory runs out.
     pub fn text(&self, alloc: Global) -> Result<Vec<u8>, AllocError>
         ensures { IfOk result (λ v. v.items ≡ note_text (string_bytes self.now.what) (option_map (λ s. string_bytes s) self.now.change)
             (option_map (λ s. string_bytes s) self.now.more)) }

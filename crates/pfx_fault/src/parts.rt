@@ -43,7 +43,7 @@ impl Display for Part {
 pub enum Cause {
     /// The disk failed.
     Device,
-    /// A growth was refused.
+    /// An allocation failed.
     Memory,
 }
 

@@ -87,7 +87,7 @@ pub enum Fault {
     InputFailed,
     /// The output can't be written.
     OutputFailed,
-    /// A growth was refused.
+    /// An allocation failed.
     NoMemory,
 }
 
@@ -182,9 +182,9 @@ impl Fault {
         }
     }
 
-    /// The exit status with which the program ends: 3 where a set or a plan is refused, 4 where a
-    /// command or the store is, 7 where the script has no form, 8 where a file or an output failed,
-    /// 5 where memory ran out.
+    /// The exit status with which the program ends: 3 if a set or a plan is refused, 4 where a
+    /// command or the store is, 7 if the script has no form, 8 if a file or an output failed,
+    /// 5 if memory ran out.
     pub fn status(&self) -> u8
         ensures { result ≡ status_of self.now }
     {

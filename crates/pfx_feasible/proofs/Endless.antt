@@ -126,7 +126,7 @@ endless_row g h endless =
     let s = goes_on g shape (of_rows g shape endless) in
     (members (total g) s.0, record { set = s.0; pf = s.1; is = refl })
 
--- where there is a PF row, only the last slot or memory refuses one
+-- if there is a PF row, only the last slot or memory refuses one
 only_limits : (g : Ledger) (row : List ℕ) (f : ChoiceFault) → IsPfRow g row → Fails g f → (f ≡ SlotLimit) ⊎ (f ≡ NoMemory)
 only_limits g row SlotLimit pf h = inl refl
 only_limits g row (TooManyUrgent u m) pf (before, a, b, c) = (let q = places g row pf in let low = q.0 in absurd (omega (arith, low, a, b, c)))

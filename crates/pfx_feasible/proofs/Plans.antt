@@ -1,4 +1,4 @@
--- Where PF's choice succeeds up to a whole number of hyperperiods, it never fails.
+-- If PF's choice succeeds up to a whole number of hyperperiods, it never fails.
 use Rattle.std.proofs.Common.{◌≡◌, ℕ, zero, suc, ◌+◌, ◌*◌, ◌/◌, ◌%◌, ◌<◌, Bool, true, false, List, [], ◌∷◌, length, map, arith, ap, sym, ◌∙◌, refl, subst}
 use Rattle.std.proofs.Math.Nat.{div-add-mod, mul_assoc}
 use Rattle.std.proofs.lemmas.List.{length-map}

@@ -40,7 +40,7 @@ row_there g h =
     let row = members (total g) r.0 in
     (row, ((pf_function g).rows row).0 (record { set = r.0; pf = r.1; is = refl }))
 
--- and where none is chosen, the slot is the last one
+-- and if none is chosen, the slot is the last one
 pub no_row_at_limit : (g : Ledger) (why : ChoiceFault) → GoesOn g → chosen g ≡ Err why → (why ≡ SlotLimit) × (2 ^ 40 ≤ g.slot + 1)
 no_row_at_limit g why h is =
     let r = row_there g h in

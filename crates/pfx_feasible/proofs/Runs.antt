@@ -128,6 +128,6 @@ module _ (g : Ledger) (h : IsFilled g.set) (k : ℕ) where
         },
       )
 
--- from a ledger where each task has had its share there are fair schedules of each length
+-- from a ledger if each task has had its share there are fair schedules of each length
 pub shares_endless : (g : Ledger) → IsFilled g.set → HadShares g → EndlessSets g
 shares_endless g h lev k = schedule g h k lev

@@ -5,7 +5,7 @@ use Rattle.pfx_machine.specs.declared.command.Reply.{Reply}
 use Rattle.pfx_machine.specs.declared.faults.MachineFault.{MachineFault}
 use Rattle.pfx_machine.specs.declared.faults.MachineFault.TheVariants.{NumberLimit, SlotLimit, TooManyUrgent, TooFewEligible}
 
--- why a state's limits, on numbers and on slots, let no Slot pass; none where they let it pass
+-- why a state's limits, on numbers and on slots, let no Slot pass; none if they let it pass
 abbrev pub limit_fault : {J : Type 0} → Plain J → Option MachineFault
 limit_fault s = if nat_lt (s.number + 1) (2 ^ 48) then (if nat_lt (s.ledger.slot + 1) (2 ^ 40) then None else Some SlotLimit) else Some NumberLimit
 

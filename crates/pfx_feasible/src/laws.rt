@@ -55,14 +55,14 @@ pub fn only_limits_refuse()
     ensures row { (g : Ledger) → IsLedger g → IsEndless g → g.slot + 1 < 2 ^ 40 → (row : List ℕ) × (chosen g ≡ Ok row) }
 {}
 
-/// A ledger is endless exactly where PF's choice succeeds up to some slot that is a whole number of hyperperiods: so at most
+/// A ledger is endless exactly if PF's choice succeeds up to some slot that is a whole number of hyperperiods: so at most
 /// one hyperperiod of a plan decides it.
 pub fn plans_decide()
     ensures { (g : Ledger) → IsLedger g → (slots : ℕ) → IsMultiple g.set.hyper (g.slot + slots) → PfSucceeds g slots ↔ IsEndless g }
 {}
 
-/// From the start of a filled set, whatever the jobs and the number: behind each acceptable list of commands a Slot is
-/// refused exactly where the limits on numbers and slots refuse it.
+/// From the start of a filled set, whatever the jobs and the number: after each acceptable list of commands a Slot is
+/// refused exactly if the limits on numbers and slots refuse it.
 pub fn slots_are_served<J: Job>()
     ensures { (set : FilledSet) → IsFilled set → (B : Plain J) → B.ledger ≡ start set → (H : List (Command J)) → IsAcceptable J.kind B H
         → refusal J.kind (outcome J.kind B H) Command.Slot ≡ limit_fault (outcome J.kind B H) }
@@ -73,8 +73,8 @@ pub fn no_answer_lacks_a_row<J: Job>()
     ensures { (set : FilledSet) → IsFilled set → (B : Plain J) → B.ledger ≡ start set → (H : List (Command J)) → All HadARow (answers J.kind B H) }
 {}
 
-/// From a state with an endless ledger, behind each acceptable list the ledger is endless again, and a Slot is refused exactly
-/// where the limits refuse it.
+/// From a state with an endless ledger, after each acceptable list the ledger is endless again, and a Slot is refused exactly
+/// if the limits refuse it.
 pub fn commands_keep_endless<J: Job>()
     ensures endless { (B : Plain J) → IsLedger B.ledger → IsEndless B.ledger → (H : List (Command J))
         → IsAcceptable J.kind B H → IsEndless (outcome J.kind B H).ledger }

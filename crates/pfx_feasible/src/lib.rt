@@ -1,18 +1,18 @@
 //! From the empty start PF's choice never fails.
 //!
-//! A ledger is endless where for each number of slots there is a fair schedule of so many from it on. What holds of them:
+//! A ledger is endless if for each number of slots there is a fair schedule of so many from it on. What holds of them:
 //!
 //! 1. The start of each filled set is endless, and so is each ledger at which every lag is zero.
 //! 2. PF's choice keeps a ledger endless, and at one nothing refuses a row but the last slot and memory.
 //! 3. From the start, behind every acceptable list of commands, a Slot is refused by the limits on numbers and slots alone.
-//! 4. Any ledger is endless exactly where PF's choice succeeds from it up to a slot that is a whole number of hyperperiods.
+//! 4. Any ledger is endless exactly if PF's choice succeeds from it up to a slot that is a whole number of hyperperiods.
 //!
 //! That there are such schedules is a theorem of Baruah, Cohen, Plaxton and Varvel, "Proportionate Progress" (Algorithmica 15,
 //! 1996), there by a flow through a network. Here it is by moves: in a schedule in which every task is fair but not every
 //! slot has as many tasks as there are workers, a task is moved from one slot to another, and stays fair, until each has.
 //!
 //! - `laws`: what holds of every ledger and every list of commands.
-//! - `begin`, `next_row`: a plan that only a refused growth of memory can stop.
+//! - `begin`, `next_row`: a plan that only a failed allocation can stop.
 #![tactic(auto)]
 
 pub mod laws;

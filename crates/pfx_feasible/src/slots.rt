@@ -1,4 +1,4 @@
-//! Slots that only a refused growth of memory can leave without a row.
+//! Slots that only a failed allocation can leave without a row.
 
 ghost use Rattle.std.specs.Prelude.{◌≡◌, ◌+◌, ◌<◌, ◌^◌, IfOk, OnErr};
 ghost use Rattle.pfx_columns.specs.Ledgers.{start};
@@ -11,7 +11,7 @@ use std::alloc::{AllocError, Global};
 
 /// The ledger of a set before slot 0, from which there is a fair schedule of every length.
 ///
-/// An error comes only where a growth of memory was refused.
+/// An error comes only if an allocation failed.
 pub fn begin(alloc: Global, set: &TaskSet) -> Result<Columns, AllocError>
     ensures { IfOk result (λ g. (g ≡ start set.now) × IsEndless g) }
 {
@@ -19,10 +19,10 @@ pub fn begin(alloc: Global, set: &TaskSet) -> Result<Columns, AllocError>
     Columns::zero(alloc, set)
 }
 
-/// Gives the next slot of a ledger to PF's row, and goes on to the slot behind it. The ledger stays endless, so this can go on
+/// Gives the next slot of a ledger to PF's row, and goes on to the slot after it. The ledger stays endless, so this can go on
 /// up to the last slot.
 ///
-/// An error comes only where a growth of memory was refused, and then nothing changes.
+/// An error comes only if an allocation failed, and then nothing changes.
 pub fn next_row(chooser: &mut Chooser, ledger: &mut Columns) -> Result<Row, AllocError>
     requires endless { IsEndless ledger.old }
     requires before { ledger.old.slot + 1 < 2 ^ 40 }

@@ -42,7 +42,7 @@ next_by : (last : ℕ) (frame : List ℕ) (m first count : ℕ) → first ≡ fi
 next_by last frame m first count first_is count_is true is h = next_parts last frame m first count first_is count_is is (sym (some_same _ m h))
 next_by last frame m first count first_is count_is false is h = absurd (none-some m h)
 
--- what a number behind a frame says of its head
+-- what a number after a frame says of its head
 pub next_of : (last : ℕ) (frame : List ℕ) (m : ℕ) → number_after last frame ≡ Some m → Next last frame m
 unfolding number_after
 next_of last frame m h = next_by last frame m (first_in frame) (count_in frame) refl refl (is_next last frame (first_in frame) (count_in frame)) refl h
@@ -89,7 +89,7 @@ number_agrees K L s frame t h =
     let is = (next_of s.number frame after.last after.number).is in
     after.number ∙ ap Some (omega (arith, count, behind, is))
 
--- a frame of right records leads to the state behind them
+-- a frame of right records leads to the state after them
 
 pub frame_leads : {J : Type 0} (K : Kind J) (L : Laws K) (s t : Plain J) (batch : PlainBatch J) → IsTrue (batch_fits s.ledger.set.workers batch) → batch.first ≡ s.number + 1 → s.number + length batch.records < 2 ^ 48 → applied K s batch.records ≡ Some t →
     state_after K s (batch_bytes K batch) ≡ Some t

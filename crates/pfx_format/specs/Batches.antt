@@ -7,12 +7,12 @@ use Rattle.pfx_record.specs.Batches.{PlainBatch, batch_bytes, batch_fits}
 use Rattle.pfx_record.specs.Records.{Plain, submitted, ran, withdrawn, place_bytes, record_bytes}
 use Rattle.pfx_record.specs.declared.record.Place.{Place}
 
--- what follows on a value, where it is there
+-- what follows on a value, if it is there
 abbrev pub if_some : {A B : Type 0} → Option A → (A → Option B) → Option B
 if_some None f = None
 if_some (Some a) f = f a
 
--- What stands at the front of bytes: the flag of a place and the state behind it; a place; a row of n; a record, by its
+-- What stands at the front of bytes: the flag of a place and the state after it; a place; a row of n; a record, by its
 -- tag; n records.
 abbrev pub state_at : {J : Type 0} → Kind J → List ℕ → Option (Option J)
 state_at K [] = None

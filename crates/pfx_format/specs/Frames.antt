@@ -5,7 +5,7 @@ use Rattle.pfx_jobs.specs.Kind.{Kind}
 use Rattle.pfx_machine.specs.Plain.{Plain}
 use Rattle.pfx_format.specs.Batches.{batch_in, count_in, first_in, if_some}
 
--- A head of a frame is right behind a number: it is whole, has 1 to 16 commands, goes on from there, and stays below the
+-- A head of a frame is right after a number: it is whole, has 1 to 16 commands, goes on from there, and stays below the
 -- limit of numbers.
 abbrev pub is_next : ℕ → List ℕ → ℕ → ℕ → Bool
 is_next last frame first count = (nat_le 15 (length frame) && (nat_lt 0 count && nat_le count 16)) && ((first == last + 1) && nat_lt (last + count) (2 ^ 48))
@@ -14,6 +14,6 @@ is_next last frame first count = (nat_le 15 (length frame) && (nat_lt 0 count &&
 unfoldable pub number_after : ℕ → List ℕ → Option ℕ
 number_after last frame = if is_next last frame (first_in frame) (count_in frame) then Some (last + count_in frame) else None
 
--- the state behind a frame's records, where its head is right behind the state's number, and each record where it comes
+-- the state after a frame's records, if its head is right after the state's number, and each record where it comes
 unfoldable pub state_after : {J : Type 0} → Kind J → Plain J → List ℕ → Option (Plain J)
 state_after K s frame = if_some (number_after s.number frame) (λ last. if_some (batch_in K s.ledger.set.workers frame) (λ batch. applied K s batch.records))

@@ -20,7 +20,7 @@ pub fn number_of(bytes: &[u8; 8]) -> u64
     LittleEndian::read_u64(bytes)
 }
 
-/// The number of a frame's last command, or `None` where its head isn't right behind this number: there are 1 to 16
+/// The number of a frame's last command, or `None` if its head isn't right after this number: there are 1 to 16
 /// commands, the first has the next number, and none has one above 2^48 - 1.
 #[tactic(auto, unfolding(crate::specs::Frames::number_after))]
 pub fn number_after(last: u64, frame: &[u8]) -> Option<u64>
@@ -41,8 +41,8 @@ pub fn number_after(last: u64, frame: &[u8]) -> Option<u64>
     if next >= 1 << 48 { None } else { Some(next) }
 }
 
-// Takes over so many records, which fill the body. Where one isn't right where it comes, or they don't fill it, the answer is
-// `false`, and the state is that behind those before.
+// Takes over so many records, which fill the body. If one isn't right where it comes, or they don't fill it, the answer is
+// `false`, and the state is that after those before.
 fn take_records<J: Job>(
     alloc: Global,
     state: &mut State<J>,
@@ -76,8 +76,8 @@ fn take_records<J: Job>(
     Ok(true)
 }
 
-/// Takes over a frame. Where its head isn't right behind the state's number, or a record of it isn't right where it comes, the
-/// answer is `false`, and the state is that of the records before. An error comes only where a growth of memory was refused.
+/// Takes over a frame. If its head isn't right after the state's number, or a record of it isn't right where it comes, the
+/// answer is `false`, and the state is that of the records before. An error comes only if an allocation failed.
 pub fn apply_frame<J: Job>(
     alloc: Global,
     state: &mut State<J>,

@@ -240,7 +240,7 @@ module _ {J : Type 0} where
     pub marked_shown : (after : List (Note J)) (batches : List (Batch J)) (n c : ℕ) → after ≡ notes ++ Marked n c ∷ [] → IsShownBefore notes batches batch → AreShown after (batches ++ batch ∷ [])
     marked_shown after batches n c more shown = published batches shown ∙ sym (records_still notes after (Marked n c) more refl)
 
-    -- memory was refused for the board, so the batch is published but not shown
+    -- an allocation failed for the board, so the batch is published but not shown
     pub memory_shown : (after : List (Note J)) (batches : List (Batch J)) → after ≡ notes ++ Failed Memory ∷ [] → IsShownBefore notes batches batch → applied K s (map plain batch.records.items) ≡ Some t
         → IsShown K start after (batches ++ batch ∷ []) t
     memory_shown after batches more shown leads = record {

@@ -21,7 +21,7 @@ module _ {J : Type 0} where
   HasNoReply c old new (Refused fault) = ((fault ≡ Machine NoMemory) × (new ≡ old)) ⊎ ((n : ℕ) × (new ≡ noted (note.Refused n c fault) old))
   HasNoReply c old new (StoreFailed marked cause) = IsLost old new (StoreFailed marked cause)
 
-  -- a number has no receipt: for want of memory, with nothing noted; or for good, where it is beyond the last mark
+  -- a number has no receipt: for want of memory, with nothing noted; or for good, if it is beyond the last mark
   abbrev pub HasNoReceipt : ℕ → ℕ × List (Note J) → ℕ × List (Note J) → CallFault → Type 0
   HasNoReceipt number old new (Refused fault) = (fault ≡ Machine NoMemory) × (new ≡ old)
   HasNoReceipt number old new (StoreFailed marked cause) = (marked < number) × IsLost old new (StoreFailed marked cause)

@@ -19,7 +19,7 @@ use Rattle.pfx_book.specs.Notes.{Noted, Legal, answers_of, commands_of, lost_in}
 use Rattle.pfx_book.specs.Merging.{IsMerge}
 use Rattle.pfx_book.specs.Register.{Register}
 
--- where a pass notes why the flusher gave up, it did so for that cause
+-- if a pass notes why the flusher gave up, it did so for that cause
 abbrev pub IsTold : {J : Type 0} → Option Cause → ℕ × List (Note J) → Type 0
 IsTold failure pass = (cause : Cause) → lost_in pass.1 ≡ Some cause → failure ≡ Some cause
 

@@ -9,7 +9,7 @@ use Rattle.pfx_book.specs.declared.note.Note.{Note}
 use Rattle.pfx_book.specs.Notes.{Legal, alone, commands_of}
 
 module _ {J : Type 0} (K : Kind J) (start : Plain J) where
-  -- the state behind a single client's accepted commands
+  -- the state after a single client's accepted commands
   abbrev pub state_of : List (Note J) → Plain J
   state_of notes = outcome K start (commands_of (alone notes))
 

@@ -6,7 +6,7 @@ use Rattle.pfx_jobs.specs.Kind.{Kind}
 use Rattle.pfx_machine.specs.Plain.{Plain}
 use Rattle.pfx_recovery.specs.Recovery.{recovered}
 
--- a whole store at this state, with so many failures of its disk behind it and at this moment; each image since then has it
+-- a whole store at this state, with so many failures of its disk after it and at this moment; each image since then has it
 pub record Begins {J : Type 0} (K : Kind J) (start : Plain J) (failed now : ℕ) (broken : Bool) (s : Plain J) (disk : View) : Type 0 where
   pub whole : broken ≡ false
   pub state : s ≡ start

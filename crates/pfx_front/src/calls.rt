@@ -202,7 +202,7 @@ fn ask_of<J: Job, B: Since<J>>(
     }
 }
 
-/// Whether the flusher has what it waits for behind this answer.
+/// Whether the flusher has what it waits for after this answer.
 fn is_enough<J: Job, B: Since<J>>(
     monitor: &Monitor<J, B>,
     answer: &Result<(u64, Reply), CallFault>,
@@ -297,7 +297,7 @@ impl<J: Job, B: Since<J>, K: Desk<Quantum<J>, Done<J>> + Drop> Shared<J, B, K>
 where
     K::Seat: Drop,
 {
-    /// Keeps a result for the slot's end. Where memory is refused for it, the book is given it at once.
+    /// Keeps a result for the slot's end. If no memory can be had for it, the book is given it at once.
     fn hold<R: Wait>(&self, rt: &R, back: &mut Vec<Done<J>>, done: Done<J>) {
         if make_room(back) {
             back.push_reserved(done);
@@ -345,7 +345,7 @@ impl<J: Job, B: Since<J>, K: Desk<Quantum<J>, Done<J>> + Drop> Front<J, B, K>
 where
     K::Seat: Drop,
 {
-    /// A pass for one more client, with no notes. `None` where 64 are out.
+    /// A pass for one more client, with no notes. `None` if 64 are out.
     pub fn pass<R: Wait>(&self, rt: &R) -> Option<Pass<J, B>>
         ensures { IfSome result (λ p. p.1 ≡ []) }
     {
@@ -359,7 +359,7 @@ where
     /// acknowledgement: `settled` is.
     ///
     /// It waits for the lock, while a slot is open, and while 64 accepted commands aren't durable. A Slot's quanta are run
-    /// meanwhile, by the workers or, where there are none or their desk is closed, by this thread. `Refused` says why there is no
+    /// meanwhile, by the workers or, if there are none or their desk is closed, by this thread. `Refused` says why there is no
     /// such command now, and is noted, but for `Machine(NoMemory)`: then nothing has changed. `StoreFailed` says that nothing is
     /// accepted any more; the first time, the pass notes why.
     pub fn call<R: Wait>(

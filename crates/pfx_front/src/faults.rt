@@ -25,8 +25,8 @@ pub enum StartFault {
     /// The system gives no thread.
     #[error("no thread can be started")]
     NoThread,
-    /// A growth of memory was refused.
-    #[error("a growth of memory was refused")]
+    /// An allocation failed.
+    #[error("out of memory")]
     NoMemory,
 }
 

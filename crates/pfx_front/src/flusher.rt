@@ -193,7 +193,7 @@ fn room_of<J: Job>(batch: Batch<J>) -> Vec<Record<J>>
     room
 }
 
-/// Publishes a batch that is durable, and leaves its word to those who will be told of it. `false` where memory is refused; then
+/// Publishes a batch that is durable, and leaves its word to those who will be told of it. `false` if an allocation fails; then
 /// the book knows.
 fn show<J: Job, B: Since<J>, D: Disk, R: Wait + Drop, W: Wait>(
     rt: &W,
@@ -221,7 +221,7 @@ fn show<J: Job, B: Since<J>, D: Disk, R: Wait + Drop, W: Wait>(
     }
 }
 
-/// Appends a batch, publishes and marks it: the room for the next one. `None` where the store has failed, or memory is refused
+/// Appends a batch, publishes and marks it: the room for the next one. `None` if the store has failed, or an allocation fails
 /// for the board; then the book knows.
 fn commit<J: Job, B: Since<J>, D: Disk, R: Wait + Drop, W: Wait>(
     rt: &W,
@@ -257,7 +257,7 @@ fn commit<J: Job, B: Since<J>, D: Disk, R: Wait + Drop, W: Wait>(
     }
 }
 
-/// Takes a step of the checkpoint in progress, if there is one. `false` where the store has failed; then the book knows.
+/// Takes a step of the checkpoint in progress, if there is one. `false` if the store has failed; then the book knows.
 fn tend<J: Job, B: Since<J>, D: Disk, R: Wait>(
     rt: &R,
     monitor: &Monitor<J, B>,
@@ -295,7 +295,7 @@ fn home<J: Job, B: Since<J>, D: Disk, R: Wait + Drop>(
     }
 }
 
-/// Keeps the book's commands in the store, batch by batch, until no more is accepted or the store has failed. Behind each batch
+/// Keeps the book's commands in the store, batch by batch, until no more is accepted or the store has failed. After each batch
 /// it takes one step of the checkpoint in progress.
 pub(crate) fn flush<J: Job, B: Since<J>, D: Disk, R: Wait + Drop, W: Wait + Clock>(
     rt: &W,

@@ -1,7 +1,7 @@
 //! How long the flusher waits for those whom it has just woken.
 //!
 //! Clients whose commands were marked together mostly ask for their next ones at once. A flusher that took the first of these
-//! alone would write the others with the batch behind it, and its clients would stay in two groups: batches of 8 where there
+//! alone would write the others with the batch after it, and its clients would stay in two groups: batches of 8 if there
 //! are 16 clients. So it waits until as many have asked again, but not for long beside the batch itself.
 
 use crate::monitor::Monitor;
@@ -16,16 +16,16 @@ use std::time::{Clock, Duration, Instant};
 /// The most records that one batch has.
 const BATCH: u64 = 16;
 
-/// What part of a batch's time the flusher waits behind it, at the most.
+/// What part of a batch's time the flusher waits after it, at the most.
 const PART: u32 = 4;
 
-/// The longest wait behind a batch, in microseconds.
+/// The longest wait after a batch, in microseconds.
 const LONGEST: u64 = 1000;
 
 /// What the last batch tells of the next one.
 #[derive(Clone, Copy)]
 pub(crate) struct Pace {
-    /// When the batch was taken; `None` where it was waited for already, or where there is no clock.
+    /// When the batch was taken; `None` if it was waited for already, or if there is no clock.
     begun: Option<Instant>,
     /// The number of its last command.
     last: u64,
@@ -53,8 +53,8 @@ impl Pace {
         }
     }
 
-    /// The number to wait for, where the command of the number `asked` was accepted last: the batch's clients, and those
-    /// who have asked meanwhile. `None` where it is there already, or where there was one client.
+    /// The number to wait for, if the command of the number `asked` was accepted last: the batch's clients, and those
+    /// who have asked meanwhile. `None` if it is there already, or if there was one client.
     fn wanted(&self, asked: u64) -> Option<u64> {
         let waiting = asked.saturating_sub(self.last);
         let most = waiting.saturating_add(self.count).min(BATCH);

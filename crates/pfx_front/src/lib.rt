@@ -2,7 +2,7 @@
 //!
 //! Under one lock lies a book: the session of the store's clients. A call takes the lock, asks the book, and is answered before
 //! anything is durable; the reply isn't an acknowledgement. The flusher takes the next commands as a batch, appends it to the
-//! store with no lock held, publishes the board behind it, and marks it; `settled` waits for the mark, and its receipt is the
+//! store with no lock held, publishes the board after it, and marks it; `settled` waits for the mark, and its receipt is the
 //! acknowledgement: a reader of the board that is told of it shows that command at least. A Slot's quanta
 //! are run between two lockings, by the workers or by the thread that called.
 //!

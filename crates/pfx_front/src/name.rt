@@ -33,7 +33,7 @@ pub struct Names<J: Job> {
 }
 
 impl<J: Job> Names<J> {
-    /// Lists of their own. `AllocError` where memory is refused.
+    /// Lists of their own. `AllocError` if an allocation fails.
     pub fn new(alloc: Global) -> Result<Names<J>, AllocError> {
         let tokens = tokens::Opened::new(alloc)?;
         Ok(Names {

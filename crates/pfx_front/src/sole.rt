@@ -22,7 +22,7 @@ fn is_sole_in<J: Job, B: Since<J>>(book: &mut Book<J, B>, pass: &mut Pass<J, B>)
     book.is_sole(pass)
 }
 
-/// The book, if this is the only pass that is out; then its state is the one behind the pass's commands.
+/// The book, if this is the only pass that is out; then its state is the one after the pass's commands.
 fn sole_book<'b, J: Job, B: Since<J>>(
     held: &'b mut Option<Book<J, B>>,
     pass: &mut Pass<J, B>,
@@ -44,7 +44,7 @@ where
     K::Seat: Drop,
 {
     /// Whether no other pass is out. Then what this pass notes is all that has happened: each of its answers is the machine's
-    /// behind the commands that it had accepted before.
+    /// after the commands that it had accepted before.
     pub fn is_sole<R: Wait>(&self, rt: &R, pass: &mut Pass<J, B>) -> bool
         ensures same { pass.new ≡ pass.old }
         ensures alone { IsTrue result → IsAlone J.kind B.start pass.old.1 }
@@ -55,8 +55,8 @@ where
         }
     }
 
-    /// The board of the state behind this pass's commands, durable or not; `None` where other passes are out. While it is made the
-    /// lock is held, for nobody else can wait for it but the flusher. `AllocError` where memory is refused.
+    /// The board of the state after this pass's commands, durable or not; `None` if other passes are out. While it is made the
+    /// lock is held, for nobody else can wait for it but the flusher. `AllocError` if an allocation fails.
     pub fn board<R: Wait>(&self, rt: &R, pass: &mut Pass<J, B>) -> Result<Option<Board>, AllocError>
         ensures same { pass.new ≡ pass.old }
         ensures shows { IfOk result (λ o. IfSome o (IsShownBy J.kind (state_of J.kind B.start pass.old.1))) }
@@ -68,8 +68,8 @@ where
         Ok(Some(book.board()?))
     }
 
-    /// A copy of the state behind this pass's commands, durable or not; `None` where other passes are out. While it is made the
-    /// lock is held, as for the board. `AllocError` where memory is refused.
+    /// A copy of the state after this pass's commands, durable or not; `None` if other passes are out. While it is made the
+    /// lock is held, as for the board. `AllocError` if an allocation fails.
     pub fn state<R: Wait>(
         &self,
         rt: &R,

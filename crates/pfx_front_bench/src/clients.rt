@@ -74,7 +74,7 @@ fn show<R: Print>(rt: &R, alloc: Global, number: u64) -> Result<(), Failure> {
     }
 }
 
-/// A slot with its receipt, which is printed where it is to be.
+/// A slot with its receipt, which is printed if it is to be.
 fn step<B: Since<AnyJob>, K: Desk<Quantum<AnyJob>, Done<AnyJob>> + Drop, R: Wait + Print>(
     rt: &R,
     alloc: Global,
@@ -123,7 +123,7 @@ where
     }
 }
 
-/// Gives a task its job, and waits for the receipt. `false` where it has one.
+/// Gives a task its job, and waits for the receipt. `false` if it has one.
 fn give<B: Since<AnyJob>, K: Desk<Quantum<AnyJob>, Done<AnyJob>> + Drop, R: Wait>(
     rt: &R,
     front: &Front<AnyJob, B, K>,

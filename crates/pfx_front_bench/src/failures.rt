@@ -11,8 +11,8 @@ pub enum Failure {
     /// No store was made or opened.
     #[error("there is no store")]
     NoStore,
-    /// A growth of memory was refused.
-    #[error("a growth of memory was refused")]
+    /// An allocation failed.
+    #[error("out of memory")]
     NoMemory,
     /// The clock gives no time.
     #[error("there is no clock")]

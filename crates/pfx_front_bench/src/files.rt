@@ -3,7 +3,7 @@ use crate::failures::Failure;
 use pfx_disk::FileDisk;
 use std::fs::OpenOptions;
 
-/// A file as a disk, made where it is missing, and locked as long as it is open.
+/// A file as a disk, made if it is missing, and locked as long as it is open.
 pub fn locked(rt: &HostRuntime, path: &str) -> Result<FileDisk, Failure> {
     let mut options = OpenOptions::new();
     options.read(true).write(true).create(true);

@@ -10,8 +10,8 @@
 //! `pfx_front_bench session FILE` makes one session with every kind of call in an empty or missing file, and writes what each
 //! was answered: `bench/refused_front` refuses memory to it.
 //!
-//! What the slots took, in nanoseconds, is printed on standard error. The status is 1 where a call fails, where the store or
-//! the receipts aren't what the clients asked for, and where a session doesn't come to its end; 2 where the words are wrong.
+//! What the slots took, in nanoseconds, is printed on standard error. The status is 1 if a call fails, if the store or
+//! the receipts aren't what the clients asked for, and if a session doesn't come to its end; 2 if the words are wrong.
 #![tactic(auto)]
 
 mod clients;

@@ -164,7 +164,7 @@ fn examined<B: Since<AnyJob>, D: Disk + Drop>(
     Ok(outcome)
 }
 
-/// Serves all clients of a plan, and ends the front behind them.
+/// Serves all clients of a plan, and ends the front after them.
 fn serve<
     B: Since<AnyJob> + Send + Sync + 'static,
     K: Desk<Quantum<AnyJob>, Done<AnyJob>> + Drop + Send + Sync + 'static,

@@ -1,8 +1,8 @@
-//! A session with every kind of call, for `bench/refused_front`: a call for which memory is refused is made once more, and
-//! behind a failure of the store there is only the front's end.
+//! A session with every kind of call, for `bench/refused_front`: a call for which an allocation fails is made once more, and
+//! after a failure of the store there is only the front's end.
 //!
-//! A line of standard output says what each call was answered: a number or `ok`, `90` where memory is refused, `61` and the
-//! number of the last mark where the store has failed, and `other`.
+//! A line of standard output says what each call was answered: a number or `ok`, `90` if an allocation fails, `61` and the
+//! number of the last mark if the store has failed, and `other`.
 ghost use Rattle.std.specs.Prelude.{◌≡◌, IfErr, IfSome};
 ghost use Rattle.pfx_disk.specs.File.{file_view};
 ghost use Rattle.pfx_kinds.specs.AnyKind.{any_kind};
@@ -300,7 +300,7 @@ fn left<B: Since<AnyJob>, D: Disk + Drop, R: Print>(rt: &R, closed: Closed<AnyJo
     let _said = println!(rt; "closed {number} {marked} {cause} {has_looked}");
 }
 
-/// The session over a front of a store. The store comes back where the front doesn't start.
+/// The session over a front of a store. The store comes back if the front doesn't start.
 fn serve<
     B: Since<AnyJob> + Send + Sync + 'static,
     K: Desk<Quantum<AnyJob>, Done<AnyJob>> + Drop + Send + Sync + 'static,
@@ -345,7 +345,7 @@ where
     Ok(true)
 }
 
-/// The session over a store in a file, by a name of its own. The store comes back where the front doesn't start.
+/// The session over a store in a file, by a name of its own. The store comes back if the front doesn't start.
 fn serve_file<R: Threads + Wait + Clock + Print + Copy + Drop + Send + Sync + 'static>(
     rt: R,
     alloc: Global,

@@ -16,7 +16,7 @@ use std::alloc::Global;
 /// How many tasks a store has.
 pub const TASKS: u16 = 3;
 
-/// How long a segment is, in bytes, as it is where a set file doesn't say.
+/// How long a segment is, in bytes, as it is if a set file doesn't say.
 pub const SEGMENT: u32 = 1_048_576;
 
 /// The desk of the front.

@@ -27,7 +27,7 @@ pub struct Words<'a> {
     pub plan: Plan,
 }
 
-/// The words behind the file.
+/// The words after the file.
 fn plan_of(words: &[String]) -> Option<Plan> {
     let print = match words.get(3) {
         None => false,
@@ -46,7 +46,7 @@ fn plan_of(words: &[String]) -> Option<Plan> {
     })
 }
 
-/// The file of a session with every kind of call, where the words ask for one.
+/// The file of a session with every kind of call, if the words ask for one.
 pub fn session_file(words: &[String]) -> Option<&str> {
     if words.len() == 3 && words[1].as_str() == "session" {
         Some(words[2].as_str())
@@ -55,7 +55,7 @@ pub fn session_file(words: &[String]) -> Option<&str> {
     }
 }
 
-/// Reads the words, of which the first is the program's own name. `None` where they have no form.
+/// Reads the words, of which the first is the program's own name. `None` if they have no form.
 pub fn read_words(words: &[String]) -> Option<Words<'_>> {
     let resumed = words.get(1)?.as_str() == "resume";
     let at = if resumed { 2 } else { 1 };

@@ -44,7 +44,7 @@ legal_last : (B : Plain AnyJob) (H : List (Command AnyJob)) (xs : List (ℕ × N
 legal_last B H [] e l = subst (λ G. Fits any_kind B G e) (sym (append-nil H)) l.0
 legal_last B H (x ∷ xs) e l = subst (λ G. Fits any_kind B G e) (append_assoc H (added x.1) (commands_of xs)) (legal_last B (H ++ added x.1) xs e l.1)
 
--- the last note is right behind those before it
+-- the last note is right after those before it
 pub fits_last : (B : Plain AnyJob) (xs : List (Note AnyJob)) (e : Note AnyJob) → is_entry e ≡ true → IsAlone any_kind B (xs ++ e ∷ []) → Fits any_kind B (commands_of (alone xs)) e
 fits_last B xs e is l = legal_last B [] (alone xs) e (subst (Legal any_kind B []) (alone_more xs e is) l)
 
@@ -99,14 +99,14 @@ grown first a b c H G one two = record {
   receipt = inl refl;
 }
 
--- the commands of the notes are those that were kept, behind those before
+-- the commands of the notes are those that were kept, after those before
 pub commands_are : (first : ℕ) (a b : List (Note AnyJob)) (H : List (Command AnyJob)) (n : ℕ) → KeepsBy first a H n b → commands_of (alone b) ≡ commands_of (alone a) ++ H
 commands_are first a b H n h = ap commands_of h.grows ∙ commands_both (alone a) h.later ∙ ap (λ l. commands_of (alone a) ++ l) h.commands
 
 pub state_is : (B : Plain AnyJob) (first : ℕ) (a b : List (Note AnyJob)) (H : List (Command AnyJob)) (n : ℕ) → KeepsBy first a H n b → state_of any_kind B b ≡ outcome any_kind (state_of any_kind B a) H
 state_is B first a b H n h = ap (outcome any_kind B) (commands_are first a b H n h) ∙ sym (outcome-outcome any_kind any_laws B (commands_of (alone a)) H)
 
--- where all has its receipt, all of these commands have
+-- if all have their receipt, all of these commands have
 pub all_kept : (first : ℕ) (a b : List (Note AnyJob)) (H : List (Command AnyJob)) → KeepsBy first a H 0 b → IsSettled first b → KeepsBy first a H (length H) b
 all_kept first a b H h settled = record { later = h.later; grows = h.grows; commands = h.commands; receipt = by settled }
   where
@@ -164,7 +164,7 @@ settled_stays first was is h settled = by settled
     by (inr r) = inr (let long = ap length same in receipt_later was is h.later _ _ h.grows (omega (arith, long)) r)
 
 module _ (B : Plain AnyJob) (was is : List (Note AnyJob)) (number kept : ℕ) (h : IsKept B was number kept) where
-  -- what the engine's type keeps, where no command came
+  -- what the engine's type keeps, if no command came
   pub kept_later : IsAlone any_kind B is → KeepsBy B.number was [] 0 is → greatest was ≤ greatest is → IsKept B is number kept
   kept_later l stays rises = record {
     is_alone = l;

@@ -62,7 +62,7 @@ module _ {E : Type 0} (notes : E → List (Note AnyJob)) (B : Plain AnyJob) wher
     slot_not_done count (callfault.Refused f) h = (h.reason, same h.stays, settled_stays B.number (notes old) (notes new) h.stays)
     slot_not_done count (callfault.Failed f) h = (engine_fault (state_of any_kind B (notes old)) f h.reason, slots_left_same count f (same h.stays))
 
-    -- the board of the state behind the same commands
+    -- the board of the state after the same commands
     pub shown : KeepsBy B.number (notes old) [] 0 (notes new) → (board : Board) → IsShownBy any_kind (state_of any_kind B (notes new)) board → Shows (state_of any_kind B (notes old)) board
     shown h board b = subst (λ (s : Plain AnyJob). Shows s board) (same h).state (record { number = b.number; slot = b.slot; lines = b.lines })
 

@@ -45,7 +45,7 @@ abbrev pub IsReason : Plain AnyJob → Command AnyJob → CallFault → Type 0
 IsReason s c (callfault.Refused f) = answer any_kind s c ≡ Err f
 IsReason s c (callfault.Failed f) = IsFrontFault f
 
--- the command was accepted, as the machine does behind the commands before it
+-- the command was accepted, as the machine does after the commands before it
 pub record IsAnswered (start : Plain AnyJob) (was : List (Note AnyJob)) (c : Command AnyJob) (number : ℕ) (said : Reply)
     (is : List (Note AnyJob)) : Type 0 where
   pub accepted : answer any_kind (state_of any_kind start was) c ≡ Ok said

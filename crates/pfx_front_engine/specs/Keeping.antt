@@ -16,7 +16,7 @@ pub record HasReceipt (notes : List (Note AnyJob)) (n : ℕ) : Type 0 where
   pub high : n ≤ number
   pub noted : Noted (1, Receipt number clock) (alone notes)
 
--- all that was accepted behind the number `first` has a receipt, if there is anything
+-- all that was accepted after the number `first` has a receipt, if there is anything
 abbrev pub IsSettled : ℕ → List (Note AnyJob) → Type 0
 IsSettled first notes = (commands_of (alone notes) ≡ []) ⊎ HasReceipt notes (first + length (commands_of (alone notes)))
 

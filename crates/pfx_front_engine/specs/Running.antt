@@ -13,7 +13,7 @@ use Rattle.pfx_program.specs.Script.{Step, at_start, commands_of, course_from, t
 use Rattle.pfx_script.specs.Records.{Fields, Records}
 use Rattle.pfx_front_engine.specs.Asking.{IsFrontFault}
 
--- How a run ends behind the steps that it printed. The whole course was printed, up to its end or to a record without form; or the
+-- How a run ends after the steps that it printed. The whole course was printed, up to its end or to a record without form; or the
 -- script's reading failed; or the writer failed, and took a beginning of the next step's text; or no thread was there, and nothing
 -- was printed; or the front ended the run.
 abbrev pub EndsBehind : List Step → List Step → Option ℕ → Bool → Option (List ℕ) → Option (List ℕ) → Result (Unit {0}) Fault → Type 0
@@ -26,7 +26,7 @@ EndsBehind printed rest ends_at failed was is (Err fault.NoThread) = (printed �
 EndsBehind printed rest ends_at failed was is (Err other) = IsFrontFault other × Appends was is (text_of printed)
 
 -- The records are the script's, as far as it is known. Of their course from the state on some first steps were printed, whole, and
--- the run ended so behind them. Each image that a stop now may leave is recovered to the outcome of a beginning of the course's
+-- the run ended so after them. Each image that a stop now may leave is recovered to the outcome of a beginning of the course's
 -- commands which holds each one that was printed, if the disk is honest.
 pub record IsServedRun (form : Form) (s : Plain AnyJob) (script : Records) (failed : Bool) (was is : Option (List ℕ)) (disk : View)
     (result : Result (Unit {0}) Fault) : Type 0 where

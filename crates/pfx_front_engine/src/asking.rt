@@ -144,7 +144,7 @@ where
     }
 }
 
-/// The board of the state behind the client's commands.
+/// The board of the state after the client's commands.
 pub(crate) fn board<B: Since<AnyJob>, K: Desk<Quantum<AnyJob>, Done<AnyJob>> + Drop, R: Wait>(
     rt: &R,
     front: &Front<AnyJob, B, K>,
@@ -164,7 +164,7 @@ where
     unreachable!()
 }
 
-/// A copy of the state behind the client's commands.
+/// A copy of the state after the client's commands.
 pub(crate) fn state<B: Since<AnyJob>, K: Desk<Quantum<AnyJob>, Done<AnyJob>> + Drop, R: Wait>(
     rt: &R,
     front: &Front<AnyJob, B, K>,

@@ -43,7 +43,7 @@ impl<B: Since<AnyJob>, K: Desk<Quantum<AnyJob>, Done<AnyJob>> + Drop, R: Wait + 
 where
     K::Seat: Drop,
 {
-    // The state is that behind all accepted commands; a command is kept once the pass has its receipt.
+    // The state is that after all accepted commands; a command is kept once the pass has its receipt.
     ghost promise = { record {
       state = λ engine. state_of any_kind B.start engine.client;
       faults = λ s f. IsFrontFault f;

@@ -52,7 +52,7 @@ fn never<D: Disk, R: Wait>(rt: &R) -> Served<D>
     unreachable!()
 }
 
-/// Runs a script through a front of this name, which is started for it and ended behind it.
+/// Runs a script through a front of this name, which is started for it and ended after it.
 fn serve<
     I: Read + Drop,
     W: Write,
@@ -146,13 +146,13 @@ where
 }
 
 /// Runs the records of a script that are left on a store, as `run_script` does over any engine, through a front that is started
-/// for it and ended behind it: with one thread for the flusher, and so many workers at the desk, or none, where the calling thread
+/// for it and ended after it: with one thread for the flusher, and so many workers at the desk, or none, if the calling thread
 /// runs the jobs.
 ///
 /// Of the slots of a record up to `window` are asked for before the last of them is waited for, 1 or more, and 64 at the most.
 ///
 /// What is printed is the same for any number of workers and any window, and by `form` text or JSON. A printed line is a
-/// receipt: whatever the run answers, each image that a stop may leave behind it is recovered to the outcome of a beginning of
+/// receipt: whatever the run answers, each image that a stop may leave after it is recovered to the outcome of a beginning of
 /// the script's accepted commands which holds
 /// every command whose line was printed. `NoThread` says that the system gives no thread; then nothing was done.
 pub fn run_served<

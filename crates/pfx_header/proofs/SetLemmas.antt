@@ -43,7 +43,7 @@ pub record IsFirst (tasks : List (ℕ × ℕ)) (from l : ℕ) : Type 0 where
   pub late : from ≤ l
   pub before : (k : ℕ) → from ≤ k → k < l → IsCommonMultiple tasks k → ⊥
 
--- one is found where there is one, and none is before it
+-- one is found if there is one, and none is before it
 abbrev Found : List (ℕ × ℕ) → ℕ → ℕ → ℕ → Type 0
 Found tasks n from l = (k : ℕ) × (first_common tasks n from ≡ Some k) × IsFirst tasks from k × (k ≤ l)
 

@@ -9,7 +9,7 @@ use Rattle.pfx_header.specs.declared.faults.SegmentSizeFault.{SegmentSizeFault}
 use Rattle.pfx_header.specs.declared.faults.SegmentSizeFault.TheVariants.{SegmentTooSmall, SegmentTooLarge}
 use Rattle.pfx_header.specs.Headers.{Header, least_segment, longest_segment, damaged, IsSegmentSize}
 
--- what was answered is what is read, unless memory was refused
+-- what was answered is what is read, unless an allocation failed
 abbrev pub Reads : Result Header Refusal → Result (FilledSet × ℕ) HeaderFault → Type 0
 Reads read (Ok h) = read ≡ Ok (record { set = h.0; segment = h.1 })
 Reads read (Err NotAStore) = read ≡ Err NoStoreIs

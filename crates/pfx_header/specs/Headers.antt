@@ -80,7 +80,7 @@ tasks_of (suc n) bytes = task_of bytes ∷ tasks_of n (drop 8 bytes)
 abbrev pub tasks_at : List ℕ → List (ℕ × ℕ)
 tasks_at bytes = tasks_of (real_at bytes) (drop 17 bytes)
 
--- The tests, the last one first: the result of each is that of the ones above it here, where it is passed.
+-- The tests, the last one first: the result of each is that of the ones above it here, if it is passed.
 
 abbrev pub damaged : Refusal
 damaged = Damaged 0 ThePart

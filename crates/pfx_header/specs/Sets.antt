@@ -20,7 +20,7 @@ hyper_of tasks = first_common tasks (2 ^ 20) 1
 abbrev pub is_weight : ℕ × ℕ → Bool
 is_weight w = nat_lt 0 w.0 && nat_lt w.0 w.1
 
--- the set, where its tasks have a common multiple within the limit and take no more slots than there are
+-- the set, if its tasks have a common multiple within the limit and take no more slots than there are
 abbrev pub set_by : ℕ → List (ℕ × ℕ) → Option ℕ → Option FilledSet
 set_by m tasks None = None
 set_by m tasks (Some l) = if nat_le (demand l tasks) (m * l) then Some (filled m tasks l) else None

@@ -14,7 +14,7 @@ pub enum HeaderFault {
     /// The bytes are those of a store of this version, but of no task set, or of a segment out of its limits.
     #[error("the header is damaged")]
     Damaged,
-    /// A growth of memory was refused.
+    /// An allocation failed.
     #[error("out of memory")]
     NoMemory,
 }

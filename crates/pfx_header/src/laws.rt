@@ -8,7 +8,7 @@ ghost use Rattle.pfx_header.specs.Sets.{set_of};
 ghost use Rattle.pfx_header.specs.Headers.{Header, IsHeader, IsSegmentSize, header_len, header_bytes, read_header};
 ghost use Rattle.pfx_header.specs.declared.sizes.TheConstants.{HEADER_MOST};
 
-/// The set that is read is the one that is accepted of its workers and tasks, and there is none where none is.
+/// The set that is read is the one that is accepted of its workers and tasks, and there is none if none is.
 pub fn sets_are_the_accepted_ones()
     ensures { (m : ℕ) (tasks : List (ℕ × ℕ)) (s : FilledSet) → (set_of m tasks ≡ Some s) ↔ Accepts m tasks s }
 {}
@@ -21,7 +21,7 @@ pub fn what_is_read_is_a_header()
 {}
 
 /// A set that is accepted and a segment within its limits are a header, and it is read from its bytes, whatever stands
-/// behind them.
+/// after them.
 pub fn what_is_written_is_read()
     ensures header { (m : ℕ) (tasks : List (ℕ × ℕ)) (h : Header) → Accepts m tasks h.set → IsSegmentSize m h.segment → IsHeader h }
     ensures read { (h : Header) (rest : List ℕ) → IsHeader h → read_header (header_bytes h ++ rest) ≡ Ok h }

@@ -50,7 +50,7 @@ fn tasks_at(alloc: Global, real: usize, bytes: &[u8]) -> Result<Vec<(u32, u32)>,
     Ok(tasks)
 }
 
-/// The set with segments of this length, where it is one and the length is within its limits.
+/// The set with segments of this length, if it is one and the length is within its limits.
 fn sized(set: Option<TaskSet>, segment: u32) -> Result<(TaskSet, u32), HeaderFault>
     ensures { Reads (sized segment set) result }
 {
@@ -63,7 +63,7 @@ fn sized(set: Option<TaskSet>, segment: u32) -> Result<(TaskSet, u32), HeaderFau
     }
 }
 
-/// The set and the segment's length behind the counts, where there are bytes for all tasks.
+/// The set and the segment's length behind the counts, if there are bytes for all tasks.
 fn read_tasks(
     alloc: Global,
     workers: u8,
@@ -94,7 +94,7 @@ fn read_tasks(
 ///
 /// It is refused by the first test that fails: `NotAStore` for fewer than 17 bytes, a closed gate or other letters;
 /// `WrongVersion`; `Damaged` for counts out of range; `NotAStore` for fewer bytes than the header has; `Damaged` for
-/// tasks that are no set or a segment out of its limits. `NoMemory` comes only where a growth was refused.
+/// tasks that are no set or a segment out of its limits. `NoMemory` comes only if an allocation failed.
 pub fn read_header(alloc: Global, bytes: &[u8]) -> Result<(TaskSet, u32), HeaderFault>
     ensures { Reads (read_header bytes.now) result }
 {

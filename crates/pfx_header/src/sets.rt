@@ -6,7 +6,7 @@ ghost use Rattle.pfx_header.specs.Sets.{set_of};
 use pfx_weights::{SetFault, TaskSet};
 use std::alloc::{AllocError, Global};
 
-/// The set of these workers and tasks, or none where `TaskSet::new` refuses them.
+/// The set of these workers and tasks, or none if `TaskSet::new` refuses them.
 pub(crate) fn set_of(
     alloc: Global,
     workers: u32,

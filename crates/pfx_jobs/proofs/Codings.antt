@@ -38,7 +38,7 @@ round_trip_by C L s =
 pub only_encodings_by : {F J : Type 0} (C : Coding F J) → CodingLaws C → (bytes : List ℕ) (s : J) → decoded_by C bytes ≡ Some s → C.spelled (C.fields s) ≡ bytes
 only_encodings_by C L bytes s h = checked-only C L bytes s (C.found bytes) (C.fits (C.found bytes)) refl _ refl h
 
--- a kind by a coding keeps the laws where its step counts down
+-- a kind by a coding keeps the laws if its step counts down
 pub laws_by : {F J : Type 0} (C : Coding F J) (L : CodingLaws C) (left : J → ℕ) (stepped : J → J) → ((s : J) → 0 < left s → left (stepped s) + 1 ≡ left s) → Laws (kind_by C left stepped)
 laws_by C L left stepped counts = record {
   counts_down = counts;

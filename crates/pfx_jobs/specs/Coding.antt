@@ -1,5 +1,5 @@
 -- A kind of job by its plain numbers: which of them are a state, how they are written, and where they stand in the
--- bytes. Bytes give a state where the numbers in them are one and are written as these very bytes.
+-- bytes. Bytes give a state if the numbers in them are one and are written as these very bytes.
 use Rattle.std.specs.Prelude.{◌≡◌, ℕ, Bool, true, false, List, length, Option, Some, None, IsTrue, refl}
 use Rattle.std.specs.Str.{bytes_eq}
 use Rattle.pfx_jobs.specs.Kind.{Kind}

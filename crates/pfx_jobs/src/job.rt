@@ -37,7 +37,7 @@ pub trait Job: Drop {
     fn encode(&self, bytes: &mut [u8; 128])
         ensures { bytes.new ≡ kind.spelling self.now };
 
-    /// The state that the bytes are the encoding of, or `BadState` where they are none.
+    /// The state that the bytes are the encoding of, or `BadState` if they are none.
     fn decode(bytes: &[u8; 128]) -> Result<Self, JobFault>
         ensures { MatchResult result (λ s. kind.decoded bytes.now ≡ Some s) (λ _. kind.decoded bytes.now ≡ None) };
 

@@ -29,7 +29,7 @@ abbrev pub decimal_within : ℕ → ℕ → List ℕ → Option ℕ
 decimal_within n m text = cond (nat_lt 0 (length text) && nat_lt (length text) (n + 1) && list_all is_ascii_digit text && nat_lt (digits_value 10 text) (m + 1))
     (Some (digits_value 10 text)) None
 
--- the parts before and behind the first colon
+-- the parts before and after the first colon
 abbrev pub is_colon : ℕ → Bool
 is_colon byte = nat_eq byte 58
 

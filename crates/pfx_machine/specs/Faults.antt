@@ -1,4 +1,4 @@
--- Why a Slot is refused where no row is chosen.
+-- Why a Slot is refused if no row is chosen.
 use Rattle.pfx_choice.specs.declared.faults.ChoiceFault.{ChoiceFault}
 use Rattle.pfx_choice.specs.declared.faults.ChoiceFault.TheVariants as of_choice
 use Rattle.pfx_machine.specs.declared.faults.MachineFault.{MachineFault}

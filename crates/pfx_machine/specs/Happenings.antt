@@ -21,12 +21,12 @@ rows_of (ran slot row ∷ happened) = row ∷ rows_of happened
 abbrev pub ledger_after : {J : Type 0} → Plain J → List (Happening J) → Ledger
 ledger_after B happened = past B.ledger (rows_of happened)
 
--- a row, or the empty one where there is none
+-- a row, or the empty one if there is none
 abbrev pub row_or_none : {E : Type 0} → Result (List ℕ) E → List ℕ
 row_or_none (Ok row) = row
 row_or_none (Err fault) = []
 
--- what one command does behind what happened: a Slot runs PF's row at the ledger after the rows before it
+-- what one command does after what happened: a Slot runs PF's row at the ledger after the rows before it
 abbrev pub happening : {J : Type 0} → Plain J → List (Happening J) → Command J → Happening J
 happening B happened (Submit task job) = given task job
 happening B happened (Withdraw task) = taken task

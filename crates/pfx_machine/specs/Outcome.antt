@@ -24,7 +24,7 @@ rest_of (Some y) passes x xs rest = rest
 rest_of None true x xs rest = xs
 rest_of None false x xs rest = x ∷ xs
 
--- the elements behind the last one that passes a test; all of them where none does
+-- the elements after the last one that passes a test; all of them where none does
 abbrev pub behind_last : {A : Type 0} → (A → Bool) → List A → List A
 behind_last p [] = []
 behind_last p (x ∷ xs) = rest_of (last_that p xs) (p x) x xs (behind_last p xs)

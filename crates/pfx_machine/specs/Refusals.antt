@@ -13,7 +13,7 @@ use Rattle.pfx_machine.specs.declared.command.Reply.TheVariants.{Submitted, Ran,
 use Rattle.pfx_machine.specs.declared.faults.MachineFault.{MachineFault}
 use Rattle.pfx_machine.specs.declared.faults.MachineFault.TheVariants.{NumberLimit, NoSuchTask, TaskBusy, NoJob, NoMemory}
 
--- why a task can't be given a job, by its place in the list of jobs: there is none where the list is too short
+-- why a task can't be given a job, by its place in the list of jobs: there is none if the list is too short
 abbrev pub submit_fault : {J : Type 0} → Kind J → ℕ → Option (Option J) → Option MachineFault
 submit_fault K task None = Some (NoSuchTask task)
 submit_fault K task (Some None) = None
@@ -35,7 +35,7 @@ command_fault K s (Submit task job) = submit_fault K task (slice_get s.jobs task
 command_fault K s (Withdraw task) = withdraw_fault task (slice_get s.jobs task)
 command_fault K s Slot = slot_fault (chosen s.ledger)
 
--- why a command is refused in a state; none where it is accepted
+-- why a command is refused in a state; none if it is accepted
 abbrev pub refusal : {J : Type 0} → Kind J → Plain J → Command J → Option MachineFault
 refusal K s c = if nat_lt (s.number + 1) (2 ^ 48) then command_fault K s c else Some NumberLimit
 
@@ -45,6 +45,6 @@ reply s (Submit task job) = Submitted task
 reply s (Withdraw task) = Withdrawn task
 reply s Slot = Ran s.ledger.slot (row_or_none (chosen s.ledger))
 
--- an answered fault is the refusal, unless memory was refused, which only a Slot takes
+-- an answered fault is the refusal, unless an allocation failed, which only a Slot takes
 abbrev pub IsFaultOf : {J : Type 0} → Kind J → Plain J → Command J → MachineFault → Type 0
 IsFaultOf K s c fault = (fault ≡ NoMemory → c ≡ Slot) × (fault ≢ NoMemory → refusal K s c ≡ Some fault)

@@ -7,7 +7,7 @@ use Rattle.pfx_machine.specs.Refusals.{refusal, reply}
 use Rattle.pfx_machine.specs.declared.command.Command.{Command}
 use Rattle.pfx_machine.specs.declared.command.Reply.{Reply}
 
--- each command of H is accepted behind those before it
+-- each command of H is accepted after those before it
 abbrev pub AllAccepted : {J : Type 0} → Kind J → Plain J → List (Command J) → List (Command J) → Type 0
 AllAccepted K B before [] = ⊤
 AllAccepted K B before (c ∷ H) = (refusal K (outcome K B before) c ≡ None) × AllAccepted K B (before ++ c ∷ []) H
@@ -15,7 +15,7 @@ AllAccepted K B before (c ∷ H) = (refusal K (outcome K B before) c ≡ None) �
 abbrev pub IsAcceptable : {J : Type 0} → Kind J → Plain J → List (Command J) → Type 0
 IsAcceptable K B H = AllAccepted K B [] H
 
--- each command's reply, behind those before it
+-- each command's reply, after those before it
 abbrev pub replies_behind : {J : Type 0} → Kind J → Plain J → List (Command J) → List (Command J) → List Reply
 replies_behind K B before [] = []
 replies_behind K B before (c ∷ H) = reply (outcome K B before) c ∷ replies_behind K B (before ++ c ∷ []) H

@@ -75,7 +75,7 @@ impl<J: Job> State<J> {
         }
     }
 
-    /// The board of the state. An error comes only where a growth of memory was refused.
+    /// The board of the state. An error comes only if an allocation failed.
     pub fn board(&self, alloc: Global) -> Result<Board, AllocError>
         ensures number { IfOk result (λ board. board.number ≡ self.now.number) }
         ensures slot { IfOk result (λ board. board.slot ≡ self.now.ledger.slot) }

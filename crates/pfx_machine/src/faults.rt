@@ -30,12 +30,12 @@ pub enum MachineFault {
     /// Fewer tasks are urgent or contending than there are workers.
     #[error("{eligible} tasks are eligible for {m} workers")]
     TooFewEligible { eligible: u32, m: u32 },
-    /// A growth of memory was refused. Only a Slot is refused so.
+    /// An allocation failed. Only a Slot is refused so.
     #[error("out of memory")]
     NoMemory,
 }
 
-/// Why a Slot is refused where no row is chosen.
+/// Why a Slot is refused if no row is chosen.
 pub fn fault_of_choice(fault: ChoiceFault) -> MachineFault
     ensures { result ≡ machine_fault fault }
 {

@@ -78,7 +78,7 @@ pub fn plain_slots<J: Job>(task: u16, happened: &[Happening<J>]) -> usize
     count
 }
 
-/// One where a slot was run that holds the task, else none.
+/// One if a slot was run that holds the task, else none.
 fn slots_of_one<J: Job>(task: u16, happening: &Happening<J>) -> usize
     ensures number { result ≡ times_in (rows_of (happening.now ∷ [])) task }
     ensures few { result ≤ 1 }

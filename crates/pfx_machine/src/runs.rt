@@ -17,7 +17,7 @@ pub type Answer = Result<Reply, MachineFault>;
 /// Gives the commands to the state, one after the other, and answers each.
 ///
 /// The state is afterwards the outcome of the commands that were accepted, and each answer is the reply, or the refusal,
-/// behind those accepted before it. Where a growth of memory is refused the run ends, and the state is the outcome of the
+/// after those accepted before it. Where an allocation fails the run ends, and the state is the outcome of the
 /// accepted ones of a beginning of the list.
 pub fn run<J: Job>(
     alloc: Global,
@@ -37,7 +37,7 @@ pub fn run<J: Job>(
     Ok(given)
 }
 
-/// Gives one command to the state and answers it. An error comes only where a growth of memory was refused, and then the
+/// Gives one command to the state and answers it. An error comes only if an allocation failed, and then the
 /// state is as it was.
 fn answer_one<J: Job>(state: &mut State<J>, command: Command<J>) -> Result<Answer, AllocError>
     ensures answer { IfOk result (λ given. given ≡ answer J.kind state.old command) }

@@ -107,7 +107,7 @@ fn no_jobs<J: Job>(alloc: Global, number: usize) -> Result<Vec<Option<J>>, Alloc
 impl<J: Job> State<J> {
     /// The state of a set before its first command: number 0, slot 0, no allocations and no jobs.
     ///
-    /// An error comes only where a growth of memory was refused.
+    /// An error comes only if an allocation failed.
     pub fn new(alloc: Global, set: &TaskSet) -> Result<State<J>, AllocError>
         ensures { IfOk result (λ s. s ≡ empty set.now) }
     {
@@ -182,7 +182,7 @@ impl<J: Job> State<J> {
         self.jobs[usize::from(task)] = job;
     }
 
-    /// Gives each task of the row a slot, and goes to the next one. No job is stepped and no number taken. Where the row
+    /// Gives each task of the row a slot, and goes to the next one. No job is stepped and no number taken. If the row
     /// doesn't give each worker one of the set's tasks, the slot limit is reached, or a lag would be out of range,
     /// nothing changes. This bypasses acceptance: the row need not be the chosen one.
     pub fn pass_row(&mut self, row: &Row) -> bool
@@ -214,7 +214,7 @@ impl<J: Job> State<J> {
         self.number = self.number + 1;
     }
 
-    /// An equal state. An error comes only where a growth of memory was refused.
+    /// An equal state. An error comes only if an allocation failed.
     pub fn copy_of(&self, alloc: Global) -> Result<State<J>, AllocError>
         ensures { IfOk result (λ copy. copy ≡ self.now) }
     {
@@ -278,10 +278,10 @@ impl<J: Job> State<J> {
 
     /// A whole command, on one thread.
     ///
-    /// Where the state is the outcome of commands from some start, it is afterwards the outcome of these and this one. A
+    /// If the state is the outcome of commands from some start, it is afterwards the outcome of these and this one. A
     /// command is refused by the first of these that holds, and then nothing changes: NumberLimit; for a Submit
     /// NoSuchTask, TaskBusy; for a Withdraw NoSuchTask, NoJob; for a Slot SlotLimit, TooManyUrgent, TooFewEligible.
-    /// NoMemory comes only for a Slot, and only where a growth of memory was refused.
+    /// NoMemory comes only for a Slot, and only if an allocation failed.
     pub fn apply(&mut self, command: Command<J>) -> Result<Reply, MachineFault>
         ensures exact { MatchResult result (λ _. refusal J.kind self.old command ≡ None) (λ fault. IsFaultOf J.kind self.old command fault) }
         ensures reply { IfOk result (λ said. said ≡ reply self.old command) }

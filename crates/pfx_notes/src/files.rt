@@ -27,7 +27,7 @@ fn noun(named: Named) -> &'static str {
     }
 }
 
-/// The note of a file that can't be opened or read: which one, why, what to do. `missing` says that it isn't there. Fails only where
+/// The note of a file that can't be opened or read: which one, why, what to do. `missing` says that it isn't there. Fails only if
 /// memory runs out.
 pub fn input_note(
     alloc: Global,
@@ -53,7 +53,7 @@ pub fn input_note(
     two_lines(alloc, what, change)
 }
 
-/// The note of an output that can't be written: why. Fails only where memory runs out.
+/// The note of an output that can't be written: why. Fails only if memory runs out.
 pub fn output_note(alloc: Global, why: &str) -> Result<Option<Note>, AllocError> {
     let what = format!(in alloc; "standard output: {why}")?;
     two_lines(
@@ -114,8 +114,8 @@ fn task_note(alloc: Global, path: &str, task: u16, job: bool) -> Result<Option<N
     Ok(of_lines(what, change))
 }
 
-/// The note of a fault of a store's file. `script` is the word behind the store's, where that file is a store. `None` where the fault
-/// is of another kind. Fails only where memory runs out.
+/// The note of a fault of a store's file. `script` is the word behind the store's, if that file is a store. `None` if the fault
+/// is of another kind. Fails only if memory runs out.
 pub fn store_note(
     alloc: Global,
     path: &str,

@@ -183,7 +183,7 @@ fn bad_name(
     Ok(of_lines(what, change))
 }
 
-// The name of a task, where it is a text.
+// The name of a task, if it is a text.
 fn name_at<'a>(set: &SetSource<'a>, task: usize) -> Option<&'a str> {
     set.task(task)?.get("name")?.as_str()
 }

@@ -12,7 +12,7 @@ fn greatest_common_divisor(a: u64, b: u64) -> u64 {
     large
 }
 
-/// The least common multiple of two numbers, where it fits 64 bits.
+/// The least common multiple of two numbers, if it fits 64 bits.
 pub(crate) fn common_multiple(a: u64, b: u64) -> Option<u64> {
     let divisor = greatest_common_divisor(a, b);
     if divisor == 0 {
@@ -42,7 +42,7 @@ impl Fraction {
     }
 }
 
-/// The sum of weights (e, p), where their common multiple and it fit 64 bits.
+/// The sum of weights (e, p), if their common multiple and it fit 64 bits.
 pub(crate) fn sum_of(weights: &[(u32, u32)]) -> Option<Fraction> {
     let mut whole: u64 = 1;
     for weight in weights {

@@ -14,7 +14,7 @@ const DIGITS: usize = 13;
 const FORM: &str =
     "The form is T:A,A,..: a slot below 1099511627776, and the slots that each task got before it, as digits alone.";
 
-// The first characters of a text, where it is long.
+// The first characters of a text, if it is long.
 fn front(alloc: Global, text: &str) -> Result<String, AllocError> {
     let mut front = String::new(alloc);
     for c in text.chars() {
@@ -27,14 +27,14 @@ fn front(alloc: Global, text: &str) -> Result<String, AllocError> {
     Ok(front)
 }
 
-// What is wrong, behind the word that has it.
+// What is wrong, after the word that has it.
 fn behind_word(alloc: Global, at: &str, what: &str) -> Result<String, AllocError> {
     let front = front(alloc, at)?;
     let front = front.as_str();
     format!(in alloc; "--at {front}: {what}")
 }
 
-// The numbers behind the colon, or the first part that is none.
+// The numbers after the colon, or the first part that is none.
 fn numbers<'a>(alloc: Global, text: &'a str) -> Result<Result<Vec<u64>, &'a str>, AllocError> {
     let mut numbers = Vec::new(alloc);
     for part in text.split(',') {
@@ -119,7 +119,7 @@ fn form_note(alloc: Global, at: &str, set: &TaskSet) -> Result<Option<Note>, All
     }
 }
 
-// The slot and the allocations, where the text is a ledger.
+// The slot and the allocations, if the text is a ledger.
 fn ledger_in(alloc: Global, at: &str) -> Result<Option<(u64, Vec<u64>)>, AllocError> {
     let Some((slot, rest)) = at.split_once(':') else {
         return Ok(None);

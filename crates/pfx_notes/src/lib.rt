@@ -1,6 +1,6 @@
 //! What is said below the line of a fault: where the mistake stands, what is wrong there, and what to change.
 //!
-//! Which words stand in a note is tested, not proved. It is asked for only where something was refused, and reads the refused text once more.
+//! Which words stand in a note is tested, not proved. It is asked for only if something was refused, and reads the refused text once more.
 #![tactic(auto)]
 
 mod files;

@@ -16,7 +16,7 @@ pub(crate) fn two_lines(
     }))
 }
 
-// The same, where the second line is made too.
+// The same, if the second line is made too.
 pub(crate) fn of_lines(what: String, change: String) -> Option<Note> {
     Some(Note {
         what,

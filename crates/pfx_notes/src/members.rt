@@ -13,7 +13,7 @@ pub(crate) struct SetSource<'a> {
 }
 
 impl<'a> SetSource<'a> {
-    /// The tables of the tasks; none where `task` is no list of tables.
+    /// The tables of the tasks; none if `task` is no list of tables.
     pub(crate) fn tasks(&self) -> &'a [Value] {
         let found: Option<&'a Value> = self.table.get("task");
         match found {

@@ -37,7 +37,7 @@ fn column_at(line: &str, offset: usize) -> usize {
     characters(&bytes[..offset.min(bytes.len())]).saturating_add(1)
 }
 
-/// The place behind so many bytes of a text.
+/// The place after so many bytes of a text.
 pub(crate) fn place_at(text: &[u8], offset: usize) -> Place {
     let front = &text[..offset.min(text.len())];
     let mut line: usize = 1;
@@ -54,7 +54,7 @@ pub(crate) fn place_at(text: &[u8], offset: usize) -> Place {
     }
 }
 
-/// The place of the first line behind so many bytes of a text that isn't empty.
+/// The place of the first line after so many bytes of a text that isn't empty.
 pub(crate) fn line_behind(text: &[u8], offset: usize) -> Place {
     let mut at = offset.min(text.len());
     for byte in &text[at..] {
@@ -94,7 +94,7 @@ fn header(line: &str) -> Option<(&str, bool)> {
     Some((unquoted(name), false))
 }
 
-// The table of the lines behind this one, and how many tasks there were.
+// The table of the lines after this one, and how many tasks there were.
 fn after(line: &str, within: Within, tasks: usize) -> (Within, usize) {
     match header(line) {
         Some(("task", true)) => (Within::Task(tasks), tasks.saturating_add(1)),
@@ -169,7 +169,7 @@ pub(crate) fn shown_path(path: &str) -> &str {
     if path == "-" { "standard input" } else { path }
 }
 
-/// What is wrong, behind its place.
+/// What is wrong, after its place.
 pub(crate) fn located(
     alloc: Global,
     file: &str,

@@ -7,7 +7,7 @@ use pfx_explain::Note;
 use std::alloc::{AllocError, Global};
 use std::str::from_utf8;
 
-// How many lines a record has at the most where none of them is a refusal.
+// How many lines a record has at the most if none of them is a refusal.
 fn answers_of(row: &ByteRecord) -> u64 {
     if row.get(0) != Some(b"slot") {
         return 1;
@@ -28,7 +28,7 @@ fn shows(row: &ByteRecord) -> bool {
     row.get(0) == Some(b"show")
 }
 
-// Whether a record shows the jobs of all tasks: it has no answer where there are none, and is never refused.
+// Whether a record shows the jobs of all tasks: it has no answer if there are none, and is never refused.
 fn shows_all(row: &ByteRecord) -> bool {
     shows(row) && row.get(1) == Some(b"")
 }
@@ -38,7 +38,7 @@ fn asks(row: &ByteRecord) -> bool {
     row.get(0) != Some(b"status") && row.get(0) != Some(b"settle") && !shows_all(row)
 }
 
-// Whether a task has a job behind an accepted record, as far as this is known; `has` says so of the records before it.
+// Whether a task has a job after an accepted record, as far as this is known; `has` says so of the records before it.
 fn has_job(row: &ByteRecord, has: bool) -> bool {
     match row.get(0) {
         Some(b"submit") => true,
@@ -50,7 +50,7 @@ fn has_job(row: &ByteRecord, has: bool) -> bool {
 // What is known of the answers of a script's first records, none of which was refused.
 #[derive(Drop)]
 struct Passed {
-    // How many answers are left behind theirs, but for jobs that were shown.
+    // How many answers are left after theirs, but for jobs that were shown.
     left: u64,
     // How often they have shown jobs, at least and at most.
     least: u64,
@@ -60,7 +60,7 @@ struct Passed {
 }
 
 impl Passed {
-    // Whether the next record may be the refused one, where jobs were shown so often before the refusal.
+    // Whether the next record may be the refused one, if jobs were shown so often before the refusal.
     fn may_end(&self, row: &ByteRecord, shown: u64) -> bool {
         let is_next = self.left == 0 || (!shows(row) && self.left < answers_of(row));
         is_next && asks(row) && self.least <= shown && shown <= self.most
@@ -85,8 +85,8 @@ impl Passed {
     }
 }
 
-// The place and the line of the record that was refused first, behind so many answers, of which `shown` were jobs that were shown;
-// none where two records may be the one.
+// The place and the line of the record that was refused first, after so many answers, of which `shown` were jobs that were shown;
+// none if two records may be the one.
 fn record_behind(
     alloc: Global,
     text: &[u8],
@@ -145,8 +145,8 @@ fn change_of(refusal: &str) -> &'static str {
 }
 
 /// The note of the first refused record of a script: where it stands, how it was refused, what to change, and how many more records were.
-/// `answers` are the answers that were printed before it, `shown` those of them that show jobs, `refusal` is what its line says behind
-/// `refused`, `refused` how many records were refused in all. Where two records may be the one, no place is told. Fails only where
+/// `answers` are the answers that were printed before it, `shown` those of them that show jobs, `refusal` is what its line says after
+/// `refused`, `refused` how many records were refused in all. If two records may be the one, no place is told. Fails only if
 /// memory runs out.
 pub fn refused_note(
     alloc: Global,

@@ -201,14 +201,14 @@ fn read_to(alloc: Global, text: &[u8], place: u64, row: &mut ByteRecord) -> bool
     true
 }
 
-/// The note of the record at this place of a script whose text isn't at hand. Fails only where memory runs out.
+/// The note of the record at this place of a script whose text isn't at hand. Fails only if memory runs out.
 pub fn record_note(alloc: Global, file: &str, place: u64) -> Result<Option<Note>, AllocError> {
     let what = format!(in alloc; "record {place} has no form of a record")?;
     two_lines(alloc, located(alloc, file, None, what.as_str())?, RECORD)
 }
 
 /// The note of the script's record at this place, counted from 1, which has no form: its line, what is wrong, what to write. `file` is
-/// the word that names the script, `text` what stands in it. `None` where the text has no such record. Fails only where memory runs
+/// the word that names the script, `text` what stands in it. `None` if the text has no such record. Fails only if memory runs
 /// out.
 pub fn script_note(
     alloc: Global,

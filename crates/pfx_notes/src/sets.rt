@@ -51,8 +51,8 @@ fn numbers_note(
 }
 
 /// The note of a fault that a set file has caused, or the ledger `at` that a plan of it begins with: where the mistake stands in the
-/// file, what is wrong, what to change. `file` is the word that names the file, `text` what was read of it. `None` where the fault is
-/// of another kind, or isn't that of this text. Fails only where memory runs out.
+/// file, what is wrong, what to change. `file` is the word that names the file, `text` what was read of it. `None` if the fault is
+/// of another kind, or isn't that of this text. Fails only if memory runs out.
 pub fn set_note(
     alloc: Global,
     file: &str,

@@ -78,7 +78,7 @@ fn passed_over(alloc: Global, set: &SetSource<'_>) -> Result<Passed, AllocError>
 }
 
 /// What is passed over in a set: its first key that no set has, else the first of a task that no task has, and how many more there
-/// are. `None` where there is none, or the text is no TOML. Fails only where memory runs out.
+/// are. `None` if there is none, or the text is no TOML. Fails only if memory runs out.
 pub fn passed_over_note(
     alloc: Global,
     file: &str,

@@ -181,7 +181,7 @@ pub(crate) fn load_note(
     Ok(of_lines(what, change))
 }
 
-/// A segment out of range; `least` is the least size, where it is too small.
+/// A segment out of range; `least` is the least size, if it is too small.
 pub(crate) fn segment_note(
     alloc: Global,
     source: &SetSource<'_>,

@@ -57,7 +57,7 @@ abbrev pub shown_jobs : Form → List (Option AnyJob) → Option ℕ → Result 
 shown_jobs form jobs None = Ok (job_lines form 0 jobs)
 shown_jobs form jobs (Some x) = line_at form x (slice_get jobs x)
 
--- there is none to show, or memory was refused
+-- there is none to show, or an allocation failed
 abbrev pub IsNotShown : Result (List ℕ) Fault → Fault → Type 0
 IsNotShown shown f = (shown ≡ Err f) ⊎ (f ≡ fault.NoMemory)
 

@@ -35,7 +35,7 @@ joined (Some slot) (Some allocs) = Some (slot, allocs)
 joined (Some slot) None = None
 joined None allocs = None
 
--- the text `T:A,A,..`: a slot before the first colon, allocations behind it
+-- the text `T:A,A,..`: a slot before the first colon, allocations after it
 unfoldable pub ledger_of : List ℕ → Option (ℕ × List ℕ)
 ledger_of text = joined (slot_in (before_first (λ b. b == 58) text)) (allocs_in (after_first (λ b. b == 58) text))
 

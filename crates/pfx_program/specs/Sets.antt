@@ -11,7 +11,7 @@ use Rattle.pfx_program.specs.Faults.{fault_of_set}
 abbrev pub IsSetOf : List ℕ → FilledSet → ℕ → Type 0
 IsSetOf bytes set segment = (file : SetFile) × (set_of_bytes bytes ≡ Some file) × Accepts file.workers (weights_of file) set × (segment ≡ file.segment)
 
--- the bytes are no set file, or one whose set is refused so; or they weren't read, or memory was refused
+-- the bytes are no set file, or one whose set is refused so; or they weren't read, or an allocation failed
 abbrev pub SetFails : List ℕ → Fault → Type 0
 SetFails bytes f = ((set_of_bytes bytes ≡ None) × (f ≡ fault.BadSet))
     ⊎ (((file : SetFile) × (why : SetFault) × (set_of_bytes bytes ≡ Some file) × Refuses file.workers (weights_of file) why × (f ≡ fault_of_set why))

@@ -49,8 +49,8 @@ impl Display for Created {
 }
 
 /// What is printed of a new store whose file has `size` bytes: `created m=2 real=3 idle=0 hyper=3 size=17281` and a line
-/// feed, with the set's workers, its real and idle tasks, and its hyperperiod in slots. An error comes only where a
-/// growth of memory was refused.
+/// feed, with the set's workers, its real and idle tasks, and its hyperperiod in slots. An error comes only if a
+/// an allocation failed.
 pub fn created_line(alloc: Global, set: &TaskSet, size: usize) -> Result<String, AllocError>
     ensures { IfOk result (λ s. string_bytes s ≡ created_line set.now size) }
 {

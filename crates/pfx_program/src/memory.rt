@@ -1,4 +1,4 @@
-//! The engine that keeps nothing: a state in memory, where every accepted command counts as kept.
+//! The engine that keeps nothing: a state in memory, in which every accepted command counts as kept.
 
 ghost use Rattle.std.specs.Prelude.{◌≡◌, IfOk, IfErr, OnOk, ⊤};
 ghost use Rattle.pfx_program.specs.Promises.{Promise, Laws, AreDone, AreNotDone, IsDone, IsNotDone, IsSame, IsEngineFault, Shows};

@@ -18,7 +18,7 @@ use pfx_weights::{Row, TaskSet};
 use std::alloc::Global;
 use std::io::{ErrorKind, Read, Write};
 
-/// All that a reader gives. `InputFailed` comes where it fails, `NoMemory` where a growth was refused.
+/// All that a reader gives. `InputFailed` comes if it fails, `NoMemory` if an allocation failed.
 pub fn read_all<R: Read>(alloc: Global, input: &mut R) -> Result<Vec<u8>, Fault>
     ensures ok { IfOk result (λ v. IfSome (R.remaining input.old) (λ bytes. v.items ≡ bytes)) }
     ensures err { IfErr result IsInputFault }
@@ -76,16 +76,16 @@ fn put_slot<W: Write>(
 }
 
 /// Writes the plan of `slots` slots of the set that the reader gives: for each slot a line, its number and the names of
-/// the tasks of its row, where idle task `j` is `*j`: a record of CSV, or an object as `{"run":["a","b"],"slot":0}`.
+/// the tasks of its row, in which idle task `j` is `*j`: a record of CSV, or an object as `{"run":["a","b"],"slot":0}`.
 ///
 /// The plan begins at slot 0, or with the ledger that `at` gives as `T:A,A,..`: at slot T, a number below 2^40, with
 /// the allocation A of each task, idle ones too, each in 1 to 13 decimal digits. Another text is refused as
 /// `BadLedger`, then lags out of range and a wrong sum as `OutOfRange` and `WrongSum`; refusals of the set come first.
 ///
 /// The answer is the plan's end: `Ok` after all its lines, and else the fault that stopped it, with the lines before
-/// it written. `InputFailed` comes where the reader fails, with nothing written; `OutputFailed` where the writer does,
-/// with a beginning of the plan written; `NoMemory` where a growth was refused, with some first lines written. Without
-/// `at` no slot lacks a row: `TooManyUrgent` and `TooFewEligible` never come, and `SlotLimit` only behind slot 2^40 - 2.
+/// it written. `InputFailed` comes if the reader fails, with nothing written; `OutputFailed` where the writer does,
+/// with a beginning of the plan written; `NoMemory` if an allocation failed, with some first lines written. Without
+/// `at` no slot lacks a row: `TooManyUrgent` and `TooFewEligible` never come, and `SlotLimit` only after slot 2^40 - 2.
 pub fn run_plan<R: Read, W: Write>(
     alloc: Global,
     input: &mut R,

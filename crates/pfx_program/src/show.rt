@@ -98,7 +98,7 @@ fn put_line(
     Ok(())
 }
 
-// The line of a task's job, where it has one.
+// The line of a task's job, if it has one.
 fn put_place(
     alloc: Global,
     form: Form,

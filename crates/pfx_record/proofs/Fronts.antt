@@ -30,7 +30,7 @@ begins_join bytes xs ys b c = record {
 pub begins_same : (bytes xs ys : List ℕ) → Begins bytes xs → Begins bytes ys → length xs ≡ length ys → xs ≡ ys
 begins_same bytes xs ys b c long = sym (begins_take bytes xs b) ∙ ap (λ (n : ℕ). take n bytes) long ∙ begins_take bytes ys c
 
--- the same, where the first part is known to have n bytes
+-- the same, if the first part is known to have n bytes
 pub begins_behind : (n : ℕ) (bytes xs ys : List ℕ) → length xs ≡ n → Begins bytes (xs ++ ys) → Begins (drop n bytes) ys
 begins_behind n bytes xs ys long b = subst (λ (k : ℕ). Begins (drop k bytes) ys) long (begins_right bytes xs ys b)
 
@@ -60,7 +60,7 @@ pub joined-push : {X : Type 0} (f : X → List ℕ) (xs : List X) (x : X) → jo
 joined-push f [] x = append-nil (f x)
 joined-push f (first ∷ xs) x = ap (λ (l : List ℕ). f first ++ l) (joined-push f xs x) ∙ sym (append_assoc (f first) (joined f xs) (f x))
 
--- Where each of some things is told by what bytes begin with, the longer of two lists that bytes begin with goes on
+-- If each of some things is told by what bytes begin with, the longer of two lists that bytes begin with goes on
 -- from the shorter one.
 module _ {X : Type 0} (f : X → List ℕ) (Good : X → Type 0) (told : (bytes : List ℕ) (x y : X) → Good x → Good y → Begins bytes (f x) → Begins bytes (f y) → x ≡ y) where
   abbrev pub GoesOn : List ℕ → List X → List X → Type 0

@@ -14,7 +14,7 @@ module _ {J : Type 0} (K : Kind J) (L : Laws K) (bytes : List ℕ) where
   other_tag : (tag : ℕ) → get_or bytes 0 0 ≡ tag → (other : ℕ) (rest : List ℕ) → other ≢ tag → Begins bytes (other ∷ rest) → ⊥
   other_tag tag is other rest differs b = differs (sym (begins_head bytes other rest b) ∙ is)
 
-  -- where the tag is that of a job given
+  -- if the tag is that of a job given
   pub submit_only : get_or bytes 0 0 ≡ 1 → ((s : J) → 131 ≤ length bytes → Begins (drop 3 bytes) (K.spelling s) → ⊥) → (workers : ℕ) → NoRecord K workers bytes
   submit_only tag none workers (ran row) fits b = absurd (omega (arith, tag, begins_head bytes 2 _ b))
   submit_only tag none workers (withdrawn task) fits b = absurd (omega (arith, tag, begins_head bytes 3 _ b))
@@ -30,7 +30,7 @@ module _ {J : Type 0} (K : Kind J) (L : Laws K) (bytes : List ℕ) where
     long = omega (arith, length-append (number_bytes 2 task) (K.spelling job), length-number_bytes 2 task, L.long job);
   }
 
-  -- where the tag is that of a job taken away
+  -- if the tag is that of a job taken away
   pub withdraw_only : get_or bytes 0 0 ≡ 3 → length bytes < 3 → (workers : ℕ) → NoRecord K workers bytes
   withdraw_only tag short workers (ran row) fits b = omega (arith, tag, begins_head bytes 2 _ b)
   withdraw_only tag short workers (submitted task job) fits b = omega (arith, tag, begins_head bytes 1 _ b)

@@ -7,7 +7,7 @@ use Rattle.pfx_record.specs.Records.{Plain, plain, record_fits, records_bytes}
 use Rattle.pfx_disk.specs.declared.gates.TheConstants.{GATE_OPEN}
 use Rattle.pfx_record.specs.declared.record.Record.{Record}
 
--- the number of the first command, and the records of it and those behind it
+-- the number of the first command, and the records of it and those after it
 pub record PlainBatch (J : Type 0) : Type 0 where
   pub first : ℕ
   pub records : List (Plain J)
@@ -23,7 +23,7 @@ abbrev pub counts_fit : ℕ → ℕ → ℕ → Bool
 counts_fit workers first count = (nat_lt 0 workers && nat_le workers 64) &&
     ((nat_lt 0 count && nat_le count 16) && (nat_lt 0 first && nat_le (first + count) (2 ^ 48)))
 
--- the batch has a spelling where the rows have so many tasks
+-- the batch has a spelling if the rows have so many tasks
 abbrev pub batch_fits : {J : Type 0} → ℕ → PlainBatch J → Bool
 batch_fits workers batch = counts_fit workers batch.first (length batch.records) && all_fit workers batch.records
 
@@ -37,6 +37,6 @@ batch_bytes K batch =
     let body = records_bytes K batch.records in
     head_bytes (length body) batch.first (length batch.records) ++ body
 
--- how many bytes a batch has at the most where rows have so many tasks: the head, and 16 slots with a state for each task
+-- how many bytes a batch has at the most if rows have so many tasks: the head, and 16 slots with a state for each task
 abbrev pub batch_most : ℕ → ℕ
 batch_most workers = 31 + 2096 * workers

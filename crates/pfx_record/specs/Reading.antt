@@ -40,25 +40,25 @@ pub record IsHead (workers : ℕ) (bytes : List ℕ) (len first count : ℕ) : T
 abbrev pub body_of : ℕ → List ℕ → List ℕ
 body_of len bytes = take len (drop 15 bytes)
 
--- Behind the head stand these records, and then no further one though one is missing, or bytes that are left over.
+-- After the head stand these records, and then no further one though one is missing, or bytes that are left over.
 pub record StopsBehind {J : Type 0} (K : Kind J) (workers : ℕ) (body : List ℕ) (count : ℕ) (read : List (Plain J)) : Type 0 where
   pub fit : IsTrue (all_fit workers read)
   pub begins : Begins body (records_bytes K read)
   pub next : ((length read < count) × NoRecord K workers (drop (length (records_bytes K read)) body))
       ⊎ ((length read ≡ count) × (length (records_bytes K read) < length body))
 
--- why bytes begin with no batch: there is no head, at place 0; or the records behind it stop, at this place
+-- why bytes begin with no batch: there is no head, at place 0; or the records after it stop, at this place
 abbrev pub IsDamaged : {J : Type 0} → Kind J → ℕ → List ℕ → ℕ → Part → Type 0
 IsDamaged K workers bytes at Frame = (at ≡ 0) × ((len first count : ℕ) → IsHead workers bytes len first count → ⊥)
 IsDamaged {J} K workers bytes at Record = (len first count : ℕ) × (read : List (Plain J)) × IsHead workers bytes len first count
     × StopsBehind K workers (body_of len bytes) count read × (at ≡ 15 + length (records_bytes K read))
 
--- this holds of the place and the part at fault, unless memory was refused
+-- this holds of the place and the part at fault, unless an allocation failed
 abbrev pub OnDamage : BatchFault → (ℕ → Part → Type 0) → Type 0
 OnDamage (Damaged at what) P = P at what
 OnDamage NoMemory P = ⊤
 
--- the records that were read, where they fill the body
+-- the records that were read, if they fill the body
 pub record AreRecords {J : Type 0} (K : Kind J) (workers : ℕ) (body : List ℕ) (count : ℕ) (read : List (Plain J)) : Type 0 where
   pub fit : IsTrue (all_fit workers read)
   pub begins : Begins body (records_bytes K read)

@@ -29,7 +29,7 @@ abbrev pub rises_from : ℕ → List ℕ → Bool
 rises_from low [] = true
 rises_from low (task ∷ tasks) = nat_le low task && (nat_lt task (2 ^ 16) && rises_from (task + 1) tasks)
 
--- the record has a spelling where the rows have so many tasks
+-- the record has a spelling if the rows have so many tasks
 abbrev pub record_fits : {J : Type 0} → ℕ → Plain J → Bool
 record_fits workers (submitted task job) = nat_lt task (2 ^ 16)
 record_fits workers (ran row) = (length row == workers) && rises_from 0 (tasks_of row)

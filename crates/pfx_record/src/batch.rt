@@ -19,7 +19,7 @@ pub struct Batch<J> {
 }
 
 impl<J> Batch<J> {
-    /// The batch of these records, where `fits` says that they are one.
+    /// The batch of these records, if `fits` says that they are one.
     pub fn new(workers: u32, first: u64, records: Vec<Record<J>>) -> Batch<J>
         requires { IsTrue (batch_fits workers (batch_of first records.items)) }
         ensures workers { result.workers ≡ workers }
@@ -52,7 +52,7 @@ fn row_fits<J>(workers: u32, row: &[Place<J>]) -> bool
     true
 }
 
-/// Whether a record has a spelling where rows have so many tasks: its tasks are below 2^16, and a row has that many, in
+/// Whether a record has a spelling if rows have so many tasks: its tasks are below 2^16, and a row has that many, in
 /// strictly rising order.
 pub fn record_fits<J>(workers: u32, entry: &Record<J>) -> bool
     ensures { result ≡ record_fits workers (plain entry.now) }
@@ -76,7 +76,7 @@ pub fn counts_fit(workers: u32, first: u64, count: u64) -> bool
         && first <= (1 << 48) - count
 }
 
-/// Whether records are a batch that begins with this number, where rows have so many tasks: 1 to 16 records, numbers from
+/// Whether records are a batch that begins with this number, if rows have so many tasks: 1 to 16 records, numbers from
 /// 1 to 2^48 - 1, 1 to 64 workers, and rows of strictly rising tasks.
 pub fn fits<J>(workers: u32, first: u64, records: &[Record<J>]) -> bool
     ensures { result ≡ batch_fits workers (batch_of first records.now) }

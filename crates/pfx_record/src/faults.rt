@@ -20,7 +20,7 @@ pub enum BatchFault {
     /// The part at this place is at fault, the first such one.
     #[error("the bytes from {at} on are at fault")]
     Damaged { at: usize, what: Part },
-    /// A growth of memory was refused.
+    /// An allocation failed.
     #[error("out of memory")]
     NoMemory,
 }

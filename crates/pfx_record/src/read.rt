@@ -64,7 +64,7 @@ pub fn read_head(workers: u32, bytes: &[u8]) -> Option<FrameHead>
     Some(head)
 }
 
-/// The record that bytes begin with, where rows have so many tasks, and how many bytes it takes.
+/// The record that bytes begin with, if rows have so many tasks, and how many bytes it takes.
 pub fn read_next<J: Job>(
     alloc: Global,
     workers: u32,
@@ -115,7 +115,7 @@ fn read_records<J: Job>(
     Ok(records)
 }
 
-/// The batch that bytes begin with, where rows have so many tasks, and how many bytes it takes.
+/// The batch that bytes begin with, if rows have so many tasks, and how many bytes it takes.
 ///
 /// `Damaged` says that the bytes begin with no batch. Its place is 0, with `Frame`, where they begin with no head of a
 /// frame or are shorter than it says; else, with `Record`, that of the first record that is faulty or missing, or of

@@ -56,7 +56,7 @@ fn place_at<J: Job>(bytes: &[u8], at: usize, low: u32) -> Option<(Place<J>, usiz
     }
 }
 
-// The record of a slot, where the bytes have its tag, and how many bytes it takes.
+// The record of a slot, if the bytes have its tag, and how many bytes it takes.
 fn read_row<J: Job>(
     alloc: Global,
     workers: u32,
@@ -85,7 +85,7 @@ fn read_row<J: Job>(
     Ok(Some((row, at)))
 }
 
-// The record of a job given, where the bytes have its tag, and how many bytes it takes.
+// The record of a job given, if the bytes have its tag, and how many bytes it takes.
 fn read_submit<J: Job>(bytes: &[u8]) -> Option<(Record<J>, usize)>
     requires some { 0 < length bytes.now }
     requires tag { slice_index bytes.now 0 ≡ 1 }
@@ -102,7 +102,7 @@ fn read_submit<J: Job>(bytes: &[u8]) -> Option<(Record<J>, usize)>
     }
 }
 
-// The record of a job taken away, where the bytes have its tag, and how many bytes it takes.
+// The record of a job taken away, if the bytes have its tag, and how many bytes it takes.
 fn read_withdraw<J: Job>(bytes: &[u8]) -> Option<(Record<J>, usize)>
     requires some { 0 < length bytes.now }
     requires tag { slice_index bytes.now 0 ≡ 3 }
@@ -116,7 +116,7 @@ fn read_withdraw<J: Job>(bytes: &[u8]) -> Option<(Record<J>, usize)>
     Some((Record::Withdraw { task }, 3))
 }
 
-/// The record that the bytes begin with, where rows have so many tasks, and how many bytes it takes.
+/// The record that the bytes begin with, if rows have so many tasks, and how many bytes it takes.
 pub fn read_record<J: Job>(
     alloc: Global,
     workers: u32,

@@ -11,7 +11,7 @@ pub(crate) const FULL_PLACE: usize = 131;
 pub struct Place<J> {
     /// The task's number.
     pub task: u16,
-    /// The state of its job after the step, where it took one.
+    /// The state of its job after the step, if it took one.
     pub state: Option<J>,
 }
 

@@ -10,7 +10,7 @@ use pfx_disk::GATE_OPEN;
 use pfx_jobs::job::Job;
 use pfx_segment::FRAME_HEAD;
 
-// What the pushes write stands behind what was there, and takes no memory where there is room.
+// What the pushes write stands behind what was there, and takes no memory if there is room.
 fn push_byte(out: &mut Vec<u8>, byte: u8)
     requires { vec_len out.old + 1 ≤ vec_capacity out.old }
     ensures items { out.new.items ≡ out.old.items ++ byte ∷ [] }
@@ -131,7 +131,7 @@ fn records_len<J: Job>(records: &[Record<J>]) -> usize
     len
 }
 
-/// How many bytes a batch has at the most where rows have so many tasks: the head, and 16 slots, each with a tag and a state
+/// How many bytes a batch has at the most if rows have so many tasks: the head, and 16 slots, each with a tag and a state
 /// for each task.
 pub fn batch_most(workers: u32) -> usize
     ensures { result ≡ batch_most workers }

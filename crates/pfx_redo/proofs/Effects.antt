@@ -101,7 +101,7 @@ keep_from place row i (o ∷ jobs) is apart = ap₂ ◌∷◌ (keep_head place r
 pub keep_state : {J : Type 0} (place : Place J) (row : List (Place J)) (jobs : List (Option J)) → place.state ≡ None → holds row place.task ≡ false → jobs_from (ran (place ∷ row)) 0 jobs ≡ jobs_from (ran row) 0 jobs
 keep_state place row jobs is apart = keep_from place row 0 jobs is apart
 
--- one place of the row done, where the states that are left give the same
+-- one place of the row done, if the states that are left give the same
 pub put_next : {J : Type 0} (row : List (Place J)) (i : ℕ) (place : Place J) (state : J) (jobs now all : List (Option J)) → place ≡ get_or row i place → i < length row → IsTrue (rises_from 0 (tasks_of row)) →
     jobs_from (ran (drop i row)) 0 jobs ≡ all → place.state ≡ Some state → now ≡ slice_set jobs place.task (Some state) → jobs_from (ran (drop (i + 1) row)) 0 now ≡ all
 put_next row i place state jobs now all is l rises before has written =

@@ -14,7 +14,7 @@ none_dealt state rest false m h none = h
 none_dealt state rest true true h none = h
 none_dealt state rest true false h none = h ∙ sym (none refl)
 
--- one that takes a quantum has the state behind it
+-- one that takes a quantum has the state after it
 one_dealt : {J : Type 0} (state rest : Option J) (found : J) (b m : Bool) → rest ≡ (if m then state else None) → (b ≡ true → state ≡ Some found) → (if b then Some found else rest) ≡ (if b || m then state else None)
 one_dealt state rest found false m h some = h
 one_dealt state rest found true m h some = sym (some refl)

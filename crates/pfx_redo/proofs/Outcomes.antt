@@ -74,7 +74,7 @@ jobs_recorded K all slot row i (o ∷ jobs) h =
     ap (λ r. instead_of r o) (state_if K all row i ∙ ap (λ p. if is_in row i then state_after_step K p else None) here) ∙ place_done K o (is_in row i) in
     ap₂ ◌∷◌ head (jobs_recorded K all slot row (i + 1) jobs (λ k. let at : i + suc k ≡ i + 1 + k = omega arith in subst (λ n. slice_get jobs k ≡ slice_get all n) at (h (suc k))))
 
--- the state behind a command's record is the command's outcome
+-- the state after a command's record is the command's outcome
 
 pub outcome-one : {J : Type 0} (K : Kind J) (L : Laws K) (s : machine.Plain J) (c : Command J) → outcome K s (c ∷ []) ≡ state_step K s (happening_in s c)
 outcome-one K L s c = outcome-snoc K L s [] c ∙ ap (λ t. state_step K t (happening_in t c)) (outcome-none K s)

@@ -37,7 +37,7 @@ right_is_state K s done h right =
       jobs = length-jobs done 0 s.jobs ∙ h.jobs;
     }
 
--- one record more is taken over where it is right
+-- one record more is taken over if it is right
 applied_by : {J : Type 0} (K : Kind J) (s t : machine.Plain J) (done : Plain J) (records : List (Plain J)) (b : Bool) → is_right K s done ≡ b → (if b then applied K (after_record s done) records else None) ≡ Some t →
     IsTrue (is_right K s done) × (applied K (after_record s done) records ≡ Some t)
 applied_by K s t done records true is h = (is, h)

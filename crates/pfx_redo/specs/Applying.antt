@@ -1,4 +1,4 @@
--- Records at a state: which are right there, and the state behind them.
+-- Records at a state: which are right there, and the state after them.
 use Rattle.std.specs.Prelude.{ℕ, ◌==◌, ◌&&◌, nat_lt, if◌then◌else◌, not, Bool, true, false, List, [], ◌∷◌, slice_get, Option, Some, None}
 use Rattle.std.specs.List.{list_all}
 use Rattle.pfx_jobs.specs.Kind.{Kind}
@@ -14,13 +14,13 @@ use Rattle.pfx_record.specs.declared.record.Place.{Place}
 abbrev pub standing_of : {J : Type 0} → machine.Plain J → Standing J
 standing_of s = record { number = s.number; slot = s.ledger.slot; allocations = s.ledger.allocs; jobs = s.jobs }
 
--- the state behind a record, which is taken as it stands
+-- the state after a record, which is taken as it stands
 abbrev pub after_record : {J : Type 0} → machine.Plain J → Plain J → machine.Plain J
 after_record s done =
     let next = recorded_one (standing_of s) done in
     record { number = next.number; ledger = ledger_at s.ledger.set next.slot next.allocations; jobs = next.jobs }
 
--- a place of a row has a state exactly where its task has an unfinished job
+-- a place of a row has a state exactly if its task has an unfinished job
 abbrev pub is_flagged : {J : Type 0} → Kind J → List (Option J) → Place J → Bool
 is_flagged K jobs place = elim place.state [ Some state ↦ is_busy K (slice_get jobs place.task) | None ↦ not (is_busy K (slice_get jobs place.task)) ]
 
@@ -30,11 +30,11 @@ is_apt K total jobs (submitted task job) = is_free K (slice_get jobs task)
 is_apt K total jobs (ran row) = list_all (λ place. nat_lt place.task total && is_flagged K jobs place) row
 is_apt K total jobs (withdrawn task) = has_job (slice_get jobs task)
 
--- the record is right at a state: it has a spelling, the state lets it pass, and what is behind it is a state
+-- the record is right at a state: it has a spelling, the state lets it pass, and what is after it is a state
 abbrev pub is_right : {J : Type 0} → Kind J → machine.Plain J → Plain J → Bool
 is_right K s done = record_fits s.ledger.set.workers done && (is_apt K (total s.ledger) s.jobs done && fits (after_record s done))
 
--- the state behind records, where each is right behind those before it
+-- the state after records, if each is right after those before it
 abbrev pub applied : {J : Type 0} → Kind J → machine.Plain J → List (Plain J) → Option (machine.Plain J)
 applied K s [] = Some s
 applied K s (done ∷ records) = if is_right K s done then applied K (after_record s done) records else None

@@ -32,7 +32,7 @@ record_of K s (Submit task job) = submitted task job
 record_of K s (Withdraw task) = withdrawn task
 record_of K s Slot = ran (map (place_of K s.jobs) (row_or_none (chosen s.ledger)))
 
--- the records of commands, each accepted behind those before it
+-- the records of commands, each accepted after those before it
 abbrev pub records_of : {J : Type 0} → Kind J → machine.Plain J → List (Command J) → List (Plain J)
 records_of K s [] = []
 records_of K s (c ∷ H) = record_of K s c ∷ records_of K (outcome K s (c ∷ [])) H

@@ -13,7 +13,7 @@ use pfx_machine::{State, has_job, is_busy, is_free};
 use pfx_record::{Place, Record, record_fits};
 use pfx_weights::Row;
 
-// Whether a place of a row has a state exactly where its task has an unfinished job.
+// Whether a place of a row has a state exactly if its task has an unfinished job.
 fn is_flagged<J: Job>(jobs: &[Option<J>], place: &Place<J>) -> bool
     ensures { result ≡ is_flagged J.kind jobs.now place.now }
 {
@@ -122,7 +122,7 @@ pub fn apply_record<J: Job>(state: &mut State<J>, entry: &Record<J>) -> bool
     }
 }
 
-/// Takes over records, each of which is right behind those before it. Where one isn't, the answer is `false`, and the
+/// Takes over records, each of which is right after those before it. If one isn't, the answer is `false`, and the
 /// state is that of the records before it. It takes no memory.
 pub fn apply_all<J: Job>(state: &mut State<J>, records: &[Record<J>]) -> bool
     ensures taken { IsTrue result → applied J.kind state.old (map plain records.now) ≡ Some state.new }

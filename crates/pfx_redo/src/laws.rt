@@ -11,7 +11,7 @@ ghost use Rattle.pfx_redo.specs.Recording.{record_of, records_of};
 
 use pfx_jobs::job::Job;
 
-/// The record of an accepted command is right where the command was accepted, and the state behind it is the command's
+/// The record of an accepted command is right if the command was accepted, and the state after it is the command's
 /// outcome: what was recorded is what was done.
 pub fn records_are_outcomes<J: Job>()
     ensures right { (s : Plain J) (c : Command J) → IsState s → refusal J.kind s c ≡ None → IsTrue (is_right J.kind s (record_of J.kind s c)) }

@@ -3,9 +3,9 @@
 //! A record says what an accepted command did. Taken over by a state it gives what is recorded: a row adds allocations, a
 //! recorded job takes the place of a task's job, and no job is stepped.
 //!
-//! 1. A record is taken over exactly where it is right: it has a spelling, the state lets its command pass, a row has a
-//!    job's state exactly where its task has an unfinished job, and what is behind it is a state, above all a fair one.
-//! 2. The record of each accepted command is right where the command was accepted, and leads to the command's outcome.
+//! 1. A record is taken over exactly if it is right: it has a spelling, the state lets its command pass, a row has a
+//!    job's state exactly if its task has an unfinished job, and what is after it is a state, above all a fair one.
+//! 2. The record of each accepted command is right if the command was accepted, and leads to the command's outcome.
 #![tactic(auto)]
 
 mod applying;

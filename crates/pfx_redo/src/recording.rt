@@ -80,7 +80,7 @@ fn run_slot<J: Job>(alloc: Global, state: &mut State<J>) -> Result<Recorded<J>, 
 }
 
 /// Runs a whole command on the state, as `State::apply` does, and records it: the record is right at the state before.
-/// `NoMemory` comes only for a Slot, where a growth of memory was refused.
+/// `NoMemory` comes only for a Slot, if an allocation failed.
 pub fn run_recorded<J: Job>(
     alloc: Global,
     state: &mut State<J>,

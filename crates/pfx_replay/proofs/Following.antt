@@ -78,14 +78,14 @@ module _ {J : Type 0} (K : Kind J) (L : Laws K) where
     wrong = subst (λ t. IsWrong K what t one) (sym (outcome-none K s)) wrong;
   }
 
--- the number behind records
+-- the number after records
 pub follow_number : {J : Type 0} (K : Kind J) (L : Laws K) (s : machine.Plain J) (records : List (Plain J)) → IsState s → Follow K s records → (outcome K s (commands_of records)).number ≡ s.number + length records
 follow_number K L s records state h =
     let t = outcome K s (commands_of records) in
     let run : applied K s records ≡ Some t = ap (applied K s) h.recorded ∙ records_outcome K L s (commands_of records) state h.acceptable in
     (applied_behind K s t records run).number
 
--- one record more is taken over where it is right
+-- one record more is taken over if it is right
 pub applied_by : {J : Type 0} (K : Kind J) (s t : machine.Plain J) (one : Plain J) (records : List (Plain J)) (b : Bool) → is_right K s one ≡ b → (if b then applied K (after_record s one) records else None) ≡ Some t →
     IsTrue (is_right K s one) × (applied K (after_record s one) records ≡ Some t)
 applied_by K s t one records true is h = (is, h)

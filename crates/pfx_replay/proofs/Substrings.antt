@@ -73,7 +73,7 @@ module _ (e p f q : ℕ) where
   pub differs : (m n t : ℕ) (o : Ordering) → 0 < m → 0 < n → o ≡ symbol_cmp (symbol_at e p t) (symbol_at f q t) → o ≢ Equal → Ordered m n t o
   differs m n t o x y is ne = ordered_more m n t o x y (other_symbol _ _ (symbols_from (m - 1) e p (t + 1)) (symbols_from (n - 1) f q (t + 1)) (other_from_order _ _ o is ne) ∙ sym is)
 
-  -- where the one has no symbol left, or the other
+  -- if the one has no symbol left, or the other
   pub left_over : (m n t : ℕ) → m ≡ 0 → 0 < n → Ordered m n t Less
   left_over m n t z more =
       let ns : suc (n - 1) ≡ n = omega arith in

@@ -18,7 +18,7 @@ abbrev pub commands_of : {J : Type 0} → List (Recorded J) → List (Command J)
 commands_of records = map command_of records
 
 -- From a state on the records' commands are accepted, one after the other, and each record is that of its command: it has
--- PF's row, and behind the row's quanta the jobs' states.
+-- PF's row, and after the row's quanta the jobs' states.
 pub record Follow {J : Type 0} (K : Kind J) (s : Plain J) (records : List (Recorded J)) : Type 0 where
   pub acceptable : IsAcceptable K s (commands_of records)
   pub recorded : records ≡ records_of K s (commands_of records)

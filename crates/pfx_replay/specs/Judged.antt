@@ -1,4 +1,4 @@
--- What was found of records behind a state.
+-- What was found of records after a state.
 use Rattle.std.specs.Prelude.{◌≡◌, ◌+◌, List, [], ◌∷◌, None}
 use Rattle.pfx_jobs.specs.Kind.{Kind}
 use Rattle.pfx_machine.specs.Outcome.{outcome}

@@ -3,7 +3,7 @@ use Rattle.std.specs.Prelude.{⊤}
 use Rattle.pfx_recover.specs.declared.faults.OpenFault.{OpenFault}
 use Rattle.pfx_recover.specs.declared.faults.OpenFault.TheVariants.{Refused, Device, NoMemory}
 
--- the disk failed, or memory was refused
+-- the disk failed, or an allocation failed
 abbrev pub IsNoRefusal : OpenFault → Type 0
 IsNoRefusal (Refused refusal) = ⊥
 IsNoRefusal Device = ⊤

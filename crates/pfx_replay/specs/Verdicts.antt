@@ -14,8 +14,8 @@ use Rattle.pfx_replay.specs.declared.verdict.Difference.TheVariants.{Row, State,
 use Rattle.pfx_replay.specs.declared.verdict.Verdict.{Verdict}
 use Rattle.pfx_replay.specs.declared.verdict.Verdict.TheVariants.{Agrees, Differs}
 
--- What a store's file records: a state, the records behind it that lead to a checkpoint, what that checkpoint holds, and
--- the records behind the checkpoint.
+-- What a store's file records: a state, the records after it that lead to a checkpoint, what that checkpoint holds, and
+-- the records after the checkpoint.
 pub record History (J : Type 0) : Type 0 where
   pub start : Plain J
   pub before : List (Recorded J)
@@ -23,14 +23,14 @@ pub record History (J : Type 0) : Type 0 where
   pub behind : List (Recorded J)
 
 module _ {J : Type 0} (K : Kind J) where
-  -- A record of a slot, at a state: its row isn't PF's, or none is; its row is PF's, and a state of a job is none behind
+  -- A record of a slot, at a state: its row isn't PF's, or none is; its row is PF's, and a state of a job is none after
   -- the row's quanta.
   abbrev pub IsWrong : Difference → Plain J → Recorded J → Type 0
   IsWrong Row s one = (row : List (Place J)) × (one ≡ ran row) × (chosen s.ledger ≢ Ok (tasks_of row))
   IsWrong State s one = (row : List (Place J)) × (one ≡ ran row) × (chosen s.ledger ≡ Ok (tasks_of row)) × (one ≢ record_of K s Slot)
   IsWrong Checkpoint s one = ⊥
 
-  -- The first record that is wrong, of those behind a state, has this number: those before it are those of their commands.
+  -- The first record that is wrong, of those after a state, has this number: those before it are those of their commands.
   pub record IsFirst (what : Difference) (s : Plain J) (records : List (Recorded J)) (n : ℕ) : Type 0 where
     pub agreed : List (Recorded J)
     pub one : Recorded J

@@ -24,7 +24,7 @@ use pfx_redo::apply_all;
 use pfx_store::{FileFormat, FileHeader};
 use std::alloc::{AllocError, Global};
 
-// Adds the records of a segment's frames, or answers `false` where a frame doesn't fit.
+// Adds the records of a segment's frames, or answers `false` if a frame doesn't fit.
 fn add_segment<J: Job>(
     alloc: Global,
     records: &mut Vec<Record<J>>,
@@ -49,7 +49,7 @@ fn add_segment<J: Job>(
 }
 
 // The records of the segment that frames go to, and before them those of the other, if it was read first. `None` comes
-// where a frame doesn't fit.
+// if a frame doesn't fit.
 fn file_records<J: Job>(
     alloc: Global,
     header: &FileHeader,
@@ -77,7 +77,7 @@ fn file_records<J: Job>(
     Ok(Some(records))
 }
 
-// The verdict on records that lead from a start to a checkpoint, and on from there, or `None` where some aren't right.
+// The verdict on records that lead from a start to a checkpoint, and on from there, or `None` if some aren't right.
 fn judge_trail<J: Job>(
     alloc: Global,
     start: State<J>,
@@ -104,7 +104,7 @@ fn judge_trail<J: Job>(
     Ok(Some(verdict))
 }
 
-/// The verdict on a file with these parts, or `None` where the bytes aren't those of a store's file.
+/// The verdict on a file with these parts, or `None` if the bytes aren't those of a store's file.
 pub(crate) fn judge_file<J: Job>(
     alloc: Global,
     header: &FileHeader,

@@ -35,7 +35,7 @@ fn may_withdraw<J: Job>(jobs: &[Option<J>], task: u16) -> bool
     }
 }
 
-// The state after one command, or `None` where the state refuses it.
+// The state after one command, or `None` if the state refuses it.
 fn step<J: Job>(
     alloc: Global,
     state: PlainState<J>,
@@ -70,10 +70,10 @@ fn step<J: Job>(
     }
 }
 
-/// The state after commands, one after the other from a start, or `None` where one is refused behind those before it.
+/// The state after commands, one after the other from a start, or `None` if one is refused after those before it.
 ///
-/// The ledger is kept in plain numbers, PF's row is found by counting who goes before whom, and each job is stepped where its
-/// task is in the row, one task after the other. An error comes only where a growth of memory was refused.
+/// The ledger is kept in plain numbers, PF's row is found by counting who goes before whom, and each job is stepped if its
+/// task is in the row, one task after the other. An error comes only if an allocation failed.
 pub fn plain_state<J: Job>(
     alloc: Global,
     start: &State<J>,

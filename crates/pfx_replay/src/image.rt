@@ -21,7 +21,7 @@ fn number_at(image: &[u8], at: usize) -> usize
                 + 256 * (image[at + 2] as usize + 256 * image[at + 3] as usize))
 }
 
-// How long the frame at this gate is, or `None` where it doesn't end before the end.
+// How long the frame at this gate is, or `None` if it doesn't end before the end.
 fn len_at(image: &[u8], gate: usize, end: usize) -> Option<usize>
     requires order { gate < end }
     requires inside { end ≤ length image.now }
@@ -42,7 +42,7 @@ fn copy_of(alloc: Global, image: &[u8], at: usize, len: usize) -> Result<Vec<u8>
     Vec::from_slice(alloc, &image[at..at + len])
 }
 
-/// The frames from this gate on, each with its gate, up to the first closed gate, or `None` where one doesn't end before
+/// The frames from this gate on, each with its gate, up to the first closed gate, or `None` if one doesn't end before
 /// the end.
 pub(crate) fn frames_in(
     alloc: Global,
@@ -71,7 +71,7 @@ pub(crate) fn frames_in(
     }
 }
 
-/// The state in the body of a slot at this place, or `None` where it holds none.
+/// The state in the body of a slot at this place, or `None` if it holds none.
 pub(crate) fn state_in<F: Format>(
     alloc: Global,
     header: &F::Header,
@@ -85,7 +85,7 @@ pub(crate) fn state_in<F: Format>(
     F::read_state(alloc, header, &image[at + 1..at + 1 + len])
 }
 
-/// The number behind a segment's gate, or `None` where the gate is closed.
+/// The number after a segment's gate, or `None` if the gate is closed.
 pub(crate) fn first_in<F: Format>(image: &[u8], at: usize) -> Option<u64>
     requires { at + 9 ≤ length image.now }
     ensures { MatchOption result (slice_index image.now at ≢ GATE_OPEN)

@@ -46,14 +46,14 @@ pub(crate) fn is_same<J: Job>(one: &Option<J>, other: &Option<J>) -> bool
     }
 }
 
-// Whether a place of a row has the state behind its task's quantum.
+// Whether a place of a row has the state after its task's quantum.
 fn is_stepped<J: Job>(jobs: &[Option<J>], place: &Place<J>) -> bool
     ensures { IsTrue result ↔ (place.now ≡ place_of J.kind jobs.now place.now.task) }
 {
     is_same(&place.state, &stepped(jobs, place.task))
 }
 
-// Whether each place of a row has the state behind its task's quantum.
+// Whether each place of a row has the state after its task's quantum.
 fn are_stepped<J: Job>(jobs: &[Option<J>], row: &[Place<J>]) -> bool
     ensures { IsTrue result ↔ (row.now ≡ map (place_of J.kind jobs.now) (tasks_of row.now)) }
 {
@@ -127,7 +127,7 @@ fn judge_one<J: Job>(
     }
 }
 
-/// Records behind a state, one after the other, up to the first that isn't what its command does.
+/// Records after a state, one after the other, up to the first that isn't what its command does.
 pub(crate) fn judge_all<J: Job>(
     alloc: Global,
     state: PlainState<J>,

@@ -172,7 +172,7 @@ impl PlainLedger {
         number
     }
 
-    // Whether a task runs, where the urgent ones leave so many places.
+    // Whether a task runs, if the urgent ones leave so many places.
     fn runs(&self, x: usize, places: usize) -> bool
         requires within { x < length self.now.weights.items }
         requires places { places ≡ self.now.workers - urgent (ledger_of self.now) }
@@ -185,8 +185,8 @@ impl PlainLedger {
         }
     }
 
-    /// PF's row, or `None` where there is none: too many tasks are urgent, too few may run, or the slot is the last of
-    /// all. An error comes only where a growth of memory was refused.
+    /// PF's row, or `None` if there is none: too many tasks are urgent, too few may run, or the slot is the last of
+    /// all. An error comes only if an allocation failed.
     pub(crate) fn row(&self, alloc: Global) -> Result<Option<Vec<u16>>, AllocError>
         ensures { IfOk result (λ found. MatchOption found
             ((row : List ℕ) → chosen (ledger_of self.now) ≢ Ok row)

@@ -3,8 +3,8 @@
 //! `replay` opens the file as `open` does, and then runs the commands of its records again, from the lesser checkpoint on where
 //! the records lead from there to the other, else from the one in use on. It says that all agrees, or names the first number
 //! that doesn't, and what differs there:
-//! 1. a row that isn't PF's, or where there is none;
-//! 2. a job's state that isn't the one behind its quantum;
+//! 1. a row that isn't PF's, or if there is none;
+//! 2. a job's state that isn't the one after its quantum;
 //! 3. a checkpoint that doesn't hold what the commands led to.
 //!
 //! The state is kept as plain numbers, one task after the other. PF's row is found by counting who goes before whom, by symbols

@@ -9,7 +9,7 @@ use pfx_jobs::job::Job;
 use pfx_record::{Batch, BatchFault, Record, read_batch};
 use std::alloc::{AllocError, Global};
 
-// The records of one frame: none where its bytes aren't a batch.
+// The records of one frame: none if its bytes aren't a batch.
 fn records_of<J: Job>(
     alloc: Global,
     workers: u32,

@@ -30,12 +30,12 @@ fn read_image<D: Disk>(alloc: Global, disk: &mut D, len: usize) -> Result<Vec<u8
     Ok(image)
 }
 
-/// Reads a store's file and runs its commands again, from the lesser checkpoint on where the file has the records from
-/// there to the other, and from the one in use on where it hasn't. The disk comes back.
+/// Reads a store's file and runs its commands again, from the lesser checkpoint on if the file has the records from
+/// there to the other, and from the one in use on if it hasn't. The disk comes back.
 ///
-/// `Agrees` says that each recorded row is PF's, each recorded state of a job is the one behind its quantum, and the
+/// `Agrees` says that each recorded row is PF's, each recorded state of a job is the one after its quantum, and the
 /// checkpoint on the way holds the state that the commands lead to; `Differs` names the first number where that isn't so,
-/// and what differs there: a row before a state, a state before a checkpoint. Where the file isn't a store's, it is refused
+/// and what differs there: a row before a state, a state before a checkpoint. If the file isn't a store's, it is refused
 /// as `open` refuses it. Nothing is written.
 pub fn replay<J: Job, D: Disk>(alloc: Global, disk: D) -> Result<(Verdict, D), (OpenFault, D)>
     ensures verdict { IsHonest (D.view disk) → IfOk result (λ r.

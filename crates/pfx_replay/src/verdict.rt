@@ -12,9 +12,9 @@ use std::{fmt, io};
 pub enum Difference {
     /// A recorded row isn't PF's.
     Row,
-    /// A recorded state of a job isn't the one behind its quantum.
+    /// A recorded state of a job isn't the one after its quantum.
     State,
-    /// A checkpoint doesn't hold the state behind the commands up to its number.
+    /// A checkpoint doesn't hold the state after the commands up to its number.
     Checkpoint,
 }
 

@@ -31,7 +31,7 @@ fn lead<F: Format>(
 }
 
 /// The state in the slot that isn't in use, and the frames of the segment beside this one that lead from it to this
-/// number, or `None` where there are none.
+/// number, or `None` if there are none.
 pub(crate) fn find_way<F: Format>(
     alloc: Global,
     header: &F::Header,

@@ -74,13 +74,13 @@ records_from-some cfg (suc m) s y q covered e = (
   ],
 )
 
--- and none where there is no next one
+-- and none if there is no next one
 pub records_from-none : (cfg : Config) (n : ℕ) (s : State) (y : List ℕ) → next_record cfg s [] [] y ≡ None → records_from cfg n s y ≡ []
 unfolding records_from
 records_from-none cfg zero s y e = refl
 records_from-none cfg (suc n) s y e = rw e refl
 
--- one number less covers what is left behind the next record
+-- one number less covers what is left after the next record
 covers_next : (cfg : Config) (n : ℕ) (s : State) (y : List ℕ) (q : Read) → Covers (suc n) s y → next_record cfg s [] [] y ≡ Some q → Covers n q.1 q.2
 covers_next cfg n s y q covered e =
     elim (next_record-shorter cfg s [] [] y q e) [

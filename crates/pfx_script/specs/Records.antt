@@ -62,7 +62,7 @@ ReadFails old fault.InputFailed = ⊤
 ReadFails old fault.NoMemory = ⊤
 ReadFails old other = ⊥
 
--- what is answered where `csv` refused the read of the record at a place
+-- what is answered if `csv` refused the read of the record at a place
 abbrev pub Reports : ErrorKind → ℕ → Fault → Type 0
 Reports (kind.Io e) at f = f ≡ fault.InputFailed
 Reports kind.OutOfMemory at f = f ≡ fault.NoMemory

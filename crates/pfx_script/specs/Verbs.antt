@@ -36,11 +36,11 @@ is_empty text = length text == 0
 abbrev pub task_in : List ℕ → Option ℕ
 task_in text = option_and_then (λ t. if nat_le t 65535 then Some t else None) (number_in 5 text)
 
--- a goal: 1 to 10 digits, or 0 where the field is empty
+-- a goal: 1 to 10 digits, or 0 if the field is empty
 abbrev pub goal_in : List ℕ → Option ℕ
 goal_in text = if is_empty text then Some 0 else number_in 10 text
 
--- a count of slots: 1 to 1,048,576 in at most 10 digits, or 1 where the field is empty
+-- a count of slots: 1 to 1,048,576 in at most 10 digits, or 1 if the field is empty
 abbrev pub count_in : List ℕ → Option ℕ
 count_in text = if is_empty text then Some 1 else option_and_then (λ n. if nat_le 1 n && nat_le n 1048576 then Some n else None) (number_in 10 text)
 
@@ -60,7 +60,7 @@ slot_by task kind count text = if is_empty task && (is_empty kind && is_empty te
 abbrev pub withdraw_by : List ℕ → List ℕ → List ℕ → List ℕ → Option Said
 withdraw_by task kind goal text = if is_empty kind && (is_empty goal && is_empty text) then option_map withdraw (task_in task) else None
 
--- what jobs have computed: that of a task, or of each where the field is empty
+-- what jobs have computed: that of a task, or of each if the field is empty
 abbrev pub show_by : List ℕ → List ℕ → List ℕ → List ℕ → Option Said
 show_by task kind goal text =
     if is_empty kind && (is_empty goal && is_empty text)

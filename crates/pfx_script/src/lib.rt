@@ -2,7 +2,7 @@
 //!
 //! What it keeps true: the records of a script are those of its bytes as CSV without a header line, read one at a time
 //! in the memory of one record; the verb of a record is one stated function of its fields, `verb_of` of
-//! `specs/Verbs.antt`; a script ends early exactly at its first record that is no text, or where its reader or the
+//! `specs/Verbs.antt`; a script ends early exactly at its first record that is no text, or if its reader or the
 //! memory fails.
 #![tactic(auto)]
 

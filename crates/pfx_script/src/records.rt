@@ -75,7 +75,7 @@ impl<R: Read + Drop> Script<R> {
         self.place
     }
 
-    /// Reads the next record into `row`: `true` where there is one, `false` at the script's end.
+    /// Reads the next record into `row`: `true` if there is one, `false` at the script's end.
     ///
     /// `BadScript` comes if the next record is no UTF-8 text, with its place; `InputFailed` if the reader fails (or 2^64 - 1
     /// records were read), `NoMemory` if an allocation failed. Reading has failed then, at the same place: each further call

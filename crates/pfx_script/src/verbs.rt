@@ -14,7 +14,7 @@ pub enum Verb<'a> {
     Submit {
         task: u16,
         kind: &'a str,
-        /// 0 where the record has none.
+        /// 0 if the record has none.
         goal: u64,
         text: &'a str,
     },
@@ -30,7 +30,7 @@ pub enum Verb<'a> {
     Settle,
     /// Settle, and show the board.
     Status,
-    /// Settle, and show what the task's job has computed, or all jobs where no task is named.
+    /// Settle, and show what the task's job has computed, or all jobs if no task is named.
     Show {
         task: Option<u16>,
     },
@@ -111,8 +111,8 @@ fn field_text(row: &StringRecord, i: usize) -> &str
     }
 }
 
-/// What a record asks for; `None` where it has no form of a record: five fields, of which those that its verb doesn't
-/// use are empty. A task is 1 to 5 decimal digits, at most 65,535, or empty where all jobs are shown; a goal 1 to 10
+/// What a record asks for; `None` if it has no form of a record: five fields, of which those that its verb doesn't
+/// use are empty. A task is 1 to 5 decimal digits, at most 65,535, or empty if all jobs are shown; a goal 1 to 10
 /// digits, or empty for 0; a count of slots is a goal of 1 to 1,048,576, or empty for 1.
 pub fn read_verb(row: &StringRecord) -> Option<Verb<'_>>
     requires { AllText (fields_of row.now) }

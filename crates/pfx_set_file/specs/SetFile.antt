@@ -28,7 +28,7 @@ number_of (negsuc n) = 0
 abbrev pub number_at : List ℕ → Members → Option ℕ
 number_at key table = option_map number_of (option_and_then as_integer (get_member key table))
 
--- the segment size: 1,048,576 where the file has none
+-- the segment size: 1,048,576 if the file has none
 abbrev pub segment_of : Option Data → Option ℕ
 segment_of None = Some 1048576
 segment_of (Some value) = option_map number_of (as_integer value)
@@ -92,7 +92,7 @@ are_distinct (t ∷ ts) = is_fresh t.name ts && are_distinct ts
 abbrev pub checked_tasks : List FileTask → Option (List FileTask)
 checked_tasks ts = if are_distinct ts then Some ts else None
 
--- the tasks: none where the file has no such key
+-- the tasks: none if the file has no such key
 abbrev pub tasks_at : Option Data → Option (List FileTask)
 tasks_at None = Some []
 tasks_at (Some value) = option_and_then checked_tasks (option_and_then tasks_of (as_array value))

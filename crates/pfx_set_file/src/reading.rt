@@ -91,7 +91,7 @@ fn tasks_under(alloc: Global, table: &Table) -> Result<Vec<NamedTask>, Fault>
 
 /// The set that a file's bytes are.
 ///
-/// `BadSet` comes exactly where they are none: bytes that aren't UTF-8, text that isn't TOML (an
+/// `BadSet` comes exactly if they are none: bytes that aren't UTF-8, text that isn't TOML (an
 /// integer that needs more than 64 bits, signed, is none either), no integer `workers`, a `segment`
 /// that isn't an integer, a `task` that isn't an array of tables, a task without its `name`, `e`
 /// and `p`, a name that isn't 1 to 32 ASCII letters, digits, `_` or `-`, and a name that stands

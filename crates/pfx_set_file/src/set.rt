@@ -29,7 +29,7 @@ pub struct SetText {
 }
 
 impl SetText {
-    /// The weights e and p of the tasks, in the file's order. Fails only where memory runs out.
+    /// The weights e and p of the tasks, in the file's order. Fails only if memory runs out.
     pub fn weights(&self, alloc: Global) -> Result<Vec<(u32, u32)>, AllocError>
         ensures { IfOk result (λ v. v.items ≡ weights_of (set_view self.now)) }
     {

@@ -9,7 +9,7 @@ use Rattle.pfx_machine.specs.Slots.{Deal, deals_in}
 use Rattle.pfx_record.specs.declared.record.Place.{Place}
 use Rattle.pfx_redo.specs.Recording.{after_in}
 
--- the row, the quanta, and for each of them its result where it is back (a result is its quantum, stepped)
+-- the row, the quanta, and for each of them its result if it is back (a result is its quantum, stepped)
 pub record Dealt (J : Type 0) : Type 0 where
   pub row : List ℕ
   pub quanta : List (Deal J)

@@ -18,7 +18,7 @@ use pfx_redo::Recorded;
 use std::alloc::Global;
 
 /// Opens the state's next slot, with all the memory that its end needs, and gives the quanta that are to be run. The state
-/// stays as it is. It is refused as a Slot is; `NoMemory` comes only where a growth of memory was refused.
+/// stays as it is. It is refused as a Slot is; `NoMemory` comes only if an allocation failed.
 pub fn open_on<J: Job>(
     alloc: Global,
     state: &mut State<J>,

@@ -54,7 +54,7 @@ module _ {E : Type 0} where
   said_list none = []
   said_list (some x) = x ∷ []
 
-  -- with what was said behind the list in hand
+  -- with what was said after the list in hand
   abbrev pub with_entry : View E → List E → View E
   with_entry v xs = record { keeps = v.keeps; lists = slice_set v.lists v.number (v.mine ++ xs); claims = v.claims; number = v.number; mine = v.mine ++ xs }
 

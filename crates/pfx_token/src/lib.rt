@@ -4,7 +4,7 @@
 //! without bytes whose meaning exists in proofs alone:
 //!
 //! - `tokens`: a keeper knows a list for each token that it has issued. What is noted reaches a token's own list and the
-//!   keeper's at once, so whenever the two meet, the lists agree. Where the keeper lies under a lock, a token that was
+//!   keeper's at once, so whenever the two meet, the lists agree. If the keeper lies under a lock, a token that was
 //!   out with a thread brings home what was noted for it.
 //! - `past`: a list that only grows. A `Past` is a beginning of it, which may be copied, shared and compared with another:
 //!   the shorter one begins the longer.

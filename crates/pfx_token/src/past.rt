@@ -115,7 +115,7 @@ impl<E, J: Naming> Past<E, J> {
 }
 
 impl<E, J: Naming> End<E, J> {
-    /// Adds an entry behind all that is known of the list, and says whether it did. Where it did not, the list is longer than
+    /// Adds an entry after all that is known of the list, and says whether it did. If it did not, the list is longer than
     /// was known, and as much of it is known now as its end told.
     pub fn extend(&self, past: &mut Past<E, J>, entry: &E) -> bool
         requires room { length past.old < 2 ^ 62 }

@@ -33,7 +33,7 @@ pub struct Opened<E: Drop> {
 }
 
 impl<E: Drop> Opened<E> {
-    /// A keeper of its own. `AllocError` where memory is refused.
+    /// A keeper of its own. `AllocError` if an allocation fails.
     pub fn new(alloc: Global) -> Result<Opened<E>, AllocError> {
         let (table, seat) = Table::of_words(alloc, &[0], &())?;
         Ok(Opened { table, seat })

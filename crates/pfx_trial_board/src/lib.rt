@@ -2,8 +2,8 @@
 //!
 //! | Module | Tests |
 //! |---|---|
-//! | `line` | batches of one record, behind which the state that they lead to is published |
-//! | `showing` | what readers see before and behind publications, and when the writer is gone |
+//! | `line` | batches of one record, after which the state that they lead to is published |
+//! | `showing` | what readers see before and after publications, and when the writer is gone |
 //! | `racing` | a reader that is told, beside a thread that publishes |
 #![tactic(auto)]
 

@@ -13,7 +13,7 @@ use std::alloc::Global;
 use std::marker::Model;
 use std::sync::Wait;
 
-/// A publisher, and the state behind all that is durable.
+/// A publisher, and the state after all that is durable.
 #[derive(Drop)]
 pub struct Line<J: Job, B: Begun<J>, R: Wait + Drop> {
     /// Where batches are published.

@@ -81,7 +81,7 @@ fn hear<B: Begun<AnyJob>, R: Wait>(
     }
 }
 
-/// Looks once. The number that is seen; `None` where the board is shut, torn, or behind what the reader has to see.
+/// Looks once. The number that is seen; `None` if the board is shut, torn, or behind what the reader has to see.
 fn look<B: Begun<AnyJob>>(
     alloc: Global,
     reader: &mut Reader<AnyJob, B>,

@@ -85,7 +85,7 @@ fn grows<B: Begun<AnyJob>>(earlier: &Word<AnyJob, B>, later: &Word<AnyJob, B>) -
     earlier.begins(later) && !later.begins(earlier) && earlier.number() < later.number()
 }
 
-/// Readers look before and behind three publications, and once they are told of the last.
+/// Readers look before and after three publications, and once they are told of the last.
 fn show<B: Begun<AnyJob>, R: Wait + Drop>(
     rt: &R,
     alloc: Global,

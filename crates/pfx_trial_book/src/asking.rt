@@ -1,4 +1,4 @@
-//! Calls of a book whose premises are tested first. Where one fails, `None`.
+//! Calls of a book whose premises are tested first. If one fails, `None`.
 ghost use Rattle.std.specs.Prelude.{◌≡◌, IsTrue, None, false};
 ghost use Rattle.pfx_book.specs.Register.{HasRoom};
 

@@ -1,4 +1,4 @@
-//! Each call once, through the life of a book that begins behind one command.
+//! Each call once, through the life of a book that begins after one command.
 ghost use Rattle.std.specs.Prelude.{◌≡◌};
 
 use crate::asking::{
@@ -62,7 +62,7 @@ fn marks<B: Named<AnyJob>>(
     Some(taken && marked && given.number == 4 && given.clock == 9)
 }
 
-/// How many steps a task's job has left. `None` where the task has no job.
+/// How many steps a task's job has left. `None` if the task has no job.
 fn left(state: &State<AnyJob>, task: usize) -> Option<u32> {
     Some(state.jobs().get(task)?.as_ref()?.left())
 }

@@ -31,7 +31,7 @@ fn three<B: Named<AnyJob>>(
     Some(passes)
 }
 
-/// Whether passes are gathered where all are back in order, and only there. They come back in order.
+/// Whether passes are gathered if all are back in order, and only there. They come back in order.
 fn gather<B: Named<AnyJob>>(
     alloc: Global,
     tokens: Opened<Note<AnyJob>>,

@@ -42,7 +42,7 @@ pub fn batch_room(alloc: Global) -> Option<Vec<Record<AnyJob>>>
 }
 
 impl<B: Named<AnyJob>> Flusher<B> {
-    /// The next batch. The vector comes back where nothing waits.
+    /// The next batch. The vector comes back if nothing waits.
     pub fn take(
         &mut self,
         book: &mut Book<AnyJob, B>,

@@ -73,7 +73,7 @@ fn serve<B: Named<AnyJob>>(
     Some(filled && book.marked() == 1 << 20 && refuses(&mut book, &mut pass))
 }
 
-/// Whether a session ends where it is full.
+/// Whether a session ends if it is full.
 fn session_ends(alloc: Global) -> Option<bool> {
     let state = thirds(alloc)?;
     let tokens = Opened::new(alloc).ok()?;

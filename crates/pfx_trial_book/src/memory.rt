@@ -20,7 +20,7 @@ use pfx_token::tokens::Opened;
 use std::alloc::Global;
 use std::marker::Brand;
 
-/// Submits, and once more where memory is refused.
+/// Submits, and once more if an allocation fails.
 fn submit_again<B: Named<AnyJob>>(
     book: &mut Book<AnyJob, B>,
     pass: &mut Pass<AnyJob, B>,
@@ -33,7 +33,7 @@ fn submit_again<B: Named<AnyJob>>(
     answer
 }
 
-/// Withdraws, and once more where memory is refused.
+/// Withdraws, and once more if an allocation fails.
 fn withdraw_again<B: Named<AnyJob>>(
     book: &mut Book<AnyJob, B>,
     pass: &mut Pass<AnyJob, B>,
@@ -46,7 +46,7 @@ fn withdraw_again<B: Named<AnyJob>>(
     answer
 }
 
-/// Opens a slot, and once more where memory is refused.
+/// Opens a slot, and once more if an allocation fails.
 fn open_again<B: Named<AnyJob>>(
     book: &mut Book<AnyJob, B>,
     pass: &mut Pass<AnyJob, B>,
@@ -58,7 +58,7 @@ fn open_again<B: Named<AnyJob>>(
     answer
 }
 
-/// A receipt for the start, once more where memory is refused.
+/// A receipt for the start, once more if an allocation fails.
 fn receipt_again<B: Named<AnyJob>>(
     book: &mut Book<AnyJob, B>,
     pass: &mut Pass<AnyJob, B>,

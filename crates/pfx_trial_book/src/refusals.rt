@@ -33,7 +33,7 @@ fn tasks<B: Named<AnyJob>>(book: &mut Book<AnyJob, B>, pass: &mut Pass<AnyJob, B
         && is_withdrawn(&withdraw(book, pass, 0), 2, 0)
 }
 
-/// Whether a result is a stranger's where no slot is open.
+/// Whether a result is a stranger's if no slot is open.
 fn strange<B: Named<AnyJob>>(book: &mut Book<AnyJob, B>) -> Option<bool> {
     let job = count()?;
     if job.is_done() {
@@ -86,7 +86,7 @@ fn room<B: Named<AnyJob>>(
     filled && taken && is_free(book) && book.marked() == 16 && book.has_pending()
 }
 
-/// Whether nothing is taken where nothing waits, and the vector comes back.
+/// Whether nothing is taken if nothing waits, and the vector comes back.
 fn nothing_waits<B: Named<AnyJob>>(
     alloc: Global,
     book: &mut Book<AnyJob, B>,
@@ -120,7 +120,7 @@ fn refuse<B: Named<AnyJob>>(
     Some([waits, named, repelled, unsealed, bounded, counted, closed])
 }
 
-/// Whether a book is refused the last slot, and all behind the last number.
+/// Whether a book is refused the last slot, and all after the last number.
 fn limit<B: Named<AnyJob>>(
     alloc: Global,
     tokens: Opened<Note<AnyJob>>,

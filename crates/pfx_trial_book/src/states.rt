@@ -17,7 +17,7 @@ pub fn thirds(alloc: Global) -> Option<State<AnyJob>> {
     State::new(alloc, &set).ok()
 }
 
-/// The same behind the first command, which gave task 2 a count.
+/// The same after the first command, which gave task 2 a count.
 pub fn later(alloc: Global) -> Option<State<AnyJob>> {
     let mut state = thirds(alloc)?;
     state
@@ -29,7 +29,7 @@ pub fn later(alloc: Global) -> Option<State<AnyJob>> {
     Some(state)
 }
 
-/// The state of a ledger, where only task 0 may have a job.
+/// The state of a ledger, if only task 0 may have a job.
 fn state_at(
     alloc: Global,
     number: u64,

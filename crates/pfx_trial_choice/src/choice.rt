@@ -110,7 +110,7 @@ fn has_no_row(
         && is_doomed(alloc, ledger, fault)
 }
 
-/// Whether no row is chosen in the last slot of all, where every task of a set with a period of 3 is punctual.
+/// Whether no row is chosen in the last slot of all, if every task of a set with a period of 3 is punctual.
 fn ends_at_the_last_slot(alloc: Global) -> bool {
     let last = (1 << 40) - 1;
     let Ok(set) = TaskSet::new(alloc, 2, &[(2, 3), (2, 3), (2, 3)]) else {

@@ -37,7 +37,7 @@ fn shows_its_set(rt: HostRuntime) {
     assert!(rt; shows_thirds(rt.alloc()));
 }
 
-/// `advance`, where the row fits the ledger.
+/// `advance`, if the row fits the ledger.
 fn takes(ledger: &mut Columns, row: &Row) -> Result<(), Option<LedgerFault>>
     ensures err { OnErr result (ledger.new ≡ ledger.old) }
 {
@@ -96,7 +96,7 @@ fn is_round(ledger: &Columns) -> bool {
         && rank.phase() == 0
 }
 
-/// The first of three rows behind which the ledger isn't as expected, or 3 where it isn't behind all of them.
+/// The first of three rows after which the ledger isn't as expected, or 3 if it isn't after all of them.
 fn first_wrong_row(alloc: Global) -> Option<usize> {
     let Some(mut ledger) = thirds(alloc) else {
         return Some(0);
@@ -238,8 +238,8 @@ fn takes_one(ledger: &mut Columns, task: u16) -> bool {
     }
 }
 
-/// Whether of `n` tasks of 1/n on one worker, which run in turn, the first has run ahead behind slot 0, where the others
-/// contend, and the last is urgent before slot n - 1, where the others have run ahead.
+/// Whether of `n` tasks of 1/n on one worker, which run in turn, the first has run ahead after slot 0, if the others
+/// contend, and the last is urgent before slot n - 1, if the others have run ahead.
 fn takes_turns(alloc: Global, n: u16) -> bool {
     let mut tasks = Vec::new(alloc);
     if tasks.resize(n as usize, (1, n as u32)).is_err() {
@@ -374,7 +374,7 @@ fn advance_both(ledger: &mut Columns, kept: &mut [Record], row: &Row) -> Option<
     }
 }
 
-/// Runs both bodies over some slots, each with rows from another task on, and says how many rows were refused, where the
+/// Runs both bodies over some slots, each with rows from another task on, and says how many rows were refused, if the
 /// two say the same all along.
 fn run_both(alloc: Global, set: &TaskSet, slots: usize) -> Option<u32> {
     let mut ledger = Columns::zero(alloc, set).ok()?;

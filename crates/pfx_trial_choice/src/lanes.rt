@@ -153,7 +153,7 @@ fn thirds(alloc: Global, n: usize) -> Option<Vec<u8>> {
     Some(chosen)
 }
 
-/// Advances the places by a slot, where they are lanes.
+/// Advances the places by a slot, if they are lanes.
 fn step(all: &mut Places, chosen: &[u8]) -> bool {
     let n = all.lag.len();
     if all.phase.len() != n || all.e.len() != n || all.p.len() != n || chosen.len() != n {

@@ -53,7 +53,7 @@ fn next(record: &Record, ran: bool) -> Record {
     }
 }
 
-/// Gives each task of the row one slot. Where the first task that wouldn't be fair then is this one, nothing changes.
+/// Gives each task of the row one slot. If the first task that wouldn't be fair then is this one, nothing changes.
 pub fn advance(records: &mut [Record], row: &Row) -> Option<u16> {
     let mut x = 0u16;
     for record in &*records {

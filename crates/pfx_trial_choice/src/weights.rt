@@ -19,7 +19,7 @@ fn has_weights(set: &TaskSet, first: usize, expected: &[(u32, u32)]) -> bool {
     true
 }
 
-/// Whether the set of these tasks has this hyperperiod, and behind its tasks these idle ones and no more.
+/// Whether the set of these tasks has this hyperperiod, and after its tasks these idle ones and no more.
 fn fills(alloc: Global, m: u32, tasks: &[(u32, u32)], hyper: u32, idle: &[(u32, u32)]) -> bool {
     let Ok(set) = TaskSet::new(alloc, m, tasks) else {
         return false;
@@ -214,7 +214,7 @@ fn takes_64_numbers_and_no_more(rt: HostRuntime) {
     assert!(rt; refuses_65_numbers(rt.alloc()));
 }
 
-/// Whether a row takes the marked places in place of what it had, and none where none is marked.
+/// Whether a row takes the marked places in place of what it had, and none if none is marked.
 fn takes_marks() -> bool {
     let Some(mut row) = Row::new(&[7, 9]) else {
         return false;

@@ -27,7 +27,7 @@ fn call<R: Wait>(rt: &R, desk: &JobDesk, mut seat: JobSeat) -> Option<(u16, u16)
 }
 
 /// One caller and two workers. Whether both results came, task 1's first, before the limit. The second worker's count may
-/// come behind the caller's last look, so it is read once all threads have ended.
+/// come after the caller's last look, so it is read once all threads have ended.
 fn two_workers<R: Threads + Wait + Sync>(rt: &R, alloc: Global) -> Option<bool> {
     let desk: JobDesk = HoldingDesk::new(ChannelDesk::new(alloc).ok()?);
     let mine: JobSeat = desk.seat(rt).ok()?;

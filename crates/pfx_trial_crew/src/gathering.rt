@@ -25,7 +25,7 @@ fn places(alloc: Global) -> Option<Vec<Option<Done<AnyJob>>>> {
     Some(places)
 }
 
-/// What gathering answers to the result of a quantum, where there is a place for each.
+/// What gathering answers to the result of a quantum, if there is a place for each.
 fn answer(
     quanta: &[Quantum<AnyJob>],
     places: &mut [Option<Done<AnyJob>>],

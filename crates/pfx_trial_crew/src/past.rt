@@ -3,7 +3,7 @@ ghost use Rattle.std.specs.Prelude.{◌≡◌};
 use pfx_token::past::{End, Naming, Opened, Past};
 use std::marker::Brand;
 
-/// Adds an entry where there is room.
+/// Adds an entry if there is room.
 fn extended<J: Naming>(end: &End<u32, J>, past: &mut Past<u32, J>, entry: u32) -> bool {
     past.count() < 10 && end.extend(past, &entry)
 }

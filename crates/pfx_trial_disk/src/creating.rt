@@ -135,7 +135,7 @@ fn is_ended(alloc: Global, k: u64, works: bool) -> Option<bool> {
     if k == CALLS {
         return Some(answer == Ok(()) && holds_file(alloc, &mut memory, true));
     }
-    // The write of the gate, and the sync behind it.
+    // The write of the gate, and the sync after it.
     let is_opened = k == 10 || k == 9 && works;
     let is_left = holds_file(alloc, &mut memory, is_opened);
     let is_counted = memory.clock() == k.saturating_add(3);
@@ -160,7 +160,7 @@ fn a_failing_call_ends_it(rt: HostRuntime) {
     }
 }
 
-/// What becomes of the writes behind the last sync: all alike, or the first otherwise than those behind it.
+/// What becomes of the writes after the last sync: all alike, or the first otherwise than those after it.
 const FATES: [[Fate; 5]; 5] = [
     [Fate::Kept; 5],
     [Fate::Dropped; 5],

@@ -1,4 +1,4 @@
-//! A run over each disk, stops behind each of its calls with every fate of the writes, and faults at each call.
+//! A run over each disk, stops after each of its calls with every fate of the writes, and faults at each call.
 
 use crate::check::{check, check_pair};
 use crate::held::{has_failed_at, held, is_held};
@@ -12,7 +12,7 @@ use std::sync::atomic::{AtomicU64, Ordering};
 use std::thread::Threads;
 use std::{env, fs, process, thread};
 
-/// What a run does: a write is behind a call of `len`.
+/// What a run does: a write is after a call of `len`.
 #[derive(Clone, Copy)]
 enum Step {
     Sync,
@@ -59,7 +59,7 @@ const MADE: [Made; 14] = [
     Made::Wrote(1, &[3]),
 ];
 
-/// Writes behind a call of `len`; past the end it writes nothing.
+/// Writes after a call of `len`; past the end it writes nothing.
 fn write<D: Disk>(disk: &mut D, at: usize, bytes: &[u8]) -> Result<(), DeviceFailed> {
     if disk.len()? < at {
         return Err(DeviceFailed);
@@ -77,7 +77,7 @@ fn run<D: Disk>(disk: &mut D) -> Result<(), DeviceFailed> {
     Ok(())
 }
 
-/// The plain program: bytes are laid one by one, with zeros before them where the image is too short.
+/// The plain program: bytes are laid one by one, with zeros before them if the image is too short.
 fn lay(image: &mut Vec<u8>, at: usize, bytes: &[u8]) -> Result<(), AllocError> {
     let mut place = at;
     for byte in bytes {
@@ -140,7 +140,7 @@ fn open_places(open: &mut [bool], at: usize, len: usize) {
     }
 }
 
-/// Whether two images are the same where nothing is open.
+/// Whether two images are the same if nothing is open.
 fn are_same_outside(synced: &[u8], image: &[u8], open: &[bool]) -> bool {
     let mut same = true;
     for (i, byte) in synced.iter().enumerate() {
@@ -251,7 +251,7 @@ fn each_disk_holds_what_was_written(rt: HostRuntime) {
     check(&rt, gate_disk_is_run(&rt, alloc) == Some(true), "gate");
 }
 
-/// Whether the file's disk is run and fails past its end, where there is nothing to read, which is counted.
+/// Whether the file's disk is run and fails past its end, if there is nothing to read, which is counted.
 fn file_is_run(alloc: Global, file: File) -> bool {
     let mut disk = FileDisk::new(file);
     let is_run = is_run(alloc, &mut disk);
@@ -395,7 +395,7 @@ struct Told {
     released: AtomicU64,
 }
 
-/// Whether the second call of the disk came back behind its release.
+/// Whether the second call of the disk came back after its release.
 fn came_behind<D: Disk>(disk: &mut D, told: &Told) -> bool {
     let first = disk.sync();
     told.asked.store(1, Ordering::SeqCst);
@@ -438,7 +438,7 @@ fn a_gate_holds_its_call(rt: HostRuntime) {
     check(&rt, holds, "the second call comes back behind its release");
 }
 
-/// Whether the disk can be put behind a gate and synced, where memory suffices.
+/// Whether the disk can be put behind a gate and synced, if memory suffices.
 fn is_gated<R: Wait + Drop>(rt: R, alloc: Global, disk: MemoryDisk) -> bool {
     match GateDisk::new(rt, alloc, disk, 9) {
         Ok((mut gated, _gate)) => gated.sync() == Ok(()),

@@ -40,7 +40,7 @@ fn append_three<D: Disk>(disk: &mut D, segment: &mut Segment) -> Result<(), Segm
     segment.append(disk, &BODIES[2])
 }
 
-/// Appends behind a call of `len`.
+/// Appends after a call of `len`.
 fn append_to<D: Disk>(
     disk: &mut D,
     segment: &mut Segment,
@@ -127,7 +127,7 @@ fn a_frame_that_does_not_fit_makes_no_call(rt: HostRuntime) {
     check(&rt, just_is_taken(rt.alloc()) == Some(true), "23 bytes");
 }
 
-/// The disk behind the three frames.
+/// The disk after the three frames.
 fn filled(alloc: Global) -> Option<MemoryDisk> {
     let mut disk = MemoryDisk::new(alloc, &[0; 76], END, 100, 100).ok()?;
     let mut segment = Segment::new(FIRST, END);
@@ -145,7 +145,7 @@ fn surviving(after: usize, fate: Fate) -> usize {
     after / 4 + usize::from(after % 4 == 3 && is_opened)
 }
 
-/// Whether the next frame, if there is one, is appended behind so many.
+/// Whether the next frame, if there is one, is appended after so many.
 fn goes_on(alloc: Global, disk: &mut MemoryDisk, survived: usize) -> bool {
     if survived >= 3 {
         return true;
@@ -165,8 +165,8 @@ fn is_left(alloc: Global, disk: &MemoryDisk, after: usize, fate: Fate) -> Option
     Some(has_frames(alloc, &mut left, survived) && goes_on(alloc, &mut left, survived))
 }
 
-// Within an append, a stop behind its first call or before its third leaves the frames of before, whatever becomes of
-// the unsynced bytes; one behind its third leaves the new one exactly where the gate is left open.
+// Within an append, a stop after its first call or before its third leaves the frames of before, whatever becomes of
+// the unsynced bytes; one after its third leaves the new one exactly if the gate is left open.
 #[test]
 fn stops_leave_the_frames_with_or_without_the_new_one(rt: HostRuntime) {
     let alloc = rt.alloc();
@@ -189,7 +189,7 @@ fn stops_leave_the_frames_with_or_without_the_new_one(rt: HostRuntime) {
     }
 }
 
-/// Whether the append ends at call k, with its work done or not, and what is read has the new frame where its gate was
+/// Whether the append ends at call k, with its work done or not, and what is read has the new frame if its gate was
 /// written.
 fn is_ended(alloc: Global, k: u64, works: bool) -> Option<bool> {
     let memory = zeros(alloc)?;

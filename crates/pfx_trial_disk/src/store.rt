@@ -67,7 +67,7 @@ fn is_open(image: &[u8], at: usize) -> bool {
     byte(image, at) == GATE_OPEN
 }
 
-/// The number and the sum behind the frame at a gate, if it stands open there and is the next.
+/// The number and the sum after the frame at a gate, if it stands open there and is the next.
 fn plain_frame(image: &[u8], gate: usize, state: (u8, u8)) -> (u8, u8) {
     let number = byte(image, gate.saturating_add(5));
     if is_open(image, gate) && Some(number) == state.0.checked_add(1) {
@@ -78,7 +78,7 @@ fn plain_frame(image: &[u8], gate: usize, state: (u8, u8)) -> (u8, u8) {
     }
 }
 
-/// The number and the sum behind the two frames of a segment, if it stands open and is the next.
+/// The number and the sum after the two frames of a segment, if it stands open and is the next.
 fn plain_segment(image: &[u8], segment: usize, state: (u8, u8)) -> (u8, u8) {
     let first = byte(image, segment.saturating_add(1));
     if is_open(image, segment) && Some(first) == state.0.checked_add(1) {
@@ -231,7 +231,7 @@ fn a_checkpoint_takes_its_steps(rt: HostRuntime) {
     check(&rt, has_checkpoint(&bytes), "the bytes");
 }
 
-/// The disk behind the run, which notes its clocks.
+/// The disk after the run, which notes its clocks.
 fn run_in_memory(alloc: Global, clocks: &mut [u64; 6]) -> Option<MemoryDisk> {
     let mut file = file_in_memory(alloc)?;
     run(&mut file, clocks).ok()?;

@@ -47,7 +47,7 @@ fn byte(bytes: &[u8], place: usize) -> u64
     bytes.get(place).copied().unwrap_or(0) as u64
 }
 
-/// The state, where its number and its sum are small enough.
+/// The state, if its number and its sum are small enough.
 fn state_of(number: u64, sum: u64) -> Option<Tally>
     ensures { result ≡ small number sum }
 {

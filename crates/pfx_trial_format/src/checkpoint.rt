@@ -30,7 +30,7 @@ fn frozen(alloc: Global, state: &State<AnyJob>) -> Option<Vec<u8>> {
     Some(bytes)
 }
 
-/// The worked bytes, or none where memory lacks.
+/// The worked bytes, or none if memory lacks.
 fn worked_bytes(alloc: Global) -> Vec<u8> {
     match worked(alloc) {
         Some(state) => frozen(alloc, &state).unwrap_or(Vec::new(alloc)),

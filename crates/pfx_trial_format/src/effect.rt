@@ -15,7 +15,7 @@ fn rule(goal: u64) -> Option<Command<AnyJob>> {
     Some(Command::Submit { task: 0, job })
 }
 
-/// The bytes of a job, zeros where there is none.
+/// The bytes of a job, zeros if there is none.
 fn bytes_of(job: Option<&AnyJob>) -> [u8; 128] {
     let mut bytes = [0; 128];
     if let Some(job) = job {
@@ -102,7 +102,7 @@ fn records_lead_where_commands_lead(rt: HostRuntime) {
     check(&rt, is_at_number_8(&one), "number and allocations");
 }
 
-/// The row that the first slot behind a submit is recorded with.
+/// The row that the first slot after a submit is recorded with.
 fn first_row(alloc: Global) -> Option<Vec<Place<AnyJob>>> {
     let mut state = new_state(alloc)?;
     let given = run_recorded(alloc, &mut state, rule(3)?).ok()?;
@@ -124,7 +124,7 @@ fn is_row_of_two(row: &[Place<AnyJob>]) -> bool {
     }
 }
 
-/// Whether the first state of the row is that of rule 110 behind its first step.
+/// Whether the first state of the row is that of rule 110 after its first step.
 fn has_first_step(row: &[Place<AnyJob>]) -> bool {
     match row.first() {
         Some(first) => bytes_of(first.state.as_ref())[..10] == [2, 2, 0, 0, 0, 0x6e, 8, 0, 3, 0],
@@ -160,7 +160,7 @@ fn count() -> Option<AnyJob> {
     AnyJob::start("count", 5, b"10").ok()
 }
 
-/// The job behind one step.
+/// The job after one step.
 fn stepped() -> Option<AnyJob> {
     let mut job = count()?;
     if !job.is_done() {
@@ -204,7 +204,7 @@ fn submit(task: u16) -> Option<Record<AnyJob>> {
     Some(Record::Submit { task, job })
 }
 
-// An unfinished job gets none over it; idle and missing tasks get none; nothing is taken where nothing is.
+// An unfinished job gets none over it; idle and missing tasks get none; nothing is taken if nothing is.
 #[test]
 fn wrong_jobs_change_nothing(rt: HostRuntime) {
     let alloc = rt.alloc();
@@ -270,7 +270,7 @@ fn a_row_that_would_be_unfair_changes_nothing(rt: HostRuntime) {
     check(&rt, counts, "number and slot");
 }
 
-/// Rows of three slots that are right in turn, and a job taken away where none is.
+/// Rows of three slots that are right in turn, and a job taken away if none is.
 fn rows_and_a_withdraw(alloc: Global) -> Option<Vec<Record<AnyJob>>> {
     let mut records = Vec::new(alloc);
     records.push(row_of(alloc, &[0, 1], None)?).ok()?;

@@ -14,7 +14,7 @@ fn slot_frame(number: u8, first: u8, second: u8) -> [u8; 22] {
     ]
 }
 
-/// The number behind the first frame, were there so many commands in it.
+/// The number after the first frame, were there so many commands in it.
 fn number_behind(count: u8) -> Option<u64> {
     let mut frame = slot_frame(1, 0, 1);
     frame[13] = count;
@@ -42,7 +42,7 @@ fn heads_of_frames(rt: HostRuntime) {
     check(&rt, is_last_number(), "the number 2^48 - 1");
 }
 
-/// The state behind frames that come in turn, from the empty one.
+/// The state after frames that come in turn, from the empty one.
 fn behind(alloc: Global, frames: &[[u8; 22]]) -> Option<State<AnyJob>> {
     let mut state = new_state(alloc)?;
     for frame in frames {

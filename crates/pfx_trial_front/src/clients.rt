@@ -27,7 +27,7 @@ use std::time::Clock;
 /// How many slots each client runs.
 const SLOTS: u32 = 40;
 
-/// Gives a task a job and runs slots, with a receipt behind each. Whether all were answered.
+/// Gives a task a job and runs slots, with a receipt after each. Whether all were answered.
 fn client<B: Since<AnyJob>, K: Desk<Quantum<AnyJob>, Done<AnyJob>> + Drop, R: Wait>(
     rt: &R,
     front: &Front<AnyJob, B, K>,

@@ -24,7 +24,7 @@ use std::sync::Wait;
 use std::thread::Threads;
 use std::time::Clock;
 
-/// How many calls make the file, and one more: the call behind them is the first sync of an append.
+/// How many calls make the file, and one more: the call after them is the first sync of an append.
 const FIRST_SYNC: u64 = 12;
 
 /// Whether 16 Slots are answered 1 to 16.
@@ -44,7 +44,7 @@ where
     answered
 }
 
-/// Whether the calls are answered before the release, while the board shows none of them, and settled and shown behind it.
+/// Whether the calls are answered before the release, while the board shows none of them, and settled and shown after it.
 fn serve<
     B: Since<AnyJob> + Send + Sync + 'static,
     K: Desk<Quantum<AnyJob>, Done<AnyJob>> + Drop + Send + Sync + 'static,

@@ -26,7 +26,7 @@ use std::sync::Wait;
 use std::thread::Threads;
 use std::time::Clock;
 
-/// The first sync of the first append, behind the calls that make the file.
+/// The first sync of the first append, after the calls that make the file.
 const FIRST_SYNC: u64 = 12;
 
 /// Whether a slot is answered, its receipt refused for the device, and the next slot too.

@@ -34,7 +34,7 @@ const TASKS: u16 = 3;
 /// A client's pass, and whether all of its calls had their receipts.
 type Visit<B> = (Pass<AnyJob, B>, bool);
 
-/// Runs slots, with a receipt behind each.
+/// Runs slots, with a receipt after each.
 fn client<B: Since<AnyJob>, K: Desk<Quantum<AnyJob>, Done<AnyJob>> + Drop, R: Wait>(
     rt: &R,
     front: &Front<AnyJob, B, K>,

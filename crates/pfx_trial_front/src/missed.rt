@@ -1,4 +1,4 @@
-//! Two workers, one of whom is late: the front makes what is missing by itself, and drops the result that comes behind it.
+//! Two workers, one of whom is late: the front makes what is missing by itself, and drops the result that comes after it.
 ghost use Rattle.std.specs.Prelude.{◌≡◌};
 ghost use Rattle.pfx_disk.specs.Memory.{memory_view};
 ghost use Rattle.pfx_kinds.specs.AnyKind.{any_kind};
@@ -22,10 +22,10 @@ use std::sync::Wait;
 use std::thread::Threads;
 use std::time::Clock;
 
-/// How many commands are called: two Submits, and slots behind them.
+/// How many commands are called: two Submits, and slots after them.
 const LAST: u64 = 6;
 
-/// Whether two jobs are taken, and a slot that both have is answered with a receipt, and slots behind it.
+/// Whether two jobs are taken, and a slot that both have is answered with a receipt, and slots after it.
 fn slots_are_answered<B: Since<AnyJob>, K: Desk<Quantum<AnyJob>, Done<AnyJob>> + Drop, R: Wait>(
     rt: &R,
     front: &Front<AnyJob, B, K>,

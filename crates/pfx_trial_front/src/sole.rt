@@ -1,4 +1,4 @@
-//! A client that is the only one: the board and a copy of the state behind its commands.
+//! A client that is the only one: the board and a copy of the state after its commands.
 ghost use Rattle.std.specs.Prelude.{◌≡◌};
 ghost use Rattle.pfx_disk.specs.Memory.{memory_view};
 ghost use Rattle.pfx_kinds.specs.AnyKind.{any_kind};
@@ -37,12 +37,12 @@ where
     Some(first && second && slot)
 }
 
-/// How many steps a task's job has left. `None` where the task has no job.
+/// How many steps a task's job has left. `None` if the task has no job.
 fn left(state: &State<AnyJob>, task: usize) -> Option<u32> {
     Some(state.jobs().get(task)?.as_ref()?.left())
 }
 
-/// Whether the state is behind three commands, with the job of task 0 a step on, and that of task 2 as it began.
+/// Whether the state is after three commands, with the job of task 0 a step on, and that of task 2 as it began.
 fn is_behind(state: &State<AnyJob>) -> bool {
     let stepped = left(state, 0) == Some(4) && left(state, 1).is_none();
     stepped && left(state, 2) == Some(5) && state.number() == 3

@@ -86,7 +86,7 @@ pub fn is_first_slot(answer: &Answer) -> bool {
     }
 }
 
-/// Waits for the receipt of what was accepted last. `None` where nothing was.
+/// Waits for the receipt of what was accepted last. `None` if nothing was.
 pub fn settle_last<B: Since<AnyJob>, K: Desk<Quantum<AnyJob>, Done<AnyJob>> + Drop, R: Wait>(
     rt: &R,
     front: &Front<AnyJob, B, K>,

@@ -16,7 +16,7 @@ fn is_level(ledger: &Columns) -> bool {
     true
 }
 
-/// Gives a hyperperiod of slots to the rows that are chosen, and says whether every lag is zero behind it.
+/// Gives a hyperperiod of slots to the rows that are chosen, and says whether every lag is zero after it.
 fn hyperperiod(chooser: &mut Chooser, ledger: &mut Columns) -> bool {
     for _slot in 0..ledger.hyper() {
         let Ok(row) = chooser.choose(ledger) else {
@@ -27,7 +27,7 @@ fn hyperperiod(chooser: &mut Chooser, ledger: &mut Columns) -> bool {
     is_level(ledger)
 }
 
-/// Whether two hyperperiods of a set have rows, every lag is zero behind each, and so many slots are given away.
+/// Whether two hyperperiods of a set have rows, every lag is zero after each, and so many slots are given away.
 fn has_two(alloc: Global, m: u32, tasks: &[(u32, u32)], hyper: u64) -> bool {
     let Ok(set) = TaskSet::new(alloc, m, tasks) else {
         return false;

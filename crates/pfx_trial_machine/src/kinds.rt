@@ -180,7 +180,7 @@ fn is_answered(kind: &str, goal: u64, text: &[u8], want: Option<StartFault>) -> 
     }
 }
 
-/// A kind's name, a goal, the data, and why no job is started with them, where none is.
+/// A kind's name, a goal, the data, and why no job is started with them, if none is.
 type Start = (&'static str, u64, &'static [u8], Option<StartFault>);
 
 const BAD_KIND: Option<StartFault> = Some(StartFault::BadKind);
@@ -323,7 +323,7 @@ fn is_encoding(bytes: &[u8; 128]) -> bool {
     }
 }
 
-/// Whether the bytes are read where they are an encoding, as a job that is written as they are, and else are refused.
+/// Whether the bytes are read if they are an encoding, as a job that is written as they are, and else are refused.
 fn is_read_rightly(bytes: &[u8; 128]) -> bool {
     match AnyJob::decode(bytes) {
         Ok(job) => is_encoding(bytes) && encoded(&job) == *bytes,
@@ -331,7 +331,7 @@ fn is_read_rightly(bytes: &[u8; 128]) -> bool {
     }
 }
 
-/// The first byte of which some value isn't read rightly, 128 where there is none. Each is set to each value.
+/// The first byte of which some value isn't read rightly, 128 if there is none. Each is set to each value.
 fn first_misread(vector: &[u8; 128]) -> usize {
     for at in 0..128usize {
         for value in 0..=255u8 {
@@ -345,7 +345,7 @@ fn first_misread(vector: &[u8; 128]) -> usize {
     128
 }
 
-/// `first_misread` for the longest needle and text, 0 where they make no job.
+/// `first_misread` for the longest needle and text, 0 if they make no job.
 fn first_misread_of_whole() -> usize {
     let text = b"0123456789abcdef:0123456789abcdef0123456789abcdef0123456789abcdef0123456789abcdef";
     match AnyJob::start("scan", 0, text) {

@@ -50,7 +50,7 @@ fn refuses_count(state: &mut State<AnyJob>, task: u16, goal: u64, fault: Machine
     }
 }
 
-/// The byte of a task's encoded job, 0 where it has none.
+/// The byte of a task's encoded job, 0 if it has none.
 fn job_byte(state: &State<AnyJob>, task: u16, at: usize) -> u8 {
     let mut bytes = [0; 128];
     if usize::from(task) < state.jobs().len()
@@ -72,7 +72,7 @@ pub fn ledger_at(alloc: Global, set: &TaskSet, slot: u64, allocs: &[u64]) -> Opt
     Columns::from_allocations(alloc, set, slot, allocs).ok()
 }
 
-/// The state of a ledger, where only task 0 may have a job.
+/// The state of a ledger, if only task 0 may have a job.
 fn state_at(
     alloc: Global,
     number: u64,
@@ -120,7 +120,7 @@ fn runs(state: &mut State<AnyJob>, row: [u16; 2], left: u8, cells: u8) -> bool {
     }
 }
 
-/// How many of the rule's first five slots are as expected, up to the first that isn't, and one more where the numbers behind
+/// How many of the rule's first five slots are as expected, up to the first that isn't, and one more if the numbers after
 /// them are right.
 fn slots_as_expected(alloc: Global) -> u32 {
     let Some(mut state) = ruled(alloc) else {
@@ -316,7 +316,7 @@ fn are_reverse(backwards: &[Done<AnyJob>], dones: &[Done<AnyJob>]) -> bool {
     backwards.len() == dones.len()
 }
 
-/// A slot, opened, run in both orders and sealed, where both give the same results.
+/// A slot, opened, run in both orders and sealed, if both give the same results.
 fn slot_in_parts(alloc: Global, state: &mut State<AnyJob>) -> Option<Reply> {
     let Ok((row, quanta)) = state.open_slot(alloc) else {
         return None;
@@ -383,7 +383,7 @@ fn any_order_of_quanta_gives_one_reply(rt: HostRuntime) {
     assert!(rt; same == 9, "{same} slots of 9");
 }
 
-/// The board of the three tasks behind a slot, where two of them have jobs of one step.
+/// The board of the three tasks after a slot, where two of them have jobs of one step.
 fn board(alloc: Global) -> Option<Board> {
     let mut state = thirds(alloc)?;
     state.apply(count(0, 1)?).ok()?;
@@ -455,7 +455,7 @@ fn first_wrong_answer(answers: &[Answer]) -> usize {
     answers.len()
 }
 
-/// `first_wrong_answer` of the six commands from the start, and 7 where the answers aren't six or the last number behind them is
+/// `first_wrong_answer` of the six commands from the start, and 7 if the answers aren't six or the last number after them is
 /// wrong.
 fn run_six(alloc: Global) -> Option<usize> {
     let mut state = thirds(alloc)?;

@@ -85,7 +85,7 @@ fn slots_agree(state: &State<AnyJob>, happened: &[Happening<AnyJob>]) -> bool {
     true
 }
 
-/// What a command does where it is accepted.
+/// What a command does if it is accepted.
 fn given_by(
     alloc: Global,
     set: &TaskSet,

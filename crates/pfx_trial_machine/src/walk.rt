@@ -19,7 +19,7 @@ fn steps_to(walk: &mut Walk, left: u32, seed: u64, place: u64) -> bool {
     walk.left() == left && walk.seed == seed && walk.place == place
 }
 
-/// The first of three steps that doesn't lead where it should, 4 where the walk isn't done behind them, and 0 where all is
+/// The first of three steps that doesn't lead where it should, 4 if the walk isn't done after them, and 0 if all is
 /// right.
 fn first_wrong_step() -> u32 {
     let mut walk = Walk::new(3, 0);
@@ -70,7 +70,7 @@ fn is_read_rightly(bytes: &[u8; 128], at: usize, value: u8) -> bool {
     }
 }
 
-/// Each byte of an encoding is set to each value: where it is past the numbers, or the first byte, no other value is
+/// Each byte of an encoding is set to each value: if it is past the numbers, or the first byte, no other value is
 /// read.
 #[test]
 fn reads_encodings_alone(rt: HostRuntime) {

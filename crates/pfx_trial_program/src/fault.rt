@@ -115,7 +115,7 @@ const ROWS: [(Fault, u8, &str); 40] = [
     (Fault::NoMemory, 5, "90 NoMemory"),
 ];
 
-/// Whether a refusal's line is this text behind `pfx: error`.
+/// Whether a refusal's line is this text after `pfx: error`.
 fn has_line(alloc: Global, fault: Fault, text: &str) -> bool {
     let mut written = Vec::new(alloc);
     if put_fault(&mut written, fault).is_err() {
@@ -127,7 +127,7 @@ fn has_line(alloc: Global, fault: Fault, text: &str) -> bool {
     }
 }
 
-/// Whether a refused command is shown by this text behind `refused`.
+/// Whether a refused command is shown by this text after `refused`.
 fn is_shown(alloc: Global, fault: Fault, text: &str) -> Option<bool> {
     let shown = format!(in alloc; "{}", Refused(fault)).ok()?;
     let refused = format!(in alloc; "refused {text}").ok()?;

@@ -140,7 +140,7 @@ fn says_how_jobs_are_shown(rt: HostRuntime) {
     assert!(rt; says_of(rt.alloc(), b"show,,,,\nshow,0,,1,\n", 2, lines));
 }
 
-/// Whether this record of a script is said to be refused behind so many answers, of which so many show jobs.
+/// Whether this record of a script is said to be refused after so many answers, of which so many show jobs.
 fn tells_refused(alloc: Global, text: &[u8], answers: u64, shown: u64, place: u64) -> bool {
     let note = refused_note(alloc, "a.csv", text, answers, shown, b"33 NoJob task=2", 1);
     let lines = format!(in alloc;
@@ -155,7 +155,7 @@ fn tells_refused(alloc: Global, text: &[u8], answers: u64, shown: u64, place: u6
 
 #[test]
 fn finds_a_refused_record_behind_jobs_that_were_shown(rt: HostRuntime) {
-    // Jobs that are shown are an answer where there are some, and none else.
+    // Jobs that are shown are an answer if there are some, and none else.
     let first = b"show,,,,\nshow,2,,,\n";
     assert!(rt;
         tells_refused(rt.alloc(), first, 0, 0, 2),

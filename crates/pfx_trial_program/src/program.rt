@@ -42,7 +42,7 @@ task = [{name = \"a\", e = 1, p = 3}, {name = \"b\", e = 1, p = 3},
     {name = \"c\", e = 1, p = 6}, {name = \"d\", e = 1, p = 6}]
 ";
 
-/// Whether a plan, from a ledger's text on where there is one, writes just this and ends so.
+/// Whether a plan, from a ledger's text on if there is one, writes just this and ends so.
 fn plans(
     alloc: Global,
     set: &str,

@@ -178,7 +178,7 @@ settled 4
 closed 4
 ";
 
-/// Whether a script goes on behind each of its refusals.
+/// Whether a script goes on after each of its refusals.
 fn goes_on(alloc: Global) -> bool {
     match thirds(alloc) {
         Some(mut state) => prints(alloc, &mut state, WITH_REFUSALS, REFUSALS, Ok(())),
@@ -214,7 +214,7 @@ fn shows_idle_tasks(rt: HostRuntime) {
     assert!(rt; shows_idle(rt.alloc()));
 }
 
-/// Whether a script stops at its second record, which has no form, and the state is then as behind the first.
+/// Whether a script stops at its second record, which has no form, and the state is then as after the first.
 fn ends_at_the_second(alloc: Global) -> bool {
     let Some(mut state) = thirds(alloc) else {
         return false;
@@ -270,7 +270,7 @@ fn runs_up_to_the_tear(alloc: Global, state: &mut State<AnyJob>) -> bool {
     end == Err(Fault::InputFailed) && written.as_slice() == b"1 ran 0: 0 1\n".as_slice()
 }
 
-/// Whether a record is answered by a reader that fails if it is asked for anything behind it, and the next one isn't.
+/// Whether a record is answered by a reader that fails if it is asked for anything after it, and the next one isn't.
 fn answers_before_it_asks(alloc: Global, state: &mut State<AnyJob>) -> bool {
     let input = Torn {
         left: b"slot,,,2,\n",

@@ -37,7 +37,7 @@ const BOARD: &str = "board 1 slot 1
 2 alloc=0 lag=2/3 job=none
 ";
 
-/// Whether the board behind the first slot is shown.
+/// Whether the board after the first slot is shown.
 fn shows_first_slot(alloc: Global) -> bool {
     let Some(mut state) = thirds(alloc) else {
         return false;

@@ -3,7 +3,7 @@
 use std::io;
 use std::io::{ErrorKind, Read};
 
-/// A reader that fails behind its first bytes.
+/// A reader that fails after its first bytes.
 #[derive(Drop)]
 pub struct Torn<'a> {
     pub left: &'a [u8],

@@ -15,7 +15,7 @@ use std::io::Write;
 /// How many slots are run at once.
 const WINDOWS: [u32; 3] = [1, 2, 16];
 
-/// The number behind the last one.
+/// The number after the last one.
 const END: u64 = 1 << 48;
 
 /// The ledger of three tasks of weight 2/3 on two workers, before their first slot.
@@ -94,7 +94,7 @@ fn prints(alloc: Global, room: u64, window: u32) -> bool {
 
 #[test]
 fn each_window_prints_the_same_lines(rt: HostRuntime) {
-    // The refusal comes at each place of both records, and behind them.
+    // The refusal comes at each place of both records, and after them.
     for room in 0..28 {
         for window in WINDOWS {
             assert!(rt;

@@ -402,7 +402,7 @@ fn wants_the_words_of_a_store(rt: HostRuntime) {
     }
 }
 
-/// `is_answered` of a run with these words behind the two paths.
+/// `is_answered` of a run with these words after the two paths.
 fn is_run_answered(alloc: Global, behind: &[&str], part: &str) -> bool {
     let mut words = Vec::new(alloc);
     if words
@@ -416,7 +416,7 @@ fn is_run_answered(alloc: Global, behind: &[&str], part: &str) -> bool {
 
 #[test]
 fn takes_up_to_64_workers(rt: HostRuntime) {
-    // The words behind the two paths, and the answer.
+    // The words after the two paths, and the answer.
     let rows = [
         (["--workers", "65"].as_slice(), "65 is not in 0..=64"),
         (
@@ -519,7 +519,7 @@ fn has_a_help_page_for_each(rt: HostRuntime) {
 
 #[test]
 fn takes_batches_of_1_to_16(rt: HostRuntime) {
-    // The words behind the two paths, and the answer.
+    // The words after the two paths, and the answer.
     let rows = [
         (["--batch", "0"].as_slice(), "0 is not in 1..=16"),
         (["--batch=17"].as_slice(), "17 is not in 1..=16"),

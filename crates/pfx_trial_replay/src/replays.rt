@@ -27,7 +27,7 @@ fn begun(alloc: Global) -> Option<DurableEngine<MemoryDisk>> {
     DurableEngine::new(alloc, store).ok()
 }
 
-/// The engine behind so many slots.
+/// The engine after so many slots.
 fn behind_slots(alloc: Global, count: u32) -> Option<DurableEngine<MemoryDisk>> {
     let mut engine = begun(alloc)?;
     for _ in 0..count {
@@ -46,7 +46,7 @@ fn file_of(alloc: Global, store: Store<MemoryDisk, AnyJob>) -> Option<Vec<u8>> {
     Some(out)
 }
 
-/// The file behind a submit of rule 110 with three steps to task 0, and five slots.
+/// The file after a submit of rule 110 with three steps to task 0, and five slots.
 fn worked(alloc: Global) -> Option<Vec<u8>> {
     let mut engine = begun(alloc)?;
     let job = AnyJob::start("rule", 3, b"110:00000001").ok()?;
@@ -59,12 +59,12 @@ fn worked(alloc: Global) -> Option<Vec<u8>> {
     file_of(alloc, engine.into_store())
 }
 
-/// The file behind so many slots.
+/// The file after so many slots.
 fn slots(alloc: Global, count: u32) -> Option<Vec<u8>> {
     file_of(alloc, behind_slots(alloc, count)?.into_store())
 }
 
-/// The file behind ten slots, a turn and a whole checkpoint.
+/// The file after ten slots, a turn and a whole checkpoint.
 fn checkpointed(alloc: Global) -> Option<Vec<u8>> {
     let mut store = behind_slots(alloc, 10)?.into_store();
     let is_ended = store.turn() == Ok(true)
@@ -78,7 +78,7 @@ fn checkpointed(alloc: Global) -> Option<Vec<u8>> {
     }
 }
 
-/// The file behind ten slots and a turn, whose checkpoint hasn't begun.
+/// The file after ten slots and a turn, whose checkpoint hasn't begun.
 fn turned(alloc: Global) -> Option<Vec<u8>> {
     let mut store = behind_slots(alloc, 10)?.into_store();
     if store.turn() == Ok(true) {

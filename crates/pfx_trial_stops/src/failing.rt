@@ -13,7 +13,7 @@ use pfx_store::Store;
 use pfx_store_file::StoreFault;
 use std::alloc::Global;
 
-/// How many calls an opening of the disk behind the run takes.
+/// How many calls an opening of the disk after the run takes.
 const OPENING: u64 = 9;
 
 /// The engine on a disk whose call of this number fails, doing its work all the same or not.
@@ -52,7 +52,7 @@ fn stays_broken(store: &mut Store<FaultDisk<MemoryDisk>, AnyJob>, clock: u64) ->
         && store.disk().clock() == clock
 }
 
-/// Whether the disk opens to the state behind so many commands, or behind some more, which are so many at the most.
+/// Whether the disk opens to the state after so many commands, or after some more, which are so many at the most.
 pub fn holds(alloc: Global, disk: MemoryDisk, done: u64, most: u64, folds: &[Fold]) -> bool {
     let Ok(store) = Store::<MemoryDisk, AnyJob>::open(alloc, disk) else {
         return false;
@@ -83,7 +83,7 @@ fn is_ended(alloc: Global, call: u64, works: bool, folds: &[Fold]) -> Option<boo
     Some(is_told && is_broken && holds(alloc, disk, done, 1, folds))
 }
 
-/// Whether the run goes through where the call that is to fail comes behind its last one.
+/// Whether the run goes through where the call that is to fail comes after its last one.
 fn is_whole(alloc: Global) -> bool {
     let Some(mut engine) = failing(alloc, MADE.saturating_add(CALLS), false) else {
         return false;
@@ -104,7 +104,7 @@ fn each_call_fails_in_turn(rt: HostRuntime) {
     }
 }
 
-/// The disk behind the run.
+/// The disk after the run.
 fn run_disk(alloc: Global) -> Option<MemoryDisk> {
     let mut engine = failing(alloc, 100_000, false)?;
     let (done, _fault) = carried_out(alloc, &mut engine)?;
@@ -115,8 +115,8 @@ fn run_disk(alloc: Global) -> Option<MemoryDisk> {
     }
 }
 
-/// How many calls an opening of the disk takes; `None` where one fails and isn't answered by Device, or another call is made
-/// behind it, or the disk doesn't open then.
+/// How many calls an opening of the disk takes; `None` if one fails and isn't answered by Device, or another call is made
+/// after it, or the disk doesn't open then.
 fn opening_calls(alloc: Global, disk: &MemoryDisk, folds: &[Fold]) -> Option<u64> {
     for call in 0..1000 {
         let copy = disk.stopped(alloc, disk.clock() as usize, &[]).ok()?;

@@ -17,13 +17,13 @@ pub const SEGMENT: u32 = 4233;
 /// How many calls make the file.
 pub const MADE: u64 = 9;
 
-/// How many calls the run takes behind them, with its turns and their checkpoints, where each command has a frame of its own.
+/// How many calls the run takes after them, with its turns and their checkpoints, if each command has a frame of its own.
 pub const CALLS: u64 = 272;
 
 /// How long the file is.
 pub const LONGEST: usize = 9363;
 
-/// How many bytes the run and what comes behind it write at most.
+/// How many bytes the run and what comes after it write at most.
 pub const WRITTEN: usize = 60_000;
 
 /// An empty disk with room for the run.
@@ -51,7 +51,7 @@ pub fn command(number: u64) -> Option<Command<AnyJob>> {
     }
 }
 
-/// What commands lead to, and what they and one Slot behind them do.
+/// What commands lead to, and what they and one Slot after them do.
 #[derive(Drop)]
 pub struct Fold {
     pub state: PlainState<AnyJob>,

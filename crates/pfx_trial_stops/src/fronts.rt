@@ -96,7 +96,7 @@ where
     }
 }
 
-/// Asks the command of this number, and waits for its receipt at once where the client is to.
+/// Asks the command of this number, and waits for its receipt at once if the client is to.
 fn ask<B: Since<AnyJob>, K: Desk<Quantum<AnyJob>, Done<AnyJob>> + Drop, R: Wait>(
     rt: &R,
     front: &Front<AnyJob, B, K>,
@@ -132,7 +132,7 @@ fn visitor<B: Since<AnyJob>>(alloc: Global, pass: Pass<AnyJob, B>) -> Visit<B> {
     }
 }
 
-/// Asks all commands: those with odd numbers are the first client's. Where the disk is held, it is released behind them, and the
+/// Asks all commands: those with odd numbers are the first client's. If the disk is held, it is released after them, and the
 /// clients wait for their receipts then.
 fn ask_all<B: Since<AnyJob>, K: Desk<Quantum<AnyJob>, Done<AnyJob>> + Drop, R: Wait>(
     rt: &R,

@@ -4,7 +4,7 @@
 //! | Module | Tests |
 //! |---|---|
 //! | `folds` | the run of the trials, and what its commands lead to by `pfx_replay`'s slow fold |
-//! | `stopped` | stops behind each call of a disk, and again behind each call of a Slot that goes on |
+//! | `stopped` | stops after each call of a disk, and again after each call of a Slot that goes on |
 //! | `twice` | a store on one thread is stopped twice |
 //! | `failing` | each call of a store's run fails in turn, and each call of its opening |
 //! | `fronts` | the run through a front, asked by two clients |

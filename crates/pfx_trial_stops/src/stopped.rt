@@ -1,4 +1,4 @@
-//! Stops behind each call of a run's disk; what each leaves is opened, one Slot is appended, and that is stopped again.
+//! Stops after each call of a run's disk; what each leaves is opened, one Slot is appended, and that is stopped again.
 
 use crate::folds::{Fold, MADE, is_state};
 use pfx_disk::{Disk, Fate, MemoryDisk};
@@ -34,7 +34,7 @@ fn marked_by(marks: &[u64], calls: u64) -> u64 {
     number
 }
 
-/// The bytes that a stop behind so many calls leaves.
+/// The bytes that a stop after so many calls leaves.
 fn bytes_left(alloc: Global, disk: &MemoryDisk, calls: u64, fates: &[Fate]) -> Option<Vec<u8>> {
     if disk.clock() < calls {
         return None;
@@ -47,7 +47,7 @@ fn bytes_left(alloc: Global, disk: &MemoryDisk, calls: u64, fates: &[Fate]) -> O
     Some(bytes)
 }
 
-/// Whether behind each call there are two writes at the most that no sync has covered: what becomes of a third one changes
+/// Whether after each call there are two writes at the most that no sync has covered: what becomes of a third one changes
 /// nothing.
 pub fn are_two(alloc: Global, disk: &MemoryDisk) -> bool {
     for calls in MADE..disk.clock().saturating_add(1) {
@@ -62,7 +62,7 @@ pub fn are_two(alloc: Global, disk: &MemoryDisk) -> bool {
     true
 }
 
-/// The engine over what a stop behind so many calls leaves.
+/// The engine over what a stop after so many calls leaves.
 fn left(
     alloc: Global,
     disk: &MemoryDisk,
@@ -76,7 +76,7 @@ fn left(
     DurableEngine::new(alloc, Store::open(alloc, left).ok()?).ok()
 }
 
-/// Whether a stop leaves the state behind the Slot, or the one before it where it isn't marked yet.
+/// Whether a stop leaves the state after the Slot, or the one before it if it isn't marked yet.
 fn is_one(
     alloc: Global,
     disk: &MemoryDisk,
@@ -93,8 +93,8 @@ fn is_one(
 }
 
 /// How many stops an opening and the appending of one Slot go through, a stop at each of their calls with each fate; `None`
-/// where one of them leaves anything but the state before the Slot or the one behind it, or not the latter once it is marked.
-/// An opening's first call is a sync and the others read, so that a stop behind these leaves what one behind the sync does.
+/// if one of them leaves anything but the state before the Slot or the one after it, or not the latter once it is marked.
+/// An opening's first call is a sync and the others read, so that a stop after these leaves what one after the sync does.
 fn goes_on(alloc: Global, engine: DurableEngine<MemoryDisk>, fold: &Fold) -> Option<u64> {
     let mut engine = engine;
     let opened = engine.store.disk().clock();
@@ -117,10 +117,10 @@ fn goes_on(alloc: Global, engine: DurableEngine<MemoryDisk>, fold: &Fold) -> Opt
     Some(stops)
 }
 
-/// How many stops a run goes through, and how many the Slots behind them do, where this becomes of what isn't synced: of all
+/// How many stops a run goes through, and how many the Slots after them do, if this becomes of what isn't synced: of all
 /// of it, and of the last write, the others kept. There are to be two at the most.
 ///
-/// `None` where one leaves anything but the state behind a beginning of the commands with every marked one.
+/// `None` if one leaves anything but the state after a beginning of the commands with every marked one.
 pub fn stops(alloc: Global, disk: &MemoryDisk, run: &Run<'_>, fate: Fate) -> Option<(u64, u64)> {
     let mut first: u64 = 0;
     let mut second: u64 = 0;

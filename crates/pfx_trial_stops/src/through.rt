@@ -1,4 +1,4 @@
-//! The trials through a front: what its disk's record leaves where it is stopped twice, and each call of its disk that fails.
+//! The trials through a front: what its disk's record leaves when it is stopped twice, and each call of its disk that fails.
 
 use crate::check::{check, check_at};
 use crate::failing::holds;
@@ -24,7 +24,7 @@ fn is_whole(outcome: &Outcome) -> bool {
         && outcome.stay
 }
 
-/// The clocks of receipts, where these are one of each number, from 1 on.
+/// The clocks of receipts, if these are one of each number, from 1 on.
 fn clocks(alloc: Global, receipts: &[(u64, u64)]) -> Option<Vec<u64>> {
     let mut clocks = Vec::new(alloc);
     for (before, receipt) in receipts.iter().enumerate() {
@@ -36,7 +36,7 @@ fn clocks(alloc: Global, receipts: &[(u64, u64)]) -> Option<Vec<u64>> {
     Some(clocks)
 }
 
-/// How many stops a whole run's disk goes through, and the Slots behind them.
+/// How many stops a whole run's disk goes through, and the Slots after them.
 fn stops_of(alloc: Global, ran: &(Outcome, MemoryDisk), fate: Fate) -> Option<(u64, u64)> {
     if !is_whole(&ran.0) {
         return None;
@@ -91,7 +91,7 @@ fn a_front_stopped_twice_where_torn_writes_are_other_bytes(rt: HostRuntime) {
     check(&rt, holds == Some(true), "0x5a");
 }
 
-/// Whether no sync of a front's disk waits for more than two writes, where each frame has one command and where it has many.
+/// Whether no sync of a front's disk waits for more than two writes, if each frame has one command and if it has many.
 fn are_two_at_most<R: Threads + Wait + Clock + Copy + Drop + Send + Sync + 'static>(
     rt: R,
     alloc: Global,
@@ -110,10 +110,10 @@ fn no_sync_of_a_front_waits_for_three_writes(rt: HostRuntime) {
     );
 }
 
-/// How many calls the run takes at least where a frame has up to 16 commands: four frames and a turn in front of each but one.
+/// How many calls the run takes at least if a frame has up to 16 commands: four frames and a turn in front of each but one.
 const FEW: u64 = 25;
 
-/// Whether the run whose frames have many commands is stopped behind each of its calls with each fate, and each stop leaves what
+/// Whether the run whose frames have many commands is stopped after each of its calls with each fate, and each stop leaves what
 /// it has to, now and one Slot later. How many commands the first frame has, and so how many calls there are, isn't known.
 fn are_many_kept<R: Threads + Wait + Clock + Copy + Drop + Send + Sync + 'static>(
     rt: R,
@@ -143,18 +143,18 @@ enum Way {
     Undone,
     // Once, with all of its work done.
     Done,
-    // It and each one behind it.
+    // It and each one after it.
     EverAfter,
-    // The same, where frames have many commands.
+    // The same, if frames have many commands.
     OfMany,
 }
 
-/// A disk that has room for so many calls: each one behind them fails.
+/// A disk that has room for so many calls: each one after them fails.
 fn full_behind(alloc: Global, calls: u64) -> Option<MemoryDisk> {
     MemoryDisk::new(alloc, &[], LONGEST, calls as usize, WRITTEN).ok()
 }
 
-/// The run where the call of this number fails so, and the disk behind it.
+/// The run if the call of this number fails so, and the disk after it.
 fn run_where_fails<R: Threads + Wait + Clock + Copy + Drop + Send + Sync + 'static>(
     rt: R,
     alloc: Global,
@@ -169,7 +169,7 @@ fn run_where_fails<R: Threads + Wait + Clock + Copy + Drop + Send + Sync + 'stat
     }
 }
 
-/// What a client is told whose last command is this one, where the disk fails behind the command of the number `marked`.
+/// What a client is told whose last command is this one, if the disk fails after the command of the number `marked`.
 fn told(last: u64, marked: u64) -> Option<CallFault> {
     if marked < last {
         Some(CallFault::StoreFailed {
@@ -212,8 +212,8 @@ fn is_held(
     Some(true)
 }
 
-/// How many calls fail in turn in this way, until a run meets none that does. `None` where one isn't answered as it should be, or
-/// another call is made behind it.
+/// How many calls fail in turn in this way, until a run meets none that does. `None` if one isn't answered as it should be, or
+/// another call is made after it.
 fn calls_that_fail<R: Threads + Wait + Clock + Copy + Drop + Send + Sync + 'static>(
     rt: R,
     alloc: Global,

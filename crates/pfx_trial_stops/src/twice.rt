@@ -8,7 +8,7 @@ use pfx_engine::DurableEngine;
 use pfx_store::Store;
 use std::alloc::Global;
 
-/// The disk behind the run, and the clocks of the run's marks.
+/// The disk after the run, and the clocks of the run's marks.
 fn run_on_disk(alloc: Global) -> Option<(MemoryDisk, Vec<u64>)> {
     let store = Store::init(alloc, empty(alloc)?, &thirds(alloc)?, SEGMENT).ok()?;
     let mut engine = DurableEngine::new(alloc, store).ok()?;
@@ -20,7 +20,7 @@ fn run_on_disk(alloc: Global) -> Option<(MemoryDisk, Vec<u64>)> {
     Some((engine.into_store().into_disk(), marks))
 }
 
-/// How many stops the run goes through, and the Slots behind them.
+/// How many stops the run goes through, and the Slots after them.
 fn stops_of(alloc: Global, fate: Fate) -> Option<(u64, u64)> {
     let (disk, marks) = run_on_disk(alloc)?;
     let folds = folds(alloc)?;
@@ -31,11 +31,11 @@ fn stops_of(alloc: Global, fate: Fate) -> Option<(u64, u64)> {
     stops(alloc, &disk, &run, fate)
 }
 
-/// How many stops the run goes through: behind each of its calls and before the first, in two ways.
+/// How many stops the run goes through: after each of its calls and before the first, in two ways.
 pub const STOPS: u64 = 2 * (CALLS + 1);
 
-/// How many stops a Slot behind one of these goes through at least: before the opening, behind its sync and its last call, and
-/// behind the four calls of an append, in ten ways each.
+/// How many stops a Slot after one of these goes through at least: before the opening, after its sync and its last call, and
+/// after the four calls of an append, in ten ways each.
 pub const MORE: u64 = 70;
 
 /// Whether the run is stopped so often with this fate, and each stop leaves what it has to, now and one Slot later.

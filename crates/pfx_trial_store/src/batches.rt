@@ -14,7 +14,7 @@ use pfx_redo::run_recorded;
 use pfx_store::{Mark, Store, batch_of};
 use std::alloc::Global;
 
-/// The records of so many slots, behind which the state goes on.
+/// The records of so many slots, after which the state goes on.
 pub fn slots<J: Job>(alloc: Global, count: u32, state: &mut State<J>) -> Option<Vec<Record<J>>>
     ensures records { IfSome result (λ records. (H : List (Command J)) × AreRecordsOf J.kind state.old H (map plain records.items)
         × (state.new ≡ outcome J.kind state.old H)) }
@@ -46,7 +46,7 @@ pub fn append_slots<D: Disk, J: Job>(
     store.append(&batch).ok()
 }
 
-/// The marks of two batches of so many slots, where both are appended by the ten calls.
+/// The marks of two batches of so many slots, if both are appended by the ten calls.
 pub fn append_both<D: Disk, J: Job>(
     alloc: Global,
     store: &mut Store<D, J>,

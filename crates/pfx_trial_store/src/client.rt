@@ -14,8 +14,8 @@ use pfx_record::Batch;
 use pfx_store::{Mark, Store};
 use pfx_store_file::StoreFault;
 
-/// Ten calls, two of which append a batch. Whatever they answer, each mark noted before is kept behind them, and
-/// where both batches are appended their marks are too.
+/// Ten calls, two of which append a batch. Whatever they answer, each mark noted before is kept after them, and
+/// if both batches are appended their marks are too.
 pub fn ten_calls<D: Disk, J: Job>(
     store: &mut Store<D, J>,
     first: &Batch<J>,

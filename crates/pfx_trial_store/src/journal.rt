@@ -97,7 +97,7 @@ fn a_new_store_is_its_bytes(rt: HostRuntime) {
     check(&rt, is_new(&store), "state");
 }
 
-/// Whether the state is that behind a slot of tasks 0 and 1.
+/// Whether the state is that after a slot of tasks 0 and 1.
 fn is_behind_one_slot(store: &Store<MemoryDisk, AnyJob>) -> bool {
     let ledger = store.state().columns();
     store.state().number() == 1
@@ -300,7 +300,7 @@ fn an_appended_frame_is_its_bytes(rt: HostRuntime) {
     }
 }
 
-/// The byte of the slot with the state behind one slot of tasks 0 and 1: its gate, the number, the slot, and a row of 137
+/// The byte of the slot with the state after one slot of tasks 0 and 1: its gate, the number, the slot, and a row of 137
 /// bytes for each task, which begins with what the task got.
 fn byte_of_checkpoint(i: usize) -> u8 {
     match i {
@@ -310,7 +310,7 @@ fn byte_of_checkpoint(i: usize) -> u8 {
     }
 }
 
-/// The bytes of the file behind a slot, a turn and a whole checkpoint.
+/// The bytes of the file after a slot, a turn and a whole checkpoint.
 fn checkpointed(alloc: Global) -> Option<Vec<u8>> {
     let mut store = store_in_memory(alloc)?;
     let is_ended = append_slot(alloc, &mut store)

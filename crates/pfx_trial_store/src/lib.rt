@@ -6,11 +6,11 @@
 //! | `client` | a worked client of `pfx_store`: each mark is kept through ten calls, proved |
 //! | `journal` | `pfx_store`: the file of a new store, frames in it, and files and disks that are refused |
 //! | `layouts` | `pfx_store`: what the header of a file tells, whole or damaged |
-//! | `marks` | `pfx_store`: batches of 2 and of 16 slots with turns in their midst, stops behind each call, and the worked client |
+//! | `marks` | `pfx_store`: batches of 2 and of 16 slots with turns in their midst, stops after each call, and the worked client |
 //! | `scripts` | `pfx_engine`: scripts over stores, on disks in memory, in a file, and on ones that fail |
-//! | `stops` | `pfx_engine`: stops behind each call, and where frames go |
-//! | `turns` | `pfx_engine`: turns and checkpoints, and stops behind each call of sixty slots |
-//! | `windows` | `pfx_engine`: scripts whose slots share frames, on disks in memory, on ones that fail, and stopped behind each call |
+//! | `stops` | `pfx_engine`: stops after each call, and where frames go |
+//! | `turns` | `pfx_engine`: turns and checkpoints, and stops after each call of sixty slots |
+//! | `windows` | `pfx_engine`: scripts whose slots share frames, on disks in memory, on ones that fail, and stopped after each call |
 //!
 //! A case is a plain `bool`; `check`, `check_at` and `check_pair` name the one that doesn't hold.
 #![tactic(auto)]

@@ -1,4 +1,4 @@
-//! Stops behind each call of the worked client.
+//! Stops after each call of the worked client.
 use crate::batches::{append_both, append_slots};
 use crate::check::{check, check_at};
 use crate::engines::{last_of, new_store};
@@ -7,7 +7,7 @@ use pfx_kinds::any::AnyJob;
 use pfx_store::{Mark, Store};
 use std::alloc::Global;
 
-/// The marks of batches of 2 and of 16 slots, where both are appended.
+/// The marks of batches of 2 and of 16 slots, if both are appended.
 fn run_ten(alloc: Global, store: &mut Store<MemoryDisk, AnyJob>) -> Option<(Mark, Mark)> {
     append_both(alloc, store, 2, 16)
 }
@@ -23,7 +23,7 @@ fn marked_by(calls: u64, marks: (Mark, Mark)) -> u64 {
     }
 }
 
-/// Whether a stop behind so many calls leaves this number at least, where all that isn't synced meets this fate.
+/// Whether a stop after so many calls leaves this number at least, if all that isn't synced meets this fate.
 fn is_left(alloc: Global, disk: &MemoryDisk, calls: u64, fate: Fate, number: u64) -> bool {
     if disk.clock() < calls {
         return false;
@@ -34,7 +34,7 @@ fn is_left(alloc: Global, disk: &MemoryDisk, calls: u64, fate: Fate, number: u64
     }
 }
 
-/// The first call of the ten, by their clocks, behind which a stop loses a mark.
+/// The first call of the ten, by their clocks, after which a stop loses a mark.
 fn first_loss(alloc: Global, fate: Fate) -> Option<u64> {
     let disk = MemoryDisk::new(alloc, &[], 17_281, 200, 60_000).ok()?;
     let mut store = new_store(alloc, disk, 8192)?;
@@ -113,7 +113,7 @@ fn least_and_most(calls: u64, clocks: [u64; 4]) -> (u64, u64) {
     }
 }
 
-/// The first call behind which a stop leaves another number than that of the last mark or of the next one.
+/// The first call after which a stop leaves another number than that of the last mark or of the next one.
 fn first_part(alloc: Global, fate: Fate) -> Option<u64> {
     let disk = MemoryDisk::new(alloc, &[], 17_281, 200, 60_000).ok()?;
     let mut store = new_store(alloc, disk, 8192)?;

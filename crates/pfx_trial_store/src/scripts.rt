@@ -182,7 +182,7 @@ fn stands_at(alloc: Global, disk: MemoryDisk, number: u64) -> bool {
 
 #[test]
 fn segments_are_turned(rt: HostRuntime) {
-    // A frame has 22 bytes, so a segment is full behind 371 slots.
+    // A frame has 22 bytes, so a segment is full after 371 slots.
     let alloc = rt.alloc();
     let Some(mut engine) = in_memory(alloc, 9000) else {
         return check(&rt, false, "an engine");
@@ -230,12 +230,12 @@ const KEPT: [&str; 4] = [
     "1 submitted 0\n2 ran 0: 0 1\n3 ran 1: 0 2\n",
 ];
 
-/// How many calls it takes to make a store's file of 17,281 bytes, and to append a batch where there is room.
+/// How many calls it takes to make a store's file of 17,281 bytes, and to append a batch if there is room.
 const MADE: u64 = 11;
 
 const APPENDED: u64 = 4;
 
-/// The engine on a disk whose call k behind the making fails, with its work done or not.
+/// The engine on a disk whose call k after the making fails, with its work done or not.
 fn faulty(alloc: Global, k: u64, works: bool) -> Option<DurableEngine<FaultDisk<MemoryDisk>>> {
     let call = MADE.saturating_add(k);
     let memory = empty(alloc, 200)?;

@@ -1,4 +1,4 @@
-//! Stops behind each call of a store on a disk in memory, and where its frames go.
+//! Stops after each call of a store on a disk in memory, and where its frames go.
 
 use crate::check::{check, check_at, check_pair};
 use crate::engines::{in_memory, last_of, new_store, opened, over};
@@ -46,7 +46,7 @@ fn has_first_job(engine: &DurableEngine<MemoryDisk>, cells: u8, left: u32) -> bo
     bytes[8] == cells && job.left() == left
 }
 
-/// How many commands survive a stop so many calls behind the making.
+/// How many commands survive a stop so many calls after the making.
 pub fn survivors(
     alloc: Global,
     disk: &MemoryDisk,
@@ -97,7 +97,7 @@ fn three_slots_are_twelve_calls(rt: HostRuntime) {
 /// How many slots are carried out, what the cells of the first job are then, and how many steps it has left.
 const ROWS: [(u32, u8, u32); 4] = [(1, 0b11, 2), (1, 0b111, 1), (2, 0b1101, 0), (1, 0b1101, 0)];
 
-/// How many rows hold, with the store opened again behind each, up to the first that doesn't.
+/// How many rows hold, with the store opened again after each, up to the first that doesn't.
 fn rows_that_hold(alloc: Global, engine: DurableEngine<MemoryDisk>) -> usize {
     let mut engine = engine;
     for (number, row) in ROWS.iter().enumerate() {

@@ -14,7 +14,7 @@ use pfx_store::Store;
 use pfx_store_file::Tended;
 use std::alloc::Global;
 
-/// The record of a slot, where the state accepts one.
+/// The record of a slot, if the state accepts one.
 fn slot_of(alloc: Global, state: &State<AnyJob>) -> Option<Record<AnyJob>> {
     let mut copy = state.copy_of(alloc).ok()?;
     let done = run_recorded(alloc, &mut copy, Command::Slot).ok()?;
@@ -92,7 +92,7 @@ fn stands_at(engine: &DurableEngine<MemoryDisk>, number: u64, got: u64) -> bool 
         && (ledger.alloc(0), ledger.alloc(1), ledger.alloc(2)) == (got, got, got)
 }
 
-/// The steps of a checkpoint of one piece, and what comes behind them.
+/// The steps of a checkpoint of one piece, and what comes after them.
 const STEPS: [Tended; 4] = [
     Tended::Closed,
     Tended::Piece,
@@ -110,7 +110,7 @@ fn thirds(alloc: Global, calls: usize) -> Option<Store<MemoryDisk, AnyJob>> {
     new_store(alloc, empty(alloc, calls)?, 8192)
 }
 
-/// The store behind ten slots, a turn, the checkpoint's steps, a slot, a turn and a slot.
+/// The store after ten slots, a turn, the checkpoint's steps, a slot, a turn and a slot.
 fn turned_twice(alloc: Global) -> Option<Store<MemoryDisk, AnyJob>> {
     let mut store = thirds(alloc, 200)?;
     let is_turned = append_slots(alloc, 10, &mut store)
@@ -142,7 +142,7 @@ fn reopened(alloc: Global, store: &Store<MemoryDisk, AnyJob>) -> Option<DurableE
     opened(alloc, left(alloc, store)?)
 }
 
-/// The bytes of the file behind two turns, as a stop leaves them.
+/// The bytes of the file after two turns, as a stop leaves them.
 fn file_turned_twice(alloc: Global) -> Option<Vec<u8>> {
     let store = turned_twice(alloc)?;
     let mut disk = left(alloc, &store)?;
@@ -172,7 +172,7 @@ fn old_frames_stand_behind_a_closed_gate(rt: HostRuntime) {
     }
 }
 
-/// The store behind forty slots, a turn, and five slots between the checkpoint's first two steps and behind them.
+/// The store after forty slots, a turn, and five slots between the checkpoint's first two steps and after them.
 fn turned_once(alloc: Global) -> Option<Store<MemoryDisk, AnyJob>> {
     let mut store = thirds(alloc, 400)?;
     let is_turned = append_slots(alloc, 40, &mut store)
@@ -224,7 +224,7 @@ fn a_checkpoint_ends_between_slots(rt: HostRuntime) {
     check(&rt, places.slot && !places.turned, "places");
 }
 
-/// The engine behind five slots and a turn.
+/// The engine after five slots and a turn.
 fn with_a_checkpoint(alloc: Global) -> Option<DurableEngine<MemoryDisk>> {
     let mut store = thirds(alloc, 200)?;
     if append_slots(alloc, 5, &mut store) && store.turn() == Ok(true) {
@@ -281,7 +281,7 @@ fn has_stepped(engine: &DurableEngine<MemoryDisk>, task: u16) -> bool {
     }
 }
 
-/// The number of the last command, where each job has stepped as often as its task was chosen.
+/// The number of the last command, if each job has stepped as often as its task was chosen.
 fn kept_whole(engine: &DurableEngine<MemoryDisk>) -> Option<u64> {
     let number = engine.last_kept().ok()?;
     let is_whole = engine.state.columns().slot() == number.saturating_sub(2)
@@ -344,7 +344,7 @@ fn is_left(alloc: Global, disk: &MemoryDisk, calls: u64, fates: &[Fate; 2], done
     }
 }
 
-/// The first call behind which a stop does not leave every command that was marked and at most one more, where this
+/// The first call after which a stop does not leave every command that was marked and at most one more, if this
 /// becomes of what isn't synced: at most two writes at a time, of which all meet this fate, or the last alone.
 fn first_loss(
     alloc: Global,
@@ -364,7 +364,7 @@ fn first_loss(
     None
 }
 
-/// Tells whether marks survive stops behind each call of 62 commands over segments of the least length.
+/// Tells whether marks survive stops after each call of 62 commands over segments of the least length.
 fn marks_survive(alloc: Global, fate: Fate) -> Option<bool> {
     let mut engine = over_least_segments(alloc)?;
     let made = engine.store.disk().clock();

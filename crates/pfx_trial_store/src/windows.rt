@@ -1,4 +1,4 @@
-//! Scripts whose slots share frames: what they print, what survives where the disk fails, and stops behind each call.
+//! Scripts whose slots share frames: what they print, what survives if the disk fails, and stops after each call.
 
 use crate::check::{check, check_at, check_pair};
 use crate::engines::{begun, empty, in_memory, last_of, opened};
@@ -109,12 +109,12 @@ fn lines(alloc: Global, slots: u64) -> Option<Vec<u8>> {
     Some(text)
 }
 
-/// How many calls it takes to make a store's file of 17,281 bytes, and to append a batch where there is room.
+/// How many calls it takes to make a store's file of 17,281 bytes, and to append a batch if there is room.
 const MADE: u64 = 11;
 
 const APPENDED: u64 = 4;
 
-/// The engine on a disk whose call k behind the making fails, with its work done or not.
+/// The engine on a disk whose call k after the making fails, with its work done or not.
 fn faulty(alloc: Global, k: u64, works: bool) -> Option<DurableEngine<FaultDisk<MemoryDisk>>> {
     let call = MADE.saturating_add(k);
     let memory = empty(alloc, 300)?;

@@ -17,7 +17,7 @@ walk_fits left seed place = nat_lt left (2 ^ 32) && nat_lt seed (2 ^ 64) && nat_
 unfoldable pub drawn : ℕ → ℕ
 drawn seed = (seed * 6364136223846793005 + 1442695040888963407) % 2 ^ 64
 
--- the place after a step: one up where the number drawn is in the upper half of the 64-bit numbers, else one down, and
+-- the place after a step: one up if the number drawn is in the upper half of the 64-bit numbers, else one down, and
 -- the ends of the line meet
 unfoldable pub moved : ℕ → ℕ → ℕ
 moved place drawn = if nat_lt drawn (2 ^ 63) then (place + (2 ^ 64 - 1)) % 2 ^ 64 else (place + 1) % 2 ^ 64

@@ -81,7 +81,7 @@ common_front ts i n k le h =
     let P : List (ℕ × ℕ) → Type 0 = λ l. IsCommonMultiple l k in
     subst P (take-take i n ts le) (All-take (λ v. IsMultiple v.1 k) i (take n ts) h)
 
--- where a task takes the hyperperiod past the limit, that of no longer front is within it
+-- if a task takes the hyperperiod past the limit, that of no longer front is within it
 too_large : (ts : List (ℕ × ℕ)) (x n l : ℕ) → All IsWeight ts → FirstTooLarge ts x → x < n → IsHyperperiod (take n ts) l → l ≤ 2 ^ 20 → ⊥
 too_large ts x n l good h less hyper within =
     let front = h.before.0 in

@@ -2,7 +2,7 @@
 use Rattle.std.specs.Prelude.{◌⊎◌, ℕ, List, [], ◌∷◌, ◌++◌}
 use Rattle.pfx_disk.specs.Stop.{Act, Left}
 
--- what a stop may leave within the call that comes next, where there is one
+-- what a stop may leave within the call that comes next, if there is one
 abbrev pub Within : List ℕ → List Act → List Act → List ℕ → Type 0
 Within start done [] image = ⊥
 Within start done (act ∷ coming) image = Left start (done ++ act ∷ []) image

@@ -41,7 +41,7 @@ module _ {J : Type 0} where
   abbrev pub state_of : (S : Setting J) → Plain J → World S → Plain J
   state_of S B w = outcome S.kind B w.book.accepted
 
-  -- the next n of the accepted commands behind the taken ones
+  -- the next n of the accepted commands after the taken ones
   abbrev pub next_of : (S : Setting J) → World S → ℕ → List (Command J)
   next_of S w n = take n (drop w.book.taken w.book.accepted)
 

@@ -57,7 +57,7 @@ module _ {J : Type 0} where
   abbrev pub given_in : ℕ → J → Opened J → Opened J
   given_in place r o = record { row = o.row; quanta = o.quanta; back = slice_set o.back place (Some r) }
 
-  -- the same, where a slot is open
+  -- the same, if a slot is open
   abbrev pub back_in : ℕ → J → Option (Opened J) → Option (Opened J)
   back_in place r None = None
   back_in place r (Some o) = Some (given_in place r o)

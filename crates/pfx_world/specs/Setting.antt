@@ -20,7 +20,7 @@ pub record Setting (J : Type 0) : Type 1 where
   -- the calls that append a batch, and where the parts are then
   pub calls : Parts → Plain J → List (Command J) → List Act
   pub moved : Parts → Plain J → List (Command J) → Parts
-  -- the next step of the checkpoint in progress, and where the parts are then; no calls where there is none
+  -- the next step of the checkpoint in progress, and where the parts are then; no calls if there is none
   pub tends : Parts → List Act
   pub tended : Parts → Parts
 

@@ -21,7 +21,7 @@ fn is_shown(alloc: Global, workers: u32, e: u32, p: u32, wanted: (u32, u32, u64)
         && task == 7
 }
 
-/// Whether three tasks of 2/3 run in this order: the row at each ledger, and that the ledger behind it is one.
+/// Whether three tasks of 2/3 run in this order: the row at each ledger, and that the ledger after it is one.
 fn goes_round(alloc: Global) -> bool {
     let rows: [([u16; 2], [u64; 3]); 4] = [
         ([0, 1], [0, 0, 0]),
@@ -63,7 +63,7 @@ fn plans_four(alloc: Global) -> bool {
         && rows == [0, 1, 0, 2, 1, 2, 0, 1, 9]
 }
 
-/// Whether no rows at all are planned where none are asked for.
+/// Whether no rows at all are planned if none are asked for.
 fn plans_none(alloc: Global) -> bool {
     let (mut slot, mut made) = (1, 9);
     let mut allocs = [1, 1, 0];
@@ -80,7 +80,7 @@ fn plans_none(alloc: Global) -> bool {
     number == 0 && made == 0 && slot == 1 && allocs == [1, 1, 0]
 }
 
-/// Whether a plan that ends early has its first row, and the ledger behind it.
+/// Whether a plan that ends early has its first row, and the ledger after it.
 fn ends_behind_one_row(alloc: Global) -> bool {
     let (mut slot, mut made) = (2, 9);
     let mut allocs = [0, 0, 0, 1, 1];

@@ -4,7 +4,7 @@ use Rattle.pfx_draw.specs.Lags.{runs_in}
 use Rattle.pfx_draw.specs.Line.{line_piece}
 use Rattle.pfx_draw.proofs.line.put_lag_path.Given as goal
 
--- the points behind the slots so far were put
+-- the points after the slots so far were put
 abbrev pub invariant-loop-i : goal.invariant-loop-i
 invariant-loop-i l = record {
   text : l.text.items ≡ l.initial.text.items ++ each (line_piece l.fn.s l.fn.c l.fn.base l.marks) l.i;
