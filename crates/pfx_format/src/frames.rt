@@ -10,7 +10,7 @@ use pfx_jobs::job::Job;
 use pfx_machine::State;
 use pfx_record::{head_of, read_head, read_next};
 use pfx_redo::apply_record;
-use pfx_segment::FRAME_HEAD;
+use pfx_segment::frame::FRAME_HEAD;
 use std::alloc::{AllocError, Global};
 
 /// The number of eight bytes, the lowest first.

@@ -14,7 +14,7 @@ use crate::read_record::read_record;
 use crate::record::Record;
 use pfx_disk::GATE_OPEN;
 use pfx_jobs::job::Job;
-use pfx_segment::{COUNT_AT, FIRST_AT, FRAME_HEAD, LENGTH_AT};
+use pfx_segment::frame::{COUNT_AT, FIRST_AT, FRAME_HEAD, LENGTH_AT};
 use std::alloc::{AllocError, Global};
 
 /// The head of a frame.

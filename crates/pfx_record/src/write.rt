@@ -8,7 +8,7 @@ use crate::numbers::{push_u16, push_u32, push_u64};
 use crate::record::{FULL_PLACE, GIVEN, Place, Record};
 use pfx_disk::GATE_OPEN;
 use pfx_jobs::job::Job;
-use pfx_segment::FRAME_HEAD;
+use pfx_segment::frame::FRAME_HEAD;
 
 // What the pushes write stands behind what was there, and takes no memory if there is room.
 fn push_byte(out: &mut Vec<u8>, byte: u8)

@@ -4,8 +4,8 @@ use Rattle.pfx_record.specs.Batches.{counts_fit}
 use Rattle.pfx_record.proofs.Heads.{head_from, same_numbers}
 use Rattle.pfx_record.proofs.read.read_head.Goals as goal
 
-pub returns-then-bytes-len-clause-none : goal.returns-then-bytes-len-clause-none
-returns-then-bytes-len-clause-none c len first count head =
+pub returns-then-bytes-head-clause-none : goal.returns-then-bytes-head-clause-none
+returns-then-bytes-head-clause-none c len first count head =
     let same = same_numbers c.args.workers c.args.bytes.now c.head_of-head.result.len c.head_of-head.result.first c.head_of-head.result.count len first count (omega arith) (omega arith) (omega arith) c.head_of-head.ensures.len_at c.head_of-head.ensures.first_at c.head_of-head.ensures.count_at head in
     omega (arith, same.lens, head.whole)
 

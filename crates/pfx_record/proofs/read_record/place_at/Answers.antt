@@ -21,9 +21,9 @@ pub returns-then-bytes-at-ne1-clause-none : goal.returns-then-bytes-at-ne1-claus
 returns-then-bytes-at-ne1-clause-none g c place above small b =
     other_flag g.J.Job.kind g.met.J.Job.laws c.args.bytes.now c.args.at c.if-bytes-at-eq0.false c.if-bytes-at-ne1.true place b
 
-pub returns-then-bytes-at-lt131-clause-none : goal.returns-then-bytes-at-lt131-clause-none
-returns-then-bytes-at-lt131-clause-none g c place above small b =
-    no_state g.J.Job.kind g.met.J.Job.laws c.args.bytes.now c.args.at c.if-bytes-at-eq0.false (short_state g.J.Job.kind g.met.J.Job.laws c.args.bytes.now c.args.at c.if-bytes-at-lt131.true) place b
+pub returns-then-bytes-at-lt-FULL_PLACE-clause-none : goal.returns-then-bytes-at-lt-FULL_PLACE-clause-none
+returns-then-bytes-at-lt-FULL_PLACE-clause-none g c place above small b =
+    no_state g.J.Job.kind g.met.J.Job.laws c.args.bytes.now c.args.at c.if-bytes-at-eq0.false (short_state g.J.Job.kind g.met.J.Job.laws c.args.bytes.now c.args.at c.if-bytes-at-lt-FULL_PLACE.true) place b
 
 pub returns-in-None-clause-none : goal.returns-in-None-clause-none
 returns-in-None-clause-none g c place above small b =

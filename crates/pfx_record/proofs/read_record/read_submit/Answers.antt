@@ -2,8 +2,8 @@ use Rattle.std.proofs.Common.{arith}
 use Rattle.pfx_record.proofs.Single.{submit_only, submit_is}
 use Rattle.pfx_record.proofs.read_record.read_submit.Goals as goal
 
-pub returns-then-bytes-lt131-clause-none : goal.returns-then-bytes-lt131-clause-none
-returns-then-bytes-lt131-clause-none g c = submit_only g.J.Job.kind g.met.J.Job.laws c.args.bytes.now c.requires.tag (λ s long b. omega (arith, long, c.if-bytes-lt131.true))
+pub returns-then-bytes-lt-GIVEN-clause-none : goal.returns-then-bytes-lt-GIVEN-clause-none
+returns-then-bytes-lt-GIVEN-clause-none g c = submit_only g.J.Job.kind g.met.J.Job.laws c.args.bytes.now c.requires.tag (λ s long b. omega (arith, long, c.if-bytes-lt-GIVEN.true))
 
 pub returns-in-None-clause-none : goal.returns-in-None-clause-none
 returns-in-None-clause-none g c = submit_only g.J.Job.kind g.met.J.Job.laws c.args.bytes.now c.requires.tag (λ s long b. c.in-None.ensures.none s b)
