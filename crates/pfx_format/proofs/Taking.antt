@@ -10,7 +10,7 @@ use Rattle.pfx_record.specs.Batches.{PlainBatch, all_fit, batch_bytes}
 use Rattle.pfx_record.specs.Begins.{Begins}
 use Rattle.pfx_record.specs.Reading.{IsHead, IsRecord, NoRecord, body_of}
 use Rattle.pfx_record.specs.Records.{Plain, records_bytes}
-use Rattle.pfx_record.specs.declared.faults.Part.TheVariants.{Record}
+use Rattle.pfx_record.specs.declared.faults.FramePart.TheVariants.{Record}
 use Rattle.pfx_record.proofs.Bodies.{SoFar, so_far_begins, so_far_more, so_far_inside, stop_short, stop_over, all_read, no_head, no_records, is_batch, same_as, goes}
 use Rattle.pfx_format.specs.Frames.{number_after, state_after}
 use Rattle.pfx_format.specs.Taking.{AreTaken, AreWrong}

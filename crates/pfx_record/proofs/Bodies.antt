@@ -12,8 +12,8 @@ use Rattle.pfx_record.specs.Numbers.{number_bytes}
 use Rattle.pfx_record.specs.Records.{Plain, submitted, ran, withdrawn, rises_from, tasks_of, state_bytes, place_bytes, row_bytes, record_bytes, record_fits, records_bytes}
 use Rattle.pfx_record.specs.Batches.{PlainBatch, all_fit, batch_bytes, batch_fits, counts_fit, head_bytes}
 use Rattle.pfx_record.specs.Reading.{AreRecords, IsBatch, IsDamaged, IsHead, IsRecord, NoBatch, NoRecord, StopAt, body_of}
-use Rattle.pfx_record.specs.declared.faults.Part.{Part}
-use Rattle.pfx_record.specs.declared.faults.Part.TheVariants.{Frame, Record}
+use Rattle.pfx_record.specs.declared.faults.FramePart.{FramePart}
+use Rattle.pfx_record.specs.declared.faults.FramePart.TheVariants.{Frame, Record}
 use Rattle.pfx_record.specs.declared.record.Place.{Place}
 use Rattle.pfx_record.proofs.Rising.{both, of_both}
 use Rattle.pfx_record.proofs.Again.{length-number_bytes}
@@ -228,14 +228,14 @@ module _ {J : Type 0} (K : Kind J) (L : Laws K) (workers : ℕ) where
           last [] is number body = omega (arith, over, ap length body, ap (λ (l : List (Plain J)). length (records_bytes K l)) (is ∙ append-nil read))
           last (z ∷ zs) is number body = omega (arith, all, number, ap length is, length-append read (z ∷ zs))
 
-      pub no_records : (at : ℕ) (what : Part) → StopAt K workers (body_of len bytes) count at what → NoBatch K workers bytes
+      pub no_records : (at : ℕ) (what : FramePart) → StopAt K workers (body_of len bytes) count at what → NoBatch K workers bytes
       no_records at Frame stop = absurd stop
       no_records at Record stop = elim stop.1.next [
         | inl short ↦ no_short stop.0 stop.1.fit stop.1.begins short.0 short.1
         | inr over ↦ no_over stop.0 stop.1.fit stop.1.begins over.0 over.1
       ]
 
-      pub damaged : (at : ℕ) (what : Part) → StopAt K workers (body_of len bytes) count at what → IsDamaged K workers bytes at what
+      pub damaged : (at : ℕ) (what : FramePart) → StopAt K workers (body_of len bytes) count at what → IsDamaged K workers bytes at what
       damaged at Frame stop = absurd stop
       damaged at Record stop = (len, first, count, stop.0, head, stop.1, stop.2)
 

@@ -6,8 +6,8 @@ use Rattle.pfx_record.specs.Records.{Plain, record_fits, record_bytes, records_b
 use Rattle.pfx_record.specs.Batches.{PlainBatch, all_fit, batch_bytes, batch_fits, counts_fit, head_bytes}
 use Rattle.pfx_record.specs.declared.faults.BatchFault.{BatchFault}
 use Rattle.pfx_record.specs.declared.faults.BatchFault.TheVariants.{Damaged, NoMemory}
-use Rattle.pfx_record.specs.declared.faults.Part.{Part}
-use Rattle.pfx_record.specs.declared.faults.Part.TheVariants.{Frame, Record}
+use Rattle.pfx_record.specs.declared.faults.FramePart.{FramePart}
+use Rattle.pfx_record.specs.declared.faults.FramePart.TheVariants.{Frame, Record}
 
 -- the bytes begin with this record, which takes so many of them
 pub record IsRecord {J : Type 0} (K : Kind J) (workers : ℕ) (bytes : List ℕ) (read : Plain J) (taken : ℕ) : Type 0 where
@@ -48,13 +48,13 @@ pub record StopsBehind {J : Type 0} (K : Kind J) (workers : ℕ) (body : List �
       ⊎ ((length read ≡ count) × (length (records_bytes K read) < length body))
 
 -- why bytes begin with no batch: there is no head, at place 0; or the records after it stop, at this place
-abbrev pub IsDamaged : {J : Type 0} → Kind J → ℕ → List ℕ → ℕ → Part → Type 0
+abbrev pub IsDamaged : {J : Type 0} → Kind J → ℕ → List ℕ → ℕ → FramePart → Type 0
 IsDamaged K workers bytes at Frame = (at ≡ 0) × ((len first count : ℕ) → IsHead workers bytes len first count → ⊥)
 IsDamaged {J} K workers bytes at Record = (len first count : ℕ) × (read : List (Plain J)) × IsHead workers bytes len first count
     × StopsBehind K workers (body_of len bytes) count read × (at ≡ 15 + length (records_bytes K read))
 
 -- this holds of the place and the part at fault, unless an allocation failed
-abbrev pub OnDamage : BatchFault → (ℕ → Part → Type 0) → Type 0
+abbrev pub OnDamage : BatchFault → (ℕ → FramePart → Type 0) → Type 0
 OnDamage (Damaged at what) P = P at what
 OnDamage NoMemory P = ⊤
 
@@ -66,6 +66,6 @@ pub record AreRecords {J : Type 0} (K : Kind J) (workers : ℕ) (body : List ℕ
   pub whole : length (records_bytes K read) ≡ length body
 
 -- the records stop at this place of the frame
-abbrev pub StopAt : {J : Type 0} → Kind J → ℕ → List ℕ → ℕ → ℕ → Part → Type 0
+abbrev pub StopAt : {J : Type 0} → Kind J → ℕ → List ℕ → ℕ → ℕ → FramePart → Type 0
 StopAt K workers body count at Frame = ⊥
 StopAt {J} K workers body count at Record = (read : List (Plain J)) × StopsBehind K workers body count read × (at ≡ 15 + length (records_bytes K read))

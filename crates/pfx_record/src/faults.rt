@@ -7,7 +7,7 @@ use thiserror::Error;
 
 /// What of a frame is at fault.
 #[derive(Clone, Copy, Debug, PartialEq, Eq)]
-pub enum Part {
+pub enum FramePart {
     /// Its head: the gate, the length, the number of the first command or the count.
     Frame,
     /// A record behind it, or bytes behind the last one.
@@ -19,7 +19,7 @@ pub enum Part {
 pub enum BatchFault {
     /// The part at this place is at fault, the first such one.
     #[error("the bytes from {at} on are at fault")]
-    Damaged { at: usize, what: Part },
+    Damaged { at: usize, what: FramePart },
     /// An allocation failed.
     #[error("out of memory")]
     NoMemory,

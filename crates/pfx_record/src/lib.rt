@@ -30,7 +30,7 @@ mod record;
 mod write;
 
 pub use batch::{Batch, fits, record_fits};
-pub use faults::{BatchFault, Part};
+pub use faults::{BatchFault, FramePart};
 pub use read::{FrameHead, head_of, read_batch, read_head, read_next};
 pub use record::{Place, Record};
 pub use write::{batch_len, batch_most, write_batch};

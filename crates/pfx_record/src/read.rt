@@ -8,7 +8,7 @@ ghost use Rattle.pfx_record.specs.Records.{plain};
 ghost use Rattle.pfx_record.specs.Reading.{AreRecords, IsBatch, IsDamaged, IsHead, IsRecord, NoBatch, NoRecord, OnDamage, StopAt};
 
 use crate::batch::{Batch, counts_fit};
-use crate::faults::{BatchFault, Part};
+use crate::faults::{BatchFault, FramePart};
 use crate::numbers::{u16_at, u32_at, u64_at};
 use crate::read_record::read_record;
 use crate::record::Record;
@@ -97,7 +97,7 @@ fn read_records<J: Job>(
             None => {
                 return Err(BatchFault::Damaged {
                     at: FRAME_HEAD + at,
-                    what: Part::Record,
+                    what: FramePart::Record,
                 });
             }
             Some((record, taken)) => {
@@ -109,7 +109,7 @@ fn read_records<J: Job>(
     if at < body.len() {
         return Err(BatchFault::Damaged {
             at: FRAME_HEAD + at,
-            what: Part::Record,
+            what: FramePart::Record,
         });
     }
     Ok(records)
@@ -134,7 +134,7 @@ pub fn read_batch<J: Job>(
     match read_head(workers, bytes) {
         None => Err(BatchFault::Damaged {
             at: 0,
-            what: Part::Frame,
+            what: FramePart::Frame,
         }),
         Some(head) => {
             let end = FRAME_HEAD + head.len as usize;

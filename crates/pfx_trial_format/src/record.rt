@@ -5,7 +5,7 @@ use pfx_jobs::job::{Job, are_same};
 use pfx_kinds::any::AnyJob;
 use pfx_record::laws::one_spelling;
 use pfx_record::{
-    Batch, BatchFault, Part, Place, Record, batch_len, fits, read_batch, read_head, read_next,
+    Batch, BatchFault, FramePart, Place, Record, batch_len, fits, read_batch, read_head, read_next,
     write_batch,
 };
 use std::alloc::Global;
@@ -206,13 +206,13 @@ fn fault_of(alloc: Global, bytes: &[u8]) -> Option<BatchFault> {
 
 /// Whether the bytes are no frame.
 fn is_no_frame(alloc: Global, bytes: &[u8]) -> bool {
-    let what = Part::Frame;
+    let what = FramePart::Frame;
     fault_of(alloc, bytes) == Some(BatchFault::Damaged { at: 0, what })
 }
 
 /// Whether the bytes are a frame whose record at this place is none.
 fn is_no_record(alloc: Global, bytes: &[u8], at: usize) -> bool {
-    let what = Part::Record;
+    let what = FramePart::Record;
     fault_of(alloc, bytes) == Some(BatchFault::Damaged { at, what })
 }
 
@@ -249,7 +249,7 @@ fn faulty_heads(rt: HostRuntime) {
 }
 
 fn is_no_row_of_three(alloc: Global) -> bool {
-    let what = Part::Record;
+    let what = FramePart::Record;
     read_batch::<AnyJob>(alloc, 3, &ONE_SLOT).err() == Some(BatchFault::Damaged { at: 15, what })
 }
 
