@@ -1,25 +1,14 @@
 // What stands in the bytes of a store's file.
-ghost use Rattle.std.specs.Prelude.{◌≡◌, ◌≢◌, ◌≤◌, ◌<◌, ◌+◌, ◌^◌, ℕ, List, length, take, drop, slice_index, IfOk, MatchOption};
+ghost use Rattle.std.specs.Prelude.{◌≡◌, ◌≢◌, ◌≤◌, ◌<◌, ◌+◌, ℕ, List, length, take, drop, slice_index, IfOk, MatchOption};
 ghost use Rattle.pfx_disk.specs.declared.gates.TheConstants.{GATE_OPEN};
-ghost use Rattle.pfx_segment.specs.Frames.{AreFrames, frame_len, number_4};
+ghost use Rattle.pfx_segment.specs.Frames.{AreFrames, frame_len};
 ghost use Rattle.pfx_segment.specs.Reading.{views};
 ghost use Rattle.pfx_recovery.specs.Layout.{first_at};
 
 use pfx_disk::GATE_OPEN;
 use pfx_recover::Format;
+use pfx_segment::frame::{FRAME_HEAD, frame_len_at};
 use std::alloc::{AllocError, Global};
-
-// The number in four bytes, the lowest first.
-fn number_at(image: &[u8], at: usize) -> usize
-    requires { at + 4 ≤ length image.now }
-    ensures number { result ≡ number_4 at image.now }
-    ensures short { result < 2 ^ 32 }
-{
-    image[at] as usize
-        + 256
-            * (image[at + 1] as usize
-                + 256 * (image[at + 2] as usize + 256 * image[at + 3] as usize))
-}
 
 // How long the frame at this gate is, or `None` if it doesn't end before the end.
 fn len_at(image: &[u8], gate: usize, end: usize) -> Option<usize>
@@ -27,10 +16,10 @@ fn len_at(image: &[u8], gate: usize, end: usize) -> Option<usize>
     requires inside { end ≤ length image.now }
     ensures { MatchOption result (end ≤ gate + frame_len gate image.now) (λ len. (len ≡ frame_len gate image.now) × (gate + len < end)) }
 {
-    if end - gate <= 15 {
+    if end - gate <= FRAME_HEAD {
         return None;
     }
-    let len = 15 + number_at(image, gate + 1);
+    let len = frame_len_at(image, gate);
     if len >= end - gate { None } else { Some(len) }
 }
 
