@@ -22,6 +22,7 @@ mod faults;
 mod file;
 pub mod laws;
 mod places;
+mod turning;
 
 pub use checkpoint::{PIECE, Tended};
 pub use faults::StoreFault;
