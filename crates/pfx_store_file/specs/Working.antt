@@ -1,7 +1,7 @@
 -- What the calls of a store's file do.
 use Rattle.std.specs.Prelude.{◌≡◌, ◌↔◌, ◌≤◌, ◌<◌, ◌+◌, ◌++◌, ◌∷◌, [], ℕ, List, length, min, true, false, Result, Ok, OnOk, OnErr, IfOk, IsErrOf}
 use Rattle.pfx_disk.specs.CallsMade.{HasMade, HasBrokenOff, HasKeptTo}
-use Rattle.pfx_disk.specs.Disk.{View, IsHonest}
+use Rattle.pfx_disk.specs.Disk.{IsHonest}
 use Rattle.pfx_disk.specs.Stop.{Act}
 use Rattle.pfx_disk.specs.declared.device.Disk.{Ghosts}
 use Rattle.pfx_recovery.specs.Codec.{Codec}

@@ -30,7 +30,7 @@ impl<D: Disk> StoreFile<D> {
     ///
     /// The frame has a byte at least. It is an append to the file, and moves the next frame's gate on. After success the
     /// store holds with the frame, and each image has it; at every moment what survived before survives, with the frame or
-    /// without. The calls of the disk are these, and the file after them is this one.
+    /// without. The calls of the disk put the frame behind its gate, and the places are those of the file with it.
     pub fn append<H, S>(&mut self, frame: &[u8]) -> Result<(), StoreFault>
         requires some { 0 < length frame.now }
         ensures call { IsAppend self.old self.new result (length frame.now) }
@@ -65,7 +65,8 @@ impl<D: Disk> StoreFile<D> {
     /// The frame has a byte at least, and fits into an empty segment; `start` has nine bytes, and the spelling is as long
     /// as a slot's body. It is a call of the file, of four calls of the disk, or of those that make room too. The places
     /// take the frame. After success the store holds with it, and each image has it; at every moment what survived before
-    /// survives, with the frame or without. The calls of the disk are these, and the file after them is this one.
+    /// survives, with the frame or without. The calls of the disk are those that make room, if there is none, and those of
+    /// an append; and the places are those of the file after them.
     pub fn append_or_turn<H, S>(
         &mut self,
         spelling: &[u8],

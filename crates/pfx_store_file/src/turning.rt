@@ -33,7 +33,7 @@ impl<D: Disk> StoreFile<D> {
     ///
     /// A turn is lawful, and there are nine such bytes. It is a call of the file, of six calls of the disk. After success
     /// the file is turned, and the store holds so, with a checkpoint of this state in progress; at every moment what
-    /// survived before survives. The calls of the disk are these, and the file after them is this one.
+    /// survived before survives. The calls of the disk are those of a turn, and the places are those of the file after it.
     pub fn turn<H, S>(&mut self, start: &[u8]) -> Result<(), StoreFault>
         requires lawful { IsTurnable self.old.places }
         requires nine { length start.now ≡ 9 }

@@ -1,5 +1,5 @@
 use Rattle.std.proofs.Common.{rules}
-use Rattle.std.proofs.Common.{ℕ, ◌∷◌, inl, refl, sym, ◌∙◌, subst, arith}
+use Rattle.std.proofs.Common.{ℕ, ◌∷◌, inl, refl, subst, arith}
 use Rattle.pfx_segment.specs.Acts.{put_acts}
 use Rattle.pfx_disk.specs.CallsMade.{HasMade, HasBrokenOff, HasKeptTo}
 use Rattle.pfx_segment.proofs.FrameLemmas.{size-push}
@@ -67,8 +67,8 @@ returns-in_err-put_behind-clause-acts g c K f are honest =
     let b = view c.put_behind.new.disk in
     record {
       made = search rules;
-      broken_off = λ is. subst (λ (k : ℕ). HasBrokenOff (put_acts k c.args.frame.now) a b) are.are.gate (c.in_err-put_behind.ensures.front honest refl);
-      between = subst (λ (k : ℕ). HasKeptTo (put_acts k c.args.frame.now) a b) are.are.gate (c.put_behind.ensures.between honest);
+      broken_off = λ is. subst (λ (k : ℕ). HasBrokenOff (put_acts k c.args.frame.now) a b) are.are.gate (c.in_err-put_behind.ensures.acts.broken_off honest refl);
+      between = subst (λ (k : ℕ). HasKeptTo (put_acts k c.args.frame.now) a b) are.are.gate (c.put_behind.ensures.acts.between honest);
     }
 
 pub returns-clause-acts : goal.returns-clause-acts
@@ -77,9 +77,9 @@ returns-clause-acts g c K f are honest =
     let a = view c.args.self.now.disk in
     let b = view c.put_behind.new.disk in
     record {
-      made = subst (λ (k : ℕ). HasMade (put_acts k c.args.frame.now) a b) are.are.gate (c.in_ok-put_behind.ensures.acts honest);
+      made = subst (λ (k : ℕ). HasMade (put_acts k c.args.frame.now) a b) are.are.gate (c.in_ok-put_behind.ensures.acts.made honest);
       broken_off = search rules;
-      between = subst (λ (k : ℕ). HasKeptTo (put_acts k c.args.frame.now) a b) are.are.gate (c.put_behind.ensures.between honest);
+      between = subst (λ (k : ℕ). HasKeptTo (put_acts k c.args.frame.now) a b) are.are.gate (c.put_behind.ensures.acts.between honest);
     }
 
 pub returns-clause-file : goal.returns-clause-file
@@ -98,3 +98,14 @@ returns-clause-file g c K f are next long =
       begun = are.begun;
       done = are.done;
     }
+
+pub returns-in_err-put_behind-clause-call : goal.returns-in_err-put_behind-clause-call
+returns-in_err-put_behind-clause-call g c = record {
+  works = works_failed _ _ c.args.self.now.broken c.from_residual.result c.if-self.false (c.in_err-put_behind.ensures.call.failed refl) c.from_residual.ensures.1;
+  takes = search rules;
+  honest = c.put_behind.ensures.call.honest;
+  no_room = search rules;
+  refused = search rules;
+  broken = search rules;
+  parts = search rules;
+}

@@ -1,14 +1,13 @@
 use Rattle.std.proofs.Common.{rules}
-use Rattle.std.proofs.Common.{◌≡◌, ◌∙◌, ◌≤◌, ◌+◌, ◌++◌, ◌∷◌, [], sym, subst, length, arith, Err}
+use Rattle.std.proofs.Common.{◌∙◌, ◌≤◌, ◌++◌, ◌∷◌, [], sym, subst, length, arith}
 use Rattle.std.proofs.lemmas.Bool.{false≢true}
 use Rattle.pfx_disk.specs.declared.gates.TheConstants.{GATE_OPEN}
 use Rattle.pfx_recovery.specs.Store.{with_frame, turned_at}
 use Rattle.pfx_store_file.specs.Holding.{Holds}
 use Rattle.pfx_store_file.specs.Tending.{settled}
-use Rattle.pfx_store_file.proofs.Keeping.{keeps_then, keeps_none, room_there, room_made, parts_then}
+use Rattle.pfx_store_file.proofs.Keeping.{keeps_then, keeps_none, room_there, room_made}
 use Rattle.pfx_store_file.proofs.Calling.{fault_back}
-use Rattle.pfx_store_file.specs.declared.faults.StoreFault.TheVariants.{NoRoom}
-use Rattle.std.proofs.Common.{List, ℕ, inl}
+use Rattle.std.proofs.Common.{List, inl}
 use Rattle.pfx_disk.specs.Stop.{Act}
 use Rattle.pfx_segment.specs.Acts.{put_acts}
 use Rattle.pfx_disk.specs.CallsMade.{HasMade, HasBrokenOff, HasKeptTo}

@@ -39,8 +39,8 @@ returns-in_err-close-clause-acts g c K f are honest =
     let at_is : c.slot_at-at.result ≡ slot_of K f = c.slot_at-at.ensures.at (K.layout f.head) are.are.fits ∙ ap (λ b. slot_at (K.layout f.head) (not b)) are.are.slot in
     record {
       made = search rules;
-      broken_off = λ is. subst (λ (k : ℕ). HasBrokenOff (close_acts k f.slot_open) a b) at_is (subst (λ (o : Bool). HasBrokenOff (close_acts c.slot_at-at.result o) a b) are.slot_open (c.in_err-close.ensures.front honest refl));
-      between = subst (λ (k : ℕ). HasKeptTo (close_acts k f.slot_open) a b) at_is (subst (λ (o : Bool). HasKeptTo (close_acts c.slot_at-at.result o) a b) are.slot_open (c.close.ensures.between honest));
+      broken_off = λ is. subst (λ (k : ℕ). HasBrokenOff (close_acts k f.slot_open) a b) at_is (subst (λ (o : Bool). HasBrokenOff (close_acts c.slot_at-at.result o) a b) are.slot_open (c.in_err-close.ensures.acts.broken_off honest refl));
+      between = subst (λ (k : ℕ). HasKeptTo (close_acts k f.slot_open) a b) at_is (subst (λ (o : Bool). HasKeptTo (close_acts c.slot_at-at.result o) a b) are.slot_open (c.close.ensures.acts.between honest));
     }
 
 pub returns-clause-acts : goal.returns-clause-acts
@@ -50,9 +50,9 @@ returns-clause-acts g c K f are honest =
     let b = view c.close.new.disk in
     let at_is : c.slot_at-at.result ≡ slot_of K f = c.slot_at-at.ensures.at (K.layout f.head) are.are.fits ∙ ap (λ b. slot_at (K.layout f.head) (not b)) are.are.slot in
     record {
-      made = subst (λ (k : ℕ). HasMade (close_acts k f.slot_open) a b) at_is (subst (λ (o : Bool). HasMade (close_acts c.slot_at-at.result o) a b) are.slot_open (c.in_ok-close.ensures.acts honest));
+      made = subst (λ (k : ℕ). HasMade (close_acts k f.slot_open) a b) at_is (subst (λ (o : Bool). HasMade (close_acts c.slot_at-at.result o) a b) are.slot_open (c.in_ok-close.ensures.acts.made honest));
       broken_off = search rules;
-      between = subst (λ (k : ℕ). HasKeptTo (close_acts k f.slot_open) a b) at_is (subst (λ (o : Bool). HasKeptTo (close_acts c.slot_at-at.result o) a b) are.slot_open (c.close.ensures.between honest));
+      between = subst (λ (k : ℕ). HasKeptTo (close_acts k f.slot_open) a b) at_is (subst (λ (o : Bool). HasKeptTo (close_acts c.slot_at-at.result o) a b) are.slot_open (c.close.ensures.acts.between honest));
     }
 
 pub returns-clause-file : goal.returns-clause-file

@@ -1,11 +1,10 @@
 use Rattle.std.proofs.Common.{rules, subst}
 use Rattle.pfx_store_file.specs.Holding.{Holds}
 use Rattle.pfx_store_file.proofs.Keeping.{keeps_then, still_on, has_settled}
-use Rattle.std.proofs.Common.{inl, refl}
 use Rattle.pfx_store_file.specs.Acts.{stepped_file}
 use Rattle.pfx_store_file.proofs.Calling.{fault_back}
 use Rattle.pfx_store_file.specs.declared.faults.StoreFault.TheVariants.{Device}
-use Rattle.pfx_store_file.proofs.Ends.{Walked, walked_none, walked_on, walked_broken, walked_within, all_made, all_within, all_file}
+use Rattle.pfx_store_file.proofs.Ends.{walked_none, walked_on, walked_broken, walked_within, all_made, all_within, all_file}
 use Rattle.pfx_store_file.proofs.file.StoreFile.end_checkpoint.Goals as goal
 
 pub steps-preserved : goal.steps-preserved

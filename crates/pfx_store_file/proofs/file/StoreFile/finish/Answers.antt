@@ -44,8 +44,8 @@ returns-in_err-open_gate-clause-acts g c K f are honest =
     let at_is : c.slot_at-at.result ≡ slot_of K f = c.slot_at-at.ensures.at (K.layout f.head) are.are.fits ∙ ap (λ b. slot_at (K.layout f.head) (not b)) are.are.slot in
     record {
       made = search rules;
-      broken_off = λ is. subst (λ (k : ℕ). HasBrokenOff (open_acts k) a b) at_is (c.in_err-open_gate.ensures.front honest refl);
-      between = subst (λ (k : ℕ). HasKeptTo (open_acts k) a b) at_is (c.open_gate.ensures.between honest);
+      broken_off = λ is. subst (λ (k : ℕ). HasBrokenOff (open_acts k) a b) at_is (c.in_err-open_gate.ensures.acts.broken_off honest refl);
+      between = subst (λ (k : ℕ). HasKeptTo (open_acts k) a b) at_is (c.open_gate.ensures.acts.between honest);
     }
 
 pub returns-clause-acts : goal.returns-clause-acts
@@ -55,9 +55,9 @@ returns-clause-acts g c K f are honest =
     let b = view c.open_gate.new.disk in
     let at_is : c.slot_at-at.result ≡ slot_of K f = c.slot_at-at.ensures.at (K.layout f.head) are.are.fits ∙ ap (λ b. slot_at (K.layout f.head) (not b)) are.are.slot in
     record {
-      made = subst (λ (k : ℕ). HasMade (open_acts k) a b) at_is (c.in_ok-open_gate.ensures.acts honest);
+      made = subst (λ (k : ℕ). HasMade (open_acts k) a b) at_is (c.in_ok-open_gate.ensures.acts.made honest);
       broken_off = search rules;
-      between = subst (λ (k : ℕ). HasKeptTo (open_acts k) a b) at_is (c.open_gate.ensures.between honest);
+      between = subst (λ (k : ℕ). HasKeptTo (open_acts k) a b) at_is (c.open_gate.ensures.acts.between honest);
     }
 
 pub returns-clause-file : goal.returns-clause-file

@@ -57,8 +57,8 @@ returns-in_err-prepare-clause-acts g c K f are honest =
     let at_is : c.segment_at-at.result ≡ segment_of K f = c.segment_at-at.ensures.at (K.layout f.head) are.are.fits ∙ ap (λ b. segment_at (K.layout f.head) (not b)) are.are.segment in
     record {
       made = search rules;
-      broken_off = λ is. subst (λ (k : ℕ). HasBrokenOff (close_acts k f.segment_open ++ put_acts k c.args.start.now) a b) at_is (subst (λ (o : Bool). HasBrokenOff (close_acts c.segment_at-at.result o ++ put_acts c.segment_at-at.result c.args.start.now) a b) are.segment_open (c.in_err-prepare.ensures.front honest refl));
-      between = subst (λ (k : ℕ). HasKeptTo (close_acts k f.segment_open ++ put_acts k c.args.start.now) a b) at_is (subst (λ (o : Bool). HasKeptTo (close_acts c.segment_at-at.result o ++ put_acts c.segment_at-at.result c.args.start.now) a b) are.segment_open (c.prepare.ensures.between honest));
+      broken_off = λ is. subst (λ (k : ℕ). HasBrokenOff (close_acts k f.segment_open ++ put_acts k c.args.start.now) a b) at_is (subst (λ (o : Bool). HasBrokenOff (close_acts c.segment_at-at.result o ++ put_acts c.segment_at-at.result c.args.start.now) a b) are.segment_open (c.in_err-prepare.ensures.acts.broken_off honest refl));
+      between = subst (λ (k : ℕ). HasKeptTo (close_acts k f.segment_open ++ put_acts k c.args.start.now) a b) at_is (subst (λ (o : Bool). HasKeptTo (close_acts c.segment_at-at.result o ++ put_acts c.segment_at-at.result c.args.start.now) a b) are.segment_open (c.prepare.ensures.acts.between honest));
     }
 
 pub returns-clause-acts : goal.returns-clause-acts
@@ -68,9 +68,9 @@ returns-clause-acts g c K f are honest =
     let b = view c.prepare.new.disk in
     let at_is : c.segment_at-at.result ≡ segment_of K f = c.segment_at-at.ensures.at (K.layout f.head) are.are.fits ∙ ap (λ b. segment_at (K.layout f.head) (not b)) are.are.segment in
     record {
-      made = subst (λ (k : ℕ). HasMade (close_acts k f.segment_open ++ put_acts k c.args.start.now) a b) at_is (subst (λ (o : Bool). HasMade (close_acts c.segment_at-at.result o ++ put_acts c.segment_at-at.result c.args.start.now) a b) are.segment_open (c.in_ok-prepare.ensures.acts honest));
+      made = subst (λ (k : ℕ). HasMade (close_acts k f.segment_open ++ put_acts k c.args.start.now) a b) at_is (subst (λ (o : Bool). HasMade (close_acts c.segment_at-at.result o ++ put_acts c.segment_at-at.result c.args.start.now) a b) are.segment_open (c.in_ok-prepare.ensures.acts.made honest));
       broken_off = search rules;
-      between = subst (λ (k : ℕ). HasKeptTo (close_acts k f.segment_open ++ put_acts k c.args.start.now) a b) at_is (subst (λ (o : Bool). HasKeptTo (close_acts c.segment_at-at.result o ++ put_acts c.segment_at-at.result c.args.start.now) a b) are.segment_open (c.prepare.ensures.between honest));
+      between = subst (λ (k : ℕ). HasKeptTo (close_acts k f.segment_open ++ put_acts k c.args.start.now) a b) at_is (subst (λ (o : Bool). HasKeptTo (close_acts c.segment_at-at.result o ++ put_acts c.segment_at-at.result c.args.start.now) a b) are.segment_open (c.prepare.ensures.acts.between honest));
     }
 
 pub returns-clause-file : goal.returns-clause-file

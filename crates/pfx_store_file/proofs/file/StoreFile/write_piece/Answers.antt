@@ -1,7 +1,7 @@
 use Rattle.std.proofs.Common.{rules}
 use Rattle.std.proofs.Common.{◌≡◌, ◌∙◌, ◌+◌, ◌-◌, ◌≤◌, ap, not, ℕ, List, take, drop, refl, arith}
-use Rattle.std.proofs.Common.{[], ◌∷◌, sym, subst}
-use Rattle.pfx_disk.specs.Stop.{Act, Write}
+use Rattle.std.proofs.Common.{[], ◌∷◌, subst}
+use Rattle.pfx_disk.specs.Stop.{Write}
 use Rattle.pfx_disk.specs.CallsMade.{HasMade, HasBrokenOff, HasKeptTo}
 use Rattle.pfx_disk.proofs.CallsMade.{write_made, write_broken, write_within}
 use Rattle.pfx_store_file.specs.Files.{slot_of}
