@@ -39,7 +39,8 @@ pub record IsStep {T : Type 0} (result : Result T StoreFault) (old new : Places)
 
 module _ {D T : Type 0} {g : Ghosts D} (old new : StoreFile D g) (result : Result T StoreFault) where
   -- A call of a store's file that takes so many calls of the disk. A broken file is refused and left as it was; a fault of the device
-  -- means that the disk failed, and breaks the file. An honest disk stays one, and the parts of the file lie where they lay.
+  -- means that the disk failed, and breaks the file; a lack of room is no answer. An honest disk stays one, and the parts of the file
+  -- lie where they lay.
   pub record IsCall (calls : ℕ) : Type 0 where
     pub works : Works (g.view old.disk) (g.view new.disk) old.broken new.broken result
     pub takes : Takes calls (g.view old.disk) (g.view new.disk) result
@@ -48,8 +49,8 @@ module _ {D T : Type 0} {g : Ghosts D} (old new : StoreFile D g) (result : Resul
     pub broken : IsErrOf result Broken → new ≡ old
     pub parts : SameParts old.places new.places
 
-  -- An append of n bytes takes four calls of the disk, as such a call does. But where the file isn't broken and has no room for them, and
-  -- only there, it answers so and does nothing.
+  -- An append of n bytes, which takes four calls of the disk. It is such a call, but for a lack of room: that is the answer exactly if the
+  -- file isn't broken and has no room for them, and then nothing was done.
   pub record IsAppend (n : ℕ) : Type 0 where
     pub works : Works (g.view old.disk) (g.view new.disk) old.broken new.broken result
     pub takes : Takes 4 (g.view old.disk) (g.view new.disk) result
