@@ -1,4 +1,4 @@
--- Worked rows: the calls of the acts of a small file, whose header has two bytes, its slots' bodies two and its segments twenty.
+-- Worked rows: the calls of the acts of a small file, whose header has two bytes, its checkpoint areas' bodies two and its segments twenty.
 use Rattle.std.specs.Prelude.{◌≡◌, ℕ, List, [], ◌∷◌, true, false, refl}
 use Rattle.pfx_disk.specs.Stop.{Sync, Write, Look}
 use Rattle.pfx_recovery.specs.ToyCodec.{toy}
@@ -14,7 +14,7 @@ put_row = refl
 close_row : close_acts 7 false ≡ Look ∷ Sync ∷ []
 close_row = refl
 
--- The first slot is in use and the second one stands open; a turn was made to the second segment, which has a frame of six
+-- The first checkpoint area is in use and the second one stands open; a turn was made to the second segment, which has a frame of six
 -- bytes, and no step of the checkpoint has been taken.
 abbrev file : File ℕ (List ℕ)
 file = record {
@@ -34,7 +34,7 @@ file = record {
   done = 0;
 }
 
--- the checkpoint's first step closes the slot, the second one writes the state's two bytes, the third one opens it
+-- the checkpoint's first step closes the checkpoint area, the second one writes the state's two bytes, the third one opens it
 one_step : steps_acts toy 1 file (1 ∷ 7 ∷ []) ≡ Write 5 (0 ∷ []) ∷ Sync ∷ []
 one_step = refl
 
@@ -45,7 +45,7 @@ three_steps = refl
 all_steps : end_acts toy file (1 ∷ 7 ∷ []) ≡ steps_acts toy 3 file (1 ∷ 7 ∷ [])
 all_steps = refl
 
--- then the second slot is in use, and one segment is read
+-- then the second checkpoint area is in use, and one segment is read
 ended_slot : (ended_file toy file).parts.slot ≡ true
 ended_slot = refl
 

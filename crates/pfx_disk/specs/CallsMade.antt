@@ -18,7 +18,7 @@ pub record IsAfter (disk : View) (start : List ℕ) (done : List Act) : Type 0 w
   pub contents : disk.contents ≡ contents_after start done
   pub images : LeavesAtMost disk start done
 
--- behind these calls, some more of the list `calls` went through, the next of them failed, and none was made behind it
+-- after these calls, some more of the list `calls` went through, the next of them failed, and none was made after it
 pub record BrokeOff (disk : View) (start : List ℕ) (done calls : List Act) : Type 0 where
   pub gone : List Act
   pub act : Act
@@ -26,7 +26,7 @@ pub record BrokeOff (disk : View) (start : List ℕ) (done calls : List Act) : T
   pub are : gone ++ act ∷ rest ≡ calls
   pub images : LeavesAtMost disk start (with_failed (done ++ gone) act)
 
--- a stop behind these calls and some more of the list `calls` leaves the image
+-- a stop after these calls and some more of the list `calls` leaves the image
 abbrev pub Among : List ℕ → List Act → List Act → List ℕ → Type 0
 Among start done calls image = (gone : List Act) × (coming : List Act) × (gone ++ coming ≡ calls) × Left start (done ++ gone) image
 
@@ -34,7 +34,7 @@ Among start done calls image = (gone : List Act) × (coming : List Act) × (gone
 abbrev pub HasMade : List Act → View → View → Type 0
 HasMade calls old new = (start : List ℕ) → (done : List Act) → IsAfter old start done → IsAfter new start (done ++ calls)
 
--- It made some of them, the next one failed, and it made none behind that.
+-- It made some of them, the next one failed, and it made none after that.
 abbrev pub HasBrokenOff : List Act → View → View → Type 0
 HasBrokenOff calls old new = (start : List ℕ) → (done : List Act) → IsAfter old start done → BrokeOff new start done calls
 

@@ -1,6 +1,6 @@
-//! The format of a store's file, version 1: what the bytes of its header, its slots and its frames stand for.
+//! The format of a store's file, version 1: what the bytes of its header, its checkpoint areas and its frames stand for.
 //!
-//! `specs/Format.antt` gives the codec that `pfx_recovery` leaves open. A header is that of `pfx_header`, and a slot's body
+//! `specs/Format.antt` gives the codec that `pfx_recovery` leaves open. A header is that of `pfx_header`, and a checkpoint area's body
 //! the bytes of a state of `pfx_checkpoint`. A frame is a batch of `pfx_record`, which leads from a state to the one after
 //! its records:
 //! 1. its head is right after the state's number: 1 to 16 commands, the next number first, none above 2^48 - 1;

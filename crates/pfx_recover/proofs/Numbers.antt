@@ -29,7 +29,7 @@ module _ {H S : Type 0} (K : Codec H S) (h : H) (bytes : List ℕ) where
   open_is : (p r : ℕ) (g : Bool) → p ≡ r → g ≡ is_open p bytes → g ≡ is_open r bytes
   open_is p r g place is = is ∙ ap (λ (k : ℕ). is_open k bytes) place
 
-  -- the number of a slot is read from its first eight bytes
+  -- the number of a checkpoint area is read from its first eight bytes
   number_is : (fits : H → S → Type 0) (most : ℕ) → Bounds K fits most → (p at a : ℕ) (m : List ℕ) → p ≡ at → 8 ≤ (K.layout h).body → m ≡ first_at p bytes → a ≡ K.slot_number m → a ≡ K.slot_number (body_at (K.layout h) at bytes)
   number_is fits most bounds p at a m place long is of =
       of ∙ ap (λ (l : List ℕ). K.slot_number l) is ∙ ap (λ (k : ℕ). K.slot_number (first_at k bytes)) place

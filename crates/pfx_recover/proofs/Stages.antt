@@ -1,4 +1,4 @@
--- Each stage of opening, where the stages within it are answered.
+-- Each stage of opening, if the stages within it are answered.
 use Rattle.std.proofs.Common.{◌≡◌, ◌≢◌, ℕ, ◌+◌, List, length, refl, sym, ◌∙◌, ap, subst, cond, Bool, true, false, not, nat_lt, ◌==◌, Option, Some, None, Result, Ok, Err, Vec, arith, length-take}
 use Rattle.std.specs.declared.alloc.Global.{Global}
 use Rattle.pfx_segment.specs.Frames.{size}
@@ -163,7 +163,7 @@ module _ {H S : Type 0} (K : Codec H S) (bytes : List ℕ) where
   unfolding recovered
   refused_as e is = ap (λ r. on_ok r (λ f. Ok f.state)) is
 
-  -- a fault of opening refuses the bytes' state, where it refuses what is found in them
+  -- a fault of opening refuses the bytes' state, if it refuses what is found in them
   pub refusal_as : {T : Type 0} (P : T → Result (Found H S) means.Refusal → Type 0) (e : OpenFault) → Gives P (found K bytes) (Err e) → IsRefusal e (λ r. recovered K bytes ≡ Err r)
   refusal_as P (fault.Refused e) gives = refused_as (refusal_of e) gives
   refusal_as P fault.Device gives = tt

@@ -76,7 +76,7 @@ pub fill_size : (frames : List (List ℕ)) (bytes : List ℕ) → Fill frames by
 fill_size frames bytes fill = size_is frames ∙ ap length fill.joined
 
 -- How far a walk of a file's bytes has come: the frames so far fill these bytes, and behind them it goes on at this gate,
--- behind the command of this number.
+-- after the command of this number.
 pub record WalksTo {H S : Type 0} (K : Codec H S) (first end start : ℕ) (image bytes : List ℕ) (gate last : ℕ) : Type 0 where
   pub frames : List (List ℕ)
   pub fill : Fill frames bytes

@@ -53,7 +53,7 @@ Gives P read (Err fault.NoMemory) = ⊤
 abbrev pub IsRead : {A : Type 0} → A → Result A means.Refusal → Type 0
 IsRead a read = read ≡ Ok a
 
--- where the fault is a refusal, this holds of what it means
+-- if the fault is a refusal, this holds of what it means
 abbrev pub IsRefusal : OpenFault → (means.Refusal → Type 0) → Type 0
 IsRefusal (fault.Refused e) P = P (refusal_of e)
 IsRefusal fault.Device P = ⊤

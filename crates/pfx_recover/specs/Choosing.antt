@@ -1,4 +1,4 @@
--- Which of two slots, and of two segments, was chosen.
+-- Which of two checkpoint areas, and of two segments, was chosen.
 use Rattle.std.specs.Prelude.{◌≡◌, ℕ, List, Bool, not, if◌then◌else◌, Result, Ok}
 use Rattle.pfx_recovery.specs.Codec.{Codec}
 use Rattle.pfx_recovery.specs.Layout.{slot_at, segment_at, is_open, body_at}
@@ -14,12 +14,12 @@ pub record IsChoice (is_second : Bool) (low high : Numbered) (choice : Choice) :
   pub number : choice.other_number ≡ (if is_second then low.number else high.number)
 
 module _ {H S : Type 0} (K : Codec H S) (h : H) (bytes : List ℕ) where
-  -- it is the slot that was to be chosen, and the other's gate stands so
+  -- it is the checkpoint area that was to be chosen, and the other's gate stands so
   pub record IsSlot (choice : Choice) (read : Result Bool Refusal) : Type 0 where
     pub chosen : read ≡ Ok choice.second
     pub other : choice.other_open ≡ is_open (slot_at (K.layout h) (not choice.second)) bytes
 
-  -- the state in this slot
+  -- the state in this checkpoint area
   abbrev pub slot_state : Bool → Result S Refusal
   slot_state second =
       on_some (K.read_state h (body_at (K.layout h) (slot_at (K.layout h) second) bytes)) (Damaged (slot_at (K.layout h) second) Checkpoint) (λ s. Ok s)

@@ -13,7 +13,7 @@ use Rattle.pfx_store_file.specs.declared.places.Places.{Places}
 use Rattle.pfx_recover.specs.Looking.{IsKept}
 
 module _ {H S : Type 0} (K : Codec H S) (h : H) where
-  -- where two segments were read, the body of a slot that holds the state between them; else there is none
+  -- where two segments were read, the body of a checkpoint area that holds the state between them; else there is none
   abbrev pub IsMiddle : Parts S → Option (Vec ℕ Global) → Type 0
   IsMiddle p None = p.turned ≡ false
   IsMiddle p (Some spelled) = (p.turned ≡ true) × (length spelled.items ≡ (K.layout h).body) × (K.read_state h spelled.items ≡ Some p.middle)
@@ -26,7 +26,7 @@ module _ {H S : Type 0} (K : Codec H S) (h : H) where
     pub file : AreOf K (file_in K bytes h parts) places
     pub between : IsMiddle parts middle
 
-  -- That is what is found in these bytes; the store of it holds on the disk, which has these bytes, also behind a stop.
+  -- That is what is found in these bytes; the store of it holds on the disk, which has these bytes, also after a stop.
   pub record IsOpened (bytes : List ℕ) (places : Places) (state : S) (middle : Option (Vec ℕ Global)) (disk : View) : Type 0 where
     pub parts : Parts S
     pub found : found K bytes ≡ Ok (found_of h parts state)
@@ -35,7 +35,7 @@ module _ {H S : Type 0} (K : Codec H S) (h : H) where
     pub holds : (spelling : List ℕ) → Holds K h places parts state spelling disk
     pub between : IsMiddle parts middle
 
--- A store can go on with what was found: its slots can hold the state, the file is as long as its parts, the places are those of such a
+-- A store can go on with what was found: its checkpoint areas can hold the state, the file is as long as its parts, the places are those of such a
 -- file, and no checkpoint is begun.
 pub record IsUsable {H S : Type 0} (K : Codec H S) (can_hold : H → S → Type 0) (h : H) (total : ℕ) (places : Places) (state : S) : Type 0 where
   pub fits : can_hold h state

@@ -1,5 +1,5 @@
 -- A codec of small files, for tests. A header is a byte 1 and a byte for the length of a segment past ten bytes. A state
--- is a number below 200 and a sum below 100; a slot's body is the two of them in a byte each, and six bytes more. A
+-- is a number below 200 and a sum below 100; a checkpoint area's body is the two of them in a byte each, and six bytes more. A
 -- frame's number stands at the place of its first command's, and its one record is a byte that isn't 0 and is added to
 -- the sum.
 use Rattle.std.specs.Prelude.{ℕ, ◌+◌, ◌<◌, nat_lt, ◌==◌, if◌then◌else◌, List, slice_index, Option, Some, None}
@@ -11,7 +11,7 @@ use Rattle.pfx_recovery.specs.ToyCodec.{toy_head}
 abbrev pub small_layout : ℕ → Layout
 small_layout room = record { head = 2; body = 8; segment = 10 + room; room = omega arith }
 
--- the state, where its number and its sum are small enough
+-- the state, if its number and its sum are small enough
 abbrev pub small : ℕ → ℕ → Option (ℕ × ℕ)
 small number sum = if nat_lt number 200 then (if nat_lt sum 100 then Some (number, sum) else None) else None
 

@@ -34,12 +34,12 @@ pub record IsWalked (first end : ℕ) (walked : Walked) : Type 0 where
   pub inside : walked.gate < end
   pub last : walked.last < 2 ^ 48
 
--- they stand in this segment, with the gate behind them
+-- they stand in this segment, with the gate after them
 pub record StandIn (L : Layout) (second : Bool) (walked : Walked) : Type 0 where
   pub gate : walked.gate ≡ first_gate L second + walked.len
   pub inside : walked.gate < segment_end L second
 
--- These are the slot and the segment in use, how the gates of the others stand, and the next frame's gate; and no
+-- These are the checkpoint area and the segment in use, how the gates of the others stand, and the next frame's gate; and no
 -- checkpoint is begun, nor anything of one done.
 pub record AreInUse (L : Layout) (in_slot other_slot is_turned second other_segment : Bool) (next : ℕ) (places : Places) : Type 0 where
   pub fits : Fits L places

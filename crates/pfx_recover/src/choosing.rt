@@ -1,18 +1,18 @@
-// Which of the two slots is taken, and which of the two segments is read first.
+// Which of the two checkpoint areas is taken, and which of the two segments is read first.
 ghost use Rattle.std.specs.Prelude.{◌≡◌, ◌≤◌, ◌<◌, ◌+◌, ◌^◌, ℕ, List, Ok, Err, MatchResult, if◌then◌else◌, ◌==◌, nat_lt, true, false};
 ghost use Rattle.pfx_recovery.specs.Recovery.{taken, begun};
 ghost use Rattle.pfx_recover.specs.Answers.{refusal_of};
 
 use crate::faults::{Part, Refusal};
 
-/// Which of two slots, or of two segments, was chosen, and how the other stands.
+/// Which of two checkpoint areas, or of two segments, was chosen, and how the other stands.
 #[derive(Clone, Copy)]
 pub(crate) struct Choice {
     /// Whether it is the second.
     pub second: bool,
     /// Whether the other's gate stands open.
     pub other_open: bool,
-    /// The number behind the other's gate.
+    /// The number after the other's gate.
     pub other_number: u64,
 }
 
@@ -31,7 +31,7 @@ impl Choice {
         }
     }
 
-    /// Whether the other goes on behind the command of this number.
+    /// Whether the other goes on after the command of this number.
     pub(crate) fn goes_on(&self, last: u64) -> bool
         requires { last < 2 ^ 48 }
         ensures { result ≡ (if self.now.other_open then (self.now.other_number == last + 1) else false) }
@@ -47,7 +47,7 @@ impl Choice {
     }
 }
 
-/// A gate's place, how it stands, and the number behind it.
+/// A gate's place, how it stands, and the number after it.
 #[derive(Clone, Copy)]
 pub(crate) struct Numbered {
     pub at: usize,
@@ -55,7 +55,7 @@ pub(crate) struct Numbered {
     pub number: u64,
 }
 
-/// The slot that is taken: the open one, or of two open ones the one with the greater number.
+/// The checkpoint area that is taken: the open one, or of two open ones the one with the greater number.
 pub(crate) fn newer(first: Numbered, second: Numbered) -> Result<bool, Refusal>
     ensures { MatchResult result
         (λ b. taken first.at second.at first.open second.open first.number second.number ≡ Ok b)

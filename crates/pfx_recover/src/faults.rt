@@ -14,7 +14,7 @@ pub enum Part {
     Header,
     /// The length of the file.
     Length,
-    /// A slot, which holds a checkpoint.
+    /// A checkpoint area, which holds a checkpoint.
     Checkpoint,
     /// A segment's gate and first number.
     Segment,
@@ -44,7 +44,7 @@ pub enum HeadFault {
     /// There is none.
     #[error("{0}")]
     Refused(Refusal),
-    /// A growth of memory was refused.
+    /// An allocation failed.
     #[error("out of memory")]
     NoMemory,
 }
@@ -58,7 +58,7 @@ pub enum OpenFault {
     /// The disk failed.
     #[error("the disk failed")]
     Device,
-    /// A growth of memory was refused.
+    /// An allocation failed.
     #[error("out of memory")]
     NoMemory,
 }

@@ -24,7 +24,7 @@ pub trait Format {
     /// What the bytes of the parts of a file stand for.
     ghost codec: { Codec Self.Header Self.State };
 
-    /// Which states a slot of a file with this header can hold. Those that are read fit, and those that frames lead to.
+    /// Which states a checkpoint area of a file with this header can hold. Those that are read fit, and those that frames lead to.
     ghost fits: { Self.Header → Self.State → Type 0 };
 
     ghost HEAD_MOST: { ℕ };
@@ -40,11 +40,11 @@ pub trait Format {
     fn sizes(header: &Self::Header) -> Sizes
         ensures { HasSizes (codec.layout header.now) result };
 
-    /// The number at the beginning of a slot's body, which isn't tested.
+    /// The number at the beginning of a checkpoint area's body, which isn't tested.
     fn slot_number(bytes: &[u8; 8]) -> u64
         ensures { result ≡ codec.slot_number bytes.now };
 
-    /// The state that a slot's body stands for, or `None` where it doesn't pass its tests.
+    /// The state that a checkpoint area's body stands for, or `None` if it doesn't pass its tests.
     fn read_state(
         alloc: Global,
         header: &Self::Header,
@@ -60,18 +60,18 @@ pub trait Format {
     fn segment_number(bytes: &[u8; 8]) -> u64
         ensures { result ≡ codec.segment_number bytes.now };
 
-    /// The number of the frame's last command, or `None` where the frame's head isn't right behind this number.
+    /// The number of the frame's last command, or `None` if the frame's head isn't right after this number.
     fn after(last: u64, frame: &[u8]) -> Option<u64>
         requires { last < 2 ^ 48 }
         ensures { result ≡ codec.after last frame.now };
 
-    /// Takes over the frame's records. Where they aren't right at this state, the answer is `false`, and the state is no
+    /// Takes over the frame's records. If they aren't right at this state, the answer is `false`, and the state is no
     /// longer of use.
     fn apply(alloc: Global, state: &mut Self::State, frame: &[u8]) -> Result<bool, AllocError>
         ensures taken { IfOk result (λ right. IsTrue right → codec.apply state.old frame.now ≡ Some state.new) }
         ensures wrong { IfOk result (λ right. IsFalse right → codec.apply state.old frame.now ≡ None) };
 
-    /// Writes the body of a slot that holds the state. It takes no memory.
+    /// Writes the body of a checkpoint area that holds the state. It takes no memory.
     fn encode(header: &Self::Header, state: &Self::State, out: &mut [u8])
         requires state { fits header.now state.now }
         requires long { length out.old ≡ (codec.layout header.now).body }

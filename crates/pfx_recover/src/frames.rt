@@ -14,7 +14,7 @@ use pfx_segment::read_one;
 use std::alloc::Global;
 
 // How many bytes the frames take that these bytes begin with, up to the first closed gate, and their last number. The
-// first of them has this gate, and comes behind the command of this number.
+// first of them has this gate, and comes after the command of this number.
 fn walk_held<F: Format>(bytes: &[u8], first: usize, number: u64) -> Result<(usize, u64), OpenFault>
     requires some { 0 < length bytes.now }
     requires place { first + length bytes.now < 2 ^ 64 }
@@ -43,7 +43,7 @@ fn walk_held<F: Format>(bytes: &[u8], first: usize, number: u64) -> Result<(usiz
     }
 }
 
-// The frames from this gate on, as below, each by at most three calls of the disk, and the gate behind them by one.
+// The frames from this gate on, as below, each by at most three calls of the disk, and the gate after them by one.
 fn read_singly<F: Format, D: Disk>(
     alloc: Global,
     disk: &mut D,
@@ -84,9 +84,9 @@ fn read_singly<F: Format, D: Disk>(
     }
 }
 
-/// The frames from this gate on, up to the first closed one, behind the command of this number. They are read by one
-/// call of the disk, or one by one if there is no memory for all bytes up to the end. A frame is refused where it doesn't
-/// fit before the end, or its head isn't right behind the frames before it.
+/// The frames from this gate on, up to the first closed one, after the command of this number. They are read by one
+/// call of the disk, or one by one if there is no memory for all bytes up to the end. A frame is refused if it doesn't
+/// fit before the end, or its head isn't right after the frames before it.
 pub(crate) fn read_frames<F: Format, D: Disk>(
     alloc: Global,
     disk: &mut D,

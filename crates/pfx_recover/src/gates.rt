@@ -1,4 +1,4 @@
-// The gates of slots and segments, and the numbers behind them.
+// The gates of checkpoint areas and segments, and the numbers after them.
 ghost use Rattle.std.specs.Prelude.{◌≡◌, ◌≤◌, ◌+◌, ℕ, List, IfOk};
 ghost use Rattle.pfx_recovery.specs.Layout.{is_open, first_at};
 ghost use Rattle.pfx_recover.specs.Looking.{IsKept, IsLook, Reaches};
@@ -12,7 +12,7 @@ pub(crate) struct GateHead {
     pub bytes: [u8; 8],
 }
 
-/// The gate of a slot or a segment and the bytes behind it, by one call of the disk.
+/// The gate of a checkpoint area or a segment and the bytes behind it, by one call of the disk.
 pub(crate) fn read_gate<D: Disk>(disk: &mut D, at: usize) -> Result<GateHead, DeviceFailed>
     requires inside { Reaches (at + 9) (D.view disk.old) }
     ensures call { IsLook (D.view disk.old) (D.view disk.new) result }

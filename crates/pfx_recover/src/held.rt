@@ -44,7 +44,7 @@ pub(crate) fn len_at(bytes: &[u8], at: usize) -> usize
 }
 
 /// How long the frame at this open gate is, and its last number, or `None` where it doesn't end before the bytes do, or
-/// its head isn't right behind the command of this number.
+/// its head isn't right after the command of this number.
 pub(crate) fn head_at<F: Format>(bytes: &[u8], at: usize, last: u64) -> Option<(usize, u64)>
     requires inside { at < length bytes.now }
     requires last { last < 2 ^ 48 }

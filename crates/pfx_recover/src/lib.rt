@@ -1,13 +1,13 @@
 //! Opening a store's file: the code that reads a disk, and answers what `pfx_recovery` says that its bytes mean.
 //!
-//! What stands in a header, a slot and a frame is left to a `Format`, which has the codec of the file's bytes and reads
-//! them. `open` begins with a sync, so that what it reads is what a stop leaves, and then only reads: the header, the slots
+//! What stands in a header, a checkpoint area and a frame is left to a `Format`, which has the codec of the file's bytes and reads
+//! them. `open` begins with a sync, so that what it reads is what a stop leaves, and then only reads: the header, the checkpoint areas
 //! and the segments' gates, and then each segment at once, or its frames one by one if there is no memory for the whole. Its
 //! tests come in one order over the file:
 //! 1. the header, and the file's length;
-//! 2. the slots' gates and numbers, and the state in the slot that is taken;
+//! 2. the checkpoint areas' gates and numbers, and the state in the checkpoint area that is taken;
 //! 3. the segments' gates and first numbers;
-//! 4. the heads of all frames that are read, of the second segment too, if it goes on behind the first;
+//! 4. the heads of all frames that are read, of the second segment too, if it goes on after the first;
 //! 5. the records of these frames, which are held in memory for it;
 //! 6. the first number of an open segment that isn't read.
 //!

@@ -23,15 +23,15 @@ pub struct Opened<D: Disk, F: Format> {
     pub header: F::Header,
     /// Its state.
     pub state: F::State,
-    /// The body of the slot that the checkpoint in progress writes, where two segments were read. It holds the state
-    /// behind the frames of the first.
+    /// The body of the checkpoint area that the checkpoint in progress writes, where two segments were read. It holds the state
+    /// after the frames of the first.
     pub middle: Option<Vec<u8>>,
 }
 
 /// Opens a store's file: a sync, and then reads alone. With a fault the disk comes back.
 ///
-/// `Refused` names the first test that the bytes don't pass. `Device` comes only where the disk failed, and `NoMemory` where
-/// a growth of memory was refused.
+/// `Refused` names the first test that the bytes don't pass. `Device` comes only if the disk failed, and `NoMemory` if
+/// an allocation failed.
 pub fn open<F: Format, D: Disk>(alloc: Global, disk: D) -> Result<Opened<D, F>, (OpenFault, D)>
     // What is found in the disk's bytes, and the store of it.
     ensures opened { IsHonest (D.view disk) → IfOk result (λ o. IsOpened F.codec o.header
@@ -44,7 +44,7 @@ pub fn open<F: Format, D: Disk>(alloc: Global, disk: D) -> Result<Opened<D, F>, 
     ensures looks { MatchResult result
         (λ o. Looks (D.view disk) (D.view o.file.disk)) (λ e. Looks (D.view disk) (D.view e.1)) }
     ensures whole { IfOk result (λ o. o.file.broken ≡ false) }
-    // No checkpoint is begun, also where one is in progress.
+    // No checkpoint is begun, also if one is in progress.
     ensures unbegun { IfOk result (λ o. o.file.places.begun ≡ false) }
     ensures sized { IfOk result (λ o. Fits (F.codec.layout o.header) o.file.places) }
     ensures fits { IfOk result (λ o. F.fits o.header o.state) }

@@ -1,4 +1,4 @@
-// The records of one segment or of two, where the heads of all frames are right.
+// The records of one segment or of two, if the heads of all frames are right.
 ghost use Rattle.std.specs.Prelude.{◌≡◌, ◌≤◌, ◌<◌, ◌+◌, ◌^◌, ℕ, List, not, IfOk, IsErrOf};
 ghost use Rattle.pfx_recovery.specs.Layout.{segment_at, segment_end, IsOpenAt};
 ghost use Rattle.pfx_recovery.specs.Recovery.{slot_taken, segment_begun, from_one, from_two};
@@ -24,7 +24,7 @@ pub(crate) struct Contents<F: Format> {
     pub places: Places,
     /// Its state.
     pub state: F::State,
-    /// Where two segments were read, the body of a slot that holds the state between them.
+    /// If two segments were read, the body of a checkpoint area that holds the state between them.
     pub middle: Option<Vec<u8>>,
 }
 

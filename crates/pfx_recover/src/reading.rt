@@ -21,7 +21,7 @@ use crate::walked::Walked;
 use pfx_disk::Disk;
 use std::alloc::Global;
 
-// The heads of the other segment, if it goes on behind the first, and all records.
+// The heads of the other segment, if it goes on after the first, and all records.
 fn read_on<F: Format, D: Disk>(
     alloc: Global,
     disk: &mut D,
@@ -54,7 +54,7 @@ fn read_on<F: Format, D: Disk>(
     read_double(alloc, file, slot, segment.second, state, walked, next)
 }
 
-// The segments, behind the slot's state.
+// The segments, after the checkpoint area's state.
 fn read_segments<F: Format, D: Disk>(
     alloc: Global,
     disk: &mut D,
@@ -80,7 +80,7 @@ fn read_segments<F: Format, D: Disk>(
     read_on(alloc, disk, file, slot, segment, state, walked)
 }
 
-// The slot that is taken, and what follows on it.
+// The checkpoint area that is taken, and what follows on it.
 fn read_contents<F: Format, D: Disk>(
     alloc: Global,
     disk: &mut D,

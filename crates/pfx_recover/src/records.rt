@@ -9,7 +9,7 @@ use crate::format::Format;
 use crate::held::len_at;
 use std::alloc::Global;
 
-/// The state behind the records of the frames that fill these bytes, the first of which has this gate. The first frame
+/// The state after the records of the frames that fill these bytes, the first of which has this gate. The first frame
 /// whose records aren't right is refused.
 pub(crate) fn replay_frames<F: Format>(
     alloc: Global,

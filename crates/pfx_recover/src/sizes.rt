@@ -1,12 +1,12 @@
 // How long the parts of a file are, and where they lie.
 ghost use Rattle.std.specs.Prelude.{◌≡◌, ◌≤◌, ◌<◌, ◌+◌, ◌*◌, ◌^◌};
 
-/// How long the parts of a file are, in bytes. Of the two slots and of the two segments `true` names the second.
+/// How long the parts of a file are, in bytes. Of the two checkpoint areas and of the two segments `true` names the second.
 #[derive(Clone, Copy)]
 pub struct Sizes {
     /// The header.
     pub head: usize,
-    /// A slot behind its gate. It begins with a number of eight bytes.
+    /// A checkpoint area behind its gate. It begins with a number of eight bytes.
     pub body: usize,
     /// A segment. It begins with a gate, a number of eight bytes and the gate of a frame.
     pub segment: usize,
@@ -28,7 +28,7 @@ impl Sizes {
         self.head + 2 * (1 + self.body) + 2 * self.segment
     }
 
-    /// Where a slot stands.
+    /// Where a checkpoint area stands.
     pub fn slot_at(&self, b: bool) -> usize
         ensures at { (L : Layout) → HasSizes L self.now → result ≡ slot_at L b }
         ensures inside { result + 1 + self.now.body + 2 * self.now.segment ≤ total_len self.now }

@@ -1,4 +1,4 @@
-// The slot that is taken, and the state in it.
+// The checkpoint area that is taken, and the state in it.
 ghost use Rattle.std.specs.Prelude.{◌≡◌, ◌≤◌, ◌<◌, ◌+◌, ◌^◌, ℕ, List, Ok, IfOk};
 ghost use Rattle.pfx_recovery.specs.Recovery.{slot_taken};
 ghost use Rattle.pfx_recover.specs.Answers.{Gives, IsRead};
@@ -14,7 +14,7 @@ use crate::outline::Outline;
 use pfx_disk::Disk;
 use std::alloc::Global;
 
-/// The slot that is taken, by two calls of the disk.
+/// The checkpoint area that is taken, by two calls of the disk.
 pub(crate) fn take_slot<F: Format, D: Disk>(
     disk: &mut D,
     file: &Outline<F>,
@@ -43,7 +43,7 @@ pub(crate) fn take_slot<F: Format, D: Disk>(
     Ok(Choice::of(is_second, first, second))
 }
 
-/// The state in a slot, by one call of the disk.
+/// The state in a checkpoint area, by one call of the disk.
 pub(crate) fn read_slot<F: Format, D: Disk>(
     alloc: Global,
     disk: &mut D,

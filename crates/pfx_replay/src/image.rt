@@ -60,7 +60,7 @@ pub(crate) fn frames_in(
     }
 }
 
-/// The state in the body of a slot at this place, or `None` if it holds none.
+/// The state in the body of a checkpoint area at this place, or `None` if it holds none.
 pub(crate) fn state_in<F: Format>(
     alloc: Global,
     header: &F::Header,

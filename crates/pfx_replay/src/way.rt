@@ -30,7 +30,7 @@ fn lead<F: Format>(
     Ok(Some(reached))
 }
 
-/// The state in the slot that isn't in use, and the frames of the segment beside this one that lead from it to this
+/// The state in the checkpoint area that isn't in use, and the frames of the segment beside this one that lead from it to this
 /// number, or `None` if there are none.
 pub(crate) fn find_way<F: Format>(
     alloc: Global,

@@ -12,7 +12,7 @@ use Rattle.pfx_store_file.specs.declared.places.Places.{Places}
 use Rattle.pfx_store_file.specs.Files.{File, AreOf}
 use Rattle.pfx_store_file.specs.Acts.{piece_len, tend_acts, closed_file, pieced_file, finished_file, tended_file, steps_acts, stepped_file, end_acts, ended_file}
 
--- a property of two results at once, where one test decides both
+-- a property of two results at once, if one test decides both
 pub by_if₂ : {A C : Type 0} (P : A → C → Type 0) (b : Bool) (x y : A) (u v : C) → (b ≡ true → P x u) → (b ≡ false → P y v) → P (if b then x else y) (if b then u else v)
 by_if₂ P true x y u v first second = first refl
 by_if₂ P false x y u v first second = second refl
@@ -104,11 +104,11 @@ module _ {H S : Type 0} (K : Codec H S) where
   pub has_ended : (f : File H S) → (ended_file K f).parts.turned ≡ false
   has_ended f = ended (2 + (K.layout f.head).body) f (most_left f.parts.turned f.begun (K.layout f.head).body f.done)
 
-  -- where none is in progress there is no next step
+  -- if none is in progress there is no next step
   pub none_acts : (f : File H S) (spelling : List ℕ) → f.parts.turned ≡ false → (tend_acts K f spelling ≡ []) × (tended_file K f ≡ f)
   none_acts f spelling single = by_if₂ (λ calls g. (calls ≡ []) × (g ≡ f)) f.parts.turned _ [] _ f (λ turned. absurd (true≢false (sym turned ∙ single))) (λ _. (refl, refl))
 
-  -- where none is in progress there are no more
+  -- if none is in progress there are no more
   pub none_left_then : (m : ℕ) (f : File H S) (spelling : List ℕ) → f.parts.turned ≡ false → (steps_acts K m f spelling ≡ []) × (stepped_file K m f ≡ f)
   none_left_then zero f spelling single = (refl, refl)
   none_left_then (suc m) f spelling single =

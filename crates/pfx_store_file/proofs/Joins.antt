@@ -10,7 +10,7 @@ use Rattle.pfx_store_file.specs.Files.{File}
 use Rattle.pfx_store_file.proofs.Ends.{Kept, stepped_kept, has_ended, none_acts, none_left_then}
 
 module _ {H S : Type 0} (K : Codec H S) where
-  -- the spelling of a checkpoint's body matters only where one is in progress
+  -- the spelling of a checkpoint's body matters only if one is in progress
   module _ (f : File H S) (one two : List ℕ) (same : f.parts.turned ≡ true → one ≡ two) where
     tend_by : (b : Bool) → f.parts.turned ≡ b → tend_acts K f one ≡ tend_acts K f two
     tend_by true turned = ap (tend_acts K f) (same turned)

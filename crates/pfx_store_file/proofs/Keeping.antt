@@ -103,7 +103,7 @@ module _ {H S : Type 0} (K : Codec H S) (laws : Laws K) (h : H) where
     here : IsKnown K h places p s old.contents
     here = holds.images old.contents holds.honest.here
 
-    -- the next frame's gate lies behind the first one's where there are frames
+    -- the next frame's gate lies behind the first one's if there are frames
     pub has_frames : places.end + 9 < places.gate + places.segment_len → 0 < length p.frames
     has_frames behind = some p.frames (omega (arith, behind, holds.gate, holds.end, holds.fits.segment))
       where
@@ -213,7 +213,7 @@ module _ {H S : Type 0} (K : Codec H S) (laws : Laws K) (h : H) where
             survives_all start (all ++ (GATE_OPEN ∷ body) ∷ []) t (length all + 1) image (omega (arith, length-append all ((GATE_OPEN ∷ body) ∷ []))) (replays_one K laws start all s (GATE_OPEN ∷ body) t run one)
             (recovers K laws h image (with_frame p (GATE_OPEN ∷ body)) t (subst (λ (l : List ℕ). IsStore K h (with_frame p (GATE_OPEN ∷ body)) t l) (sym (only image (only_now image is))) stored))
 
-    -- A checkpoint's steps. The gate of the slot that isn't in use is at this place.
+    -- A checkpoint's steps. The gate of the checkpoint area that isn't in use is at this place.
     module _ (at : ℕ) (at_is : at ≡ slot_at (K.layout h) (not p.slot)) where
       closing_torn : (b : Bool) (x y : List ℕ) → Closing at b x y → Torn (slot_at (K.layout h) (not p.slot)) 1 x y
       closing_torn true x y torn = subst (λ (k : ℕ). Torn k 1 x y) at_is torn

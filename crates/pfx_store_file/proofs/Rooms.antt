@@ -1,4 +1,4 @@
--- The calls of an append, where there is room and where there is none.
+-- The calls of an append, if there is room and if there is none.
 use Rattle.std.specs.Prelude.{◌≡◌, ℕ, ◌+◌, if◌then◌else◌, List, [], ◌++◌, length, true, false}
 use Rattle.std.proofs.Common.{ap, arith, ⊎_elim}
 use Rattle.std.proofs.lemmas.Bool.{cases_lt, lt-ltb, le-ltb}

@@ -14,7 +14,7 @@ module _ {H S : Type 0} (K : Codec H S) where
   abbrev pub piece_len : File H S → ℕ
   piece_len f = min ((K.layout f.head).body - f.done) PIECE
 
-  -- that piece, written behind those before it
+  -- that piece, written after those before it
   abbrev pub piece_acts : File H S → List ℕ → List Act
   piece_acts f spelling = Write (slot_of K f + 1 + f.done) (take (piece_len f) (drop f.done spelling)) ∷ []
 

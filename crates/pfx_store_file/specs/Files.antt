@@ -6,8 +6,8 @@ use Rattle.pfx_recovery.specs.Store.{Parts}
 use Rattle.pfx_store_file.specs.Holding.{ArePlaces}
 use Rattle.pfx_store_file.specs.declared.places.Places.{Places}
 
--- The header and the parts; whether the gates of the slot and of the segment that aren't in use stand open; whether that
--- slot was closed for the checkpoint in progress, and how many bytes of it have been written behind that gate.
+-- The header and the parts; whether the gates of the checkpoint area and of the segment that aren't in use stand open; whether that
+-- checkpoint area was closed for the checkpoint in progress, and how many bytes of it have been written behind that gate.
 pub record File (H S : Type 0) : Type 0 where
   pub head : H
   pub parts : Parts S
@@ -17,7 +17,7 @@ pub record File (H S : Type 0) : Type 0 where
   pub done : ℕ
 
 module _ {H S : Type 0} (K : Codec H S) where
-  -- where the slot that isn't in use stands
+  -- where the checkpoint area that isn't in use stands
   abbrev pub slot_of : File H S → ℕ
   slot_of f = slot_at (K.layout f.head) (not f.parts.slot)
 

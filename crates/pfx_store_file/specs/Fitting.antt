@@ -19,7 +19,7 @@ pub record SameParts (old new : Places) : Type 0 where
 abbrev pub IsEmpty : Places → Type 0
 IsEmpty places = places.end + 9 ≡ places.gate + places.segment_len
 
--- no checkpoint is in progress, and the segment that frames go to has one: the next frame's gate lies behind that byte
+-- no checkpoint is in progress, and the segment that frames go to has one: the next frame's gate lies after that byte
 abbrev pub IsTurnable : Places → Type 0
 IsTurnable places = (places.turned ≡ false) × (places.end + 9 < places.gate + places.segment_len)
 

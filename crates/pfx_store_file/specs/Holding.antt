@@ -45,7 +45,7 @@ module _ {H S : Type 0} (K : Codec H S) where
       → (image : List ℕ) → new.since c image → Survives start more n image
 
   module _ (h : H) where
-    -- the image is one of the store, and the gates of the slot and the segment that aren't in use stand as they are known to
+    -- the image is one of the store, and the gates of the checkpoint area and the segment that aren't in use stand as they are known to
     pub record IsKnown (places : Places) (p : Parts S) (s : S) (image : List ℕ) : Type 0 where
       pub store : IsStore K h p s image
       pub slot_gate : IsGate places.slot_open (slot_at (K.layout h) (not p.slot)) image

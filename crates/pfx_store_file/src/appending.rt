@@ -63,7 +63,7 @@ impl<D: Disk> StoreFile<D> {
     /// `spelling` is as for `tend`, `start` as for `turn`, `frame` as for `append`. If the file is broken, nothing is done.
     ///
     /// The frame has a byte at least, and fits into an empty segment; `start` has nine bytes, and the spelling is as long
-    /// as a slot's body. It is a call of the file, of four calls of the disk, or of those that make room too. The places
+    /// as a checkpoint area's body. It is a call of the file, of four calls of the disk, or of those that make room too. The places
     /// take the frame. After success the store holds with it, and each image has it; at every moment what survived before
     /// survives, with the frame or without. The calls of the disk are those that make room, if there is none, and those of
     /// an append; and the places are those of the file after them.

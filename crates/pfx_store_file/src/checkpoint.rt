@@ -25,11 +25,11 @@ pub const PIECE: usize = 4096;
 pub enum Tended {
     /// No checkpoint is in progress.
     Nothing,
-    /// The gate of the slot that isn't in use is closed.
+    /// The gate of the checkpoint area that isn't in use is closed.
     Closed,
     /// A piece more stands behind it.
     Piece,
-    /// The gate is open: the slot is in use, and the older segment is free.
+    /// The gate is open: the checkpoint area is in use, and the older segment is free.
     Finished,
 }
 
@@ -128,10 +128,10 @@ impl<D: Disk> StoreFile<D> {
     }
 
     /// Takes one step of the checkpoint in progress, if there is one. `spelling` is how the state at the turn is written
-    /// behind a slot's gate, the same for each step. If the file is broken, nothing is done.
+    /// after a checkpoint area's gate, the same for each step. If the file is broken, nothing is done.
     ///
-    /// The spelling is as long as a slot's body. It is a call of the file, of as many calls of the disk as the next step
-    /// takes. That step is taken, and frames go where they went. After success the store holds, with its checkpoint ended
+    /// The spelling is as long as a checkpoint area's body. It is a call of the file, of as many calls of the disk as the next step
+    /// takes. That step is taken, and frames go if they went. After success the store holds, with its checkpoint ended
     /// by the last step; at every moment what survived before survives. The calls of the disk are those of that step, and
     /// the places are those of the file after it.
     pub fn tend<H, S>(&mut self, spelling: &[u8]) -> Result<Tended, StoreFault>
@@ -169,8 +169,8 @@ impl<D: Disk> StoreFile<D> {
 
     /// Takes all steps that are left of the checkpoint in progress, if there is one. `spelling` is as for `tend`.
     ///
-    /// The spelling is as long as a slot's body. It is a call of the file, of as many calls of the disk as those steps
-    /// take. After success no checkpoint is in progress; if none was, nothing is done, and frames go where they went. After
+    /// The spelling is as long as a checkpoint area's body. It is a call of the file, of as many calls of the disk as those steps
+    /// take. After success no checkpoint is in progress; if none was, nothing is done, and frames go if they went. After
     /// success the store holds so; at every moment what survived before survives. The calls of the disk are those of all
     /// these steps, and the places are those of the file after them.
     pub fn end_checkpoint<H, S>(&mut self, spelling: &[u8]) -> Result<(), StoreFault>

@@ -31,7 +31,7 @@ impl<D: Disk> StoreFile<D> {
         ensures whole { result.broken ≡ false }
 
         // If the disk's bytes are durable and found to be a store's, and the places are those of its parts, with the
-        // gates of the slot and the segment that aren't in use as they stand, the store holds.
+        // gates of the checkpoint area and the segment that aren't in use as they stand, the store holds.
         ensures holds { (K : Codec H S) → Laws K → (h : H) → (p : Parts S) → (s : S)
             → IsHonest (D.view disk) → Only (D.view disk).contents (D.view disk)
             → found K (D.view disk).contents ≡ Ok (found_of h p s)

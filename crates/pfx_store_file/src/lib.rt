@@ -1,6 +1,6 @@
 //! A store's file on a disk: the calls that write it, and what survives a stop at any moment of them.
 //!
-//! What a file's bytes mean stands in `pfx_recovery`, where contents are left open. Here `StoreFile` keeps a disk, where
+//! What a file's bytes mean stands in `pfx_recovery`, if contents are left open. Here `StoreFile` keeps a disk, where
 //! the file's parts lie and how its gates stand, and makes the writers' calls. `Holds` says that it does so rightly: each
 //! image that the disk may leave is one of the store at its state. Each call's contract says that the store holds again
 //! if the call succeeds; that what survived before survives at every moment of the call, whatever it answers; and,
@@ -9,10 +9,10 @@
 //! What that rests on, and no change may lose:
 //! 1. A frame is written behind a closed gate, with the next closed gate behind it, and synced before its gate is opened.
 //! 2. A turn comes only if the segment that frames go to has one, and no checkpoint is in progress.
-//! 3. How the gates of the slot and the segment that aren't in use stand is known before anything is written behind them:
+//! 3. How the gates of the checkpoint area and the segment that aren't in use stand is known before anything is written behind them:
 //!    a closed gate is never written closed again. After a call of the disk that failed nothing is known, and the file is
 //!    broken until it is opened again.
-//! 4. A checkpoint holds the state at the turn. The sync of its first step leaves no image with that slot's gate open
+//! 4. A checkpoint holds the state at the turn. The sync of its first step leaves no image with that checkpoint area's gate open
 //!    while pieces are written; the first sync of its last step leaves none without the whole body before the gate opens.
 #![tactic(auto)]
 

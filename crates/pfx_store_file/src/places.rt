@@ -1,19 +1,19 @@
 // Where the parts of a store's file lie, and how its gates stand.
 ghost use Rattle.std.specs.Prelude.{◌≡◌, ◌≤◌, ◌<◌, ◌+◌, ◌*◌, ◌^◌};
 
-/// Where the parts of a store's file lie, and how its gates stand. Of the two slots and of the two segments `true` names
+/// Where the parts of a store's file lie, and how its gates stand. Of the two checkpoint areas and of the two segments `true` names
 /// the second. All places are offsets in the file, all lengths are in bytes.
 #[derive(Clone, Copy)]
 pub struct Places {
     /// The header's length.
     pub head: usize,
-    /// A slot's length behind its gate.
+    /// A checkpoint area's length behind its gate.
     pub body: usize,
     /// A segment's length.
     pub segment_len: usize,
     /// The file's length.
     pub len: usize,
-    /// The slot in use.
+    /// The checkpoint area in use.
     pub slot: bool,
     /// The segment that frames go to.
     pub segment: bool,
@@ -23,13 +23,13 @@ pub struct Places {
     pub gate: usize,
     /// The end of the segment that frames go to.
     pub end: usize,
-    /// Whether the gate of the slot that isn't in use stands open.
+    /// Whether the gate of the checkpoint area that isn't in use stands open.
     pub slot_open: bool,
     /// Whether the gate of the other segment stands open, if that isn't to be read.
     pub segment_open: bool,
-    /// Whether that slot was closed for the checkpoint in progress.
+    /// Whether that checkpoint area was closed for the checkpoint in progress.
     pub begun: bool,
-    /// How many bytes of the checkpoint have been written behind that slot's gate.
+    /// How many bytes of the checkpoint have been written behind that checkpoint area's gate.
     pub done: usize,
     ghost whole: { head + 2 * (1 + body) + 2 * segment_len ≡ len },
     ghost short: { len < 2 ^ 62 },
@@ -43,7 +43,7 @@ impl Places {
     ghost use Rattle.pfx_recovery.specs.Layout.{Layout, slot_at, segment_at};
     ghost use Rattle.pfx_store_file.specs.Fitting.{Fits};
 
-    /// Where a slot stands.
+    /// Where a checkpoint area stands.
     pub fn slot_at(&self, b: bool) -> usize
         ensures at { (L : Layout) → Fits L self.now → result ≡ slot_at L b }
         ensures inside { result + 1 + self.now.body ≤ self.now.len }
