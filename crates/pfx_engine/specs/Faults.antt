@@ -1,6 +1,4 @@
 -- The program's fault for each fault of a store's file.
-use Rattle.pfx_fault.specs.declared.parts.Part.{Part}
-use Rattle.pfx_fault.specs.declared.parts.Part.TheVariants as part
 use Rattle.pfx_fault.specs.declared.refusals.Fault.{Fault}
 use Rattle.pfx_fault.specs.declared.refusals.Fault.TheVariants as fault
 use Rattle.pfx_header.specs.declared.faults.SegmentSizeFault.{SegmentSizeFault}
@@ -9,8 +7,6 @@ use Rattle.pfx_store.specs.declared.making.InitFault.{InitFault}
 use Rattle.pfx_store.specs.declared.making.InitFault.TheVariants as making
 use Rattle.pfx_recover.specs.declared.faults.OpenFault.{OpenFault}
 use Rattle.pfx_recover.specs.declared.faults.OpenFault.TheVariants as opening
-use Rattle.pfx_recover.specs.declared.faults.Part.{Part as FilePart}
-use Rattle.pfx_recover.specs.declared.faults.Part.TheVariants as filepart
 use Rattle.pfx_recover.specs.declared.faults.Refusal.TheVariants as refusal
 
 -- the fault of a segment's length
@@ -26,18 +22,10 @@ fault_of_init making.NotEmpty = fault.NotEmpty
 fault_of_init making.Device = fault.Device
 fault_of_init making.NoMemory = fault.NoMemory
 
--- a part of a file, and the fault of one that isn't opened
-abbrev pub part_of : FilePart → Part
-part_of filepart.Header = part.Header
-part_of filepart.Length = part.Length
-part_of filepart.Checkpoint = part.Checkpoint
-part_of filepart.Segment = part.Segment
-part_of filepart.Frame = part.Frame
-part_of filepart.Record = part.Record
-
+-- the fault of a store that isn't opened
 abbrev pub fault_of_open : OpenFault → Fault
 fault_of_open (opening.Refused refusal.NotAStore) = fault.NotAStore
 fault_of_open (opening.Refused (refusal.WrongVersion version)) = fault.WrongVersion version
-fault_of_open (opening.Refused (refusal.Damaged at what)) = fault.Damaged at (part_of what)
+fault_of_open (opening.Refused (refusal.Damaged at what)) = fault.Damaged at what
 fault_of_open opening.Device = fault.Device
 fault_of_open opening.NoMemory = fault.NoMemory

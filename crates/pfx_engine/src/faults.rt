@@ -1,11 +1,11 @@
 //! The program's fault for each fault of a store's file.
 
 ghost use Rattle.std.specs.Prelude.{◌≡◌};
-ghost use Rattle.pfx_engine.specs.Faults.{fault_of_init, fault_of_open, fault_of_size, part_of};
+ghost use Rattle.pfx_engine.specs.Faults.{fault_of_init, fault_of_open, fault_of_size};
 
-use pfx_fault::{Fault, Part};
+use pfx_fault::Fault;
 use pfx_header::SegmentSizeFault;
-use pfx_recover::{OpenFault, Part as FilePart, Refusal};
+use pfx_recover::{OpenFault, Refusal};
 use pfx_store::InitFault;
 
 /// The fault of a segment's length, with the least that it may have.
@@ -31,19 +31,6 @@ pub fn init_fault(fault: InitFault) -> Fault
     }
 }
 
-fn part(part: FilePart) -> Part
-    ensures { result ≡ part_of part }
-{
-    match part {
-        FilePart::Header => Part::Header,
-        FilePart::Length => Part::Length,
-        FilePart::Checkpoint => Part::Checkpoint,
-        FilePart::Segment => Part::Segment,
-        FilePart::Frame => Part::Frame,
-        FilePart::Record => Part::Record,
-    }
-}
-
 /// The fault of a store that isn't opened. The place of a damage is a byte of the file, counted from 0.
 pub fn open_fault(fault: OpenFault) -> Fault
     ensures { result ≡ fault_of_open fault }
@@ -53,7 +40,7 @@ pub fn open_fault(fault: OpenFault) -> Fault
         OpenFault::Refused(Refusal::WrongVersion { version }) => Fault::WrongVersion { version },
         OpenFault::Refused(Refusal::Damaged { at, what }) => Fault::Damaged {
             at: at as u64,
-            what: part(what),
+            what,
         },
         OpenFault::Device => Fault::Device,
         OpenFault::NoMemory => Fault::NoMemory,

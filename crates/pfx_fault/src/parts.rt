@@ -13,7 +13,7 @@ pub enum Part {
     Header,
     /// The file's length.
     Length,
-    /// A checkpoint slot.
+    /// A checkpoint area.
     Checkpoint,
     /// A segment's gate or first number.
     Segment,

@@ -3,8 +3,8 @@ use Rattle.std.specs.Prelude.{◌≡◌, ⊤, Result, Ok, Err}
 use Rattle.pfx_recovery.specs.Refusals as means
 use Rattle.pfx_segment.specs.declared.fault.ReadFault.{ReadFault}
 use Rattle.pfx_segment.specs.declared.fault.ReadFault.TheVariants as frame
-use Rattle.pfx_recover.specs.declared.faults.Part.{Part}
-use Rattle.pfx_recover.specs.declared.faults.Part.TheVariants as part
+use Rattle.pfx_fault.specs.declared.parts.Part.{Part}
+use Rattle.pfx_fault.specs.declared.parts.Part.TheVariants as part
 use Rattle.pfx_recover.specs.declared.faults.Refusal.{Refusal}
 use Rattle.pfx_recover.specs.declared.faults.Refusal.TheVariants as refusal
 use Rattle.pfx_recover.specs.declared.faults.HeadFault.{HeadFault}

@@ -3,7 +3,8 @@ ghost use Rattle.std.specs.Prelude.{◌≡◌, ◌≤◌, ◌<◌, ◌+◌, ◌^
 ghost use Rattle.pfx_recovery.specs.Recovery.{taken, begun};
 ghost use Rattle.pfx_recover.specs.Answers.{refusal_of};
 
-use crate::faults::{Part, Refusal};
+use crate::faults::Refusal;
+use pfx_fault::Part;
 
 /// Which of two checkpoint areas, or of two segments, was chosen, and how the other stands.
 #[derive(Clone, Copy)]

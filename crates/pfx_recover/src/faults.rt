@@ -3,26 +3,10 @@ ghost use Rattle.std.specs.Prelude.{◌≡◌};
 ghost use Rattle.pfx_recover.specs.declared.faults.OpenFault.TheVariants.{Device, NoMemory, Refused};
 
 use pfx_disk::DeviceFailed;
+use pfx_fault::Part;
 use pfx_segment::ReadFault;
 use std::alloc::{AllocError, AllocFailed};
 use thiserror::Error;
-
-/// A part of a store's file.
-#[derive(Clone, Copy, Debug, PartialEq, Eq)]
-pub enum Part {
-    /// The header at the front.
-    Header,
-    /// The length of the file.
-    Length,
-    /// A checkpoint area, which holds a checkpoint.
-    Checkpoint,
-    /// A segment's gate and first number.
-    Segment,
-    /// A frame's head.
-    Frame,
-    /// A frame's records.
-    Record,
-}
 
 /// Why a file isn't a store's: the first test that fails.
 #[derive(Clone, Copy, Debug, PartialEq, Eq, Error)]

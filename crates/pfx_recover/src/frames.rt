@@ -5,11 +5,12 @@ ghost use Rattle.pfx_recover.specs.Answers.{Gives};
 ghost use Rattle.pfx_recover.specs.Looking.{IsKept, OnlyReads, Reaches};
 ghost use Rattle.pfx_recover.specs.Walking.{IsWalk, IsWalked, frames_of};
 
-use crate::faults::{OpenFault, Part, Refusal};
+use crate::faults::{OpenFault, Refusal};
 use crate::format::Format;
 use crate::held::{head_at, hold};
 use crate::walked::Walked;
 use pfx_disk::{Disk, GATE_OPEN};
+use pfx_fault::Part;
 use pfx_segment::read_one;
 use std::alloc::Global;
 

@@ -30,7 +30,7 @@ mod sizes;
 mod slots;
 mod walked;
 
-pub use faults::{HeadFault, OpenFault, Part, Refusal};
+pub use faults::{HeadFault, OpenFault, Refusal};
 pub use format::Format;
 pub use opened::{Opened, open};
 pub use sizes::Sizes;

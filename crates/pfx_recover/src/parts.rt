@@ -9,11 +9,12 @@ ghost use Rattle.pfx_recover.specs.Formats.{total_len};
 ghost use Rattle.pfx_recover.specs.Walking.{StandIn, AreInUse, Fill, frames_of};
 
 use crate::choosing::Choice;
-use crate::faults::{OpenFault, Part, Refusal};
+use crate::faults::{OpenFault, Refusal};
 use crate::format::Format;
 use crate::outline::Outline;
 use crate::records::replay_frames;
 use crate::walked::Walked;
+use pfx_fault::Part;
 use pfx_store_file::Places;
 use std::alloc::Global;
 

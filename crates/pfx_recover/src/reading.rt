@@ -10,7 +10,7 @@ ghost use Rattle.pfx_recover.specs.Looking.{IsKept, OnlyReads, Reaches};
 ghost use Rattle.pfx_recover.specs.Walking.{StandIn, Fill, frames_of};
 
 use crate::choosing::Choice;
-use crate::faults::{OpenFault, Part, Refusal};
+use crate::faults::{OpenFault, Refusal};
 use crate::format::Format;
 use crate::frames::read_frames;
 use crate::outline::Outline;
@@ -19,6 +19,7 @@ use crate::segments::find_segment;
 use crate::slots::{read_slot, take_slot};
 use crate::walked::Walked;
 use pfx_disk::Disk;
+use pfx_fault::Part;
 use std::alloc::Global;
 
 // The heads of the other segment, if it goes on after the first, and all records.

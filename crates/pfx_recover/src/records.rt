@@ -4,9 +4,10 @@ ghost use Rattle.pfx_recovery.specs.Recovery.{replay};
 ghost use Rattle.pfx_recover.specs.Answers.{Gives, IsRead};
 ghost use Rattle.pfx_recover.specs.Walking.{Fill};
 
-use crate::faults::{OpenFault, Part, Refusal};
+use crate::faults::{OpenFault, Refusal};
 use crate::format::Format;
 use crate::held::len_at;
+use pfx_fault::Part;
 use std::alloc::Global;
 
 /// The state after the records of the frames that fill these bytes, the first of which has this gate. The first frame

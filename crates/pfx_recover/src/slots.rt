@@ -7,11 +7,12 @@ ghost use Rattle.pfx_recover.specs.Formats.{total_len};
 ghost use Rattle.pfx_recover.specs.Looking.{IsKept, OnlyReads, Reaches};
 
 use crate::choosing::{Choice, Numbered, newer};
-use crate::faults::{OpenFault, Part, Refusal};
+use crate::faults::{OpenFault, Refusal};
 use crate::format::Format;
 use crate::gates::read_gate;
 use crate::outline::Outline;
 use pfx_disk::Disk;
+use pfx_fault::Part;
 use std::alloc::Global;
 
 /// The checkpoint area that is taken, by two calls of the disk.

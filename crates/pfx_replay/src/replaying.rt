@@ -11,8 +11,9 @@ ghost use Rattle.pfx_replay.specs.Trails.{IsReplayed};
 use crate::file::judge_file;
 use crate::verdict::Verdict;
 use pfx_disk::Disk;
+use pfx_fault::Part;
 use pfx_jobs::job::Job;
-use pfx_recover::{OpenFault, Opened, Part, Refusal, open};
+use pfx_recover::{OpenFault, Opened, Refusal, open};
 use pfx_store::FileFormat;
 use std::alloc::Global;
 

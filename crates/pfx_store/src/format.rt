@@ -4,11 +4,12 @@ ghost use Rattle.pfx_format.specs.Format.{format, IsSetOf};
 ghost use Rattle.pfx_header.specs.declared.sizes.TheConstants.{HEADER_MOST};
 
 use pfx_checkpoint::{CheckpointFault, freeze, read, state_len};
+use pfx_fault::Part;
 use pfx_format::{apply_frame, number_after, number_of};
 use pfx_header::{HEADER_MOST, HeaderFault, header_len, read_header};
 use pfx_jobs::job::Job;
 use pfx_machine::State;
-use pfx_recover::{Format, HeadFault, Part, Refusal, Sizes};
+use pfx_recover::{Format, HeadFault, Refusal, Sizes};
 use pfx_weights::TaskSet;
 use std::alloc::{AllocError, Global};
 use std::marker::{Model, PhantomData};

@@ -6,7 +6,8 @@ use crate::check::{check, check_at};
 use crate::held::has_failed_at;
 use crate::toy::{Tally, Toy};
 use pfx_disk::{Disk, FaultDisk, GATE_OPEN, MemoryDisk};
-use pfx_recover::{OpenFault, Opened, Part, Refusal, open};
+use pfx_fault::Part;
+use pfx_recover::{OpenFault, Opened, Refusal, open};
 use pfx_store_file::{StoreFile, Tended};
 use std::alloc::Global;
 

@@ -3,9 +3,10 @@
 use crate::check::{check, check_at};
 use pfx_disk::{Disk, MemoryDisk};
 use pfx_engine::DurableEngine;
+use pfx_fault::Part;
 use pfx_kinds::any::AnyJob;
 use pfx_machine::Command;
-use pfx_recover::{OpenFault, Part, Refusal};
+use pfx_recover::{OpenFault, Refusal};
 use pfx_replay::{Difference, Verdict, replay};
 use pfx_store::Store;
 use pfx_store_file::Tended;

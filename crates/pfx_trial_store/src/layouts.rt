@@ -4,8 +4,9 @@ use crate::check::{check, check_at};
 use crate::held::held;
 use crate::journal::new_file;
 use pfx_disk::{Disk, FaultDisk, MemoryDisk};
+use pfx_fault::Part;
 use pfx_kinds::any::AnyJob;
-use pfx_recover::{OpenFault, Part, Refusal};
+use pfx_recover::{OpenFault, Refusal};
 use pfx_store::Store;
 use std::alloc::Global;
 
