@@ -1,5 +1,5 @@
 -- What an opened file is.
-use Rattle.std.specs.Prelude.{◌≡◌, ℕ, List, length, true, false, Option, Some, None, Result, Ok, Vec}
+use Rattle.std.specs.Prelude.{◌≡◌, ◌<◌, ◌^◌, ℕ, List, length, true, false, Option, Some, None, Result, Ok, Vec}
 use Rattle.std.specs.declared.alloc.Global.{Global}
 use Rattle.pfx_disk.specs.Disk.{View}
 use Rattle.pfx_recovery.specs.Codec.{Codec}
@@ -42,3 +42,8 @@ pub record IsUsable {H S : Type 0} (K : Codec H S) (can_hold : H → S → Type 
   pub len : places.len ≡ total
   pub sized : Fits (K.layout h) places
   pub unbegun : places.begun ≡ false
+
+-- a state that a slot can hold, and whose last command has a number below 2^48
+pub record IsSlotState {H S : Type 0} (K : Codec H S) (can_hold : H → S → Type 0) (h : H) (state : S) : Type 0 where
+  pub fits : can_hold h state
+  pub number : K.number state < 2 ^ 48

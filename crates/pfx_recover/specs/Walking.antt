@@ -1,5 +1,5 @@
 -- The frames of a segment, as they were read, and the places of a file that was read.
-use Rattle.std.specs.Prelude.{◌≡◌, ◌<◌, ◌+◌, ◌^◌, ℕ, List, Bool, false, All, length, take, drop, Some, Result, Ok}
+use Rattle.std.specs.Prelude.{◌≡◌, ◌<◌, ◌≤◌, ◌+◌, ◌^◌, ℕ, List, Bool, false, All, length, take, drop, Some, Result, Ok}
 use Rattle.std.specs.List.{concat}
 use Rattle.pfx_recovery.specs.Codec.{Codec}
 use Rattle.pfx_recovery.specs.Layout.{Layout, first_gate, segment_end}
@@ -21,6 +21,12 @@ IsWalk bytes last read = (frames : List (List ℕ)) × Fill frames bytes × (rea
 -- the bytes of the frames
 abbrev pub frames_of : Walked → List ℕ
 frames_of walked = take walked.len walked.bytes.items
+
+-- the frame here is as long as its head says, if the bytes go on so far; it is some bytes, and ends no later than they do
+pub record IsFrameLen (bytes : List ℕ) (at len : ℕ) : Type 0 where
+  pub some : 0 < len
+  pub inside : at + len ≤ length bytes
+  pub whole : at + frame_len at bytes ≤ length bytes → len ≡ frame_len at bytes
 
 -- the frame here is as long as its head says, it ends before the bytes do, and with it comes this number
 pub record IsHead {H S : Type 0} (K : Codec H S) (bytes : List ℕ) (at last len next : ℕ) : Type 0 where

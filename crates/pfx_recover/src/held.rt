@@ -2,7 +2,7 @@
 ghost use Rattle.std.specs.Prelude.{◌≡◌, ◌≤◌, ◌<◌, ◌+◌, ◌^◌, ◌⊎◌, ℕ, List, None, length, take, drop, IfOk, IfSome, IfNone};
 ghost use Rattle.pfx_segment.specs.Frames.{frame_len};
 ghost use Rattle.pfx_recover.specs.Looking.{IsKept, IsLook, Reaches};
-ghost use Rattle.pfx_recover.specs.Walking.{IsHead};
+ghost use Rattle.pfx_recover.specs.Walking.{IsFrameLen, IsHead};
 
 use crate::format::Format;
 use pfx_disk::{DeviceFailed, Disk};
@@ -32,9 +32,7 @@ pub(crate) fn hold<D: Disk>(
 /// How long the frame at this place is, as its head says, or how many bytes there are from it on, if these are fewer.
 pub(crate) fn len_at(bytes: &[u8], at: usize) -> usize
     requires { at < length bytes.now }
-    ensures some { 0 < result }
-    ensures inside { at + result ≤ length bytes.now }
-    ensures whole { at + frame_len at bytes.now ≤ length bytes.now → result ≡ frame_len at bytes.now }
+    ensures len { IsFrameLen bytes.now at result }
 {
     let left = bytes.len() - at;
     if left < FRAME_HEAD {
