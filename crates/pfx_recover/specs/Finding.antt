@@ -43,7 +43,7 @@ pub record IsUsable {H S : Type 0} (K : Codec H S) (can_hold : H → S → Type 
   pub sized : Fits (K.layout h) places
   pub unbegun : places.begun ≡ false
 
--- a state that a slot can hold, and whose last command has a number below 2^48
-pub record IsSlotState {H S : Type 0} (K : Codec H S) (can_hold : H → S → Type 0) (h : H) (state : S) : Type 0 where
+-- a state that a checkpoint area can hold, and whose last command has a number below 2^48
+pub record IsHeldState {H S : Type 0} (K : Codec H S) (can_hold : H → S → Type 0) (h : H) (state : S) : Type 0 where
   pub fits : can_hold h state
   pub number : K.number state < 2 ^ 48

@@ -4,7 +4,7 @@ ghost use Rattle.pfx_disk.specs.Disk.{IsHonest};
 ghost use Rattle.pfx_recovery.specs.Recovery.{slot_taken, segment_begun, from_frames, from_state, from_slot, found, on_ok};
 ghost use Rattle.pfx_recover.specs.Answers.{Gives, IsRead};
 ghost use Rattle.pfx_recover.specs.Choosing.{IsSlot, IsSegment};
-ghost use Rattle.pfx_recover.specs.Finding.{IsFound, IsSlotState, IsUsable};
+ghost use Rattle.pfx_recover.specs.Finding.{IsFound, IsHeldState, IsUsable};
 ghost use Rattle.pfx_recover.specs.Formats.{total_len};
 ghost use Rattle.pfx_recover.specs.Looking.{IsKept, OnlyReads, Reaches};
 ghost use Rattle.pfx_recover.specs.Walking.{StandIn, Fill, frames_of};
@@ -64,7 +64,7 @@ fn read_segments<F: Format, D: Disk>(
     state: F::State,
 ) -> Result<Contents<F>, OpenFault>
     requires inside { Reaches (total_len file.now.sizes) (D.view disk.old) }
-    requires state { IsSlotState F.codec F.fits file.now.header state }
+    requires state { IsHeldState F.codec F.fits file.now.header state }
     ensures call { OnlyReads (D.view disk.old) (D.view disk.new) result }
     ensures usable { IfOk result (λ c. IsUsable F.codec F.fits file.now.header (total_len file.now.sizes) c.places c.state) }
     ensures exact { (bytes : List ℕ) → IsKept bytes (D.view disk.old)

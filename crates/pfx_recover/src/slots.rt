@@ -3,7 +3,7 @@ ghost use Rattle.std.specs.Prelude.{◌≡◌, ◌≤◌, ◌<◌, ◌+◌, ◌^
 ghost use Rattle.pfx_recovery.specs.Recovery.{slot_taken};
 ghost use Rattle.pfx_recover.specs.Answers.{Gives, IsRead};
 ghost use Rattle.pfx_recover.specs.Choosing.{IsSlot, slot_state};
-ghost use Rattle.pfx_recover.specs.Finding.{IsSlotState};
+ghost use Rattle.pfx_recover.specs.Finding.{IsHeldState};
 ghost use Rattle.pfx_recover.specs.Formats.{total_len};
 ghost use Rattle.pfx_recover.specs.Looking.{IsKept, OnlyReads, Reaches};
 
@@ -54,7 +54,7 @@ pub(crate) fn read_slot<F: Format, D: Disk>(
 ) -> Result<F::State, OpenFault>
     requires inside { Reaches (total_len file.now.sizes) (D.view disk.old) }
     ensures call { OnlyReads (D.view disk.old) (D.view disk.new) result }
-    ensures state { IfOk result (IsSlotState F.codec F.fits file.now.header) }
+    ensures state { IfOk result (IsHeldState F.codec F.fits file.now.header) }
     ensures exact { (bytes : List ℕ) → IsKept bytes (D.view disk.old)
         → Gives IsRead (slot_state F.codec file.now.header bytes second) result }
 {
