@@ -1,13 +1,12 @@
 //! The locked value, and the tokens that it gives out.
-ghost use Rattle.std.specs.Prelude.{◌≡◌, ◌≢◌, ◌↔◌, ℕ, List, [], ◌∷◌, ◌++◌, ◌<◌, ◌≤◌, ◌+◌, length, map, IfOk, IfErr, OnErr, IfSome, IfNone, Some, None, true};
+ghost use Rattle.std.specs.Prelude.{◌≡◌, ◌≢◌, ◌↔◌, ℕ, List, [], ◌∷◌, ◌<◌, ◌≤◌, ◌+◌, length, map, IfOk, IfErr, IfSome, IfNone, Some, None};
 ghost use Rattle.std.specs.Prelude.{false, IsTrue, vec_capacity};
 ghost use Rattle.pfx_machine.specs.Board.{all_lines};
-ghost use Rattle.pfx_machine.specs.Refusals.{reply};
 ghost use Rattle.pfx_world.specs.Session.{IsQuick, MayAsk, asked};
 ghost use Rattle.pfx_book.specs.Calls.{TakesCommands, IsAccepted, Refuses};
 ghost use Rattle.pfx_book.specs.Notes.{greatest, lost_in};
 ghost use Rattle.pfx_book.specs.Register.{new_register, HasRoom};
-ghost use Rattle.pfx_book.specs.declared.note.Note.TheVariants.{Accepted, Marked};
+ghost use Rattle.pfx_book.specs.declared.note.Note.TheVariants.{Marked};
 
 use crate::copies::copy_reply;
 use crate::faults::BookFault;

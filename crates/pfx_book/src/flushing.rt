@@ -1,5 +1,5 @@
 //! What the flusher calls.
-ghost use Rattle.std.specs.Prelude.{◌≡◌, ◌↔◌, [], ◌∷◌, ◌++◌, ◌<◌, ◌≤◌, ◌+◌, length, map, IfOk, IfErr, OnErr, IsTrue, Some, vec_capacity};
+ghost use Rattle.std.specs.Prelude.{◌≡◌, ◌↔◌, [], ◌∷◌, ◌++◌, ◌<◌, ◌≤◌, ◌+◌, length, IfOk, IfErr, OnErr, IsTrue, Some, vec_capacity};
 ghost use Rattle.pfx_world.specs.Session.{marked_now, gave_up};
 ghost use Rattle.pfx_book.specs.Calls.{IsTaken};
 ghost use Rattle.pfx_book.specs.Notes.{records_in, took_in};

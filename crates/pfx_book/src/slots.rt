@@ -1,5 +1,5 @@
 //! The open slot: begun, given its results, sealed.
-ghost use Rattle.std.specs.Prelude.{◌≡◌, ◌≢◌, ◌<◌, ◌+◌, map, IfOk, IfErr, IfSome, IfNone, OnOk, OnErr, MatchOption, None, false};
+ghost use Rattle.std.specs.Prelude.{◌≡◌, ◌≢◌, ◌<◌, map, IfOk, IfErr, IfSome, IfNone, OnOk, OnErr, MatchOption, None, false};
 ghost use Rattle.pfx_machine.specs.Slots.{deal};
 ghost use Rattle.pfx_world.specs.Session.{MayBegin, MaySeal, opening_of, sealed};
 ghost use Rattle.pfx_book.specs.Calls.{TakesCommands, IsAccepted, IsBegun, Refuses, NoneMissing, IsFirstMissing, ComesBack, IsRepelled};

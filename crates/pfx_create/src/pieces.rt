@@ -1,5 +1,5 @@
 // Writing all of a new file but its first gate.
-ghost use Rattle.std.specs.Prelude.{◌≡◌, ◌≤◌, ◌<◌, ◌+◌, ◌-◌, ◌∷◌, ◌↔◌, [], min, length, take, OnOk, IsErr};
+ghost use Rattle.std.specs.Prelude.{◌≡◌, ◌<◌, ◌+◌, ◌-◌, ◌∷◌, ◌↔◌, [], length, take, OnOk, IsErr};
 ghost use Rattle.pfx_disk.specs.Disk.{IsHonest, Leaves, Ticks};
 ghost use Rattle.pfx_recovery.specs.Layout.{Layout};
 ghost use Rattle.pfx_recovery.specs.NewFile.{new_file};
