@@ -1,8 +1,8 @@
 //! What the acts of a store's file leave at each of their moments.
 //!
-//! An append, a turn and each step of a checkpoint is a list of calls of a disk and a file behind them, over any codec; these
+//! An append, a turn and each step of a checkpoint is a list of calls of a disk and a file after them, over any codec; these
 //! lists stand in `pfx_store_file`, whose calls say that they make them. `specs/Files.antt` says what stands in each image of a
 //! file. `proofs/Stepping.antt` proves of each act that, from a file of a state on, every image that a stop may leave before,
-//! between or within its calls is one of that state or of the state behind the act, and that behind its last call all images
+//! between or within its calls is one of that state or of the state after the act, and that after its last call all images
 //! are of the latter.
 #![tactic(auto)]

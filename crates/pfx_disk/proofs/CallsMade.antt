@@ -1,9 +1,9 @@
 -- Calls of a disk, one after the other.
-use Rattle.std.proofs.Common.{◌≡◌, ◌⊎◌, inl, inr, ⊎_elim, ℕ, ◌≤◌, List, [], ◌∷◌, ◌++◌, length, refl, sym, ◌∙◌, ap, subst, arith, append_assoc, append-nil}
+use Rattle.std.proofs.Common.{◌≡◌, inl, inr, ⊎_elim, ℕ, ◌≤◌, List, [], ◌∷◌, ◌++◌, length, refl, sym, ◌∙◌, ap, subst, arith, append_assoc, append-nil}
 use Rattle.pfx_disk.specs.Disk.{View, Leaves, Same, Torn, Written, Only}
-use Rattle.pfx_disk.specs.Stop.{Act, Sync, Write, Look, put, contents_after, Left}
+use Rattle.pfx_disk.specs.Stop.{Act, Sync, Write, Look, put, Left}
 use Rattle.pfx_disk.proofs.Left.{put_inside, contents_more, left_back}
-use Rattle.pfx_disk.specs.CallsMade.{with_failed, IsAfter, BrokeOff, Among, HasMade, HasBrokenOff, HasKeptTo}
+use Rattle.pfx_disk.specs.CallsMade.{with_failed, IsAfter, HasMade, HasBrokenOff, HasKeptTo}
 
 module _ (old new : View) where
   left_written : (start : List ℕ) (done : List Act) (at : ℕ) (bytes d image : List ℕ) → Left start done d → Torn at (length bytes) d image → Left start (done ++ Write at bytes ∷ []) image

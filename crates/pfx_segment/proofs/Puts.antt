@@ -1,5 +1,5 @@
 -- The calls of `put_behind`, at each of its exits.
-use Rattle.std.proofs.Common.{◌≡◌, ℕ, ◌+◌, ◌≤◌, List, [], ◌∷◌, ◌++◌, length, ap, arith}
+use Rattle.std.proofs.Common.{ℕ, ◌+◌, ◌≤◌, List, [], ◌∷◌, ◌++◌, length, ap, arith}
 use Rattle.pfx_disk.specs.Disk.{View, Leaves, Same, Torn, Written, Only}
 use Rattle.pfx_disk.specs.Stop.{Act, Sync, Write}
 use Rattle.pfx_disk.specs.declared.gates.TheConstants.{GATE_OPEN}

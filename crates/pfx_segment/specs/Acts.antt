@@ -1,5 +1,7 @@
 -- The calls of acts on gates.
-use Rattle.std.specs.Prelude.{ℕ, ◌+◌, List, [], ◌∷◌, ◌++◌, Bool, true, false}
+use Rattle.std.specs.Prelude.{ℕ, ◌+◌, List, [], ◌∷◌, Bool, true, false, Result, OnOk, IsErr}
+use Rattle.pfx_disk.specs.CallsMade.{HasMade, HasBrokenOff, HasKeptTo}
+use Rattle.pfx_disk.specs.Disk.{View, IsHonest}
 use Rattle.pfx_disk.specs.Stop.{Act, Sync, Write, Look}
 use Rattle.pfx_disk.specs.declared.gates.TheConstants.{GATE_OPEN}
 
@@ -19,3 +21,10 @@ close_acts gate is_open = closing_act gate is_open ∷ Sync ∷ []
 -- a gate opened before bytes that were written behind it
 abbrev pub open_acts : ℕ → List Act
 open_acts gate = Sync ∷ Write gate (GATE_OPEN ∷ []) ∷ Sync ∷ []
+
+-- An honest disk made these calls, one after the other: all of them, or some of them up to one that failed; and no stop in between left
+-- anything else.
+pub record MakesActs {T E : Type 0} (acts : List Act) (old new : View) (result : Result T E) : Type 0 where
+  pub made : IsHonest old → OnOk result (HasMade acts old new)
+  pub broken_off : IsHonest old → IsErr result → HasBrokenOff acts old new
+  pub between : IsHonest old → HasKeptTo acts old new

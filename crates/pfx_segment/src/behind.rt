@@ -1,36 +1,28 @@
 // Bytes behind a gate, and gates that are closed and opened.
-ghost use Rattle.std.specs.Prelude.{◌≡◌, ◌≢◌, ◌≤◌, ◌<◌, ◌+◌, ◌^◌, ◌∷◌, ◌++◌, ℕ, List, length, slice_index, OnOk, IsErr, false};
-ghost use Rattle.pfx_disk.specs.CallsMade.{HasMade, HasBrokenOff, HasKeptTo};
-ghost use Rattle.pfx_disk.specs.Disk.{IsHonest, Leaves, Only, Written, HasFailed};
-ghost use Rattle.pfx_segment.specs.Acts.{put_acts, close_acts, open_acts};
-ghost use Rattle.pfx_segment.specs.Segment.{Appended, StandAt, Takes};
+ghost use Rattle.std.specs.Prelude.{◌≡◌, ◌≢◌, ◌<◌, ◌+◌, ◌^◌, ◌∷◌, ◌++◌, ℕ, List, length, slice_index, OnOk, false};
+ghost use Rattle.pfx_disk.specs.Disk.{IsHonest, Leaves, Only, Written};
+ghost use Rattle.pfx_segment.specs.Acts.{MakesActs, put_acts, close_acts, open_acts};
+ghost use Rattle.pfx_segment.specs.Segment.{Appended, IsRun, StandAt};
 ghost use Rattle.pfx_segment.specs.Turning.{Closing, Prepared};
 
 use pfx_disk::{DeviceFailed, Disk, GATE_OPEN};
 
 /// Puts bytes behind a closed gate, and opens it, by four calls: the bytes and a sync, the gate and a sync.
+///
+/// The bytes end before the disk does, if it is honest, and below 2^63. It is a run of four calls, and these four. At
+/// every moment, whatever it answers, the gate is as it was, or the bytes stand behind it, and nothing else changes.
+/// After success a stop leaves what a read gives, and that is the bytes behind an open gate.
 pub fn put_behind<D: Disk>(disk: &mut D, gate: usize, bytes: &[u8]) -> Result<(), DeviceFailed>
     requires inside { IsHonest (D.view disk.old) → gate + length bytes.now < length (D.view disk.old).contents }
     requires fits { gate + length bytes.now < 2 ^ 63 }
-    ensures failed { IsErr result → HasFailed (D.view disk.old) (D.view disk.new) }
-    ensures calls { Takes 4 (D.view disk.old) (D.view disk.new) result }
-    ensures honest { IsHonest (D.view disk.new) → IsHonest (D.view disk.old) }
-    ensures kept { IsHonest (D.view disk.old) → IsHonest (D.view disk.new) }
-    ensures longer { IsHonest (D.view disk.old)
-        → length (D.view disk.old).contents ≤ length (D.view disk.new).contents }
+    ensures call { IsRun 4 (D.view disk.old) (D.view disk.new) result }
+    ensures acts { MakesActs (put_acts gate bytes.now) (D.view disk.old) (D.view disk.new) result }
     // At every moment of the call, whatever it answers.
     ensures leaves { IsHonest (D.view disk.old)
         → Leaves (Appended gate bytes.now) (D.view disk.old) (D.view disk.new) }
     ensures durable { IsHonest (D.view disk.old) → OnOk result (Only (D.view disk.new).contents (D.view disk.new)) }
     ensures written { IsHonest (D.view disk.old) → OnOk result (
         Written gate (GATE_OPEN ∷ bytes.now) (D.view disk.old).contents (D.view disk.new).contents) }
-    // These calls, one after the other: all of them, or some of them up to one that failed.
-    ensures acts { IsHonest (D.view disk.old)
-        → OnOk result (HasMade (put_acts gate bytes.now) (D.view disk.old) (D.view disk.new)) }
-    ensures front { IsHonest (D.view disk.old)
-        → IsErr result → HasBrokenOff (put_acts gate bytes.now) (D.view disk.old) (D.view disk.new) }
-    ensures between { IsHonest (D.view disk.old)
-        → HasKeptTo (put_acts gate bytes.now) (D.view disk.old) (D.view disk.new) }
 {
     disk.write_at(gate + 1, bytes)?;
     disk.sync()?;
@@ -41,15 +33,14 @@ pub fn put_behind<D: Disk>(disk: &mut D, gate: usize, bytes: &[u8]) -> Result<()
 
 /// Closes a gate that stands open, or reads one that stands closed, and syncs: two calls.
 ///
-/// A closed gate isn't written closed again, since a stop within that write could leave it open.
+/// A closed gate isn't written closed again, since a stop within that write could leave it open. The gate lies before
+/// the end, if the disk is honest. It is a run of two calls, and these two. At every moment only the gate changes, and
+/// nothing if it stood closed. After success a stop leaves what a read gives, and there the gate is closed, if it stood
+/// open exactly as was said.
 pub fn close<D: Disk>(disk: &mut D, gate: usize, is_open: bool) -> Result<(), DeviceFailed>
     requires inside { IsHonest (D.view disk.old) → gate < length (D.view disk.old).contents }
-    ensures failed { IsErr result → HasFailed (D.view disk.old) (D.view disk.new) }
-    ensures calls { Takes 2 (D.view disk.old) (D.view disk.new) result }
-    ensures honest { IsHonest (D.view disk.new) → IsHonest (D.view disk.old) }
-    ensures kept { IsHonest (D.view disk.old) → IsHonest (D.view disk.new) }
-    ensures longer { IsHonest (D.view disk.old)
-        → length (D.view disk.old).contents ≤ length (D.view disk.new).contents }
+    ensures call { IsRun 2 (D.view disk.old) (D.view disk.new) result }
+    ensures acts { MakesActs (close_acts gate is_open) (D.view disk.old) (D.view disk.new) result }
     // At every moment of the call, whatever it answers.
     ensures leaves { IsHonest (D.view disk.old)
         → Leaves (Closing gate is_open) (D.view disk.old) (D.view disk.new) }
@@ -57,13 +48,6 @@ pub fn close<D: Disk>(disk: &mut D, gate: usize, is_open: bool) -> Result<(), De
     ensures closed { IsHonest (D.view disk.old)
         → (is_open ≡ false → slice_index (D.view disk.old).contents gate ≢ GATE_OPEN)
         → OnOk result (slice_index (D.view disk.new).contents gate ≢ GATE_OPEN) }
-    // These calls, one after the other: all of them, or some of them up to one that failed.
-    ensures acts { IsHonest (D.view disk.old)
-        → OnOk result (HasMade (close_acts gate is_open) (D.view disk.old) (D.view disk.new)) }
-    ensures front { IsHonest (D.view disk.old)
-        → IsErr result → HasBrokenOff (close_acts gate is_open) (D.view disk.old) (D.view disk.new) }
-    ensures between { IsHonest (D.view disk.old)
-        → HasKeptTo (close_acts gate is_open) (D.view disk.old) (D.view disk.new) }
 {
     if is_open {
         disk.write_at(gate, &[0])?;
@@ -77,6 +61,10 @@ pub fn close<D: Disk>(disk: &mut D, gate: usize, is_open: bool) -> Result<(), De
 }
 
 /// Closes the gate, if it is open, and then puts bytes behind it and opens it: six calls, by `close` and `put_behind`.
+///
+/// The bytes end before the disk does, if it is honest, and below 2^63. It is a run of six calls, and these six. At every
+/// moment, whatever it answers, all is as before, or the gate is closed, or it is open and the bytes stand behind it.
+/// After success a stop leaves what a read gives, and that has the bytes behind the open gate.
 pub fn prepare<D: Disk>(
     disk: &mut D,
     gate: usize,
@@ -85,12 +73,8 @@ pub fn prepare<D: Disk>(
 ) -> Result<(), DeviceFailed>
     requires inside { IsHonest (D.view disk.old) → gate + length bytes.now < length (D.view disk.old).contents }
     requires fits { gate + length bytes.now < 2 ^ 63 }
-    ensures failed { IsErr result → HasFailed (D.view disk.old) (D.view disk.new) }
-    ensures calls { Takes 6 (D.view disk.old) (D.view disk.new) result }
-    ensures honest { IsHonest (D.view disk.new) → IsHonest (D.view disk.old) }
-    ensures kept { IsHonest (D.view disk.old) → IsHonest (D.view disk.new) }
-    ensures longer { IsHonest (D.view disk.old)
-        → length (D.view disk.old).contents ≤ length (D.view disk.new).contents }
+    ensures call { IsRun 6 (D.view disk.old) (D.view disk.new) result }
+    ensures acts { MakesActs (close_acts gate is_open ++ put_acts gate bytes.now) (D.view disk.old) (D.view disk.new) result }
     // At every moment of the call, whatever it answers.
     ensures leaves { IsHonest (D.view disk.old)
         → (is_open ≡ false → slice_index (D.view disk.old).contents gate ≢ GATE_OPEN)
@@ -98,13 +82,6 @@ pub fn prepare<D: Disk>(
     ensures durable { IsHonest (D.view disk.old) → OnOk result (Only (D.view disk.new).contents (D.view disk.new)) }
     ensures stands { IsHonest (D.view disk.old)
         → OnOk result (StandAt gate (GATE_OPEN ∷ bytes.now) (D.view disk.new).contents) }
-    // These calls, one after the other: all of them, or some of them up to one that failed.
-    ensures acts { IsHonest (D.view disk.old)
-        → OnOk result (HasMade (close_acts gate is_open ++ put_acts gate bytes.now) (D.view disk.old) (D.view disk.new)) }
-    ensures front { IsHonest (D.view disk.old)
-        → IsErr result → HasBrokenOff (close_acts gate is_open ++ put_acts gate bytes.now) (D.view disk.old) (D.view disk.new) }
-    ensures between { IsHonest (D.view disk.old)
-        → HasKeptTo (close_acts gate is_open ++ put_acts gate bytes.now) (D.view disk.old) (D.view disk.new) }
 {
     close(disk, gate, is_open)?;
     put_behind(disk, gate, bytes)?;
@@ -112,15 +89,15 @@ pub fn prepare<D: Disk>(
 }
 
 /// Opens the gate before bytes that were written behind it, by three calls: a sync, the gate and a sync.
+///
+/// The gate lies before the end, if the disk is honest, and below 2^63. It is a run of three calls, and these three. At
+/// every moment, whatever it answers, the gate is as it was, or the bytes stand behind it, and nothing else changes.
+/// After success a stop leaves what a read gives, and there the gate is open.
 pub fn open_gate<D: Disk>(disk: &mut D, gate: usize) -> Result<(), DeviceFailed>
     requires inside { IsHonest (D.view disk.old) → gate < length (D.view disk.old).contents }
     requires fits { gate < 2 ^ 63 }
-    ensures failed { IsErr result → HasFailed (D.view disk.old) (D.view disk.new) }
-    ensures calls { Takes 3 (D.view disk.old) (D.view disk.new) result }
-    ensures honest { IsHonest (D.view disk.new) → IsHonest (D.view disk.old) }
-    ensures kept { IsHonest (D.view disk.old) → IsHonest (D.view disk.new) }
-    ensures longer { IsHonest (D.view disk.old)
-        → length (D.view disk.old).contents ≤ length (D.view disk.new).contents }
+    ensures call { IsRun 3 (D.view disk.old) (D.view disk.new) result }
+    ensures acts { MakesActs (open_acts gate) (D.view disk.old) (D.view disk.new) result }
     // At every moment of the call, whatever it answers, and of any bytes that stand behind the gate as it begins.
     ensures leaves { IsHonest (D.view disk.old) → (bytes : List ℕ)
         → gate + length bytes < length (D.view disk.old).contents
@@ -129,13 +106,6 @@ pub fn open_gate<D: Disk>(disk: &mut D, gate: usize) -> Result<(), DeviceFailed>
     ensures durable { IsHonest (D.view disk.old) → OnOk result (Only (D.view disk.new).contents (D.view disk.new)) }
     ensures opened { IsHonest (D.view disk.old)
         → OnOk result (slice_index (D.view disk.new).contents gate ≡ GATE_OPEN) }
-    // These calls, one after the other: all of them, or some of them up to one that failed.
-    ensures acts { IsHonest (D.view disk.old)
-        → OnOk result (HasMade (open_acts gate) (D.view disk.old) (D.view disk.new)) }
-    ensures front { IsHonest (D.view disk.old)
-        → IsErr result → HasBrokenOff (open_acts gate) (D.view disk.old) (D.view disk.new) }
-    ensures between { IsHonest (D.view disk.old)
-        → HasKeptTo (open_acts gate) (D.view disk.old) (D.view disk.new) }
 {
     let open = [GATE_OPEN];
     disk.sync()?;

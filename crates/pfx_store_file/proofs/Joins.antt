@@ -1,7 +1,6 @@
 -- Room made first and a frame appended then: the calls of both, one behind the other, are those of an append.
-use Rattle.std.specs.Prelude.{◌≡◌, ℕ, ◌+◌, nat_lt, if◌then◌else◌, List, [], ◌∷◌, ◌++◌, length, Bool, true, false, refl}
+use Rattle.std.specs.Prelude.{◌≡◌, ℕ, ◌+◌, nat_lt, if◌then◌else◌, List, [], ◌++◌, length, Bool, true, false, refl}
 use Rattle.std.proofs.Common.{sym, ◌∙◌, ap, append_assoc}
-use Rattle.pfx_disk.specs.Stop.{Act}
 use Rattle.pfx_recovery.specs.Codec.{Codec}
 use Rattle.pfx_recovery.specs.Layout.{segment_at, segment_end}
 use Rattle.pfx_segment.specs.Acts.{put_acts}

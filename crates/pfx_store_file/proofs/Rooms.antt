@@ -1,8 +1,7 @@
 -- The calls of an append, where there is room and where there is none.
-use Rattle.std.specs.Prelude.{◌≡◌, ℕ, ◌+◌, ◌<◌, nat_lt, if◌then◌else◌, List, [], ◌∷◌, ◌++◌, length, Bool, true, false}
+use Rattle.std.specs.Prelude.{◌≡◌, ℕ, ◌+◌, if◌then◌else◌, List, [], ◌++◌, length, true, false}
 use Rattle.std.proofs.Common.{ap, arith, ⊎_elim}
 use Rattle.std.proofs.lemmas.Bool.{cases_lt, lt-ltb, le-ltb}
-use Rattle.pfx_disk.specs.Stop.{Act}
 use Rattle.pfx_segment.specs.Acts.{put_acts}
 use Rattle.pfx_recovery.specs.Codec.{Codec}
 use Rattle.pfx_recovery.specs.Layout.{segment_end}

@@ -82,7 +82,7 @@ module _ {H S : Type 0} (K : Codec H S) where
   abbrev pub framed_file : File H S → List ℕ → File H S
   framed_file f frame = record f { parts = with_frame f.parts frame }
 
-  -- room made for a frame of n bytes: where there is none the checkpoint in progress is ended, and the file turned
+  -- room made for a frame of n bytes: if there is none the checkpoint in progress is ended, and the file turned
   abbrev pub room_acts : ℕ → File H S → List ℕ → List ℕ → List Act
   room_acts n f spelling start = if has_room f n then [] else (end_acts f spelling ++ turn_acts (ended_file f) start)
 

@@ -4,7 +4,7 @@ use Rattle.pfx_disk.specs.Disk.{View, HasFailed}
 use Rattle.pfx_store_file.specs.declared.faults.StoreFault.{StoreFault}
 use Rattle.pfx_store_file.specs.declared.faults.StoreFault.TheVariants.{Device, Broken}
 
--- A call on a file that may be broken before it, and may be after it: it is broken where the disk failed, and a broken
+-- A call on a file that may be broken before it, and may be after it: it is broken if the disk failed, and a broken
 -- file is refused.
 pub record Works {T : Type 0} (old new : View) (was is : Bool) (result : Result T StoreFault) : Type 0 where
   pub whole : IsOk result → is ≡ false

@@ -1,7 +1,7 @@
 -- A store's file by its parts, and what is known of it besides, as the places of a store have it.
 use Rattle.std.specs.Prelude.{◌≡◌, ℕ, List, Bool, false, not}
 use Rattle.pfx_recovery.specs.Codec.{Codec}
-use Rattle.pfx_recovery.specs.Layout.{Layout, slot_at, segment_at, is_open}
+use Rattle.pfx_recovery.specs.Layout.{slot_at, segment_at, is_open}
 use Rattle.pfx_recovery.specs.Store.{Parts}
 use Rattle.pfx_store_file.specs.Holding.{ArePlaces}
 use Rattle.pfx_store_file.specs.declared.places.Places.{Places}

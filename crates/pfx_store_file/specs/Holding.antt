@@ -28,7 +28,7 @@ pub record IsStart {H S : Type 0} (K : Codec H S) (first : ℕ) (bytes : List �
   pub closed : slice_index bytes 8 ≡ 0
 
 module _ {H S : Type 0} (K : Codec H S) where
-  -- the image is recovered to the state behind a beginning of these frames, n of them at least
+  -- the image is recovered to the state after a prefix of these frames, n of them at least
   pub record Survives (start : S) (all : List (List ℕ)) (n : ℕ) (image : List ℕ) : Type 0 where
     pub count : ℕ
     pub at_least : n ≤ count
@@ -37,7 +37,7 @@ module _ {H S : Type 0} (K : Codec H S) where
     pub replays : Replays K start (take count all) state
     pub recovered : recovered K image ≡ Ok state
 
-  -- Where n of these frames at least survive in each image since some moment, they do so after the call too, in each image
+  -- If n of these frames at least survive in each image since some moment, they do so after the call too, in each image
   -- since that moment; there may be a frame more then.
   abbrev pub KeepsAll : S → List (List ℕ) → List (List ℕ) → View → View → Type 0
   KeepsAll start all more old new = (c n : ℕ) → c ≤ old.clock

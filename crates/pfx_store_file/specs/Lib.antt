@@ -4,3 +4,4 @@ pub mod Calls
 pub mod Fitting
 pub mod Holding
 pub mod Tending
+pub mod Working

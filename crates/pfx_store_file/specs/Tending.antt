@@ -30,19 +30,19 @@ steps_left places = if places.turned then (if places.begun then 1 + pieces (plac
 abbrev pub calls_left : Places → ℕ
 calls_left places = if places.turned then (if places.begun then 3 + pieces (places.body - places.done) else 5 + pieces places.body) else 0
 
--- how many it takes to make room for a frame of n bytes: none where it fits, else those of the steps to come
+-- how many it takes to make room for a frame of n bytes: none if it fits, else those of the steps to come
 abbrev pub room_calls : ℕ → Places → ℕ
 room_calls n places = if nat_lt (places.gate + n) places.end then 0 else calls_left places
 
--- how many it takes to append one: four where it fits, else those of the steps to come, of a turn, and four
+-- how many it takes to append one: four if it fits, else those of the steps to come, of a turn, and four
 abbrev pub append_calls : ℕ → Places → ℕ
 append_calls n places = if nat_lt (places.gate + n) places.end then 4 else 10 + calls_left places
 
--- how many a turn takes: none where it isn't lawful
+-- how many a turn takes: none if it isn't lawful
 abbrev pub turn_calls : Places → ℕ
 turn_calls places = if places.turned then 0 else (if nat_lt (places.end + 9) (places.gate + places.segment_len) then 6 else 0)
 
--- behind a turn: the segment that frames go to has none, and the checkpoint in progress has all its steps to come
+-- after a turn: the segment that frames go to has none, and the checkpoint in progress has all its steps to come
 pub record IsTurned (places : Places) : Type 0 where
   pub turned : places.turned ≡ true
   pub begun : places.begun ≡ false
@@ -66,7 +66,7 @@ pub record MovesOn (n : ℕ) (old new : Places) : Type 0 where
   pub begun : new.begun ≡ old.begun
   pub done : new.done ≡ old.done
 
--- behind a turn and a frame of n bytes: that frame alone is in its segment, and the checkpoint has all its steps to come
+-- after a turn and a frame of n bytes: that frame alone is in its segment, and the checkpoint has all its steps to come
 pub record IsTurnedBefore (n : ℕ) (places : Places) : Type 0 where
   pub turned : places.turned ≡ true
   pub begun : places.begun ≡ false
@@ -77,15 +77,15 @@ pub record TakesFrame (n : ℕ) (old new : Places) : Type 0 where
   pub room : HasRoom n old → MovesOn n old new
   pub full : ¬ HasRoom n old → IsTurnedBefore n new
 
--- the parts, where the checkpoint in progress has ended, if there was one
+-- the parts, if the checkpoint in progress has ended, if there was one
 abbrev pub settled : {S : Type 0} → Parts S → Parts S
 settled p = if p.turned then finished p else p
 
--- the parts, where it may have ended
+-- the parts, if it may have ended
 abbrev pub settled_unless : {S : Type 0} → Bool → Parts S → Parts S
 settled_unless turned p = if turned then p else settled p
 
--- the parts, where room was made for n bytes at this state: the same, where there was room; else turned, behind the end of
+-- the parts, if room was made for n bytes at this state: the same, if there was room; else turned, after the end of
 -- the checkpoint in progress
 abbrev pub made_room : {S : Type 0} → ℕ → Places → Parts S → S → Parts S
 made_room n places p s = if nat_lt (places.gate + n) places.end then p else turned_at (settled p) s

@@ -1,21 +1,21 @@
 // Appending, whatever room is left.
-ghost use Rattle.std.specs.Prelude.{◌≡◌, ◌≢◌, ◌≤◌, ◌<◌, ◌+◌, ◌++◌, ◌∷◌, ◌↔◌, [], ℕ, List, take, drop, length, Some, true, false, OnOk, OnErr, IsTrue, IsErrOf};
-ghost use Rattle.pfx_disk.specs.CallsMade.{HasMade, HasBrokenOff, HasKeptTo};
+ghost use Rattle.std.specs.Prelude.{◌≡◌, ◌<◌, ◌+◌, ◌∷◌, ◌↔◌, ℕ, List, length, Some, true, OnOk, IsTrue};
 ghost use Rattle.pfx_disk.specs.Disk.{IsHonest};
 ghost use Rattle.pfx_disk.specs.declared.gates.TheConstants.{GATE_OPEN};
 ghost use Rattle.pfx_recovery.specs.Codec.{Codec, Laws};
-ghost use Rattle.pfx_recovery.specs.Store.{Parts, Replays, with_frame};
-ghost use Rattle.pfx_store_file.specs.Acts.{append_acts, appended_file};
-ghost use Rattle.pfx_store_file.specs.Calls.{Works, GoesOn};
+ghost use Rattle.pfx_recovery.specs.Store.{Parts, with_frame};
+ghost use Rattle.pfx_segment.specs.Acts.{put_acts};
+ghost use Rattle.pfx_store_file.specs.Acts.{append_acts, appended_file, gate_of, framed_file};
 ghost use Rattle.pfx_store_file.specs.Files.{File, AreOf};
-ghost use Rattle.pfx_store_file.specs.Fitting.{HasRoom, SameParts};
-ghost use Rattle.pfx_store_file.specs.Holding.{Holds, KeepsAll, Survives, IsPending, IsStart};
-ghost use Rattle.pfx_segment.specs.Segment.{Takes};
-ghost use Rattle.pfx_store_file.specs.Tending.{TakesFrame, append_calls, made_room};
+ghost use Rattle.pfx_store_file.specs.Fitting.{HasRoom};
+ghost use Rattle.pfx_store_file.specs.Holding.{Holds, IsPending, IsStart};
+ghost use Rattle.pfx_store_file.specs.Tending.{MovesOn, TakesFrame, append_calls, made_room};
+ghost use Rattle.pfx_store_file.specs.Working.{Commits, IsAppend, IsCall, Makes, MovesTo};
 
 use crate::faults::StoreFault;
 use crate::file::StoreFile;
 use pfx_disk::Disk;
+use pfx_segment::put_behind;
 
 impl<D: Disk> StoreFile<D> {
     /// Whether a frame of `n` bytes, its gate counted, has room in the segment that frames go to.
@@ -25,65 +25,69 @@ impl<D: Disk> StoreFile<D> {
         n < self.places.end - self.places.gate
     }
 
-    /// Appends a frame. Where it doesn't fit, the checkpoint in progress is ended first, if there is one, and the file
-    /// turned. `spelling` is as for `tend`, `start` as for `turn`, `frame` as for `append`; a frame must fit into an
-    /// empty segment. Where the file is broken, nothing is done.
+    /// Appends a frame, by four calls of the disk: what stands behind its gate, with the next frame's closed gate as the
+    /// last byte, and a sync; its gate and a sync. If it doesn't fit, or the file is broken, nothing is done.
+    ///
+    /// The frame has a byte at least. It is an append to the file, and moves the next frame's gate on. After success the
+    /// store holds with the frame, and each image has it; at every moment what survived before survives, with the frame or
+    /// without. The calls of the disk put the frame behind its gate, and the places are those of the file with it.
+    pub fn append<H, S>(&mut self, frame: &[u8]) -> Result<(), StoreFault>
+        requires some { 0 < length frame.now }
+        ensures call { IsAppend self.old self.new result (length frame.now) }
+        ensures place { MovesTo result self.old.places self.new.places (MovesOn (length frame.now) self.old.places self.new.places) }
+        // The store goes on with the frame.
+        ensures commits { (K : Codec H S) → Laws K → (h : H) → (p : Parts S) → (s : S) → (spelling : List ℕ)
+            → Holds K h self.old.places p s spelling (D.view self.old.disk)
+            → (body : List ℕ) → (t : S) → IsPending frame.now body → K.apply s (GATE_OPEN ∷ body) ≡ Some t
+            → Commits self.old self.new result K h (with_frame p (GATE_OPEN ∷ body)) s (GATE_OPEN ∷ body) t spelling }
+        ensures acts { (K : Codec H S) → (f : File H S) → AreOf K f self.old.places → IsHonest (D.view self.old.disk)
+            → Makes self.old self.new result (put_acts (gate_of K f) frame.now) }
+        ensures file { (K : Codec H S) → (f : File H S) → AreOf K f self.old.places
+            → (next : List ℕ) → length next ≡ length frame.now
+            → OnOk result (AreOf K (framed_file K f next) self.new.places) }
+    {
+        if self.broken {
+            return Err(StoreFault::Broken);
+        }
+        if frame.len() >= self.places.end - self.places.gate {
+            return Err(StoreFault::NoRoom);
+        }
+        self.broken = true;
+        put_behind(&mut self.disk, self.places.gate, frame)?;
+        self.places.gate += frame.len();
+        self.broken = false;
+        Ok(())
+    }
+
+    /// Appends a frame. If it doesn't fit, the checkpoint in progress is ended first, if there is one, and the file turned.
+    /// `spelling` is as for `tend`, `start` as for `turn`, `frame` as for `append`. If the file is broken, nothing is done.
+    ///
+    /// The frame has a byte at least, and fits into an empty segment; `start` has nine bytes, and the spelling is as long
+    /// as a slot's body. It is a call of the file, of four calls of the disk, or of those that make room too. The places
+    /// take the frame. After success the store holds with it, and each image has it; at every moment what survived before
+    /// survives, with the frame or without. The calls of the disk are those that make room, if there is none, and those of
+    /// an append; and the places are those of the file after them.
     pub fn append_or_turn<H, S>(
         &mut self,
         spelling: &[u8],
         start: &[u8],
         frame: &[u8],
     ) -> Result<(), StoreFault>
-        requires some { 0 < length frame.now }
-        requires fits { length frame.now + 9 < self.old.places.segment_len }
+        requires frame { (0 < length frame.now) × (length frame.now + 9 < self.old.places.segment_len) }
         requires nine { length start.now ≡ 9 }
         requires long { length spelling.now ≡ self.old.places.body }
-        ensures works { Works (D.view self.old.disk) (D.view self.new.disk) self.old.broken self.new.broken result }
-        ensures calls { Takes (append_calls (length frame.now) self.old.places) (D.view self.old.disk) (D.view self.new.disk) result }
-        ensures goes { GoesOn (D.view self.old.disk) (D.view self.new.disk) }
-        ensures honest { IsHonest (D.view self.new.disk) → IsHonest (D.view self.old.disk) }
-        ensures kept { IsHonest (D.view self.old.disk) → IsHonest (D.view self.new.disk) }
-        ensures room { ¬ IsErrOf result StoreFault.NoRoom }
-        ensures broken { IsErrOf result StoreFault.Broken → self.new ≡ self.old }
-        ensures parts { SameParts self.old.places self.new.places }
-        ensures frame { OnOk result (TakesFrame (length frame.now) self.old.places self.new.places) }
-
+        ensures call { IsCall self.old self.new result (append_calls (length frame.now) self.old.places) }
+        ensures place { OnOk result (TakesFrame (length frame.now) self.old.places self.new.places) }
         // The store goes on with the frame.
-        ensures holds { (K : Codec H S) → Laws K → (h : H) → (p : Parts S) → (s : S)
+        ensures commits { (K : Codec H S) → Laws K → (h : H) → (p : Parts S) → (s : S)
             → Holds K h self.old.places p s spelling.now (D.view self.old.disk)
             → (p.turned ≡ true → K.read_state h spelling.now ≡ Some p.middle)
             → IsStart K (K.number s + 1) start.now
             → (body : List ℕ) → (t : S) → IsPending frame.now body → K.apply s (GATE_OPEN ∷ body) ≡ Some t
-            → OnOk result (Holds K h self.new.places (with_frame (made_room (length frame.now) self.old.places p s) (GATE_OPEN ∷ body)) t
-            spelling.now (D.view self.new.disk)) }
-
-        // At every moment of the call, whatever it answers, what survived before survives, with the frame or without.
-        ensures keeps { (K : Codec H S) → Laws K → (h : H) → (p : Parts S) → (s : S)
-            → Holds K h self.old.places p s spelling.now (D.view self.old.disk)
-            → (p.turned ≡ true → K.read_state h spelling.now ≡ Some p.middle)
-            → IsStart K (K.number s + 1) start.now
-            → (body : List ℕ) → (t : S) → IsPending frame.now body → K.apply s (GATE_OPEN ∷ body) ≡ Some t
-            → (from : S) → (all : List (List ℕ)) → Replays K from all s
-            → KeepsAll K from all (all ++ (GATE_OPEN ∷ body) ∷ []) (D.view self.old.disk) (D.view self.new.disk) }
-
-        // From the return on, each image has the frame.
-        ensures acknowledged { (K : Codec H S) → Laws K → (h : H) → (p : Parts S) → (s : S)
-            → Holds K h self.old.places p s spelling.now (D.view self.old.disk)
-            → (p.turned ≡ true → K.read_state h spelling.now ≡ Some p.middle)
-            → IsStart K (K.number s + 1) start.now
-            → (body : List ℕ) → (t : S) → IsPending frame.now body → K.apply s (GATE_OPEN ∷ body) ≡ Some t
-            → (from : S) → (all : List (List ℕ)) → Replays K from all s
-            → OnOk result ((image : List ℕ) → (D.view self.new.disk).since (D.view self.new.disk).clock image
-            → Survives K from (all ++ (GATE_OPEN ∷ body) ∷ []) (length all + 1) image) }
-
-        // These calls, one after the other: all of them, or some of them up to one that failed; and the file behind them.
+            → Commits self.old self.new result K h (with_frame (made_room (length frame.now) self.old.places p s) (GATE_OPEN ∷ body))
+            s (GATE_OPEN ∷ body) t spelling.now }
         ensures acts { (K : Codec H S) → (f : File H S) → (s : S) → AreOf K f self.old.places → IsHonest (D.view self.old.disk)
-            → OnOk result (HasMade (append_acts K f s spelling.now start.now frame.now) (D.view self.old.disk) (D.view self.new.disk)) }
-        ensures front { (K : Codec H S) → (f : File H S) → (s : S) → AreOf K f self.old.places → IsHonest (D.view self.old.disk)
-            → IsErrOf result StoreFault.Device → HasBrokenOff (append_acts K f s spelling.now start.now frame.now)
-            (D.view self.old.disk) (D.view self.new.disk) }
-        ensures between { (K : Codec H S) → (f : File H S) → (s : S) → AreOf K f self.old.places → IsHonest (D.view self.old.disk)
-            → HasKeptTo (append_acts K f s spelling.now start.now frame.now) (D.view self.old.disk) (D.view self.new.disk) }
+            → Makes self.old self.new result (append_acts K f s spelling.now start.now frame.now) }
         ensures file { (K : Codec H S) → (f : File H S) → (s : S) → AreOf K f self.old.places → IsHonest (D.view self.old.disk)
             → (next : List ℕ) → length next ≡ length frame.now
             → OnOk result (AreOf K (appended_file K f s frame.now next) self.new.places) }

@@ -1,18 +1,15 @@
 // The checkpoint in progress, step by step.
-ghost use Rattle.std.specs.Prelude.{◌≡◌, ◌≢◌, ◌≤◌, ◌<◌, ◌+◌, ◌∷◌, [], ℕ, List, take, drop, length, Some, Ok, min, true, false, OnOk, OnErr, IfOk, IsErrOf};
-ghost use Rattle.pfx_disk.specs.CallsMade.{HasMade, HasBrokenOff, HasKeptTo};
+ghost use Rattle.std.specs.Prelude.{◌≡◌, ◌≤◌, ◌<◌, ◌+◌, ◌∷◌, [], ℕ, List, take, drop, length, Some, true, false, OnOk};
 ghost use Rattle.pfx_disk.specs.Disk.{IsHonest};
 ghost use Rattle.pfx_disk.specs.Stop.{Write};
 ghost use Rattle.pfx_recovery.specs.Codec.{Codec, Laws};
 ghost use Rattle.pfx_recovery.specs.Store.{Parts, Replays, finished};
 ghost use Rattle.pfx_segment.specs.Acts.{close_acts, open_acts};
-ghost use Rattle.pfx_segment.specs.Segment.{Takes};
 ghost use Rattle.pfx_store_file.specs.Acts.{closed_file, finished_file, tend_acts, tended_file, end_acts, ended_file};
-ghost use Rattle.pfx_store_file.specs.Calls.{Works, GoesOn};
 ghost use Rattle.pfx_store_file.specs.Files.{File, AreOf, slot_of};
-ghost use Rattle.pfx_store_file.specs.Fitting.{SameParts};
 ghost use Rattle.pfx_store_file.specs.Holding.{Holds, KeepsAll};
-ghost use Rattle.pfx_store_file.specs.Tending.{StaysPut, next_step, calls_of, calls_left, steps_left, settled, settled_unless};
+ghost use Rattle.pfx_store_file.specs.Tending.{next_step, calls_of, calls_left, settled, settled_unless};
+ghost use Rattle.pfx_store_file.specs.Working.{Ends, IsCall, IsPiece, IsStep, Keeps, Makes, Tends};
 
 use crate::faults::StoreFault;
 use crate::file::StoreFile;
@@ -41,15 +38,9 @@ impl<D: Disk> StoreFile<D> {
     fn begin<H, S>(&mut self) -> Result<(), StoreFault>
         requires whole { self.old.broken ≡ false }
         requires turned { self.old.places.turned ≡ true }
-        ensures works { Works (D.view self.old.disk) (D.view self.new.disk) self.old.broken self.new.broken result }
-        ensures calls { Takes 2 (D.view self.old.disk) (D.view self.new.disk) result }
-        ensures honest { IsHonest (D.view self.new.disk) → IsHonest (D.view self.old.disk) }
-        ensures kept { IsHonest (D.view self.old.disk) → IsHonest (D.view self.new.disk) }
-        ensures room { ¬ IsErrOf result StoreFault.NoRoom }
-        ensures parts { SameParts self.old.places self.new.places }
-        ensures stays { StaysPut self.old.places self.new.places }
-        ensures err { OnErr result (self.new.places ≡ self.old.places) }
-        ensures begun { OnOk result ((self.new.places.turned ≡ true) × (self.new.places.begun ≡ true) × (self.new.places.done ≡ 0)) }
+        ensures call { IsCall self.old self.new result 2 }
+        ensures step { IsStep result self.old.places self.new.places
+            ((self.new.places.turned ≡ true) × (self.new.places.begun ≡ true) × (self.new.places.done ≡ 0)) }
         ensures holds { (K : Codec H S) → Laws K → (h : H) → (p : Parts S) → (s : S) → (code : List ℕ)
             → Holds K h self.old.places p s code (D.view self.old.disk)
             → (spelling : List ℕ) → K.read_state h spelling ≡ Some p.middle → length spelling ≡ (K.layout h).body
@@ -58,15 +49,8 @@ impl<D: Disk> StoreFile<D> {
             → Holds K h self.old.places p s code (D.view self.old.disk)
             → (start : S) → (all : List (List ℕ)) → Replays K start all s
             → KeepsAll K start all all (D.view self.old.disk) (D.view self.new.disk) }
-
-        // These calls, one after the other: all of them, or some of them up to one that failed; and the file behind them.
         ensures acts { (K : Codec H S) → (f : File H S) → AreOf K f self.old.places → IsHonest (D.view self.old.disk)
-            → OnOk result (HasMade (close_acts (slot_of K f) f.slot_open) (D.view self.old.disk) (D.view self.new.disk)) }
-        ensures front { (K : Codec H S) → (f : File H S) → AreOf K f self.old.places → IsHonest (D.view self.old.disk)
-            → IsErrOf result StoreFault.Device → HasBrokenOff (close_acts (slot_of K f) f.slot_open)
-            (D.view self.old.disk) (D.view self.new.disk) }
-        ensures between { (K : Codec H S) → (f : File H S) → AreOf K f self.old.places → IsHonest (D.view self.old.disk)
-            → HasKeptTo (close_acts (slot_of K f) f.slot_open) (D.view self.old.disk) (D.view self.new.disk) }
+            → Makes self.old self.new result (close_acts (slot_of K f) f.slot_open) }
         ensures file { (K : Codec H S) → (f : File H S) → AreOf K f self.old.places
             → OnOk result (AreOf K (closed_file K f) self.new.places) }
     {
@@ -83,37 +67,15 @@ impl<D: Disk> StoreFile<D> {
     // A middle step: one call, for the next n bytes of the spelling.
     fn write_piece<H, S>(&mut self, spelling: &[u8], n: usize) -> Result<(), StoreFault>
         requires whole { self.old.broken ≡ false }
-        requires some { 0 < n }
-        requires fits { self.old.places.done + n ≤ self.old.places.body }
-        requires long { length spelling.now ≡ self.old.places.body }
-        requires begun { self.old.places.begun ≡ true }
-        ensures works { Works (D.view self.old.disk) (D.view self.new.disk) self.old.broken self.new.broken result }
-        ensures calls { Takes 1 (D.view self.old.disk) (D.view self.new.disk) result }
-        ensures honest { IsHonest (D.view self.new.disk) → IsHonest (D.view self.old.disk) }
-        ensures kept { IsHonest (D.view self.old.disk) → IsHonest (D.view self.new.disk) }
-        ensures room { ¬ IsErrOf result StoreFault.NoRoom }
-        ensures parts { SameParts self.old.places self.new.places }
-        ensures stays { StaysPut self.old.places self.new.places }
-        ensures err { OnErr result (self.new.places ≡ self.old.places) }
-        ensures turned { self.new.places.turned ≡ self.old.places.turned }
-        ensures begun { self.new.places.begun ≡ true }
-        ensures done { OnOk result (self.new.places.done ≡ self.old.places.done + n) }
-        ensures holds { (K : Codec H S) → Laws K → (h : H) → (p : Parts S) → (s : S)
-            → Holds K h self.old.places p s spelling.now (D.view self.old.disk)
-            → OnOk result (Holds K h self.new.places p s spelling.now (D.view self.new.disk)) }
+        requires piece { IsPiece n spelling.now self.old.places }
+        ensures call { IsCall self.old self.new result 1 }
+        ensures step { IsStep result self.old.places self.new.places ((self.new.places.turned ≡ self.old.places.turned)
+            × (self.new.places.begun ≡ true) × (self.new.places.done ≡ self.old.places.done + n)) }
         ensures keeps { (K : Codec H S) → Laws K → (h : H) → (p : Parts S) → (s : S)
             → Holds K h self.old.places p s spelling.now (D.view self.old.disk)
-            → (start : S) → (all : List (List ℕ)) → Replays K start all s
-            → KeepsAll K start all all (D.view self.old.disk) (D.view self.new.disk) }
-
-        // This call, whole or a part of it; and the file behind it.
+            → Keeps self.old self.new result K h p s spelling.now }
         ensures acts { (K : Codec H S) → (f : File H S) → AreOf K f self.old.places → IsHonest (D.view self.old.disk)
-            → OnOk result (HasMade (Write (slot_of K f + 1 + f.done) (take n (drop f.done spelling.now)) ∷ []) (D.view self.old.disk) (D.view self.new.disk)) }
-        ensures front { (K : Codec H S) → (f : File H S) → AreOf K f self.old.places → IsHonest (D.view self.old.disk)
-            → IsErrOf result StoreFault.Device → HasBrokenOff (Write (slot_of K f + 1 + f.done) (take n (drop f.done spelling.now)) ∷ [])
-            (D.view self.old.disk) (D.view self.new.disk) }
-        ensures between { (K : Codec H S) → (f : File H S) → AreOf K f self.old.places → IsHonest (D.view self.old.disk)
-            → HasKeptTo (Write (slot_of K f + 1 + f.done) (take n (drop f.done spelling.now)) ∷ []) (D.view self.old.disk) (D.view self.new.disk) }
+            → Makes self.old self.new result (Write (slot_of K f + 1 + f.done) (take n (drop f.done spelling.now)) ∷ []) }
         ensures file { (K : Codec H S) → (f : File H S) → AreOf K f self.old.places
             → OnOk result (AreOf K (record f { done = f.done + n }) self.new.places) }
     {
@@ -132,31 +94,13 @@ impl<D: Disk> StoreFile<D> {
         requires whole { self.old.broken ≡ false }
         requires done { self.old.places.done ≡ self.old.places.body }
         requires begun { self.old.places.begun ≡ true }
-        ensures works { Works (D.view self.old.disk) (D.view self.new.disk) self.old.broken self.new.broken result }
-        ensures calls { Takes 3 (D.view self.old.disk) (D.view self.new.disk) result }
-        ensures honest { IsHonest (D.view self.new.disk) → IsHonest (D.view self.old.disk) }
-        ensures kept { IsHonest (D.view self.old.disk) → IsHonest (D.view self.new.disk) }
-        ensures room { ¬ IsErrOf result StoreFault.NoRoom }
-        ensures parts { SameParts self.old.places self.new.places }
-        ensures stays { StaysPut self.old.places self.new.places }
-        ensures err { OnErr result (self.new.places ≡ self.old.places) }
-        ensures single { OnOk result (self.new.places.turned ≡ false) }
-        ensures holds { (K : Codec H S) → Laws K → (h : H) → (p : Parts S) → (s : S) → (spelling : List ℕ)
-            → Holds K h self.old.places p s spelling (D.view self.old.disk)
-            → OnOk result (Holds K h self.new.places (finished p) s spelling (D.view self.new.disk)) }
+        ensures call { IsCall self.old self.new result 3 }
+        ensures step { IsStep result self.old.places self.new.places (self.new.places.turned ≡ false) }
         ensures keeps { (K : Codec H S) → Laws K → (h : H) → (p : Parts S) → (s : S) → (spelling : List ℕ)
             → Holds K h self.old.places p s spelling (D.view self.old.disk)
-            → (start : S) → (all : List (List ℕ)) → Replays K start all s
-            → KeepsAll K start all all (D.view self.old.disk) (D.view self.new.disk) }
-
-        // These calls, one after the other: all of them, or some of them up to one that failed; and the file behind them.
+            → Keeps self.old self.new result K h (finished p) s spelling }
         ensures acts { (K : Codec H S) → (f : File H S) → AreOf K f self.old.places → IsHonest (D.view self.old.disk)
-            → OnOk result (HasMade (open_acts (slot_of K f)) (D.view self.old.disk) (D.view self.new.disk)) }
-        ensures front { (K : Codec H S) → (f : File H S) → AreOf K f self.old.places → IsHonest (D.view self.old.disk)
-            → IsErrOf result StoreFault.Device → HasBrokenOff (open_acts (slot_of K f))
-            (D.view self.old.disk) (D.view self.new.disk) }
-        ensures between { (K : Codec H S) → (f : File H S) → AreOf K f self.old.places → IsHonest (D.view self.old.disk)
-            → HasKeptTo (open_acts (slot_of K f)) (D.view self.old.disk) (D.view self.new.disk) }
+            → Makes self.old self.new result (open_acts (slot_of K f)) }
         ensures file { (K : Codec H S) → (f : File H S) → AreOf K f self.old.places
             → OnOk result (AreOf K (finished_file K f) self.new.places) }
     {
@@ -184,48 +128,23 @@ impl<D: Disk> StoreFile<D> {
     }
 
     /// Takes one step of the checkpoint in progress, if there is one. `spelling` is how the state at the turn is written
-    /// behind a slot's gate, the same for each step. Where the file is broken, nothing is done.
+    /// behind a slot's gate, the same for each step. If the file is broken, nothing is done.
+    ///
+    /// The spelling is as long as a slot's body. It is a call of the file, of as many calls of the disk as the next step
+    /// takes. That step is taken, and frames go where they went. After success the store holds, with its checkpoint ended
+    /// by the last step; at every moment what survived before survives. The calls of the disk are those of that step, and
+    /// the places are those of the file after it.
     pub fn tend<H, S>(&mut self, spelling: &[u8]) -> Result<Tended, StoreFault>
         requires long { length spelling.now ≡ self.old.places.body }
-        ensures works { Works (D.view self.old.disk) (D.view self.new.disk) self.old.broken self.new.broken result }
-        ensures calls { Takes (calls_of (next_step self.old.places)) (D.view self.old.disk) (D.view self.new.disk) result }
-        ensures honest { IsHonest (D.view self.new.disk) → IsHonest (D.view self.old.disk) }
-        ensures kept { IsHonest (D.view self.old.disk) → IsHonest (D.view self.new.disk) }
-        ensures room { ¬ IsErrOf result StoreFault.NoRoom }
-        ensures broken { IsErrOf result StoreFault.Broken → self.new ≡ self.old }
-        ensures step { IfOk result (λ tended. tended ≡ next_step self.old.places) }
-        ensures parts { SameParts self.old.places self.new.places }
-        ensures stays { StaysPut self.old.places self.new.places }
-        ensures err { OnErr result (self.new.places ≡ self.old.places) }
-        ensures nothing { self.old.places.turned ≡ false → self.new ≡ self.old }
-        ensures piece { result ≡ Ok Tended.Piece
-            → self.new.places.done ≡ min self.old.places.body (self.old.places.done + PIECE) }
-        ensures nearer { self.old.places.turned ≡ true
-            → OnOk result (steps_left self.old.places ≡ 1 + steps_left self.new.places) }
-        ensures fewer { OnOk result (calls_left self.old.places ≡ calls_of (next_step self.old.places) + calls_left self.new.places) }
-
+        ensures call { IsCall self.old self.new result (calls_of (next_step self.old.places)) }
+        ensures tends { Tends self.old self.new result }
         // The store goes on, and its checkpoint has ended with the last step.
-        ensures holds { (K : Codec H S) → Laws K → (h : H) → (p : Parts S) → (s : S)
-            → Holds K h self.old.places p s spelling.now (D.view self.old.disk)
-            → (p.turned ≡ true → K.read_state h spelling.now ≡ Some p.middle)
-            → OnOk result (Holds K h self.new.places (settled_unless self.new.places.turned p) s spelling.now
-            (D.view self.new.disk)) }
-
-        // At every moment of the call, whatever it answers, what survived before survives.
         ensures keeps { (K : Codec H S) → Laws K → (h : H) → (p : Parts S) → (s : S)
             → Holds K h self.old.places p s spelling.now (D.view self.old.disk)
             → (p.turned ≡ true → K.read_state h spelling.now ≡ Some p.middle)
-            → (start : S) → (all : List (List ℕ)) → Replays K start all s
-            → KeepsAll K start all all (D.view self.old.disk) (D.view self.new.disk) }
-
-        // These calls, one after the other: all of them, or some of them up to one that failed; and the file behind them.
+            → Keeps self.old self.new result K h (settled_unless self.new.places.turned p) s spelling.now }
         ensures acts { (K : Codec H S) → (f : File H S) → AreOf K f self.old.places → IsHonest (D.view self.old.disk)
-            → OnOk result (HasMade (tend_acts K f spelling.now) (D.view self.old.disk) (D.view self.new.disk)) }
-        ensures front { (K : Codec H S) → (f : File H S) → AreOf K f self.old.places → IsHonest (D.view self.old.disk)
-            → IsErrOf result StoreFault.Device → HasBrokenOff (tend_acts K f spelling.now)
-            (D.view self.old.disk) (D.view self.new.disk) }
-        ensures between { (K : Codec H S) → (f : File H S) → AreOf K f self.old.places → IsHonest (D.view self.old.disk)
-            → HasKeptTo (tend_acts K f spelling.now) (D.view self.old.disk) (D.view self.new.disk) }
+            → Makes self.old self.new result (tend_acts K f spelling.now) }
         ensures file { (K : Codec H S) → (f : File H S) → AreOf K f self.old.places
             → OnOk result (AreOf K (tended_file K f) self.new.places) }
     {
@@ -249,41 +168,22 @@ impl<D: Disk> StoreFile<D> {
     }
 
     /// Takes all steps that are left of the checkpoint in progress, if there is one. `spelling` is as for `tend`.
+    ///
+    /// The spelling is as long as a slot's body. It is a call of the file, of as many calls of the disk as those steps
+    /// take. After success no checkpoint is in progress; if none was, nothing is done, and frames go where they went. After
+    /// success the store holds so; at every moment what survived before survives. The calls of the disk are those of all
+    /// these steps, and the places are those of the file after them.
     pub fn end_checkpoint<H, S>(&mut self, spelling: &[u8]) -> Result<(), StoreFault>
         requires long { length spelling.now ≡ self.old.places.body }
-        ensures works { Works (D.view self.old.disk) (D.view self.new.disk) self.old.broken self.new.broken result }
-        ensures calls { Takes (calls_left self.old.places) (D.view self.old.disk) (D.view self.new.disk) result }
-        ensures goes { GoesOn (D.view self.old.disk) (D.view self.new.disk) }
-        ensures honest { IsHonest (D.view self.new.disk) → IsHonest (D.view self.old.disk) }
-        ensures kept { IsHonest (D.view self.old.disk) → IsHonest (D.view self.new.disk) }
-        ensures room { ¬ IsErrOf result StoreFault.NoRoom }
-        ensures broken { IsErrOf result StoreFault.Broken → self.new ≡ self.old }
-        ensures nothing { self.old.places.turned ≡ false → self.new ≡ self.old }
-        ensures ended { OnOk result (self.new.places.turned ≡ false) }
-        ensures parts { SameParts self.old.places self.new.places }
-        ensures stays { StaysPut self.old.places self.new.places }
-
+        ensures call { IsCall self.old self.new result (calls_left self.old.places) }
+        ensures ends { Ends self.old self.new result }
         // The store goes on, with no checkpoint in progress.
-        ensures holds { (K : Codec H S) → Laws K → (h : H) → (p : Parts S) → (s : S)
-            → Holds K h self.old.places p s spelling.now (D.view self.old.disk)
-            → (p.turned ≡ true → K.read_state h spelling.now ≡ Some p.middle)
-            → OnOk result (Holds K h self.new.places (settled p) s spelling.now (D.view self.new.disk)) }
-
-        // At every moment of the call, whatever it answers, what survived before survives.
         ensures keeps { (K : Codec H S) → Laws K → (h : H) → (p : Parts S) → (s : S)
             → Holds K h self.old.places p s spelling.now (D.view self.old.disk)
             → (p.turned ≡ true → K.read_state h spelling.now ≡ Some p.middle)
-            → (start : S) → (all : List (List ℕ)) → Replays K start all s
-            → KeepsAll K start all all (D.view self.old.disk) (D.view self.new.disk) }
-
-        // These calls, one after the other: all of them, or some of them up to one that failed; and the file behind them.
+            → Keeps self.old self.new result K h (settled p) s spelling.now }
         ensures acts { (K : Codec H S) → (f : File H S) → AreOf K f self.old.places → IsHonest (D.view self.old.disk)
-            → OnOk result (HasMade (end_acts K f spelling.now) (D.view self.old.disk) (D.view self.new.disk)) }
-        ensures front { (K : Codec H S) → (f : File H S) → AreOf K f self.old.places → IsHonest (D.view self.old.disk)
-            → IsErrOf result StoreFault.Device → HasBrokenOff (end_acts K f spelling.now)
-            (D.view self.old.disk) (D.view self.new.disk) }
-        ensures between { (K : Codec H S) → (f : File H S) → AreOf K f self.old.places → IsHonest (D.view self.old.disk)
-            → HasKeptTo (end_acts K f spelling.now) (D.view self.old.disk) (D.view self.new.disk) }
+            → Makes self.old self.new result (end_acts K f spelling.now) }
         ensures file { (K : Codec H S) → (f : File H S) → AreOf K f self.old.places → IsHonest (D.view self.old.disk)
             → OnOk result (AreOf K (ended_file K f) self.new.places) }
     {

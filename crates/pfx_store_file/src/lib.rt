@@ -3,12 +3,12 @@
 //! What a file's bytes mean stands in `pfx_recovery`, where contents are left open. Here `StoreFile` keeps a disk, where
 //! the file's parts lie and how its gates stand, and makes the writers' calls. `Holds` says that it does so rightly: each
 //! image that the disk may leave is one of the store at its state. Each call's contract says that the store holds again
-//! where the call succeeds; that what survived before survives at every moment of the call, whatever it answers; and,
+//! if the call succeeds; that what survived before survives at every moment of the call, whatever it answers; and,
 //! of an append, that from its return on each image has the frame.
 //!
 //! What that rests on, and no change may lose:
 //! 1. A frame is written behind a closed gate, with the next closed gate behind it, and synced before its gate is opened.
-//! 2. A turn comes only where the segment that frames go to has one, and no checkpoint is in progress.
+//! 2. A turn comes only if the segment that frames go to has one, and no checkpoint is in progress.
 //! 3. How the gates of the slot and the segment that aren't in use stand is known before anything is written behind them:
 //!    a closed gate is never written closed again. After a call of the disk that failed nothing is known, and the file is
 //!    broken until it is opened again.
@@ -22,6 +22,7 @@ mod faults;
 mod file;
 pub mod laws;
 mod places;
+mod turning;
 
 pub use checkpoint::{PIECE, Tended};
 pub use faults::StoreFault;

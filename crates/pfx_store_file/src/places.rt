@@ -25,7 +25,7 @@ pub struct Places {
     pub end: usize,
     /// Whether the gate of the slot that isn't in use stands open.
     pub slot_open: bool,
-    /// Whether the gate of the other segment stands open, where that isn't to be read.
+    /// Whether the gate of the other segment stands open, if that isn't to be read.
     pub segment_open: bool,
     /// Whether that slot was closed for the checkpoint in progress.
     pub begun: bool,

@@ -1,3 +1,4 @@
+use Rattle.std.proofs.Common.{rules}
 use Rattle.std.proofs.Common.{◌≡◌, ◌∙◌, sym, ap, not, refl}
 use Rattle.std.proofs.Common.{ℕ, Bool, subst}
 use Rattle.pfx_segment.specs.Acts.{close_acts}
@@ -30,21 +31,17 @@ returns-clause-holds g c K laws h p s spelling holds code read long =
     (c.in_ok-close.ensures.durable holds.honest) (c.in_ok-close.ensures.closed holds.honest (begin_shut K laws h old.places p s spelling (view old.disk) holds c.slot_at-at.result at_is)) code (sym holds.turned ∙ c.requires.turned) read long _
     (record { head = holds.fits.head; body = holds.fits.body; segment = holds.fits.segment }) refl refl refl refl refl refl refl refl
 
-pub returns-in_err-close-clause-front : goal.returns-in_err-close-clause-front
-returns-in_err-close-clause-front g c K f are honest is =
+pub returns-in_err-close-clause-acts : goal.returns-in_err-close-clause-acts
+returns-in_err-close-clause-acts g c K f are honest =
     let view = g.D.Disk.view in
     let a = view c.args.self.now.disk in
     let b = view c.close.new.disk in
     let at_is : c.slot_at-at.result ≡ slot_of K f = c.slot_at-at.ensures.at (K.layout f.head) are.are.fits ∙ ap (λ b. slot_at (K.layout f.head) (not b)) are.are.slot in
-    subst (λ (k : ℕ). HasBrokenOff (close_acts k f.slot_open) a b) at_is (subst (λ (o : Bool). HasBrokenOff (close_acts c.slot_at-at.result o) a b) are.slot_open (c.in_err-close.ensures.front honest refl))
-
-pub returns-in_err-close-clause-between : goal.returns-in_err-close-clause-between
-returns-in_err-close-clause-between g c K f are honest =
-    let view = g.D.Disk.view in
-    let a = view c.args.self.now.disk in
-    let b = view c.close.new.disk in
-    let at_is : c.slot_at-at.result ≡ slot_of K f = c.slot_at-at.ensures.at (K.layout f.head) are.are.fits ∙ ap (λ b. slot_at (K.layout f.head) (not b)) are.are.slot in
-    subst (λ (k : ℕ). HasKeptTo (close_acts k f.slot_open) a b) at_is (subst (λ (o : Bool). HasKeptTo (close_acts c.slot_at-at.result o) a b) are.slot_open (c.close.ensures.between honest))
+    record {
+      made = search rules;
+      broken_off = λ is. subst (λ (k : ℕ). HasBrokenOff (close_acts k f.slot_open) a b) at_is (subst (λ (o : Bool). HasBrokenOff (close_acts c.slot_at-at.result o) a b) are.slot_open (c.in_err-close.ensures.acts.broken_off honest refl));
+      between = subst (λ (k : ℕ). HasKeptTo (close_acts k f.slot_open) a b) at_is (subst (λ (o : Bool). HasKeptTo (close_acts c.slot_at-at.result o) a b) are.slot_open (c.close.ensures.acts.between honest));
+    }
 
 pub returns-clause-acts : goal.returns-clause-acts
 returns-clause-acts g c K f are honest =
@@ -52,15 +49,11 @@ returns-clause-acts g c K f are honest =
     let a = view c.args.self.now.disk in
     let b = view c.close.new.disk in
     let at_is : c.slot_at-at.result ≡ slot_of K f = c.slot_at-at.ensures.at (K.layout f.head) are.are.fits ∙ ap (λ b. slot_at (K.layout f.head) (not b)) are.are.slot in
-    subst (λ (k : ℕ). HasMade (close_acts k f.slot_open) a b) at_is (subst (λ (o : Bool). HasMade (close_acts c.slot_at-at.result o) a b) are.slot_open (c.in_ok-close.ensures.acts honest))
-
-pub returns-clause-between : goal.returns-clause-between
-returns-clause-between g c K f are honest =
-    let view = g.D.Disk.view in
-    let a = view c.args.self.now.disk in
-    let b = view c.close.new.disk in
-    let at_is : c.slot_at-at.result ≡ slot_of K f = c.slot_at-at.ensures.at (K.layout f.head) are.are.fits ∙ ap (λ b. slot_at (K.layout f.head) (not b)) are.are.slot in
-    subst (λ (k : ℕ). HasKeptTo (close_acts k f.slot_open) a b) at_is (subst (λ (o : Bool). HasKeptTo (close_acts c.slot_at-at.result o) a b) are.slot_open (c.close.ensures.between honest))
+    record {
+      made = subst (λ (k : ℕ). HasMade (close_acts k f.slot_open) a b) at_is (subst (λ (o : Bool). HasMade (close_acts c.slot_at-at.result o) a b) are.slot_open (c.in_ok-close.ensures.acts.made honest));
+      broken_off = search rules;
+      between = subst (λ (k : ℕ). HasKeptTo (close_acts k f.slot_open) a b) at_is (subst (λ (o : Bool). HasKeptTo (close_acts c.slot_at-at.result o) a b) are.slot_open (c.close.ensures.acts.between honest));
+    }
 
 pub returns-clause-file : goal.returns-clause-file
 returns-clause-file g c K f are =

@@ -1,4 +1,4 @@
-use Rattle.std.proofs.Common.{◌≡◌, ◌+◌, ℕ, List, length, Some, true, false}
+use Rattle.std.proofs.Common.{◌≡◌, ◌↔◌, ◌+◌, ℕ, List, length, Some, true, false}
 use Rattle.pfx_disk.specs.Disk.{IsHonest}
 use Rattle.pfx_recovery.specs.Codec.{Codec, Laws}
 use Rattle.pfx_recovery.specs.Store.{Parts, Replays}
@@ -20,8 +20,7 @@ invariant-steps g l =
       goes : GoesOn old now;
       spent : now.clock + calls_left l.self.places ≡ old.clock + calls_left l.fn.self.places;
       worked : now.failures ≡ old.failures;
-      honest : IsHonest now → IsHonest old;
-      kept : IsHonest old → IsHonest now;
+      honest : IsHonest old ↔ IsHonest now;
       parts : SameParts l.fn.self.places l.self.places;
       stays : StaysPut l.fn.self.places l.self.places;
       holds : (K : Codec g.row.H.Denot g.row.S.Denot) → Laws K → (h : g.row.H.Denot) → (p : Parts g.row.S.Denot) → (s : g.row.S.Denot) → Holds K h l.fn.self.places p s l.spelling old → (p.turned ≡ true → K.read_state h l.spelling ≡ Some p.middle)

@@ -1,3 +1,4 @@
+use Rattle.std.proofs.Common.{rules}
 use Rattle.std.proofs.Common.{◌≡◌, ◌∙◌, ap, not, refl}
 use Rattle.std.proofs.Common.{ℕ, subst}
 use Rattle.pfx_segment.specs.Acts.{open_acts}
@@ -8,7 +9,7 @@ use Rattle.pfx_store_file.proofs.Keeping.{finish_inside, finish_stand, finish_ke
 use Rattle.pfx_store_file.proofs.file.StoreFile.finish.Goals as goal
 
 pub returns-in_err-open_gate-clause-keeps : goal.returns-in_err-open_gate-clause-keeps
-returns-in_err-open_gate-clause-keeps g c K laws h p s spelling holds start all run =
+returns-in_err-open_gate-clause-keeps g c K laws h p s spelling holds =
     let view = g.D.Disk.view in
     let old = c.args.self.now in
     let at = c.slot_at-at.result in
@@ -16,10 +17,13 @@ returns-in_err-open_gate-clause-keeps g c K laws h p s spelling holds start all 
     let begun = holds.begun c.requires.begun in
     let whole : old.places.done ≡ (K.layout h).body = c.requires.done ∙ holds.fits.body in
     let leaves = c.open_gate.ensures.leaves holds.honest spelling (finish_inside K laws h old.places p s spelling (view old.disk) holds at at_is begun whole) (finish_stand K laws h old.places p s spelling (view old.disk) holds at at_is begun whole) in
-    finish_keeps K laws h old.places p s spelling (view old.disk) holds at at_is begun whole (view c.open_gate.new.disk) leaves start all run
+    record {
+      holds = search rules;
+      keeps = λ start all run. finish_keeps K laws h old.places p s spelling (view old.disk) holds at at_is begun whole (view c.open_gate.new.disk) leaves start all run;
+    }
 
 pub returns-clause-keeps : goal.returns-clause-keeps
-returns-clause-keeps g c K laws h p s spelling holds start all run =
+returns-clause-keeps g c K laws h p s spelling holds =
     let view = g.D.Disk.view in
     let old = c.args.self.now in
     let at = c.slot_at-at.result in
@@ -27,35 +31,22 @@ returns-clause-keeps g c K laws h p s spelling holds start all run =
     let begun = holds.begun c.requires.begun in
     let whole : old.places.done ≡ (K.layout h).body = c.requires.done ∙ holds.fits.body in
     let leaves = c.open_gate.ensures.leaves holds.honest spelling (finish_inside K laws h old.places p s spelling (view old.disk) holds at at_is begun whole) (finish_stand K laws h old.places p s spelling (view old.disk) holds at at_is begun whole) in
-    finish_keeps K laws h old.places p s spelling (view old.disk) holds at at_is begun whole (view c.open_gate.new.disk) leaves start all run
+    record {
+      holds = finish_holds K laws h old.places p s spelling (view old.disk) holds at at_is begun whole (view c.open_gate.new.disk) leaves (c.in_ok-open_gate.ensures.durable holds.honest) (c.in_ok-open_gate.ensures.opened holds.honest) _ (record { head = holds.fits.head; body = holds.fits.body; segment = holds.fits.segment }) refl refl refl refl refl refl refl refl;
+      keeps = λ start all run. finish_keeps K laws h old.places p s spelling (view old.disk) holds at at_is begun whole (view c.open_gate.new.disk) leaves start all run;
+    }
 
-pub returns-clause-holds : goal.returns-clause-holds
-returns-clause-holds g c K laws h p s spelling holds =
-    let view = g.D.Disk.view in
-    let old = c.args.self.now in
-    let at = c.slot_at-at.result in
-    let at_is : c.slot_at-at.result ≡ slot_at (K.layout h) (not p.slot) = c.slot_at-at.ensures.at (K.layout h) holds.fits ∙ ap (λ b. slot_at (K.layout h) (not b)) holds.slot in
-    let begun = holds.begun c.requires.begun in
-    let whole : old.places.done ≡ (K.layout h).body = c.requires.done ∙ holds.fits.body in
-    let leaves = c.open_gate.ensures.leaves holds.honest spelling (finish_inside K laws h old.places p s spelling (view old.disk) holds at at_is begun whole) (finish_stand K laws h old.places p s spelling (view old.disk) holds at at_is begun whole) in
-    finish_holds K laws h old.places p s spelling (view old.disk) holds at at_is begun whole (view c.open_gate.new.disk) leaves (c.in_ok-open_gate.ensures.durable holds.honest) (c.in_ok-open_gate.ensures.opened holds.honest) _
-    (record { head = holds.fits.head; body = holds.fits.body; segment = holds.fits.segment }) refl refl refl refl refl refl refl refl
-
-pub returns-in_err-open_gate-clause-front : goal.returns-in_err-open_gate-clause-front
-returns-in_err-open_gate-clause-front g c K f are honest is =
+pub returns-in_err-open_gate-clause-acts : goal.returns-in_err-open_gate-clause-acts
+returns-in_err-open_gate-clause-acts g c K f are honest =
     let view = g.D.Disk.view in
     let a = view c.args.self.now.disk in
     let b = view c.open_gate.new.disk in
     let at_is : c.slot_at-at.result ≡ slot_of K f = c.slot_at-at.ensures.at (K.layout f.head) are.are.fits ∙ ap (λ b. slot_at (K.layout f.head) (not b)) are.are.slot in
-    subst (λ (k : ℕ). HasBrokenOff (open_acts k) a b) at_is (c.in_err-open_gate.ensures.front honest refl)
-
-pub returns-in_err-open_gate-clause-between : goal.returns-in_err-open_gate-clause-between
-returns-in_err-open_gate-clause-between g c K f are honest =
-    let view = g.D.Disk.view in
-    let a = view c.args.self.now.disk in
-    let b = view c.open_gate.new.disk in
-    let at_is : c.slot_at-at.result ≡ slot_of K f = c.slot_at-at.ensures.at (K.layout f.head) are.are.fits ∙ ap (λ b. slot_at (K.layout f.head) (not b)) are.are.slot in
-    subst (λ (k : ℕ). HasKeptTo (open_acts k) a b) at_is (c.open_gate.ensures.between honest)
+    record {
+      made = search rules;
+      broken_off = λ is. subst (λ (k : ℕ). HasBrokenOff (open_acts k) a b) at_is (c.in_err-open_gate.ensures.acts.broken_off honest refl);
+      between = subst (λ (k : ℕ). HasKeptTo (open_acts k) a b) at_is (c.open_gate.ensures.acts.between honest);
+    }
 
 pub returns-clause-acts : goal.returns-clause-acts
 returns-clause-acts g c K f are honest =
@@ -63,15 +54,11 @@ returns-clause-acts g c K f are honest =
     let a = view c.args.self.now.disk in
     let b = view c.open_gate.new.disk in
     let at_is : c.slot_at-at.result ≡ slot_of K f = c.slot_at-at.ensures.at (K.layout f.head) are.are.fits ∙ ap (λ b. slot_at (K.layout f.head) (not b)) are.are.slot in
-    subst (λ (k : ℕ). HasMade (open_acts k) a b) at_is (c.in_ok-open_gate.ensures.acts honest)
-
-pub returns-clause-between : goal.returns-clause-between
-returns-clause-between g c K f are honest =
-    let view = g.D.Disk.view in
-    let a = view c.args.self.now.disk in
-    let b = view c.open_gate.new.disk in
-    let at_is : c.slot_at-at.result ≡ slot_of K f = c.slot_at-at.ensures.at (K.layout f.head) are.are.fits ∙ ap (λ b. slot_at (K.layout f.head) (not b)) are.are.slot in
-    subst (λ (k : ℕ). HasKeptTo (open_acts k) a b) at_is (c.open_gate.ensures.between honest)
+    record {
+      made = subst (λ (k : ℕ). HasMade (open_acts k) a b) at_is (c.in_ok-open_gate.ensures.acts.made honest);
+      broken_off = search rules;
+      between = subst (λ (k : ℕ). HasKeptTo (open_acts k) a b) at_is (c.open_gate.ensures.acts.between honest);
+    }
 
 pub returns-clause-file : goal.returns-clause-file
 returns-clause-file g c K f are =

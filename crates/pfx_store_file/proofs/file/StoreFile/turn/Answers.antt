@@ -1,3 +1,4 @@
+use Rattle.std.proofs.Common.{rules}
 use Rattle.std.proofs.Common.{◌≡◌, ◌∙◌, ap, not, refl}
 use Rattle.std.proofs.Common.{ℕ, Bool, ◌++◌, inl, subst, arith}
 use Rattle.pfx_segment.specs.Acts.{close_acts, put_acts}
@@ -8,59 +9,57 @@ use Rattle.pfx_store_file.proofs.Keeping.{keeps_still, has_frames, turn_known, t
 use Rattle.pfx_store_file.proofs.file.StoreFile.turn.Goals as goal
 
 pub returns-then-self-clause-keeps : goal.returns-then-self-clause-keeps
-returns-then-self-clause-keeps g c K laws h p s spelling holds begins start all run = keeps_still K laws h (g.D.Disk.view c.args.self.now.disk) start all
+returns-then-self-clause-keeps g c K laws h p s spelling holds begins next =
+    record {
+      holds = search rules;
+      keeps = λ start all run. keeps_still K laws h (g.D.Disk.view c.args.self.now.disk) start all;
+    }
 
 pub returns-in_err-prepare-clause-keeps : goal.returns-in_err-prepare-clause-keeps
-returns-in_err-prepare-clause-keeps g c K laws h p s spelling holds begins start all run =
+returns-in_err-prepare-clause-keeps g c K laws h p s spelling holds begins next =
     let view = g.D.Disk.view in
     let old = c.args.self.now in
     let at = c.segment_at-at.result in
     let at_is : c.segment_at-at.result ≡ segment_at (K.layout h) (not p.segment) = c.segment_at-at.ensures.at (K.layout h) holds.fits ∙ ap (λ b. segment_at (K.layout h) (not b)) holds.segment in
     let some = has_frames K laws h old.places p s spelling (view old.disk) holds c.requires.lawful.1 in
     let leaves = c.prepare.ensures.leaves holds.honest (turn_known K laws h old.places p s spelling (view old.disk) holds at at_is c.requires.lawful.0 c.args.start.now begins.long begins.number begins.closed some) in
-    turn_keeps K laws h old.places p s spelling (view old.disk) holds at at_is c.requires.lawful.0 c.args.start.now begins.long begins.number begins.closed some (view c.prepare.new.disk) leaves start all run
+    record {
+      holds = search rules;
+      keeps = λ start all run. turn_keeps K laws h old.places p s spelling (view old.disk) holds at at_is c.requires.lawful.0 c.args.start.now begins.long begins.number begins.closed some (view c.prepare.new.disk) leaves start all run;
+    }
 
 pub returns-clause-keeps : goal.returns-clause-keeps
-returns-clause-keeps g c K laws h p s spelling holds begins start all run =
+returns-clause-keeps g c K laws h p s spelling holds begins next =
     let view = g.D.Disk.view in
     let old = c.args.self.now in
     let at = c.segment_at-at.result in
     let at_is : c.segment_at-at.result ≡ segment_at (K.layout h) (not p.segment) = c.segment_at-at.ensures.at (K.layout h) holds.fits ∙ ap (λ b. segment_at (K.layout h) (not b)) holds.segment in
     let some = has_frames K laws h old.places p s spelling (view old.disk) holds c.requires.lawful.1 in
     let leaves = c.prepare.ensures.leaves holds.honest (turn_known K laws h old.places p s spelling (view old.disk) holds at at_is c.requires.lawful.0 c.args.start.now begins.long begins.number begins.closed some) in
-    turn_keeps K laws h old.places p s spelling (view old.disk) holds at at_is c.requires.lawful.0 c.args.start.now begins.long begins.number begins.closed some (view c.prepare.new.disk) leaves start all run
+    record {
+      holds = turn_holds K laws h old.places p s spelling (view old.disk) holds at at_is c.requires.lawful.0 c.args.start.now begins.long begins.number begins.closed some next (view c.prepare.new.disk) leaves (c.in_ok-prepare.ensures.durable holds.honest) (c.in_ok-prepare.ensures.stands holds.honest) _ (record { head = holds.fits.head; body = holds.fits.body; segment = holds.fits.segment }) refl refl refl refl refl refl refl;
+      keeps = λ start all run. turn_keeps K laws h old.places p s spelling (view old.disk) holds at at_is c.requires.lawful.0 c.args.start.now begins.long begins.number begins.closed some (view c.prepare.new.disk) leaves start all run;
+    }
 
-pub returns-clause-holds : goal.returns-clause-holds
-returns-clause-holds g c K laws h p s spelling holds begins next =
-    let view = g.D.Disk.view in
-    let old = c.args.self.now in
-    let at = c.segment_at-at.result in
-    let at_is : c.segment_at-at.result ≡ segment_at (K.layout h) (not p.segment) = c.segment_at-at.ensures.at (K.layout h) holds.fits ∙ ap (λ b. segment_at (K.layout h) (not b)) holds.segment in
-    let some = has_frames K laws h old.places p s spelling (view old.disk) holds c.requires.lawful.1 in
-    let leaves = c.prepare.ensures.leaves holds.honest (turn_known K laws h old.places p s spelling (view old.disk) holds at at_is c.requires.lawful.0 c.args.start.now begins.long begins.number begins.closed some) in
-    turn_holds K laws h old.places p s spelling (view old.disk) holds at at_is c.requires.lawful.0 c.args.start.now begins.long begins.number begins.closed some next (view c.prepare.new.disk) leaves
-    (c.in_ok-prepare.ensures.durable holds.honest) (c.in_ok-prepare.ensures.stands holds.honest) _
-    (record { head = holds.fits.head; body = holds.fits.body; segment = holds.fits.segment }) refl refl refl refl refl refl refl
+pub returns-then-self-clause-acts : goal.returns-then-self-clause-acts
+returns-then-self-clause-acts g c K f are honest =
+    record {
+      made = search rules;
+      broken_off = search rules;
+      between = λ start done follows k image le is. inl is;
+    }
 
-pub returns-then-self-clause-between : goal.returns-then-self-clause-between
-returns-then-self-clause-between g c K f are honest start done follows k image le is =
-    inl is
-
-pub returns-in_err-prepare-clause-front : goal.returns-in_err-prepare-clause-front
-returns-in_err-prepare-clause-front g c K f are honest is =
+pub returns-in_err-prepare-clause-acts : goal.returns-in_err-prepare-clause-acts
+returns-in_err-prepare-clause-acts g c K f are honest =
     let view = g.D.Disk.view in
     let a = view c.args.self.now.disk in
     let b = view c.prepare.new.disk in
     let at_is : c.segment_at-at.result ≡ segment_of K f = c.segment_at-at.ensures.at (K.layout f.head) are.are.fits ∙ ap (λ b. segment_at (K.layout f.head) (not b)) are.are.segment in
-    subst (λ (k : ℕ). HasBrokenOff (close_acts k f.segment_open ++ put_acts k c.args.start.now) a b) at_is (subst (λ (o : Bool). HasBrokenOff (close_acts c.segment_at-at.result o ++ put_acts c.segment_at-at.result c.args.start.now) a b) are.segment_open (c.in_err-prepare.ensures.front honest refl))
-
-pub returns-in_err-prepare-clause-between : goal.returns-in_err-prepare-clause-between
-returns-in_err-prepare-clause-between g c K f are honest =
-    let view = g.D.Disk.view in
-    let a = view c.args.self.now.disk in
-    let b = view c.prepare.new.disk in
-    let at_is : c.segment_at-at.result ≡ segment_of K f = c.segment_at-at.ensures.at (K.layout f.head) are.are.fits ∙ ap (λ b. segment_at (K.layout f.head) (not b)) are.are.segment in
-    subst (λ (k : ℕ). HasKeptTo (close_acts k f.segment_open ++ put_acts k c.args.start.now) a b) at_is (subst (λ (o : Bool). HasKeptTo (close_acts c.segment_at-at.result o ++ put_acts c.segment_at-at.result c.args.start.now) a b) are.segment_open (c.prepare.ensures.between honest))
+    record {
+      made = search rules;
+      broken_off = λ is. subst (λ (k : ℕ). HasBrokenOff (close_acts k f.segment_open ++ put_acts k c.args.start.now) a b) at_is (subst (λ (o : Bool). HasBrokenOff (close_acts c.segment_at-at.result o ++ put_acts c.segment_at-at.result c.args.start.now) a b) are.segment_open (c.in_err-prepare.ensures.acts.broken_off honest refl));
+      between = subst (λ (k : ℕ). HasKeptTo (close_acts k f.segment_open ++ put_acts k c.args.start.now) a b) at_is (subst (λ (o : Bool). HasKeptTo (close_acts c.segment_at-at.result o ++ put_acts c.segment_at-at.result c.args.start.now) a b) are.segment_open (c.prepare.ensures.acts.between honest));
+    }
 
 pub returns-clause-acts : goal.returns-clause-acts
 returns-clause-acts g c K f are honest =
@@ -68,15 +67,11 @@ returns-clause-acts g c K f are honest =
     let a = view c.args.self.now.disk in
     let b = view c.prepare.new.disk in
     let at_is : c.segment_at-at.result ≡ segment_of K f = c.segment_at-at.ensures.at (K.layout f.head) are.are.fits ∙ ap (λ b. segment_at (K.layout f.head) (not b)) are.are.segment in
-    subst (λ (k : ℕ). HasMade (close_acts k f.segment_open ++ put_acts k c.args.start.now) a b) at_is (subst (λ (o : Bool). HasMade (close_acts c.segment_at-at.result o ++ put_acts c.segment_at-at.result c.args.start.now) a b) are.segment_open (c.in_ok-prepare.ensures.acts honest))
-
-pub returns-clause-between : goal.returns-clause-between
-returns-clause-between g c K f are honest =
-    let view = g.D.Disk.view in
-    let a = view c.args.self.now.disk in
-    let b = view c.prepare.new.disk in
-    let at_is : c.segment_at-at.result ≡ segment_of K f = c.segment_at-at.ensures.at (K.layout f.head) are.are.fits ∙ ap (λ b. segment_at (K.layout f.head) (not b)) are.are.segment in
-    subst (λ (k : ℕ). HasKeptTo (close_acts k f.segment_open ++ put_acts k c.args.start.now) a b) at_is (subst (λ (o : Bool). HasKeptTo (close_acts c.segment_at-at.result o ++ put_acts c.segment_at-at.result c.args.start.now) a b) are.segment_open (c.prepare.ensures.between honest))
+    record {
+      made = subst (λ (k : ℕ). HasMade (close_acts k f.segment_open ++ put_acts k c.args.start.now) a b) at_is (subst (λ (o : Bool). HasMade (close_acts c.segment_at-at.result o ++ put_acts c.segment_at-at.result c.args.start.now) a b) are.segment_open (c.in_ok-prepare.ensures.acts.made honest));
+      broken_off = search rules;
+      between = subst (λ (k : ℕ). HasKeptTo (close_acts k f.segment_open ++ put_acts k c.args.start.now) a b) at_is (subst (λ (o : Bool). HasKeptTo (close_acts c.segment_at-at.result o ++ put_acts c.segment_at-at.result c.args.start.now) a b) are.segment_open (c.prepare.ensures.acts.between honest));
+    }
 
 pub returns-clause-file : goal.returns-clause-file
 returns-clause-file g c K f are s =

@@ -1,6 +1,7 @@
+use Rattle.std.proofs.Common.{rules}
 use Rattle.std.proofs.Common.{◌≡◌, ◌∙◌, ◌+◌, ◌-◌, ◌≤◌, ap, not, ℕ, List, take, drop, refl, arith}
-use Rattle.std.proofs.Common.{[], ◌∷◌, sym, subst}
-use Rattle.pfx_disk.specs.Stop.{Act, Write}
+use Rattle.std.proofs.Common.{[], ◌∷◌, subst}
+use Rattle.pfx_disk.specs.Stop.{Write}
 use Rattle.pfx_disk.specs.CallsMade.{HasMade, HasBrokenOff, HasKeptTo}
 use Rattle.pfx_disk.proofs.CallsMade.{write_made, write_broken, write_within}
 use Rattle.pfx_store_file.specs.Files.{slot_of}
@@ -15,38 +16,33 @@ same_piece done n l = ap (λ (k : ℕ). take k (drop done l)) (less done n)
     less done n = omega arith
 
 pub returns-in_err-write_at-clause-keeps : goal.returns-in_err-write_at-clause-keeps
-returns-in_err-write_at-clause-keeps g c K laws h p s holds start all run =
+returns-in_err-write_at-clause-keeps g c K laws h p s holds =
     let view = g.D.Disk.view in
     let old = c.args.self.now in
     let at_is : c.slot_at-at.result ≡ slot_at (K.layout h) (not p.slot) = c.slot_at-at.ensures.at (K.layout h) holds.fits ∙ ap (λ b. slot_at (K.layout h) (not b)) holds.slot in
     let spelling = c.args.spelling.now in
     let piece = take (old.places.done + c.args.n - old.places.done) (drop old.places.done spelling) in
-    let fits : old.places.done + c.args.n ≤ (K.layout h).body = omega (arith, c.requires.fits, holds.fits.body) in
-    piece_keeps K laws h old.places p s spelling (view old.disk) holds c.slot_at-at.result at_is piece c.args.n c.requires.some fits (holds.begun c.requires.begun) (same_piece old.places.done c.args.n spelling) (view c.write_at.new.self) (c.write_at.ensures.leaves holds.honest) start all run
+    let fits : old.places.done + c.args.n ≤ (K.layout h).body = omega (arith, c.requires.piece.fits, holds.fits.body) in
+    record {
+      holds = search rules;
+      keeps = λ start all run. piece_keeps K laws h old.places p s spelling (view old.disk) holds c.slot_at-at.result at_is piece c.args.n c.requires.piece.some fits (holds.begun c.requires.piece.begun) (same_piece old.places.done c.args.n spelling) (view c.write_at.new.self) (c.write_at.ensures.leaves holds.honest) start all run;
+    }
 
 pub returns-clause-keeps : goal.returns-clause-keeps
-returns-clause-keeps g c K laws h p s holds start all run =
+returns-clause-keeps g c K laws h p s holds =
     let view = g.D.Disk.view in
     let old = c.args.self.now in
     let at_is : c.slot_at-at.result ≡ slot_at (K.layout h) (not p.slot) = c.slot_at-at.ensures.at (K.layout h) holds.fits ∙ ap (λ b. slot_at (K.layout h) (not b)) holds.slot in
     let spelling = c.args.spelling.now in
     let piece = take (old.places.done + c.args.n - old.places.done) (drop old.places.done spelling) in
-    let fits : old.places.done + c.args.n ≤ (K.layout h).body = omega (arith, c.requires.fits, holds.fits.body) in
-    piece_keeps K laws h old.places p s spelling (view old.disk) holds c.slot_at-at.result at_is piece c.args.n c.requires.some fits (holds.begun c.requires.begun) (same_piece old.places.done c.args.n spelling) (view c.write_at.new.self) (c.write_at.ensures.leaves holds.honest) start all run
+    let fits : old.places.done + c.args.n ≤ (K.layout h).body = omega (arith, c.requires.piece.fits, holds.fits.body) in
+    record {
+      holds = piece_holds K laws h old.places p s spelling (view old.disk) holds c.slot_at-at.result at_is piece c.args.n c.requires.piece.some fits (holds.begun c.requires.piece.begun) (same_piece old.places.done c.args.n spelling) (view c.write_at.new.self) (c.write_at.ensures.leaves holds.honest) (c.in_ok-write_at.ensures.written holds.honest) _ (record { head = holds.fits.head; body = holds.fits.body; segment = holds.fits.segment }) refl refl refl refl refl refl refl refl;
+      keeps = λ start all run. piece_keeps K laws h old.places p s spelling (view old.disk) holds c.slot_at-at.result at_is piece c.args.n c.requires.piece.some fits (holds.begun c.requires.piece.begun) (same_piece old.places.done c.args.n spelling) (view c.write_at.new.self) (c.write_at.ensures.leaves holds.honest) start all run;
+    }
 
-pub returns-clause-holds : goal.returns-clause-holds
-returns-clause-holds g c K laws h p s holds =
-    let view = g.D.Disk.view in
-    let old = c.args.self.now in
-    let at_is : c.slot_at-at.result ≡ slot_at (K.layout h) (not p.slot) = c.slot_at-at.ensures.at (K.layout h) holds.fits ∙ ap (λ b. slot_at (K.layout h) (not b)) holds.slot in
-    let spelling = c.args.spelling.now in
-    let piece = take (old.places.done + c.args.n - old.places.done) (drop old.places.done spelling) in
-    let fits : old.places.done + c.args.n ≤ (K.layout h).body = omega (arith, c.requires.fits, holds.fits.body) in
-    piece_holds K laws h old.places p s spelling (view old.disk) holds c.slot_at-at.result at_is piece c.args.n c.requires.some fits (holds.begun c.requires.begun) (same_piece old.places.done c.args.n spelling) (view c.write_at.new.self) (c.write_at.ensures.leaves holds.honest)
-    (c.in_ok-write_at.ensures.written holds.honest) _ (record { head = holds.fits.head; body = holds.fits.body; segment = holds.fits.segment }) refl refl refl refl refl refl refl refl
-
-pub returns-in_err-write_at-clause-front : goal.returns-in_err-write_at-clause-front
-returns-in_err-write_at-clause-front g c K f are honest is =
+pub returns-in_err-write_at-clause-acts : goal.returns-in_err-write_at-clause-acts
+returns-in_err-write_at-clause-acts g c K f are honest =
     let view = g.D.Disk.view in
     let a = view c.args.self.now.disk in
     let b = view c.write_at.new.self in
@@ -58,22 +54,11 @@ returns-in_err-write_at-clause-front g c K f are honest is =
     let place : c.slot_at-at.result + 1 + done ≡ slot_of K f + 1 + f.done = omega (arith, at_is, are.done) in
     let bytes : piece ≡ take n (drop f.done spelling) = same_piece done n spelling ∙ ap (λ (k : ℕ). take n (drop k spelling)) are.done in
     let l = c.write_at.ensures.leaves honest in
-    subst (λ (k : ℕ). HasBrokenOff (Write k (take n (drop f.done spelling)) ∷ []) a b) place (subst (λ (l : List ℕ). HasBrokenOff (Write (c.slot_at-at.result + 1 + done) l ∷ []) a b) bytes (write_broken a b (c.slot_at-at.result + 1 + done) piece l))
-
-pub returns-in_err-write_at-clause-between : goal.returns-in_err-write_at-clause-between
-returns-in_err-write_at-clause-between g c K f are honest =
-    let view = g.D.Disk.view in
-    let a = view c.args.self.now.disk in
-    let b = view c.write_at.new.self in
-    let at_is : c.slot_at-at.result ≡ slot_of K f = c.slot_at-at.ensures.at (K.layout f.head) are.are.fits ∙ ap (λ b. slot_at (K.layout f.head) (not b)) are.are.slot in
-    let spelling = c.args.spelling.now in
-    let done = c.args.self.now.places.done in
-    let n = c.args.n in
-    let piece = take (done + n - done) (drop done spelling) in
-    let place : c.slot_at-at.result + 1 + done ≡ slot_of K f + 1 + f.done = omega (arith, at_is, are.done) in
-    let bytes : piece ≡ take n (drop f.done spelling) = same_piece done n spelling ∙ ap (λ (k : ℕ). take n (drop k spelling)) are.done in
-    let l = c.write_at.ensures.leaves honest in
-    subst (λ (k : ℕ). HasKeptTo (Write k (take n (drop f.done spelling)) ∷ []) a b) place (subst (λ (l : List ℕ). HasKeptTo (Write (c.slot_at-at.result + 1 + done) l ∷ []) a b) bytes (write_within a b (c.slot_at-at.result + 1 + done) piece l))
+    record {
+      made = search rules;
+      broken_off = λ is. subst (λ (k : ℕ). HasBrokenOff (Write k (take n (drop f.done spelling)) ∷ []) a b) place (subst (λ (l : List ℕ). HasBrokenOff (Write (c.slot_at-at.result + 1 + done) l ∷ []) a b) bytes (write_broken a b (c.slot_at-at.result + 1 + done) piece l));
+      between = subst (λ (k : ℕ). HasKeptTo (Write k (take n (drop f.done spelling)) ∷ []) a b) place (subst (λ (l : List ℕ). HasKeptTo (Write (c.slot_at-at.result + 1 + done) l ∷ []) a b) bytes (write_within a b (c.slot_at-at.result + 1 + done) piece l));
+    }
 
 pub returns-clause-acts : goal.returns-clause-acts
 returns-clause-acts g c K f are honest =
@@ -88,22 +73,11 @@ returns-clause-acts g c K f are honest =
     let place : c.slot_at-at.result + 1 + done ≡ slot_of K f + 1 + f.done = omega (arith, at_is, are.done) in
     let bytes : piece ≡ take n (drop f.done spelling) = same_piece done n spelling ∙ ap (λ (k : ℕ). take n (drop k spelling)) are.done in
     let l = c.write_at.ensures.leaves honest in
-    subst (λ (k : ℕ). HasMade (Write k (take n (drop f.done spelling)) ∷ []) a b) place (subst (λ (l : List ℕ). HasMade (Write (c.slot_at-at.result + 1 + done) l ∷ []) a b) bytes (write_made a b (c.slot_at-at.result + 1 + done) piece l (omega (arith, c.args.self.now.inside honest, c.slot_at-at.ensures.inside, c.requires.fits)) (c.in_ok-write_at.ensures.written honest)))
-
-pub returns-clause-between : goal.returns-clause-between
-returns-clause-between g c K f are honest =
-    let view = g.D.Disk.view in
-    let a = view c.args.self.now.disk in
-    let b = view c.write_at.new.self in
-    let at_is : c.slot_at-at.result ≡ slot_of K f = c.slot_at-at.ensures.at (K.layout f.head) are.are.fits ∙ ap (λ b. slot_at (K.layout f.head) (not b)) are.are.slot in
-    let spelling = c.args.spelling.now in
-    let done = c.args.self.now.places.done in
-    let n = c.args.n in
-    let piece = take (done + n - done) (drop done spelling) in
-    let place : c.slot_at-at.result + 1 + done ≡ slot_of K f + 1 + f.done = omega (arith, at_is, are.done) in
-    let bytes : piece ≡ take n (drop f.done spelling) = same_piece done n spelling ∙ ap (λ (k : ℕ). take n (drop k spelling)) are.done in
-    let l = c.write_at.ensures.leaves honest in
-    subst (λ (k : ℕ). HasKeptTo (Write k (take n (drop f.done spelling)) ∷ []) a b) place (subst (λ (l : List ℕ). HasKeptTo (Write (c.slot_at-at.result + 1 + done) l ∷ []) a b) bytes (write_within a b (c.slot_at-at.result + 1 + done) piece l))
+    record {
+      made = subst (λ (k : ℕ). HasMade (Write k (take n (drop f.done spelling)) ∷ []) a b) place (subst (λ (l : List ℕ). HasMade (Write (c.slot_at-at.result + 1 + done) l ∷ []) a b) bytes (write_made a b (c.slot_at-at.result + 1 + done) piece l (omega (arith, c.args.self.now.inside honest, c.slot_at-at.ensures.inside, c.requires.piece.fits)) (c.in_ok-write_at.ensures.written honest)));
+      broken_off = search rules;
+      between = subst (λ (k : ℕ). HasKeptTo (Write k (take n (drop f.done spelling)) ∷ []) a b) place (subst (λ (l : List ℕ). HasKeptTo (Write (c.slot_at-at.result + 1 + done) l ∷ []) a b) bytes (write_within a b (c.slot_at-at.result + 1 + done) piece l));
+    }
 
 pub returns-clause-file : goal.returns-clause-file
 returns-clause-file g c K f are =
