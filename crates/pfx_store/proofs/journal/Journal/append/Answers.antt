@@ -57,7 +57,7 @@ returns-in_err-append_or_turn-clause-commits g c stands =
       keeps = λ start all replays.
           let there : Replays (format K) start all mid.state = subst (λ (s : Plain g.row.J.Denot). Replays (format K) start all s) (sym same) replays in
           keeps_appended K start all (batch_bytes K b) (GATE_OPEN ∷ body) (V c.args.self.now.file.disk) (V mid.file.disk) (V c.append_or_turn.new.self.disk) c.make_room.ensures.call.takes.later (c.make_room.ensures.stands.keeps stands start all replays) opens
-          (c.append_or_turn.ensures.keeps (format K) (format_laws K L) standing.header standing.parts mid.state standing.holds standing.middle begins body c.requires.next.right.0 c.behind_gate.ensures.pending.2 leads start all there);
+          ((c.append_or_turn.ensures.commits (format K) (format_laws K L) standing.header standing.parts mid.state standing.holds standing.middle begins body c.requires.next.right.0 c.behind_gate.ensures.pending.2 leads).keeps start all there);
       acknowledged = λ start all replays. none_on_fault _ _ c.from_residual-in_err-append_or_turn.result c.from_residual-in_err-append_or_turn.ensures.1;
     }
 
@@ -79,7 +79,7 @@ returns-clause-stands g c stands =
     let ready : IsReady K n mid.file.places mid.state c.deref.result.now = rw (c.deref.ensures.value, c.behind_gate.ensures.len, ← c.batch_len-len.ensures.value) c.in_ok-make_room.ensures.room.ready in
     subst (λ (l : List ℕ). Stands K c.append_or_turn.new.self.places c.take_over.new.state l (V c.append_or_turn.new.self.disk)) c.deref.ensures.value
     (stands_behind K L n mid.file.places c.append_or_turn.new.self.places mid.state c.take_over.new.state c.deref.result.now (GATE_OPEN ∷ body) (V mid.file.disk) (V c.append_or_turn.new.self.disk) standing c.number.ensures.state c.take_over.ensures.set ready
-    (c.in_ok-append_or_turn.ensures.holds (format K) (format_laws K L) standing.header standing.parts mid.state standing.holds standing.middle begins body c.take_over.new.state c.behind_gate.ensures.pending.2 leads))
+    ((c.in_ok-append_or_turn.ensures.commits (format K) (format_laws K L) standing.header standing.parts mid.state standing.holds standing.middle begins body c.take_over.new.state c.behind_gate.ensures.pending.2 leads).holds))
 
 pub returns-clause-commits : goal.returns-clause-commits
 returns-clause-commits g c stands =
@@ -99,18 +99,18 @@ returns-clause-commits g c stands =
       keeps = λ start all replays.
           let there : Replays (format K) start all mid.state = subst (λ (s : Plain g.row.J.Denot). Replays (format K) start all s) (sym same) replays in
           keeps_appended K start all (batch_bytes K b) (GATE_OPEN ∷ body) (V c.args.self.now.file.disk) (V mid.file.disk) (V c.append_or_turn.new.self.disk) c.make_room.ensures.call.takes.later (c.make_room.ensures.stands.keeps stands start all replays) opens
-          (c.append_or_turn.ensures.keeps (format K) (format_laws K L) standing.header standing.parts mid.state standing.holds standing.middle begins body c.requires.next.right.0 c.behind_gate.ensures.pending.2 leads start all there);
+          ((c.append_or_turn.ensures.commits (format K) (format_laws K L) standing.header standing.parts mid.state standing.holds standing.middle begins body c.requires.next.right.0 c.behind_gate.ensures.pending.2 leads).keeps start all there);
       acknowledged = λ start all replays.
           let there : Replays (format K) start all mid.state = subst (λ (s : Plain g.row.J.Denot). Replays (format K) start all s) (sym same) replays in
           subst (λ (f : List ℕ). (image : List ℕ) → (V c.append_or_turn.new.self.disk).since (V c.append_or_turn.new.self.disk).clock image → Survives (format K) start (all ++ f ∷ []) (length all + 1) image) (sym opens)
-          (c.in_ok-append_or_turn.ensures.acknowledged (format K) (format_laws K L) standing.header standing.parts mid.state standing.holds standing.middle begins body c.requires.next.right.0 c.behind_gate.ensures.pending.2 leads start all there);
+          ((c.in_ok-append_or_turn.ensures.commits (format K) (format_laws K L) standing.header standing.parts mid.state standing.holds standing.middle begins body c.requires.next.right.0 c.behind_gate.ensures.pending.2 leads).acknowledged start all there);
     }
 
 pub returns-in_err-append_or_turn-clause-call : goal.returns-in_err-append_or_turn-clause-call
 returns-in_err-append_or_turn-clause-call g c =
     record {
       works = works_behind (g.D.Disk.view c.args.self.now.file.disk) (g.D.Disk.view c.make_room.new.self.file.disk) (g.D.Disk.view c.append_or_turn.new.self.disk) c.args.self.now.file.broken c.make_room.new.self.file.broken c.append_or_turn.new.self.broken
-          c.append_or_turn.result c.from_residual-in_err-append_or_turn.result _ c.if-self.false (c.in_ok-make_room.ensures.call.works.whole refl) c.make_room.ensures.call.takes.no_fewer c.in_err-append_or_turn.was c.from_residual-in_err-append_or_turn.ensures.1 c.append_or_turn.ensures.works;
+          c.append_or_turn.result c.from_residual-in_err-append_or_turn.result _ c.if-self.false (c.in_ok-make_room.ensures.call.works.whole refl) c.make_room.ensures.call.takes.no_fewer c.in_err-append_or_turn.was c.from_residual-in_err-append_or_turn.ensures.1 c.append_or_turn.ensures.call.works;
       takes = search rules;
       honest = search rules;
       roomy = search rules;
@@ -128,7 +128,7 @@ returns-clause-call g c =
     record {
       works = search rules;
       takes = takes_both (room_calls c.batch_len-len.result before) (append_calls (length c.behind_gate.result.now) between) (append_calls n before) (g.D.Disk.view c.args.self.now.file.disk) (g.D.Disk.view c.make_room.new.self.file.disk) (g.D.Disk.view c.append_or_turn.new.self.disk) _
-          sum (c.in_ok-make_room.ensures.call.takes.ok refl) (c.in_ok-append_or_turn.ensures.calls.ok refl);
+          sum (c.in_ok-make_room.ensures.call.takes.ok refl) (c.in_ok-append_or_turn.ensures.call.takes.ok refl);
       honest = search rules;
       roomy = search rules;
       broken = search rules;
@@ -139,7 +139,7 @@ pub returns-clause-place : goal.returns-clause-place
 returns-clause-place g c =
     takes_frame (length (batch_bytes g.J.Job.kind (batch_of c.args.batch.now.first c.args.batch.now.records.items))) c.batch_len-len.result (length c.behind_gate.result.now)
     c.args.self.now.file.places c.make_room.new.self.file.places c.append_or_turn.new.self.places c.batch_len-len.ensures.value c.behind_gate.ensures.len
-    c.make_room.ensures.room.there c.make_room.ensures.room.full c.in_ok-append_or_turn.ensures.frame
+    c.make_room.ensures.room.there c.make_room.ensures.room.full c.in_ok-append_or_turn.ensures.place
 
 pub returns-in_err-make_room-clause-acts : goal.returns-in_err-make_room-clause-acts
 returns-in_err-make_room-clause-acts g c =
@@ -188,12 +188,12 @@ returns-in_err-append_or_turn-clause-acts g c =
           let made = c.in_ok-make_room.ensures.acts.made f has honest in
           let there = c.in_ok-make_room.ensures.acts.file f has honest in
           let honest_then = c.make_room.ensures.call.honest.0 honest in
-          append_broken K f old.file.places old.spelled.items has s frame n long other start bytes starts behind a b e made (c.append_or_turn.ensures.front (format K) (ended K f n) s there.are honest_then (fault_back _ c.append_or_turn.result _ Device (c.in_err-append_or_turn.was) c.from_residual-in_err-append_or_turn.ensures.1 is));
+          append_broken K f old.file.places old.spelled.items has s frame n long other start bytes starts behind a b e made ((c.append_or_turn.ensures.acts (format K) (ended K f n) s there.are honest_then).broken_off (fault_back _ c.append_or_turn.result _ Device (c.in_err-append_or_turn.was) c.from_residual-in_err-append_or_turn.ensures.1 is));
       between = λ f has honest.
           let made = c.in_ok-make_room.ensures.acts.made f has honest in
           let there = c.in_ok-make_room.ensures.acts.file f has honest in
           let honest_then = c.make_room.ensures.call.honest.0 honest in
-          append_within K f old.file.places old.spelled.items has s frame n long other start bytes starts behind a b e made c.make_room.ensures.call.takes.later (c.make_room.ensures.acts.between f has honest) (c.append_or_turn.ensures.between (format K) (ended K f n) s there.are honest_then);
+          append_within K f old.file.places old.spelled.items has s frame n long other start bytes starts behind a b e made c.make_room.ensures.call.takes.later (c.make_room.ensures.acts.between f has honest) ((c.append_or_turn.ensures.acts (format K) (ended K f n) s there.are honest_then).between);
       file = search rules;
     }
 
@@ -224,13 +224,13 @@ returns-clause-acts g c =
           let made = c.in_ok-make_room.ensures.acts.made f has honest in
           let there = c.in_ok-make_room.ensures.acts.file f has honest in
           let honest_then = c.make_room.ensures.call.honest.0 honest in
-          append_made K f old.file.places old.spelled.items has s frame n long other start bytes starts behind a b e made (c.in_ok-append_or_turn.ensures.acts (format K) (ended K f n) s there.are honest_then);
+          append_made K f old.file.places old.spelled.items has s frame n long other start bytes starts behind a b e made ((c.in_ok-append_or_turn.ensures.acts (format K) (ended K f n) s there.are honest_then).made);
       broken_off = search rules;
       between = λ f has honest.
           let made = c.in_ok-make_room.ensures.acts.made f has honest in
           let there = c.in_ok-make_room.ensures.acts.file f has honest in
           let honest_then = c.make_room.ensures.call.honest.0 honest in
-          append_within K f old.file.places old.spelled.items has s frame n long other start bytes starts behind a b e made c.make_room.ensures.call.takes.later (c.make_room.ensures.acts.between f has honest) (c.append_or_turn.ensures.between (format K) (ended K f n) s there.are honest_then);
+          append_within K f old.file.places old.spelled.items has s frame n long other start bytes starts behind a b e made c.make_room.ensures.call.takes.later (c.make_room.ensures.acts.between f has honest) ((c.append_or_turn.ensures.acts (format K) (ended K f n) s there.are honest_then).between);
       file = λ f has honest.
           let made = c.in_ok-make_room.ensures.acts.made f has honest in
           let there = c.in_ok-make_room.ensures.acts.file f has honest in

@@ -20,7 +20,7 @@ returns-in_err-end_checkpoint-clause-stands g c =
       goes_on = search rules;
       keeps = λ stands start all replays.
           let same : Stands K c.args.self.now.file.places s c.deref.result.now (g.D.Disk.view c.args.self.now.file.disk) = subst (λ (l : List ℕ). Stands K c.args.self.now.file.places s l (g.D.Disk.view c.args.self.now.file.disk)) (sym c.deref.ensures.value) stands in
-          c.end_checkpoint.ensures.keeps (format K) (format_laws K g.met.J.Job.laws) same.header same.parts s same.holds same.middle start all replays;
+          (c.end_checkpoint.ensures.keeps (format K) (format_laws K g.met.J.Job.laws) same.header same.parts s same.holds same.middle).keeps start all replays;
     }
 
 pub returns-clause-stands : goal.returns-clause-stands
@@ -30,10 +30,10 @@ returns-clause-stands g c =
     record {
       goes_on = λ stands.
           let same : Stands K c.args.self.now.file.places s c.deref.result.now (g.D.Disk.view c.args.self.now.file.disk) = subst (λ (l : List ℕ). Stands K c.args.self.now.file.places s l (g.D.Disk.view c.args.self.now.file.disk)) (sym c.deref.ensures.value) stands in
-          stands_settled K same.header c.end_checkpoint.new.self.places same.parts s c.deref.result.now _ _ (c.in_ok-end_checkpoint.ensures.holds (format K) (format_laws K g.met.J.Job.laws) same.header same.parts s same.holds same.middle) same.set;
+          stands_settled K same.header c.end_checkpoint.new.self.places same.parts s c.deref.result.now _ _ ((c.in_ok-end_checkpoint.ensures.keeps (format K) (format_laws K g.met.J.Job.laws) same.header same.parts s same.holds same.middle).holds) same.set;
       keeps = λ stands start all replays.
           let same : Stands K c.args.self.now.file.places s c.deref.result.now (g.D.Disk.view c.args.self.now.file.disk) = subst (λ (l : List ℕ). Stands K c.args.self.now.file.places s l (g.D.Disk.view c.args.self.now.file.disk)) (sym c.deref.ensures.value) stands in
-          c.end_checkpoint.ensures.keeps (format K) (format_laws K g.met.J.Job.laws) same.header same.parts s same.holds same.middle start all replays;
+          (c.end_checkpoint.ensures.keeps (format K) (format_laws K g.met.J.Job.laws) same.header same.parts s same.holds same.middle).keeps start all replays;
     }
 
 pub returns-then-has_room-clause-acts : goal.returns-then-has_room-clause-acts
@@ -63,10 +63,10 @@ returns-in_err-end_checkpoint-clause-acts g c =
       made = search rules;
       broken_off = λ f has honest is.
           let same : HasFile K f old.file.places body = subst (λ (l : List ℕ). HasFile K f old.file.places l) (sym c.deref.ensures.value) has in
-          end_broken K f old.file.places body same n none a b (c.end_checkpoint.ensures.front (format K) f same.are honest (fault_back _ c.end_checkpoint.result _ Device (c.in_err-end_checkpoint.was) c.from_residual.ensures.1 is));
+          end_broken K f old.file.places body same n none a b ((c.end_checkpoint.ensures.acts (format K) f same.are honest).broken_off (fault_back _ c.end_checkpoint.result _ Device (c.in_err-end_checkpoint.was) c.from_residual.ensures.1 is));
       between = λ f has honest.
           let same : HasFile K f old.file.places body = subst (λ (l : List ℕ). HasFile K f old.file.places l) (sym c.deref.ensures.value) has in
-          end_within K f old.file.places body same n none a b (c.end_checkpoint.ensures.between (format K) f same.are honest);
+          end_within K f old.file.places body same n none a b ((c.end_checkpoint.ensures.acts (format K) f same.are honest).between);
       file = search rules;
     }
 
@@ -83,11 +83,11 @@ returns-clause-acts g c =
     record {
       made = λ f has honest.
           let same : HasFile K f old.file.places body = subst (λ (l : List ℕ). HasFile K f old.file.places l) (sym c.deref.ensures.value) has in
-          end_made K f old.file.places body same n none a b (c.in_ok-end_checkpoint.ensures.acts (format K) f same.are honest);
+          end_made K f old.file.places body same n none a b ((c.in_ok-end_checkpoint.ensures.acts (format K) f same.are honest).made);
       broken_off = search rules;
       between = λ f has honest.
           let same : HasFile K f old.file.places body = subst (λ (l : List ℕ). HasFile K f old.file.places l) (sym c.deref.ensures.value) has in
-          end_within K f old.file.places body same n none a b (c.end_checkpoint.ensures.between (format K) f same.are honest);
+          end_within K f old.file.places body same n none a b ((c.end_checkpoint.ensures.acts (format K) f same.are honest).between);
       file = λ f has honest.
           let same : HasFile K f old.file.places body = subst (λ (l : List ℕ). HasFile K f old.file.places l) (sym c.deref.ensures.value) has in
           end_file K f old.file.places body same n none a b c.end_checkpoint.new.self.places c.encode.new.spelled.items (c.in_ok-end_checkpoint.ensures.file (format K) f same.are honest);

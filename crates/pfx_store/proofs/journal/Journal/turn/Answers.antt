@@ -18,7 +18,7 @@ returns-in_err-turn-clause-stands g c =
     let begins : IsStart (format K) (s.number + 1) c.start_behind-start.result = record { long = c.start_behind-start.ensures.long; number = c.start_behind-start.ensures.number ∙ ap (λ n. n + 1) c.number.ensures.number; closed = c.start_behind-start.ensures.closed } in
     record {
       goes_on = search rules;
-      keeps = λ stands start all replays. c.turn.ensures.keeps (format K) (format_laws K g.met.J.Job.laws) stands.header stands.parts s c.args.self.now.spelled.items stands.holds begins start all replays;
+      keeps = λ stands start all replays. (c.turn.ensures.keeps (format K) (format_laws K g.met.J.Job.laws) stands.header stands.parts s c.args.self.now.spelled.items stands.holds begins []).keeps start all replays;
     }
 
 pub returns-clause-stands : goal.returns-clause-stands
@@ -28,8 +28,8 @@ returns-clause-stands g c =
     let begins : IsStart (format K) (s.number + 1) c.start_behind-start.result = record { long = c.start_behind-start.ensures.long; number = c.start_behind-start.ensures.number ∙ ap (λ n. n + 1) c.number.ensures.number; closed = c.start_behind-start.ensures.closed } in
     record {
       goes_on = λ stands. stands_turned K g.met.J.Job.laws stands.header c.turn.new.self.places stands.parts s c.encode.new.spelled.items (g.D.Disk.view c.turn.new.self.disk) c.encode.ensures.state stands.set c.encode.ensures.spelled
-          (c.in_ok-turn.ensures.holds (format K) (format_laws K g.met.J.Job.laws) stands.header stands.parts s c.args.self.now.spelled.items stands.holds begins c.encode.new.spelled.items);
-      keeps = λ stands start all replays. c.turn.ensures.keeps (format K) (format_laws K g.met.J.Job.laws) stands.header stands.parts s c.args.self.now.spelled.items stands.holds begins start all replays;
+          ((c.in_ok-turn.ensures.keeps (format K) (format_laws K g.met.J.Job.laws) stands.header stands.parts s c.args.self.now.spelled.items stands.holds begins c.encode.new.spelled.items).holds);
+      keeps = λ stands start all replays. (c.turn.ensures.keeps (format K) (format_laws K g.met.J.Job.laws) stands.header stands.parts s c.args.self.now.spelled.items stands.holds begins []).keeps start all replays;
     }
 
 pub returns-in_err-turn-clause-acts : goal.returns-in_err-turn-clause-acts
@@ -44,8 +44,8 @@ returns-in_err-turn-clause-acts g c =
     let b = V c.turn.new.self.disk in
     record {
       made = search rules;
-      broken_off = λ f has honest is. turn_broken K f old.file.places old.spelled.items has s start starts a b (c.turn.ensures.front (format K) f has.are honest (fault_back _ c.turn.result _ Device (c.in_err-turn.was) c.from_residual.ensures.1 is));
-      between = λ f has honest. turn_within K f old.file.places old.spelled.items has s start starts a b (c.turn.ensures.between (format K) f has.are honest);
+      broken_off = λ f has honest is. turn_broken K f old.file.places old.spelled.items has s start starts a b ((c.turn.ensures.acts (format K) f has.are honest).broken_off (fault_back _ c.turn.result _ Device (c.in_err-turn.was) c.from_residual.ensures.1 is));
+      between = λ f has honest. turn_within K f old.file.places old.spelled.items has s start starts a b ((c.turn.ensures.acts (format K) f has.are honest).between);
       file = search rules;
     }
 
@@ -60,8 +60,8 @@ returns-clause-acts g c =
     let a = V old.file.disk in
     let b = V c.turn.new.self.disk in
     record {
-      made = λ f has honest is. turn_made K f old.file.places old.spelled.items has s start starts a b (c.in_ok-turn.ensures.acts (format K) f has.are honest);
+      made = λ f has honest is. turn_made K f old.file.places old.spelled.items has s start starts a b ((c.in_ok-turn.ensures.acts (format K) f has.are honest).made);
       broken_off = search rules;
-      between = λ f has honest. turn_within K f old.file.places old.spelled.items has s start starts a b (c.turn.ensures.between (format K) f has.are honest);
+      between = λ f has honest. turn_within K f old.file.places old.spelled.items has s start starts a b ((c.turn.ensures.acts (format K) f has.are honest).between);
       file = λ f has honest is. record { are = c.in_ok-turn.ensures.file (format g.J.Job.kind) f has.are c.args.self.now.state; spells = λ turned. c.encode.ensures.spelled };
     }
