@@ -1,5 +1,6 @@
 -- What the book's calls do.
-use Rattle.std.specs.Prelude.{◌≡◌, ◌≢◌, ◌⊎◌, ℕ, ◌^◌, ◌<◌, List, [], ◌∷◌, ◌++◌, length, take, drop, slice_get, Option, None, Some, nat_le, ⊤}
+use Rattle.std.specs.Prelude.{◌≡◌, ◌≢◌, ◌⊎◌, ℕ, ◌^◌, ◌<◌, ◌+◌, List, [], ◌∷◌, ◌++◌, length, map, take, drop, slice_get, Option, None, Some, nat_le, ⊤, false}
+use Rattle.std.specs.Global.{Vec}
 use Rattle.pfx_crew.specs.Gathering.{Refuses as Repels}
 use Rattle.pfx_crew.specs.declared.gathering.GatherFault.{GatherFault}
 use Rattle.pfx_crew.specs.declared.gathering.GatherFault.TheVariants.{Stranger}
@@ -9,16 +10,19 @@ use Rattle.pfx_machine.specs.declared.command.Command.{Command}
 use Rattle.pfx_machine.specs.declared.faults.MachineFault.TheVariants.{NoMemory}
 use Rattle.pfx_machine.specs.Plain.{Plain}
 use Rattle.pfx_machine.specs.Outcome.{outcome}
+use Rattle.pfx_machine.specs.Refusals.{reply}
+use Rattle.pfx_machine.specs.declared.command.Reply.{Reply}
 use Rattle.pfx_machine.specs.Slots.{Deal}
-use Rattle.pfx_record.specs.Records.{Plain as Recorded}
+use Rattle.pfx_record.specs.declared.record.Record.{Record}
+use Rattle.pfx_record.specs.Records.{plain, Plain as Recorded}
 use Rattle.pfx_redo.specs.Recording.{records_of}
-use Rattle.pfx_world.specs.Session.{Session, Opened, AllBack, MayGive, gave}
+use Rattle.pfx_world.specs.Session.{Session, Opened, AllBack, MayGive, begun, gave, receipted, took}
 use Rattle.pfx_book.specs.declared.faults.BookFault.{BookFault}
 use Rattle.pfx_book.specs.declared.faults.BookFault.TheVariants.{Machine}
 use Rattle.pfx_book.specs.declared.note.Note.{Note}
-use Rattle.pfx_book.specs.declared.note.Note.TheVariants.{Refused, Lost}
-use Rattle.pfx_book.specs.Notes.{refused_at}
-use Rattle.pfx_book.specs.Register.{Register}
+use Rattle.pfx_book.specs.declared.note.Note.TheVariants.{Accepted, Refused, Receipt, Lost, Took}
+use Rattle.pfx_book.specs.Notes.{greatest, refused_at, GoesOn}
+use Rattle.pfx_book.specs.Register.{Register, HasRoom}
 
 module _ {J : Type 0} where
   -- the book with another session of the events, and one entry more, of this pass
@@ -69,3 +73,37 @@ module _ {J : Type 0} where
   -- the records of the next n accepted commands behind those that were taken
   abbrev pub next_records : Kind J → Plain J → ℕ → Session J → List (Recorded J)
   next_records K start n b = records_of K (outcome K start (take b.taken b.accepted)) (take n (drop b.taken b.accepted))
+
+  -- A book takes commands: no slot is open, it has room for one more, the flusher has not given up, and the book is not shut.
+  pub record TakesCommands (r : Register J) : Type 0 where
+    pub none_open : r.session.opened ≡ None
+    pub room : HasRoom r.session
+    pub goes_on : r.failure ≡ None
+    pub not_shut : r.shut ≡ false
+
+  -- The command was accepted: it has the next number, greater than any of the pass, and the machine's reply. The session moves to the
+  -- next one, with an entry of the pass, and the pass notes it.
+  pub record IsAccepted (c : Command J) (next : Session J) (old new : Register J) (pass later : ℕ × List (Note J)) (r : ℕ × Reply) : Type 0 where
+    pub number : r.0 ≡ old.session.state.number + 1
+    pub reply : r.1 ≡ reply old.session.state c
+    pub rises : greatest pass.1 < r.0
+    pub event : new ≡ entered pass.0 (Accepted r.0 c r.1) next old
+    pub noted : later ≡ noted (Accepted r.0 c r.1) pass
+
+  -- A slot is begun for this pass, which has no note of it before its end.
+  pub record IsBegun (K : Kind J) (old new : Register J) (pass later : ℕ × List (Note J)) : Type 0 where
+    pub event : new ≡ record old { session = begun K old.session; opener = pass.0 }
+    pub silent : later ≡ pass
+
+  -- The receipt of a number, with the clock of the last mark, is an entry of the pass, and the pass notes it.
+  pub record IsReceipted (number : ℕ) (old new : Register J) (pass later : ℕ × List (Note J)) : Type 0 where
+    pub event : new ≡ entered pass.0 (Receipt number old.session.marked_at) (receipted number old.session) old
+    pub noted : later ≡ noted (Receipt number old.session.marked_at) pass
+
+  -- The records of the next accepted commands were taken as a batch, which may come next after what the flusher noted and is noted.
+  pub record IsTaken (K : Kind J) (start : Plain J) (workers first : ℕ) (records : Vec (Record J)) (old new : Register J) (share later : List (Note J))
+      : Type 0 where
+    pub event : new ≡ record old { session = took (length records.items) old.session }
+    pub noted : later ≡ share ++ Took first records ∷ []
+    pub commands : map plain records.items ≡ next_records K start (length records.items) old.session
+    pub next : GoesOn K start share workers first (map plain records.items)

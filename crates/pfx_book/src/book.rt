@@ -1,13 +1,12 @@
 //! The locked value, and the tokens that it gives out.
-ghost use Rattle.std.specs.Prelude.{◌≡◌, ◌≢◌, ◌↔◌, ℕ, List, [], ◌∷◌, ◌++◌, ◌<◌, ◌≤◌, ◌+◌, length, map, IfOk, IfErr, OnErr, IfSome, IfNone, Some, None, true};
+ghost use Rattle.std.specs.Prelude.{◌≡◌, ◌≢◌, ◌↔◌, ℕ, List, [], ◌∷◌, ◌<◌, ◌≤◌, ◌+◌, length, map, IfOk, IfErr, IfSome, IfNone, Some, None};
 ghost use Rattle.std.specs.Prelude.{false, IsTrue, vec_capacity};
 ghost use Rattle.pfx_machine.specs.Board.{all_lines};
-ghost use Rattle.pfx_machine.specs.Refusals.{reply};
 ghost use Rattle.pfx_world.specs.Session.{IsQuick, MayAsk, asked};
-ghost use Rattle.pfx_book.specs.Calls.{entered, noted, Refuses};
+ghost use Rattle.pfx_book.specs.Calls.{TakesCommands, IsAccepted, Refuses};
 ghost use Rattle.pfx_book.specs.Notes.{greatest, lost_in};
 ghost use Rattle.pfx_book.specs.Register.{new_register, HasRoom};
-ghost use Rattle.pfx_book.specs.declared.note.Note.TheVariants.{Accepted, Marked};
+ghost use Rattle.pfx_book.specs.declared.note.Note.TheVariants.{Marked};
 
 use crate::copies::copy_reply;
 use crate::faults::BookFault;
@@ -250,23 +249,18 @@ impl<J: Job, B: Named<J>> Book<J, B> {
         })
     }
 
-    /// Accepts a Submit or a Withdraw and carries it out, or refuses it, with an entry for the pass in both cases: `SessionFull`
-    /// where 1,048,576 commands were accepted, else as the machine refuses it. `Machine(NoMemory)` has no entry.
+    /// Accepts a Submit or a Withdraw, if the book takes commands and it may be asked, and carries it out; or refuses it, with an
+    /// entry for the pass in both cases: `SessionFull` if 1,048,576 commands were accepted, else as the machine refuses it.
+    /// `Machine(NoMemory)` has no entry.
     pub fn ask(
         &mut self,
         pass: &mut Pass<J, B>,
         command: Command<J>,
     ) -> Result<(u64, Reply), BookFault>
         requires quick { IsQuick command }
-        requires none_open { self.old.session.opened ≡ None }
-        requires room { HasRoom self.old.session }
-        requires goes_on { self.old.failure ≡ None }
-        requires not_shut { self.old.shut ≡ false }
+        requires ready { TakesCommands self.old }
         ensures may { IfOk result (λ _. MayAsk J.kind self.old.session command) }
-        ensures event { IfOk result (λ r. self.new ≡ entered pass.old.0 (Accepted r.0 command r.1) (asked J.kind command self.old.session) self.old) }
-        ensures noted { IfOk result (λ r. pass.new ≡ noted (Accepted r.0 command r.1) pass.old) }
-        ensures answer { IfOk result
-            (λ r. (r.0 ≡ self.old.session.state.number + 1) × (r.1 ≡ reply self.old.session.state command) × (greatest pass.old.1 < r.0)) }
+        ensures accepted { IfOk result (IsAccepted command (asked J.kind command self.old.session) self.old self.new pass.old pass.new) }
         ensures err { IfErr result (Refuses J.kind command self.old self.new pass.old pass.new) }
     {
         let Book {

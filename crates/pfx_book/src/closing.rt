@@ -1,15 +1,14 @@
 //! Receipts, failures, and the end of a session.
-ghost use Rattle.std.specs.Prelude.{◌≡◌, ◌≢◌, ◌≤◌, ◌+◌, [], map, length, take, IfOk, OnErr, Some, None, true, false, IsTrue};
+ghost use Rattle.std.specs.Prelude.{◌≡◌, ◌≢◌, ◌≤◌, ◌+◌, [], map, length, take, IfOk, OnOk, OnErr, Some, None, true, false, IsTrue};
 ghost use Rattle.pfx_redo.specs.Recording.{records_of};
 ghost use Rattle.pfx_machine.specs.Outcome.{outcome};
 ghost use Rattle.pfx_machine.specs.Plain.{IsState};
 ghost use Rattle.pfx_machine.specs.Sessions.{IsAcceptable};
-ghost use Rattle.pfx_world.specs.Session.{receipted};
-ghost use Rattle.pfx_book.specs.Calls.{entered, noted, once_lost};
+ghost use Rattle.pfx_book.specs.Calls.{IsReceipted, once_lost};
 ghost use Rattle.pfx_book.specs.Merging.{of, numbers_from, IsMerge};
 ghost use Rattle.pfx_book.specs.Kept.{HasFailed};
 ghost use Rattle.pfx_book.specs.Notes.{alone, lost_in, answers_of, commands_of, records_in, Legal, Noted, AllBacked};
-ghost use Rattle.pfx_book.specs.declared.note.Note.TheVariants.{Marked, Receipt as Receipted};
+ghost use Rattle.pfx_book.specs.declared.note.Note.TheVariants.{Marked};
 
 use crate::book::{Book, Pass, Share};
 use crate::line::Line;
@@ -29,14 +28,12 @@ pub struct Receipt {
 }
 
 impl<J: Job, B: Named<J>> Book<J, B> {
-    /// A receipt for a number up to the mark, with an entry for the pass. `AllocError` where memory is refused; then nothing
-    /// changes.
+    /// A receipt for a number up to the mark, with the mark's clock and an entry for the pass. `AllocError` if memory is refused;
+    /// then nothing changes.
     pub fn receipt(&mut self, pass: &mut Pass<J, B>, number: u64) -> Result<Receipt, AllocError>
         requires { number ≤ B.start.number + self.old.session.marked }
-        ensures event { IfOk result
-            (λ r. self.new ≡ entered pass.old.0 (Receipted number self.old.session.marked_at) (receipted number self.old.session) self.old) }
-        ensures noted { IfOk result (λ r. pass.new ≡ noted (Receipted number self.old.session.marked_at) pass.old) }
         ensures receipt { IfOk result (λ r. (r.number ≡ number) × (r.clock ≡ self.old.session.marked_at)) }
+        ensures receipted { OnOk result (IsReceipted number self.old self.new pass.old pass.new) }
         ensures err { OnErr result ((self.new ≡ self.old) × (pass.new ≡ pass.old)) }
     {
         let Book {

@@ -1,10 +1,9 @@
 //! What the flusher calls.
-ghost use Rattle.std.specs.Prelude.{◌≡◌, ◌↔◌, [], ◌∷◌, ◌++◌, ◌<◌, ◌≤◌, ◌+◌, length, map, IfOk, IfErr, OnErr, IsTrue, Some, vec_capacity};
-ghost use Rattle.pfx_record.specs.Records.{plain};
-ghost use Rattle.pfx_world.specs.Session.{took, marked_now, gave_up};
-ghost use Rattle.pfx_book.specs.Calls.{next_records};
-ghost use Rattle.pfx_book.specs.Notes.{records_in, took_in, GoesOn};
-ghost use Rattle.pfx_book.specs.declared.note.Note.TheVariants.{Took, Marked, Failed};
+ghost use Rattle.std.specs.Prelude.{◌≡◌, ◌↔◌, [], ◌∷◌, ◌++◌, ◌<◌, ◌≤◌, ◌+◌, length, IfOk, IfErr, OnErr, IsTrue, Some, vec_capacity};
+ghost use Rattle.pfx_world.specs.Session.{marked_now, gave_up};
+ghost use Rattle.pfx_book.specs.Calls.{IsTaken};
+ghost use Rattle.pfx_book.specs.Notes.{records_in, took_in};
+ghost use Rattle.pfx_book.specs.declared.note.Note.TheVariants.{Marked, Failed};
 
 use crate::book::{Book, Share};
 use crate::name::Named;
@@ -32,8 +31,8 @@ impl<J: Job, B: Named<J>> Book<J, B> {
         !self.pending.is_empty()
     }
 
-    /// Takes the records of the next commands, 16 at the most, as a batch, which the share notes. Where there are none the
-    /// vector comes back, and nothing changes. It takes no memory.
+    /// Takes the records of the next commands, 16 at the most, as a batch, which the share notes, into an empty vector with room
+    /// for them. If there are none nothing changes, and the vector comes back. It takes no memory.
     pub fn take_batch(
         &mut self,
         share: &mut Share<J, B>,
@@ -41,10 +40,7 @@ impl<J: Job, B: Named<J>> Book<J, B> {
     ) -> Result<Batch<J>, Vec<Record<J>>>
         requires empty { room.items ≡ [] }
         requires room { 16 ≤ vec_capacity room }
-        ensures event { IfOk result (λ b. self.new ≡ record self.old { session = took (length b.records.items) self.old.session }) }
-        ensures noted { IfOk result (λ b. share.new ≡ share.old ++ Took b.first b.records ∷ []) }
-        ensures commands { IfOk result (λ b. map plain b.records.items ≡ next_records J.kind B.start (length b.records.items) self.old.session) }
-        ensures next { IfOk result (λ b. GoesOn J.kind B.start share.old b.workers b.first (map plain b.records.items)) }
+        ensures taken { IfOk result (λ b. IsTaken J.kind B.start b.workers b.first b.records self.old self.new share.old share.new) }
         ensures err { OnErr result ((self.old.session.taken ≡ length self.old.session.accepted) × (self.new ≡ self.old) × (share.new ≡ share.old)) }
         ensures width { IfOk result (λ b. vec_capacity b.records ≡ vec_capacity room) }
         ensures back { IfErr result (λ v. (v.items ≡ []) × (vec_capacity v ≡ vec_capacity room)) }

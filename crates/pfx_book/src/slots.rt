@@ -1,12 +1,8 @@
 //! The open slot: begun, given its results, sealed.
-ghost use Rattle.std.specs.Prelude.{◌≡◌, ◌≢◌, ◌<◌, ◌+◌, map, IfOk, IfErr, IfSome, IfNone, OnOk, OnErr, MatchOption, None, false};
-ghost use Rattle.pfx_machine.specs.Refusals.{reply};
+ghost use Rattle.std.specs.Prelude.{◌≡◌, ◌≢◌, ◌<◌, map, IfOk, IfErr, IfSome, IfNone, OnOk, OnErr, MatchOption, None, false};
 ghost use Rattle.pfx_machine.specs.Slots.{deal};
-ghost use Rattle.pfx_world.specs.Session.{MayBegin, MaySeal, opening_of, begun, sealed};
-ghost use Rattle.pfx_book.specs.Calls.{entered, noted, Refuses, NoneMissing, IsFirstMissing, ComesBack, IsRepelled};
-ghost use Rattle.pfx_book.specs.Notes.{greatest};
-ghost use Rattle.pfx_book.specs.Register.{HasRoom};
-ghost use Rattle.pfx_book.specs.declared.note.Note.TheVariants.{Accepted};
+ghost use Rattle.pfx_world.specs.Session.{MayBegin, MaySeal, opening_of, sealed};
+ghost use Rattle.pfx_book.specs.Calls.{TakesCommands, IsAccepted, IsBegun, Refuses, NoneMissing, IsFirstMissing, ComesBack, IsRepelled};
 
 use crate::book::{Book, Pass};
 use crate::copies::copy_reply;
@@ -24,18 +20,15 @@ use pfx_redo::Recorded;
 use pfx_slot::sealing::seal_on;
 
 impl<J: Job, B: Named<J>> Book<J, B> {
-    /// Opens the next slot for this pass and gives the quanta that are to be run, or refuses a Slot as `ask` refuses a command.
+    /// Opens the next slot for this pass, if the book takes commands and a slot may be opened, and gives the quanta that are to be
+    /// run; or refuses a Slot as `ask` refuses a command.
     /// All memory that the slot's end needs is taken here. Until it is sealed no command is accepted.
     pub fn open(&mut self, pass: &mut Pass<J, B>) -> Result<Vec<Quantum<J>>, BookFault>
-        requires none_open { self.old.session.opened ≡ None }
-        requires room { HasRoom self.old.session }
-        requires goes_on { self.old.failure ≡ None }
-        requires not_shut { self.old.shut ≡ false }
+        requires ready { TakesCommands self.old }
         ensures may { IfOk result (λ _. MayBegin J.kind self.old.session) }
-        ensures event { IfOk result (λ _. self.new ≡ record self.old { session = begun J.kind self.old.session; opener = pass.old.0 }) }
+        ensures begun { OnOk result (IsBegun J.kind self.old self.new pass.old pass.new) }
         ensures dealt { IfOk result
             (λ quanta. map (λ q. deal q.number q.slot q.task q.before) quanta.items ≡ (opening_of J.kind self.old.session.state).quanta) }
-        ensures silent { IfOk result (λ _. pass.new ≡ pass.old) }
         ensures err { IfErr result (Refuses J.kind Command.Slot self.old self.new pass.old pass.new) }
     {
         let Book {
@@ -99,14 +92,11 @@ impl<J: Job, B: Named<J>> Book<J, B> {
         slot.give(done)
     }
 
-    /// Ends the open slot of this pass once all results are back, with an entry for the pass. `None`, with nothing changed, where
-    /// no slot is open, where another pass opened it, or where a result is missing. It takes no memory.
+    /// Ends the open slot of this pass once all results are back: a Slot is accepted, with an entry for the pass. `None`, with
+    /// nothing changed, if no slot is open, if another pass opened it, or if a result is missing. It takes no memory.
     pub fn seal(&mut self, pass: &mut Pass<J, B>) -> Option<(u64, Reply)>
         ensures may { IfSome result (λ _. MaySeal self.old.session × (self.old.opener ≡ pass.old.0)) }
-        ensures event { IfSome result (λ r. self.new ≡ entered pass.old.0 (Accepted r.0 Command.Slot r.1) (sealed self.old.session) self.old) }
-        ensures noted { IfSome result (λ r. pass.new ≡ noted (Accepted r.0 Command.Slot r.1) pass.old) }
-        ensures answer { IfSome result
-            (λ r. (r.0 ≡ self.old.session.state.number + 1) × (r.1 ≡ reply self.old.session.state Command.Slot) × (greatest pass.old.1 < r.0)) }
+        ensures accepted { IfSome result (IsAccepted Command.Slot (sealed self.old.session) self.old self.new pass.old pass.new) }
         ensures none { IfNone result ((self.new ≡ self.old) × (pass.new ≡ pass.old) × (MaySeal self.old.session → self.old.opener ≢ pass.old.0)) }
     {
         let Book {

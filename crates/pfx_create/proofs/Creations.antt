@@ -37,8 +37,7 @@ begun file a a1 b1 later looked first = leaves_then Same Beginning (Creating fil
 pub attempted : (head body : List ℕ) (segment : ℕ) → 9 < segment → (a b : View) → (IsHonest b → IsHonest a) → (IsHonest a → length a.contents ≡ 0)
     → (IsHonest a → (L : Layout) → HasLengths L head body segment → Leaves (Creating (new_file L head body number_one)) a b) → Attempts head body segment a b
 attempted head body segment room a b back none leaves = record {
-  honest = back;
-  kept = λ honest. let some = some_layout head body segment room in (leaves honest some.0 some.1).honest;
+  honest = (λ honest. let some = some_layout head body segment room in (leaves honest some.0 some.1).honest, back);
   leaves = leaves;
   untouched = λ honest some. absurd (omega (arith, none honest, some));
 }

@@ -1,18 +1,35 @@
 -- What the making of a new file leaves on a disk, and what a codec says of it.
-use Rattle.std.specs.Prelude.{◌≡◌, ◌≤◌, ◌<◌, ◌⊎◌, ℕ, List, [], length, Ok, Err}
-use Rattle.pfx_disk.specs.Disk.{View, IsHonest, Leaves, Same}
+use Rattle.std.specs.Prelude.{◌≡◌, ◌≤◌, ◌<◌, ◌+◌, ◌⊎◌, ◌↔◌, ℕ, List, [], length, Result, Ok, Err}
+use Rattle.pfx_disk.specs.Disk.{View, HasFailed, IsHonest, Leaves, Only, Same}
 use Rattle.pfx_recovery.specs.Codec.{Codec, Laws}
 use Rattle.pfx_recovery.specs.Layout.{Layout}
 use Rattle.pfx_recovery.specs.NewFile.{ArePartsOfNew, new_file}
 use Rattle.pfx_recovery.specs.Recovery.{recovered}
 use Rattle.pfx_recovery.specs.Refusals.{NotAStore}
+use Rattle.pfx_segment.specs.Segment.{Takes}
 use Rattle.pfx_create.specs.Creating.{Creating, HasLengths, IsUnmade, number_one}
+
+-- It takes so many calls of the disk; if it answers that the device failed, the disk did; and an honest disk stays one.
+pub record IsCall {T E : Type 0} (calls : ℕ) (device : Type 0) (old new : View) (result : Result T E) : Type 0 where
+  pub failed : device → HasFailed old new
+  pub takes : Takes calls old new result
+  pub honest : IsHonest old ↔ IsHonest new
+
+-- The disk wasn't empty: one call found bytes on it.
+pub record WasNotEmpty (old new : View) : Type 0 where
+  pub some : IsHonest old → 0 < length old.contents
+  pub one_call : new.clock ≡ old.clock + 1
+
+-- The disk was empty, and holds the new file, whole and durable.
+pub record IsMade (head body : List ℕ) (segment : ℕ) (old new : View) : Type 0 where
+  pub empty : old.contents ≡ []
+  pub written : (L : Layout) → HasLengths L head body segment → new.contents ≡ new_file L head body number_one
+  pub durable : Only new.contents new
 
 -- At every moment of the call, and afterwards, what was empty is no store's file yet, or the new one. On a disk that holds
 -- bytes nothing is written.
 pub record Attempts (head body : List ℕ) (segment : ℕ) (old new : View) : Type 0 where
-  pub honest : IsHonest new → IsHonest old
-  pub kept : IsHonest old → IsHonest new
+  pub honest : IsHonest old ↔ IsHonest new
   pub leaves : IsHonest old → (L : Layout) → HasLengths L head body segment → Leaves (Creating (new_file L head body number_one)) old new
   pub untouched : IsHonest old → 0 < length old.contents → Leaves Same old new
 

@@ -1,5 +1,6 @@
 -- A new file, as it is written onto an empty disk.
-use Rattle.std.specs.Prelude.{◌≡◌, ◌≤◌, ◌⊎◌, ℕ, ◌+◌, ◌*◌, List, [], ◌∷◌, length, drop}
+use Rattle.std.specs.Prelude.{◌≡◌, ◌≤◌, ◌<◌, ◌⊎◌, ℕ, ◌+◌, ◌*◌, ◌^◌, List, [], ◌∷◌, length, drop, slice_index}
+use Rattle.pfx_disk.specs.declared.gates.TheConstants.{GATE_OPEN}
 use Rattle.pfx_disk.specs.Gates.{IsClosed}
 use Rattle.pfx_recovery.specs.Layout.{Layout, IsClosedAt}
 
@@ -10,6 +11,17 @@ number_one = 1 ∷ 0 ∷ 0 ∷ 0 ∷ 0 ∷ 0 ∷ 0 ∷ 0 ∷ []
 -- how long a file with this header, this body of a slot and segments of this length is
 abbrev pub len_of : List ℕ → List ℕ → ℕ → ℕ
 len_of head body segment = length head + 2 * (1 + length body) + 2 * segment
+
+-- a segment has more than nine bytes, and the file fewer than 2^62
+pub record IsInLimits (head body : List ℕ) (segment : ℕ) : Type 0 where
+  pub room : 9 < segment
+  pub short : len_of head body segment < 2 ^ 62
+
+-- A new file can be made with this header, this body of its first slot and such segments: they are in the limits, and the header begins
+-- with its open gate.
+pub record CanBeMade (head body : List ℕ) (segment : ℕ) : Type 0 where
+  pub limits : IsInLimits head body segment
+  pub gate : slice_index head 0 ≡ GATE_OPEN
 
 -- the layout has these lengths
 pub record HasLengths (L : Layout) (head body : List ℕ) (segment : ℕ) : Type 0 where

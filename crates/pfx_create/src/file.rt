@@ -1,15 +1,12 @@
 // A new file as a store's.
-ghost use Rattle.std.specs.Prelude.{◌≡◌, ◌<◌, ◌+◌, ◌-◌, ◌*◌, ◌^◌, [], ℕ, List, length, slice_index, false, IfOk, IfErr, MatchResult};
-ghost use Rattle.pfx_disk.specs.Disk.{IsHonest, HasFailed};
-ghost use Rattle.pfx_disk.specs.declared.gates.TheConstants.{GATE_OPEN};
+ghost use Rattle.std.specs.Prelude.{◌≡◌, ◌<◌, ◌+◌, ◌-◌, ◌*◌, ◌^◌, ℕ, List, length, false, IfOk, IfErr, MatchResult};
+ghost use Rattle.pfx_disk.specs.Disk.{IsHonest};
 ghost use Rattle.pfx_recovery.specs.Codec.{Codec};
-ghost use Rattle.pfx_recovery.specs.Layout.{Layout};
-ghost use Rattle.pfx_recovery.specs.NewFile.{new_file, new_parts};
-ghost use Rattle.pfx_segment.specs.Segment.{Takes};
+ghost use Rattle.pfx_recovery.specs.NewFile.{new_parts};
 ghost use Rattle.pfx_store_file.specs.Holding.{Holds};
 ghost use Rattle.pfx_store_file.specs.Tending.{pieces};
-ghost use Rattle.pfx_create.specs.Attempts.{Attempts, IsMadeOf, IsNoneOrMade, RefusesUnmade};
-ghost use Rattle.pfx_create.specs.Creating.{HasLengths, len_of, number_one};
+ghost use Rattle.pfx_create.specs.Attempts.{Attempts, IsCall, IsMade, IsMadeOf, IsNoneOrMade, RefusesUnmade, WasNotEmpty};
+ghost use Rattle.pfx_create.specs.Creating.{CanBeMade, len_of};
 ghost use Rattle.pfx_create.specs.NewPlaces.{AreNew};
 
 use crate::creation::create;
@@ -49,24 +46,15 @@ pub fn create_file<D: Disk, H, S>(
     body: &[u8],
     segment: usize,
 ) -> Result<StoreFile<D>, (CreateFault, D)>
-    requires room { 9 < segment }
-    requires short { len_of head.now body.now segment < 2 ^ 62 }
-    requires gate { slice_index head.now 0 ≡ GATE_OPEN }
-    ensures failed { IfErr result (λ e. e.0 ≡ CreateFault.Device → HasFailed (D.view disk) (D.view e.1)) }
-    ensures calls { MatchResult result
-        (λ file. Takes (6 + pieces (len_of head.now body.now segment - 1)) (D.view disk) (D.view file.disk) result)
-        (λ e. Takes (6 + pieces (len_of head.now body.now segment - 1)) (D.view disk) (D.view e.1) result) }
-    ensures not_empty { IsHonest (D.view disk) → IfErr result (λ e. e.0 ≡ CreateFault.NotEmpty
-        → 0 < length (D.view disk).contents) }
-    ensures one_call { IfErr result (λ e. e.0 ≡ CreateFault.NotEmpty
-        → (D.view e.1).clock ≡ (D.view disk).clock + 1) }
+    requires { CanBeMade head.now body.now segment }
+    ensures call { let calls = 6 + pieces (len_of head.now body.now segment - 1) in MatchResult result
+        (λ file. IsCall calls ⊥ (D.view disk) (D.view file.disk) result)
+        (λ e. IsCall calls (e.0 ≡ CreateFault.Device) (D.view disk) (D.view e.1) result) }
+    ensures not_empty { IfErr result (λ e. e.0 ≡ CreateFault.NotEmpty → WasNotEmpty (D.view disk) (D.view e.1)) }
 
-    // The new file, and its store.
-    ensures empty { IsHonest (D.view disk) → IfOk result (λ _. (D.view disk).contents ≡ []) }
-    ensures whole { IfOk result (λ file. file.broken ≡ false) }
-    ensures places { IfOk result (λ file. AreNew (length head.now) (length body.now) segment file.places) }
-    ensures written { IsHonest (D.view disk) → (L : Layout) → HasLengths L head.now body.now segment
-        → IfOk result (λ file. (D.view file.disk).contents ≡ new_file L head.now body.now number_one) }
+    // The new file, whole and durable, and its store.
+    ensures made { IsHonest (D.view disk) → IfOk result (λ file. IsMade head.now body.now segment (D.view disk) (D.view file.disk)) }
+    ensures places { IfOk result (λ file. (file.broken ≡ false) × AreNew (length head.now) (length body.now) segment file.places) }
     ensures holds { (K : Codec H S) → (h : H) → (s : S) → IsMadeOf K h s head.now body.now segment
         → IsHonest (D.view disk) → IfOk result (λ file. (spelling : List ℕ)
         → Holds K h file.places (new_parts s) s spelling (D.view file.disk)) }

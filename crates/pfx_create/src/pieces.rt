@@ -1,11 +1,11 @@
 // Writing all of a new file but its first gate.
-ghost use Rattle.std.specs.Prelude.{◌≡◌, ◌≤◌, ◌<◌, ◌+◌, ◌-◌, ◌^◌, ◌∷◌, [], min, length, take, OnOk, IsErr};
-ghost use Rattle.pfx_disk.specs.Disk.{IsHonest, HasFailed, Leaves, Ticks};
+ghost use Rattle.std.specs.Prelude.{◌≡◌, ◌<◌, ◌+◌, ◌-◌, ◌∷◌, ◌↔◌, [], length, take, OnOk, IsErr};
+ghost use Rattle.pfx_disk.specs.Disk.{IsHonest, Leaves, Ticks};
 ghost use Rattle.pfx_recovery.specs.Layout.{Layout};
 ghost use Rattle.pfx_recovery.specs.NewFile.{new_file};
-ghost use Rattle.pfx_segment.specs.Segment.{Takes};
 ghost use Rattle.pfx_store_file.specs.Tending.{pieces};
-ghost use Rattle.pfx_create.specs.Creating.{Beginning, HasLengths, StaysClosed, len_of, number_one, unopened};
+ghost use Rattle.pfx_create.specs.Attempts.{IsCall};
+ghost use Rattle.pfx_create.specs.Creating.{Beginning, HasLengths, IsInLimits, StaysClosed, len_of, number_one, unopened};
 
 use crate::bytes::{file_len, fill};
 use pfx_disk::{DeviceFailed, Disk};
@@ -19,13 +19,12 @@ fn write_piece<D: Disk>(
     segment: usize,
     at: usize,
 ) -> Result<(), DeviceFailed>
-    requires room { 9 < segment }
-    requires short { len_of head.now body.now segment < 2 ^ 62 }
+    requires limits { IsInLimits head.now body.now segment }
     requires behind { 0 < at }
     requires inside { at < len_of head.now body.now segment }
     requires end { IsHonest (D.view disk.old) → length (D.view disk.old).contents ≡ at }
     ensures time { Ticks (D.view disk.old) (D.view disk.new) result }
-    ensures honest { IsHonest (D.view disk.new) → IsHonest (D.view disk.old) }
+    ensures honest { IsHonest (D.view disk.old) ↔ IsHonest (D.view disk.new) }
     ensures leaves { IsHonest (D.view disk.old) → Leaves StaysClosed (D.view disk.old) (D.view disk.new) }
     ensures written { IsHonest (D.view disk.old) → (L : Layout) → HasLengths L head.now body.now segment
         → (D.view disk.old).contents ≡ take at (unopened (new_file L head.now body.now number_one))
@@ -46,12 +45,9 @@ fn write_pieces<D: Disk>(
     body: &[u8],
     segment: usize,
 ) -> Result<(), DeviceFailed>
-    requires room { 9 < segment }
-    requires short { len_of head.now body.now segment < 2 ^ 62 }
+    requires limits { IsInLimits head.now body.now segment }
     requires first { IsHonest (D.view disk.old) → (D.view disk.old).contents ≡ 0 ∷ [] }
-    ensures failed { IsErr result → HasFailed (D.view disk.old) (D.view disk.new) }
-    ensures calls { Takes (pieces (len_of head.now body.now segment - 1)) (D.view disk.old) (D.view disk.new) result }
-    ensures honest { IsHonest (D.view disk.new) → IsHonest (D.view disk.old) }
+    ensures call { IsCall (pieces (len_of head.now body.now segment - 1)) (IsErr result) (D.view disk.old) (D.view disk.new) result }
     ensures leaves { IsHonest (D.view disk.old) → Leaves StaysClosed (D.view disk.old) (D.view disk.new) }
     ensures written { IsHonest (D.view disk.old) → (L : Layout) → HasLengths L head.now body.now segment
         → OnOk result ((D.view disk.new).contents ≡ unopened (new_file L head.now body.now number_one)) }
@@ -71,12 +67,9 @@ pub fn write_unopened<D: Disk>(
     body: &[u8],
     segment: usize,
 ) -> Result<(), DeviceFailed>
-    requires room { 9 < segment }
-    requires short { len_of head.now body.now segment < 2 ^ 62 }
+    requires limits { IsInLimits head.now body.now segment }
     requires empty { IsHonest (D.view disk.old) → (D.view disk.old).contents ≡ [] }
-    ensures failed { IsErr result → HasFailed (D.view disk.old) (D.view disk.new) }
-    ensures calls { Takes (2 + pieces (len_of head.now body.now segment - 1)) (D.view disk.old) (D.view disk.new) result }
-    ensures honest { IsHonest (D.view disk.new) → IsHonest (D.view disk.old) }
+    ensures call { IsCall (2 + pieces (len_of head.now body.now segment - 1)) (IsErr result) (D.view disk.old) (D.view disk.new) result }
     // At every moment of the call, whatever it answers.
     ensures leaves { IsHonest (D.view disk.old) → Leaves Beginning (D.view disk.old) (D.view disk.new) }
     ensures written { IsHonest (D.view disk.old) → (L : Layout) → HasLengths L head.now body.now segment

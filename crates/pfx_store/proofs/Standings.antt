@@ -1,5 +1,5 @@
 -- Stores that stand, after the calls of their files.
-use Rattle.std.specs.Prelude.{◌≡◌, ◌≤◌, ◌+◌, ℕ, List, [], ◌∷◌, ◌++◌, length, if◌then◌else◌, Bool, true, false, Option, Some, None, Result, Ok, Err, OnOk, Vec, refl}
+use Rattle.std.specs.Prelude.{◌≡◌, ◌≤◌, ◌+◌, ℕ, List, [], ◌∷◌, ◌++◌, length, if◌then◌else◌, Bool, true, false, Option, Some, None, Result, Ok, Err, OnOk, IsErrAnd, Vec, refl}
 use Rattle.std.specs.declared.alloc.Global.{Global}
 use Rattle.std.proofs.Common.{sym, ◌∙◌, ap, arith, length-append, subst, inl, inr}
 use Rattle.std.proofs.lemmas.Bool.{cases_lt, true≢false}
@@ -155,3 +155,8 @@ opened_turned K h bytes places s middle disk opened f is = (opened.holds []).tur
 pub on_ok_then : {T E P Q : Type 0} (r : Result T E) → (P → Q) → OnOk r P → OnOk r Q
 on_ok_then (Ok x) f p = f p
 on_ok_then (Err e) f p = tt
+
+-- after a fault nothing is to be shown of a success
+pub none_on_fault : {T E : Type 0} (P : Type 0) (Q : E → Type 0) (r : Result T E) → IsErrAnd r Q → OnOk r P
+none_on_fault P Q (Ok x) is = absurd is
+none_on_fault P Q (Err e) is = tt

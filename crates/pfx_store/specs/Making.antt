@@ -1,7 +1,10 @@
 -- The calls that the making of a store takes, and which fault comes where it isn't made.
-use Rattle.std.specs.Prelude.{◌≡◌, ◌<◌, ◌+◌, ◌-◌, ℕ, ⊤}
+use Rattle.std.specs.Prelude.{◌≡◌, ◌<◌, ◌≤◌, ◌+◌, ◌-◌, ◌*◌, ℕ, List, ⊤}
+use Rattle.pfx_checkpoint.specs.Spelling.{state_bytes}
 use Rattle.pfx_format.specs.Format.{layout}
-use Rattle.pfx_header.specs.Headers.{IsSegmentSize, least_segment, longest_segment}
+use Rattle.pfx_header.specs.Headers.{IsHeader, IsSegmentSize, header_bytes, least_segment, longest_segment}
+use Rattle.pfx_jobs.specs.Kind.{Kind}
+use Rattle.pfx_machine.specs.Plain.{Plain, empty}
 use Rattle.pfx_recovery.specs.Layout.{file_len}
 use Rattle.pfx_store_file.specs.Tending.{pieces}
 use Rattle.pfx_weights.specs.Sets.{FilledSet}
@@ -27,3 +30,12 @@ IsBeforeAnyCall SegmentTooLarge = ⊤
 IsBeforeAnyCall NotEmpty = ⊥
 IsBeforeAnyCall Device = ⊥
 IsBeforeAnyCall NoMemory = ⊤
+
+-- All that a store is made of is there: a header within the limits and its bytes, the empty state and its bytes, and room for a frame.
+pub record IsPrepared {J : Type 0} (K : Kind J) (set : FilledSet) (segment : ℕ) (state : Plain J) (head_bytes spelled_bytes : List ℕ) (capacity : ℕ)
+    : Type 0 where
+  pub header : IsHeader (record { set = set; segment = segment })
+  pub head : head_bytes ≡ header_bytes (record { set = set; segment = segment })
+  pub spelled : spelled_bytes ≡ state_bytes K (empty set)
+  pub room : 32 + 2096 * set.workers ≤ capacity
+  pub empty : state ≡ empty set

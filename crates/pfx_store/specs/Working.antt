@@ -5,19 +5,19 @@ use Rattle.pfx_disk.specs.CallsMade.{HasMade, HasBrokenOff, HasKeptTo}
 use Rattle.pfx_disk.specs.Disk.{View, HasFailed, IsHonest, Only}
 use Rattle.pfx_disk.specs.Stop.{Act, Sync}
 use Rattle.pfx_format.specs.Format.{format}
-use Rattle.pfx_header.specs.Headers.{IsSegmentSize}
+use Rattle.pfx_header.specs.Headers.{Header, IsSegmentSize}
 use Rattle.pfx_jobs.specs.Kind.{Kind}
 use Rattle.pfx_machine.specs.Plain.{Plain, empty}
 use Rattle.pfx_record.specs.Records.{Plain as Recorded}
 use Rattle.pfx_recover.specs.declared.faults.OpenFault.{OpenFault}
-use Rattle.pfx_recovery.specs.Recovery.{recovered}
+use Rattle.pfx_recovery.specs.Recovery.{Found, found, recovered}
 use Rattle.pfx_recovery.specs.Store.{Replays}
 use Rattle.pfx_redo.specs.Applying.{applied}
 use Rattle.pfx_segment.specs.Segment.{Takes}
 use Rattle.pfx_store_file.specs.Calls.{Works}
-use Rattle.pfx_store_file.specs.Fitting.{IsTurnable, SameParts}
+use Rattle.pfx_store_file.specs.Fitting.{HasRoom, IsTurnable, SameParts}
 use Rattle.pfx_store_file.specs.Holding.{KeepsAll, Survives}
-use Rattle.pfx_store_file.specs.Tending.{IsTurned, StaysPut, calls_left, calls_of, next_step, pieces, steps_left}
+use Rattle.pfx_store_file.specs.Tending.{IsTurned, StaysPut, append_calls, calls_left, calls_of, next_step, pieces, room_calls, steps_left}
 use Rattle.pfx_store_file.specs.declared.checkpoint.TheConstants.{PIECE}
 use Rattle.pfx_store_file.specs.declared.checkpoint.Tended.TheVariants.{Piece}
 use Rattle.pfx_store_file.specs.declared.checkpoint.Tended.{Tended}
@@ -28,6 +28,7 @@ use Rattle.pfx_store.specs.declared.making.InitFault.TheVariants as init
 use Rattle.pfx_store.specs.Files.{FileOf, HasFile, recovered_file}
 use Rattle.pfx_store.specs.Making.{IsBeforeAnyCall, IsSizeFault}
 use Rattle.pfx_store.specs.Marks.{Covers}
+use Rattle.pfx_store.specs.Standing.{IsReady, Stands}
 use Rattle.pfx_store.specs.Stores.{PlainStore}
 use Rattle.pfx_weights.specs.Sets.{FilledSet}
 
@@ -122,3 +123,28 @@ pub record Turns {D J : Type 0} (old new : PlainStore D J) (result : Result Bool
   pub lawful : IfOk result (λ turned. IsTrue turned ↔ IsTurnable old.file.places)
   pub refused : result ≡ Ok false → (new.file ≡ old.file) × (new.spelled ≡ old.spelled)
   pub turned : result ≡ Ok true → IsTurned new.file.places
+
+-- If a frame of n bytes had room nothing is done. Else the checkpoint in progress was ended, and the file is ready for a turn; what is
+-- left of the append's calls is those after it.
+pub record MakesRoom {D J T : Type 0} (K : Kind J) (n : ℕ) (old new : PlainStore D J) (result : Result T StoreFault) : Type 0 where
+  pub there : HasRoom n old.file.places → new.file.places ≡ old.file.places
+  pub same : HasRoom n old.file.places → new.spelled ≡ old.spelled
+  pub full : HasRoom n new.file.places → HasRoom n old.file.places
+  pub left : OnOk result (room_calls n old.file.places + append_calls n new.file.places ≡ append_calls n old.file.places)
+  pub ready : OnOk result (IsReady K n new.file.places new.state new.spelled)
+
+-- What was found in these bytes: the state that recovery gives, whether a checkpoint is in progress, and the file; the store stands for it.
+pub record Finds {D J : Type 0} (view : D → View) (K : Kind J) (bytes : List ℕ) (store : PlainStore D J) : Type 0 where
+  pub recovers : recovered (format K) bytes ≡ Ok store.state
+  pub turned : (f : Found Header (Plain J)) → found (format K) bytes ≡ Ok f → store.file.places.turned ≡ f.parts.turned
+  pub stands : Stands K store.file.places store.state store.spelled (view store.file.disk)
+  pub file : (f : FileOf J) × (recovered_file K bytes ≡ Some (store.state, f)) × HasFile K f store.file.places store.spelled
+
+-- A store that stands for its state goes on so once the call succeeds; and at every moment of it, whatever it answers, what survived
+-- before survives.
+pub record StandsOn {D J T : Type 0} (view : D → View) (K : Kind J) (old new : PlainStore D J) (result : Result T StoreFault) : Type 0 where
+  pub goes_on : Stands K old.file.places old.state old.spelled (view old.file.disk)
+      → OnOk result (Stands K new.file.places new.state new.spelled (view new.file.disk))
+  pub keeps : Stands K old.file.places old.state old.spelled (view old.file.disk)
+      → (start : Plain J) → (all : List (List ℕ)) → Replays (format K) start all old.state
+      → KeepsAll (format K) start all all (view old.file.disk) (view new.file.disk)

@@ -1,22 +1,20 @@
 // Making a store.
-ghost use Rattle.std.specs.Prelude.{◌≡◌, ◌↔◌, ◌<◌, ◌≤◌, ◌+◌, ◌-◌, ◌*◌, ◌^◌, ◌⊎◌, ◌∷◌, [], ℕ, List, length, false, vec_capacity, Ok, IfOk, IfErr, MatchResult};
-ghost use Rattle.std.specs.Prelude.{IsErr};
+ghost use Rattle.std.specs.Prelude.{◌≡◌, ◌<◌, ◌⊎◌, [], length, vec_capacity, IfOk, IfErr, MatchResult};
 ghost use Rattle.pfx_checkpoint.specs.Spelling.{state_bytes};
-ghost use Rattle.pfx_disk.specs.Disk.{IsHonest, HasFailed, Leaves, Same};
+ghost use Rattle.pfx_disk.specs.Disk.{IsHonest, Leaves, Same};
 ghost use Rattle.pfx_create.specs.Attempts.{IsNoneOrMade};
-ghost use Rattle.pfx_segment.specs.Segment.{Takes};
-ghost use Rattle.pfx_store_file.specs.Tending.{pieces, steps_left};
 ghost use Rattle.pfx_format.specs.Format.{format};
-ghost use Rattle.pfx_header.specs.Headers.{IsHeader, IsSegmentSize, header_bytes};
-ghost use Rattle.pfx_machine.specs.Plain.{Plain, empty};
+ghost use Rattle.pfx_header.specs.Headers.{IsSegmentSize, header_bytes};
+ghost use Rattle.pfx_machine.specs.Plain.{empty};
 ghost use Rattle.pfx_store.specs.Standing.{Stands};
+ghost use Rattle.pfx_store.specs.Stores.{as_store, stored};
 ghost use Rattle.pfx_store.specs.Working.{IsDurable, IsMaking, IsNew, IsUnmade};
-ghost use Rattle.pfx_store.specs.Making.{IsBeforeAnyCall, IsSizeFault, making_calls};
+ghost use Rattle.pfx_store.specs.Making.{IsPrepared, making_calls};
 
 use crate::format::FileHeader;
+use crate::journal::Journal;
 use crate::opening::longest_frame;
 use crate::standing::Store;
-use crate::store::Journal;
 use pfx_checkpoint::{freeze, frozen_len};
 use pfx_create::{CreateFault, create_file};
 use pfx_disk::Disk;
@@ -75,31 +73,13 @@ fn placed<D: Disk, J: Job>(
     frame: Vec<u8>,
     segment: u32,
 ) -> Result<Journal<D, J>, (InitFault, D)>
-    requires header { IsHeader (record { set = set.now; segment = segment }) }
-    requires empty { state ≡ empty set.now }
-    requires head { head.now ≡ header_bytes (record { set = set.now; segment = segment }) }
-    requires spelled { spelled.items ≡ state_bytes J.kind (empty set.now) }
-    requires room { 32 + 2096 * set.now.workers ≤ vec_capacity frame }
+    requires { IsPrepared J.kind set.now segment state head.now spelled.items (vec_capacity frame) }
     ensures fault { IfErr result (λ e. (e.0 ≡ InitFault.Device) ⊎ (e.0 ≡ InitFault.NotEmpty)) }
-    ensures device { IfErr result (λ e. e.0 ≡ InitFault.Device → HasFailed (D.view disk) (D.view e.1)) }
-    ensures not_empty { IsHonest (D.view disk) → IfErr result (λ e. e.0 ≡ InitFault.NotEmpty
-        → 0 < length (D.view disk).contents) }
-    ensures one_call { IfErr result (λ e. e.0 ≡ InitFault.NotEmpty → (D.view e.1).clock ≡ (D.view disk).clock + 1) }
-    ensures unasked { IfErr result (λ e. IsBeforeAnyCall e.0 → e.1 ≡ disk) }
-    ensures vacant { IsHonest (D.view disk) → IfOk result (λ _. (D.view disk).contents ≡ []) }
-    ensures untouched { IsHonest (D.view disk) → 0 < length (D.view disk).contents
-        → IfErr result (λ e. Leaves Same (D.view disk) (D.view e.1)) }
-    ensures calls { IfOk result (λ store. (D.view store.file.disk).clock
-        ≡ (D.view disk).clock + 6 + pieces (store.file.places.len - 1)) }
-    ensures honest { MatchResult result (λ store. IsHonest (D.view disk) ↔ IsHonest (D.view store.file.disk))
-        (λ e. IsHonest (D.view disk) ↔ IsHonest (D.view e.1)) }
-    ensures takes { MatchResult result
-        (λ store. Takes (making_calls set.now segment) (D.view disk) (D.view store.file.disk) result)
-        (λ e. Takes (making_calls set.now segment) (D.view disk) (D.view e.1) result) }
-    ensures left { IfOk result (λ store. steps_left store.file.places ≡ 0) }
-    ensures segment { IfOk result (λ store. store.file.places.segment_len ≡ segment) }
-    ensures made { IfOk result (λ store. store.state ≡ empty set.now) }
-    ensures whole { IfOk result (λ store. store.file.broken ≡ false) }
+    ensures unmade { IfErr result (λ e. IsUnmade D.view set.now.workers segment disk e) }
+    ensures vacant { IsHonest (D.view disk) → MatchResult result (λ _. (D.view disk).contents ≡ [])
+        (λ e. 0 < length (D.view disk).contents → Leaves Same (D.view disk) (D.view e.1)) }
+    ensures calls { IsMaking D.view (making_calls set.now segment) disk (as_store result) }
+    ensures made { IfOk result (λ store. IsNew set.now segment (stored store)) }
     ensures stands { IsHonest (D.view disk) → IfOk result (λ store.
         Stands J.kind store.file.places store.state store.spelled.items (D.view store.file.disk)) }
     ensures recovers { IsHonest (D.view disk) → MatchResult result
@@ -128,25 +108,11 @@ fn made<D: Disk, J: Job>(
 ) -> Result<Journal<D, J>, (InitFault, D)>
     requires { IsSegmentSize set.now.workers segment }
     ensures fault { IfErr result (λ e. (e.0 ≡ InitFault.Device) ⊎ ((e.0 ≡ InitFault.NotEmpty) ⊎ (e.0 ≡ InitFault.NoMemory))) }
-    ensures device { IfErr result (λ e. e.0 ≡ InitFault.Device → HasFailed (D.view disk) (D.view e.1)) }
-    ensures not_empty { IsHonest (D.view disk) → IfErr result (λ e. e.0 ≡ InitFault.NotEmpty
-        → 0 < length (D.view disk).contents) }
-    ensures one_call { IfErr result (λ e. e.0 ≡ InitFault.NotEmpty → (D.view e.1).clock ≡ (D.view disk).clock + 1) }
-    ensures unasked { IfErr result (λ e. IsBeforeAnyCall e.0 → e.1 ≡ disk) }
-    ensures vacant { IsHonest (D.view disk) → IfOk result (λ _. (D.view disk).contents ≡ []) }
-    ensures untouched { IsHonest (D.view disk) → 0 < length (D.view disk).contents
-        → IfErr result (λ e. Leaves Same (D.view disk) (D.view e.1)) }
-    ensures calls { IfOk result (λ store. (D.view store.file.disk).clock
-        ≡ (D.view disk).clock + 6 + pieces (store.file.places.len - 1)) }
-    ensures honest { MatchResult result (λ store. IsHonest (D.view disk) ↔ IsHonest (D.view store.file.disk))
-        (λ e. IsHonest (D.view disk) ↔ IsHonest (D.view e.1)) }
-    ensures takes { MatchResult result
-        (λ store. Takes (making_calls set.now segment) (D.view disk) (D.view store.file.disk) result)
-        (λ e. Takes (making_calls set.now segment) (D.view disk) (D.view e.1) result) }
-    ensures left { IfOk result (λ store. steps_left store.file.places ≡ 0) }
-    ensures segment { IfOk result (λ store. store.file.places.segment_len ≡ segment) }
-    ensures made { IfOk result (λ store. store.state ≡ empty set.now) }
-    ensures whole { IfOk result (λ store. store.file.broken ≡ false) }
+    ensures unmade { IfErr result (λ e. IsUnmade D.view set.now.workers segment disk e) }
+    ensures vacant { IsHonest (D.view disk) → MatchResult result (λ _. (D.view disk).contents ≡ [])
+        (λ e. 0 < length (D.view disk).contents → Leaves Same (D.view disk) (D.view e.1)) }
+    ensures calls { IsMaking D.view (making_calls set.now segment) disk (as_store result) }
+    ensures made { IfOk result (λ store. IsNew set.now segment (stored store)) }
     ensures stands { IsHonest (D.view disk) → IfOk result (λ store.
         Stands J.kind store.file.places store.state store.spelled.items (D.view store.file.disk)) }
     ensures recovers { IsHonest (D.view disk) → MatchResult result

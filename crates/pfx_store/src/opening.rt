@@ -1,5 +1,5 @@
 // Opening a store.
-ghost use Rattle.std.specs.Prelude.{◌≡◌, ◌≤◌, ◌+◌, ◌*◌, ℕ, List, length, if◌then◌else◌, false, Vec, vec_capacity, Some, Ok, Err, IfOk, IfErr, MatchResult};
+ghost use Rattle.std.specs.Prelude.{◌≡◌, ◌≤◌, ◌+◌, ◌*◌, ℕ, List, length, if◌then◌else◌, false, Vec, Some, Ok, Err, IfOk, IfErr, MatchResult};
 ghost use Rattle.std.specs.declared.alloc.Global.{Global};
 ghost use Rattle.pfx_disk.specs.Disk.{IsHonest, HasFailed};
 ghost use Rattle.pfx_format.specs.Format.{format, layout};
@@ -11,13 +11,12 @@ ghost use Rattle.pfx_recover.specs.Looking.{Looks};
 ghost use Rattle.pfx_recovery.specs.Recovery.{Found, found, recovered};
 ghost use Rattle.pfx_store_file.specs.Fitting.{Fits};
 ghost use Rattle.pfx_store_file.specs.Tending.{pieces, steps_left};
-ghost use Rattle.pfx_store.specs.Files.{FileOf, HasFile, recovered_file};
-ghost use Rattle.pfx_store.specs.Standing.{Stands};
-ghost use Rattle.pfx_store.specs.Working.{IsDurable, Opens};
+ghost use Rattle.pfx_store.specs.Stores.{stored};
+ghost use Rattle.pfx_store.specs.Working.{Finds, IsDurable, Opens};
 
 use crate::format::{FileFormat, FileHeader};
+use crate::journal::Journal;
 use crate::standing::Store;
-use crate::store::Journal;
 use pfx_checkpoint::state_len;
 use pfx_disk::Disk;
 use pfx_jobs::job::Job;
@@ -57,16 +56,8 @@ fn furnished<D: Disk, J: Job>(
     ensures file { IfOk result (λ store. store.file ≡ file) }
     ensures state { IfOk result (λ store. store.state ≡ state) }
     ensures found { (bytes : List ℕ) → IsOpened (format J.kind) header.now bytes file.places state middle (D.view file.disk)
-        → IfOk result (λ store. recovered (format J.kind) bytes ≡ Ok store.state) }
-    ensures turned { (bytes : List ℕ) → IsOpened (format J.kind) header.now bytes file.places state middle (D.view file.disk)
-        → (f : Found Header (Plain J)) → found (format J.kind) bytes ≡ Ok f
-        → IfOk result (λ store. store.file.places.turned ≡ f.parts.turned) }
-    ensures stands { (bytes : List ℕ) → IsOpened (format J.kind) header.now bytes file.places state middle (D.view file.disk)
-        → IfOk result (λ store. Stands J.kind store.file.places store.state store.spelled.items (D.view store.file.disk)) }
+        → IfOk result (λ store. Finds D.view J.kind bytes (stored store)) }
     ensures fault { IfErr result (λ e. (e.0 ≡ OpenFault.NoMemory) × (e.1 ≡ file.disk)) }
-    ensures place { (bytes : List ℕ) → IsOpened (format J.kind) header.now bytes file.places state middle (D.view file.disk)
-        → IfOk result (λ store. (f : FileOf J) × (recovered_file J.kind bytes ≡ Some (store.state, f))
-        × HasFile J.kind f store.file.places store.spelled.items) }
 {
     let set = header.set();
     let Ok(spelled) = body_of(alloc, middle, state_len(set)) else {

@@ -15,7 +15,8 @@ ghost use Rattle.pfx_store.specs.Marks.{Covers, marked};
 ghost use Rattle.pfx_store.specs.Standing.{Stands};
 ghost use Rattle.pfx_store.specs.Working.{Commits, IsCall, IsNext, Makes, MovesBy, Tends, Turns};
 
-use crate::store::{Journal, Mark};
+use crate::journal::Journal;
+use crate::store::Mark;
 use pfx_disk::Disk;
 use pfx_jobs::job::Job;
 use pfx_machine::State;

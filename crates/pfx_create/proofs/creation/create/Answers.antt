@@ -8,7 +8,7 @@ pub returns-in_err-write_unopened-clause-attempts : goal.returns-in_err-write_un
 returns-in_err-write_unopened-clause-attempts g c =
     let view = g.D.Disk.view in
     let a = view c.args.disk.now in
-    attempted c.args.head.now c.args.body.now c.args.segment c.requires.room a (view c.write_unopened.new.disk) (λ is. c.len.ensures.honest (c.write_unopened.ensures.honest is))
+    attempted c.args.head.now c.args.body.now c.args.segment c.requires.limits.room a (view c.write_unopened.new.disk) (λ is. c.len.ensures.honest (c.write_unopened.ensures.call.honest.1 is))
     (λ honest. omega (arith, c.in_ok-len.ensures.length honest, c.if-branch-ne0.false))
     (λ honest L has.
     let l0 = c.len.ensures.leaves honest in
@@ -18,34 +18,34 @@ pub returns-in_err-sync-clause-attempts : goal.returns-in_err-sync-clause-attemp
 returns-in_err-sync-clause-attempts g c =
     let view = g.D.Disk.view in
     let a = view c.args.disk.now in
-    attempted c.args.head.now c.args.body.now c.args.segment c.requires.room a (view c.sync.new.self) (λ is. c.len.ensures.honest (c.write_unopened.ensures.honest (c.sync.ensures.honest is)))
+    attempted c.args.head.now c.args.body.now c.args.segment c.requires.limits.room a (view c.sync.new.self) (λ is. c.len.ensures.honest (c.write_unopened.ensures.call.honest.1 (c.sync.ensures.honest is)))
     (λ honest. omega (arith, c.in_ok-len.ensures.length honest, c.if-branch-ne0.false))
     (λ honest L has.
     let l0 = c.len.ensures.leaves honest in
     let l1 = c.write_unopened.ensures.leaves l0.honest in
     let l2 = c.sync.ensures.leaves l1.honest in
     synced (new_file L c.args.head.now c.args.body.now number_one) (opens L c.args.head.now c.args.body.now c.args.segment has c.requires.gate)
-    a (view c.len.new.self) (view c.write_unopened.new.disk) (view c.sync.new.self) honest c.len.ensures.time.later c.write_unopened.ensures.calls.later c.sync.ensures.time.later l0 l1 l2)
+    a (view c.len.new.self) (view c.write_unopened.new.disk) (view c.sync.new.self) honest c.len.ensures.time.later c.write_unopened.ensures.call.takes.later c.sync.ensures.time.later l0 l1 l2)
 
 pub returns-in_err-write_at-clause-attempts : goal.returns-in_err-write_at-clause-attempts
 returns-in_err-write_at-clause-attempts g c =
     let view = g.D.Disk.view in
     let a = view c.args.disk.now in
-    attempted c.args.head.now c.args.body.now c.args.segment c.requires.room a (view c.write_at.new.self) (λ is. c.len.ensures.honest (c.write_unopened.ensures.honest (c.sync.ensures.honest (c.write_at.ensures.honest is))))
+    attempted c.args.head.now c.args.body.now c.args.segment c.requires.limits.room a (view c.write_at.new.self) (λ is. c.len.ensures.honest (c.write_unopened.ensures.call.honest.1 (c.sync.ensures.honest (c.write_at.ensures.honest is))))
     (λ honest. omega (arith, c.in_ok-len.ensures.length honest, c.if-branch-ne0.false))
     (λ honest L has.
     let l0 = c.len.ensures.leaves honest in
     let l1 = c.write_unopened.ensures.leaves l0.honest in
     let l2 = c.sync.ensures.leaves l1.honest in
     opened (new_file L c.args.head.now c.args.body.now number_one) (opens L c.args.head.now c.args.body.now c.args.segment has c.requires.gate)
-    a (view c.len.new.self) (view c.write_unopened.new.disk) (view c.sync.new.self) honest c.len.ensures.time.later c.write_unopened.ensures.calls.later c.sync.ensures.time.later l0 l1 l2
+    a (view c.len.new.self) (view c.write_unopened.new.disk) (view c.sync.new.self) honest c.len.ensures.time.later c.write_unopened.ensures.call.takes.later c.sync.ensures.time.later l0 l1 l2
     (view c.write_at.new.self) (λ image now. c.in_ok-sync.ensures.durable l1.honest image now ∙ sym l2.contents) (l2.contents ∙ c.in_ok-write_unopened.ensures.written l0.honest L has) (c.write_at.ensures.leaves l2.honest))
 
 pub returns-in_err-sync-2-clause-attempts : goal.returns-in_err-sync-2-clause-attempts
 returns-in_err-sync-2-clause-attempts g c =
     let view = g.D.Disk.view in
     let a = view c.args.disk.now in
-    attempted c.args.head.now c.args.body.now c.args.segment c.requires.room a (view c.sync-2.new.self) (λ is. c.len.ensures.honest (c.write_unopened.ensures.honest (c.sync.ensures.honest (c.write_at.ensures.honest (c.sync-2.ensures.honest is)))))
+    attempted c.args.head.now c.args.body.now c.args.segment c.requires.limits.room a (view c.sync-2.new.self) (λ is. c.len.ensures.honest (c.write_unopened.ensures.call.honest.1 (c.sync.ensures.honest (c.write_at.ensures.honest (c.sync-2.ensures.honest is)))))
     (λ honest. omega (arith, c.in_ok-len.ensures.length honest, c.if-branch-ne0.false))
     (λ honest L has.
     let l0 = c.len.ensures.leaves honest in
@@ -53,7 +53,7 @@ returns-in_err-sync-2-clause-attempts g c =
     let l2 = c.sync.ensures.leaves l1.honest in
     let l3 = c.write_at.ensures.leaves l2.honest in
     ended (new_file L c.args.head.now c.args.body.now number_one) (opens L c.args.head.now c.args.body.now c.args.segment has c.requires.gate)
-    a (view c.len.new.self) (view c.write_unopened.new.disk) (view c.sync.new.self) honest c.len.ensures.time.later c.write_unopened.ensures.calls.later c.sync.ensures.time.later l0 l1 l2
+    a (view c.len.new.self) (view c.write_unopened.new.disk) (view c.sync.new.self) honest c.len.ensures.time.later c.write_unopened.ensures.call.takes.later c.sync.ensures.time.later l0 l1 l2
     (view c.write_at.new.self) (λ image now. c.in_ok-sync.ensures.durable l1.honest image now ∙ sym l2.contents) (l2.contents ∙ c.in_ok-write_unopened.ensures.written l0.honest L has) l3
     (view c.sync-2.new.self) c.write_at.ensures.time.later (c.sync-2.ensures.leaves l3.honest))
 
@@ -61,7 +61,7 @@ pub returns-clause-attempts : goal.returns-clause-attempts
 returns-clause-attempts g c =
     let view = g.D.Disk.view in
     let a = view c.args.disk.now in
-    attempted c.args.head.now c.args.body.now c.args.segment c.requires.room a (view c.sync-2.new.self) (λ is. c.len.ensures.honest (c.write_unopened.ensures.honest (c.sync.ensures.honest (c.write_at.ensures.honest (c.sync-2.ensures.honest is)))))
+    attempted c.args.head.now c.args.body.now c.args.segment c.requires.limits.room a (view c.sync-2.new.self) (λ is. c.len.ensures.honest (c.write_unopened.ensures.call.honest.1 (c.sync.ensures.honest (c.write_at.ensures.honest (c.sync-2.ensures.honest is)))))
     (λ honest. omega (arith, c.in_ok-len.ensures.length honest, c.if-branch-ne0.false))
     (λ honest L has.
     let l0 = c.len.ensures.leaves honest in
@@ -69,7 +69,7 @@ returns-clause-attempts g c =
     let l2 = c.sync.ensures.leaves l1.honest in
     let l3 = c.write_at.ensures.leaves l2.honest in
     ended (new_file L c.args.head.now c.args.body.now number_one) (opens L c.args.head.now c.args.body.now c.args.segment has c.requires.gate)
-    a (view c.len.new.self) (view c.write_unopened.new.disk) (view c.sync.new.self) honest c.len.ensures.time.later c.write_unopened.ensures.calls.later c.sync.ensures.time.later l0 l1 l2
+    a (view c.len.new.self) (view c.write_unopened.new.disk) (view c.sync.new.self) honest c.len.ensures.time.later c.write_unopened.ensures.call.takes.later c.sync.ensures.time.later l0 l1 l2
     (view c.write_at.new.self) (λ image now. c.in_ok-sync.ensures.durable l1.honest image now ∙ sym l2.contents) (l2.contents ∙ c.in_ok-write_unopened.ensures.written l0.honest L has) l3
     (view c.sync-2.new.self) c.write_at.ensures.time.later (c.sync-2.ensures.leaves l3.honest))
 

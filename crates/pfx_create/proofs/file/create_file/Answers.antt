@@ -11,20 +11,20 @@ pub new-requires : goal.new-requires
 new-requires g c = record {
   inside = λ now.
       let places = c.new_places-places.result in
-      let some = some_layout c.args.head.now c.args.body.now c.args.segment c.requires.room in
+      let some = some_layout c.args.head.now c.args.body.now c.args.segment c.requires.limits.room in
       let long : places.len ≡ length (g.D.Disk.view c.create.new.disk).contents = as_long some.0 c.args.head.now c.args.body.now c.args.segment places.len places.head places.body places.segment_len (g.D.Disk.view c.create.new.disk).contents some.1
       c.new_places-places.ensures.head c.new_places-places.ensures.body c.new_places-places.ensures.segment_len places.whole
-      (c.in-Ok.ensures.written (c.create.ensures.attempts.honest now) some.0 some.1) in
+      ((c.in-Ok.ensures.made (c.create.ensures.attempts.honest.1 now)).written some.0 some.1) in
       omega (arith, long);
 }
 
 pub returns-in-Ok-clause-holds : goal.returns-in-Ok-clause-holds
 returns-in-Ok-clause-holds g c K h s made honest spelling =
     let has = lengths K h s c.args.head.now c.args.body.now c.args.segment made in
-    let is = c.in-Ok.ensures.written honest (K.layout h) has in
+    let is = (c.in-Ok.ensures.made honest).written (K.layout h) has in
     let places = c.new_places-places.result in
     let contents = (g.D.Disk.view c.create.new.disk).contents in
-    c.new.ensures.holds K made.laws h (new_parts s) s (c.create.ensures.attempts.leaves honest (K.layout h) has).honest (c.in-Ok.ensures.durable honest)
+    c.new.ensures.holds K made.laws h (new_parts s) s (c.create.ensures.attempts.leaves honest (K.layout h) has).honest (c.in-Ok.ensures.made honest).durable
     (ap (found K) is ∙ whole_is_found K h s c.args.head.now c.args.body.now c.args.segment made)
     (are_places K h s c.args.head.now c.args.body.now c.args.segment made places c.new_places-places.ensures) c.new_places-places.ensures.begun
     (slot_gate K h s c.args.head.now c.args.body.now c.args.segment made places c.new_places-places.ensures contents is)

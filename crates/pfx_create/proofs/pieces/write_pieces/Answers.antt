@@ -9,7 +9,7 @@ use Rattle.pfx_create.proofs.pieces.write_pieces.Goals as goal
 pub write_piece-requires-clause-end : goal.write_piece-requires-clause-end
 write_piece-requires-clause-end g c now =
     let inv = c.loop-i.invariant in
-    let some = some_layout c.args.head.now c.args.body.now c.args.segment c.requires.room in
+    let some = some_layout c.args.head.now c.args.body.now c.args.segment c.requires.limits.room in
     let inside : 1 + c.loop-i.i * 4096 < len_of c.args.head.now c.args.body.now c.args.segment = search rules in
     long_so_far some.0 c.args.head.now c.args.body.now c.args.segment (1 + c.loop-i.i * 4096) (g.D.Disk.view c.loop-i.disk).contents some.1 inside (inv.written (inv.honest now) some.0 some.1)
 

@@ -14,14 +14,14 @@ returns-in_default-frozen-clause-recovers g c honest = still_none g.J.Job.kind (
 pub returns-in_default-with_capacity-clause-recovers : goal.returns-in_default-with_capacity-clause-recovers
 returns-in_default-with_capacity-clause-recovers g c honest = still_none g.J.Job.kind (empty c.args.set.now) (g.D.Disk.view c.args.disk)
 
-pub returns-in_default-clause-untouched : goal.returns-in_default-clause-untouched
-returns-in_default-clause-untouched g c honest some = left_alone (g.D.Disk.view c.args.disk) honest
+pub returns-in_default-clause-vacant : goal.returns-in_default-clause-vacant
+returns-in_default-clause-vacant g c honest some = left_alone (g.D.Disk.view c.args.disk) honest
 
-pub returns-in_default-head_of-clause-untouched : goal.returns-in_default-head_of-clause-untouched
-returns-in_default-head_of-clause-untouched g c honest some = left_alone (g.D.Disk.view c.args.disk) honest
+pub returns-in_default-head_of-clause-vacant : goal.returns-in_default-head_of-clause-vacant
+returns-in_default-head_of-clause-vacant g c honest some = left_alone (g.D.Disk.view c.args.disk) honest
 
-pub returns-in_default-frozen-clause-untouched : goal.returns-in_default-frozen-clause-untouched
-returns-in_default-frozen-clause-untouched g c honest some = left_alone (g.D.Disk.view c.args.disk) honest
+pub returns-in_default-frozen-clause-vacant : goal.returns-in_default-frozen-clause-vacant
+returns-in_default-frozen-clause-vacant g c honest some = left_alone (g.D.Disk.view c.args.disk) honest
 
-pub returns-in_default-with_capacity-clause-untouched : goal.returns-in_default-with_capacity-clause-untouched
-returns-in_default-with_capacity-clause-untouched g c honest some = left_alone (g.D.Disk.view c.args.disk) honest
+pub returns-in_default-with_capacity-clause-vacant : goal.returns-in_default-with_capacity-clause-vacant
+returns-in_default-with_capacity-clause-vacant g c honest some = left_alone (g.D.Disk.view c.args.disk) honest

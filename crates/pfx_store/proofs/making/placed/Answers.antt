@@ -1,4 +1,4 @@
-use Rattle.std.proofs.Common.{List, ℕ, length, refl, sym, ◌∙◌, ap, arith, subst}
+use Rattle.std.proofs.Common.{List, ℕ, length, refl, sym, ◌∙◌, ap, arith, rules, subst}
 use Rattle.std.specs.Prelude.{slice_index}
 use Rattle.pfx_checkpoint.specs.Spelling.{state_len}
 use Rattle.pfx_format.specs.Format.{format}
@@ -12,20 +12,20 @@ use Rattle.pfx_store.proofs.Made.{file_short, gate_of, made_calls, made_of, new_
 use Rattle.pfx_store.proofs.Slots.{state_long}
 use Rattle.pfx_store.proofs.making.placed.Goals as goal
 
-pub create_file-requires-clause-short : goal.create_file-requires-clause-short
-create_file-requires-clause-short g c =
+pub create_file-requires : goal.create_file-requires
+create_file-requires g c =
     let h : Header = record { set = c.args.set.now; segment = c.args.segment } in
     let state : IsState (empty c.args.set.now) = subst IsState c.requires.empty c.number-number.ensures.state in
     let head = ap length c.requires.head ∙ header_long h c.requires.header in
     let body = ap length (c.deref.ensures.value ∙ c.requires.spelled) ∙ state_long g.J.Job.kind g.met.J.Job.laws (empty c.args.set.now) state in
-    file_short h (length c.args.head.now) (length c.deref.result.now) c.args.segment c.requires.header head body refl
-
-pub create_file-requires-clause-gate : goal.create_file-requires-clause-gate
-create_file-requires-clause-gate g c = ap (λ (l : List ℕ). slice_index l 0) c.requires.head ∙ gate_of (record { set = c.args.set.now; segment = c.args.segment })
+    record {
+      limits = record { room = search rules; short = file_short h (length c.args.head.now) (length c.deref.result.now) c.args.segment c.requires.header head body refl };
+      gate = ap (λ (l : List ℕ). slice_index l 0) c.requires.head ∙ gate_of h;
+    }
 
 pub invariant_of-result : goal.invariant_of-result
 invariant_of-result g c =
-    let places = c.in-Ok.ensures.places in
+    let places = c.in-Ok.ensures.places.1 in
     let state : IsState (empty c.args.set.now) = subst IsState c.requires.empty c.number-number.ensures.state in
     let least = c.requires.header.segment.0 in
     let room = c.requires.room in
@@ -75,26 +75,58 @@ returns-clause-recovers g c honest =
     let made = made_of K g.met.J.Job.laws h c.args.head.now c.deref.result.now c.args.segment c.requires.header state c.requires.head (c.deref.ensures.value ∙ c.requires.spelled) refl in
     c.in-Err-NotEmpty-default.ensures.recovers (format K) h (empty set) made (unmade_refused K) honest
 
-pub returns-in-Ok-clause-takes : goal.returns-in-Ok-clause-takes
-returns-in-Ok-clause-takes g c =
+pub returns-in-Ok-clause-calls : goal.returns-in-Ok-clause-calls
+returns-in-Ok-clause-calls g c =
     let h : Header = record { set = c.args.set.now; segment = c.args.segment } in
     let state : IsState (empty c.args.set.now) = subst IsState c.requires.empty c.number-number.ensures.state in
     let head = ap length c.requires.head ∙ header_long h c.requires.header in
     let body = ap length (c.deref.ensures.value ∙ c.requires.spelled) ∙ state_long g.J.Job.kind g.met.J.Job.laws (empty c.args.set.now) state in
-    takes_told _ _ _ _ _ _ (made_calls h (length c.args.head.now) (length c.deref.result.now) c.args.segment c.requires.header head body refl) (λ _. refl) c.in-Ok.ensures.calls
+    record {
+      calls_made = search rules;
+      takes = takes_told _ _ _ _ _ _ (made_calls h (length c.args.head.now) (length c.deref.result.now) c.args.segment c.requires.header head body refl) (λ _. refl) c.in-Ok.ensures.call.takes;
+      honest = c.in-Ok.ensures.call.honest;
+    }
 
-pub returns-in-Err-Device-default-clause-takes : goal.returns-in-Err-Device-default-clause-takes
-returns-in-Err-Device-default-clause-takes g c =
+pub returns-in-Err-Device-default-clause-calls : goal.returns-in-Err-Device-default-clause-calls
+returns-in-Err-Device-default-clause-calls g c =
     let h : Header = record { set = c.args.set.now; segment = c.args.segment } in
     let state : IsState (empty c.args.set.now) = subst IsState c.requires.empty c.number-number.ensures.state in
     let head = ap length c.requires.head ∙ header_long h c.requires.header in
     let body = ap length (c.deref.ensures.value ∙ c.requires.spelled) ∙ state_long g.J.Job.kind g.met.J.Job.laws (empty c.args.set.now) state in
-    takes_told _ _ _ _ _ _ (made_calls h (length c.args.head.now) (length c.deref.result.now) c.args.segment c.requires.header head body refl) (λ is. absurd (true≢false (sym is))) c.in-Err-Device-default.ensures.calls
+    record {
+      calls_made = search rules;
+      takes = takes_told _ _ _ _ _ _ (made_calls h (length c.args.head.now) (length c.deref.result.now) c.args.segment c.requires.header head body refl) (λ is. absurd (true≢false (sym is))) c.in-Err-Device-default.ensures.call.takes;
+      honest = c.in-Err-Device-default.ensures.call.honest;
+    }
 
-pub returns-clause-takes : goal.returns-clause-takes
-returns-clause-takes g c =
+pub returns-clause-calls : goal.returns-clause-calls
+returns-clause-calls g c =
     let h : Header = record { set = c.args.set.now; segment = c.args.segment } in
     let state : IsState (empty c.args.set.now) = subst IsState c.requires.empty c.number-number.ensures.state in
     let head = ap length c.requires.head ∙ header_long h c.requires.header in
     let body = ap length (c.deref.ensures.value ∙ c.requires.spelled) ∙ state_long g.J.Job.kind g.met.J.Job.laws (empty c.args.set.now) state in
-    takes_told _ _ _ _ _ _ (made_calls h (length c.args.head.now) (length c.deref.result.now) c.args.segment c.requires.header head body refl) (λ is. absurd (true≢false (sym is))) c.in-Err-NotEmpty-default.ensures.calls
+    record {
+      calls_made = search rules;
+      takes = takes_told _ _ _ _ _ _ (made_calls h (length c.args.head.now) (length c.deref.result.now) c.args.segment c.requires.header head body refl) (λ is. absurd (true≢false (sym is))) c.in-Err-NotEmpty-default.ensures.call.takes;
+      honest = c.in-Err-NotEmpty-default.ensures.call.honest;
+    }
+
+pub returns-in-Err-Device-default-clause-unmade : goal.returns-in-Err-Device-default-clause-unmade
+returns-in-Err-Device-default-clause-unmade g c = record {
+  size = c.requires.header.segment;
+  device = λ is. c.in-Err-Device-default.ensures.call.failed c.in-Err-Device-default.field-0-0-is;
+  not_empty = λ honest is. search rules;
+  one_call = λ is. search rules;
+  unasked = λ never. search rules;
+}
+
+pub returns-clause-unmade : goal.returns-clause-unmade
+returns-clause-unmade g c =
+    let was = c.in-Err-NotEmpty-default.ensures.not_empty c.in-Err-NotEmpty-default.field-0-0-is in
+    record {
+      size = c.requires.header.segment;
+      device = λ is. search rules;
+      not_empty = λ honest is. was.some honest;
+      one_call = λ is. was.one_call;
+      unasked = λ never. search rules;
+    }

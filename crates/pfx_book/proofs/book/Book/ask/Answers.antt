@@ -36,7 +36,7 @@ push_back_reserved-requires g c =
     let all = all_taken K B xs s.keeper s.passes s.state pend s.taken s.marked s.clock s.failure h in
     let mark = low K B xs s.keeper s.passes s.state pend s.taken s.marked s.clock s.failure h in
     let mapped = length_map plain (deque_items s.pending) in
-    let room : length (commands_of xs) < s.marked + 64 = subst HasRoom (sym (ap (λ (v : Register g.row.J.Denot). v.session) c.self.view_is)) c.requires.room in
+    let room : length (commands_of xs) < s.marked + 64 = subst HasRoom (sym (ap (λ (v : Register g.row.J.Denot). v.session) c.self.view_is)) c.requires.ready.room in
     omega (arith, all, mark, mapped, room, c.self.invariant.3)
 
 pub invariant_of-self-in-Refused : goal.invariant_of-self-in-Refused
@@ -61,7 +61,7 @@ invariant_of-self-in-Refused g c =
     let r = refuses K g.met.J.Job.laws B s.history.items s.keeper s.passes s.state pend s.taken s.marked s.clock s.failure k mine h c.note.ensures.known (omega (arith, p.1))
     c.args.command copy fault n c.try_command.new.state line _ full t.0 t.1 t.2 c.number-in-Refused.ensures.number of_line in
     let items = c.push_reserved.ensures.items ∙ ap (λ l. l ++ line ∷ []) c.make_room.ensures.items in
-    let none = none_shown K s.slot (ap (λ (v : Register g.row.J.Denot). v.session.opened) c.self.view_is ∙ c.requires.none_open) in (
+    let none = none_shown K s.slot (ap (λ (v : Register g.row.J.Denot). v.session.opened) c.self.view_is ∙ c.requires.ready.none_open) in (
       subst (λ (q : List (List (Note g.row.J.Denot)) × List (Line g.row.J.Denot)). IsKept K B (told K B [] q.1) q.0 s.passes c.try_command.new.state pend s.taken s.marked s.clock s.failure)
           (λ i. (sym c.note.ensures.keeper i, sym items i)) r.1,
       fits_none K c.try_command.new.state B.number s.slot s.marked _ _ none,
@@ -139,13 +139,13 @@ invariant_of-self-in-Done g c =
     let u = c.try_command.new.state in
     let e : Note g.row.J.Denot = Accepted n copy said in
     let of_line = subst (λ (q : ℕ × Command g.row.J.Denot). IsOf q.0 false q.1 line) (λ i. (p.0 i, sym t.0 i)) c.in-Some.ensures in
-    let room : length (commands_of xs) < s.marked + 64 = subst HasRoom (sym (ap (λ (v : Register g.row.J.Denot). v.session) c.self.view_is)) c.requires.room in
+    let room : length (commands_of xs) < s.marked + 64 = subst HasRoom (sym (ap (λ (v : Register g.row.J.Denot). v.session) c.self.view_is)) c.requires.ready.room in
     let here = outcome_is K B xs s.keeper s.passes s.state pend s.taken s.marked s.clock s.failure h in
     let a = accepts K L B s.history.items s.keeper s.passes s.state pend s.taken s.marked s.clock s.failure k mine h c.note-in-Done.ensures.known (omega (arith, p.1))
     c.args.command copy said n u (plain c.in-Done.entry) line _ full t.0 t.1 (c.copy_reply.ensures ∙ t.2) t.3 (t.4 B (commands_of xs) here) c.number-number.ensures.number of_line room in
     let items = c.push_reserved-in-Done.ensures.items ∙ ap (λ l. l ++ line ∷ []) c.make_room.ensures.items in
     let queue = ap (map plain) c.push_back_reserved.ensures.items ∙ map-append plain (deque_items s.pending) (c.in-Done.entry ∷ []) in
-    let none = none_shown K s.slot (ap (λ (v : Register g.row.J.Denot). v.session.opened) c.self.view_is ∙ c.requires.none_open) in (
+    let none = none_shown K s.slot (ap (λ (v : Register g.row.J.Denot). v.session.opened) c.self.view_is ∙ c.requires.ready.none_open) in (
       subst (λ (q : List (List (Note g.row.J.Denot)) × List (Line g.row.J.Denot) × List (Recorded g.row.J.Denot)). IsKept K B (told K B [] q.1) q.0 s.passes u q.2 s.taken s.marked s.clock s.failure)
           (λ i. (sym c.note-in-Done.ensures.keeper i, sym items i, sym queue i)) a.1,
       fits_none K u B.number s.slot s.marked _ _ none,
@@ -174,7 +174,7 @@ invariant_of-pass-in-Done g c =
     let u = c.try_command.new.state in
     let e : Note g.row.J.Denot = Accepted n copy said in
     let of_line = subst (λ (q : ℕ × Command g.row.J.Denot). IsOf q.0 false q.1 line) (λ i. (p.0 i, sym t.0 i)) c.in-Some.ensures in
-    let room : length (commands_of xs) < s.marked + 64 = subst HasRoom (sym (ap (λ (v : Register g.row.J.Denot). v.session) c.self.view_is)) c.requires.room in
+    let room : length (commands_of xs) < s.marked + 64 = subst HasRoom (sym (ap (λ (v : Register g.row.J.Denot). v.session) c.self.view_is)) c.requires.ready.room in
     let here = outcome_is K B xs s.keeper s.passes s.state pend s.taken s.marked s.clock s.failure h in
     let a = accepts K L B s.history.items s.keeper s.passes s.state pend s.taken s.marked s.clock s.failure k mine h c.note-in-Done.ensures.known (omega (arith, p.1))
     c.args.command copy said n u (plain c.in-Done.entry) line _ full t.0 t.1 (c.copy_reply.ensures ∙ t.2) t.3 (t.4 B (commands_of xs) here) c.number-number.ensures.number of_line room in
@@ -186,8 +186,8 @@ invariant_of-pass-in-Done g c =
       p.3 ∙ sym (ap (λ x. lost_in x.1) z ∙ lost_more mine e refl),
     )
 
-pub returns-in-Done-clause-event : goal.returns-in-Done-clause-event
-returns-in-Done-clause-event g c =
+pub returns-in-Done-clause-accepted : goal.returns-in-Done-clause-accepted
+returns-in-Done-clause-accepted g c =
     let s = c.self.inside in
     let K = g.J.Job.kind in
     let L = g.met.J.Job.laws in
@@ -207,7 +207,7 @@ returns-in-Done-clause-event g c =
     let u = c.try_command.new.state in
     let e : Note g.row.J.Denot = Accepted n copy said in
     let of_line = subst (λ (q : ℕ × Command g.row.J.Denot). IsOf q.0 false q.1 line) (λ i. (p.0 i, sym t.0 i)) c.in-Some.ensures in
-    let room : length (commands_of xs) < s.marked + 64 = subst HasRoom (sym (ap (λ (v : Register g.row.J.Denot). v.session) c.self.view_is)) c.requires.room in
+    let room : length (commands_of xs) < s.marked + 64 = subst HasRoom (sym (ap (λ (v : Register g.row.J.Denot). v.session) c.self.view_is)) c.requires.ready.room in
     let here = outcome_is K B xs s.keeper s.passes s.state pend s.taken s.marked s.clock s.failure h in
     let a = accepts K L B s.history.items s.keeper s.passes s.state pend s.taken s.marked s.clock s.failure k mine h c.note-in-Done.ensures.known (omega (arith, p.1))
     c.args.command copy said n u (plain c.in-Done.entry) line _ full t.0 t.1 (c.copy_reply.ensures ∙ t.2) t.3 (t.4 B (commands_of xs) here) c.number-number.ensures.number of_line room in
@@ -216,37 +216,12 @@ returns-in-Done-clause-event g c =
     let pv = c.pass.view_is in
     let step = one_step K L s.state u c.args.command t.4 ∙ ap (λ d. state_step K s.state (happening_in s.state d)) (sym t.0) in
     let shows = shows_asked K xs s.state s.slot s.taken s.marked s.clock s.passes s.opener s.failure s.shut k n copy said u step in
-    ap (λ l. register K (told K B [] l) u s.slot s.taken s.marked s.clock s.passes s.opener s.failure s.shut) items
-    ∙ ap (λ l. register K l u s.slot s.taken s.marked s.clock s.passes s.opener s.failure s.shut) a.0
-    ∙ shows ∙ (λ i. entered (pv i).0 (Accepted n (t.0 i) (c.copy_reply.ensures i)) (asked K (t.0 i) (v i).session) (v i))
-
-pub returns-in-Done-clause-answer : goal.returns-in-Done-clause-answer
-returns-in-Done-clause-answer g c =
-    let s = c.self.inside in
-    let K = g.J.Job.kind in
-    let L = g.met.J.Job.laws in
-    let B = g.B.Named.start in
-    let xs = told K B [] s.history.items in
-    let pend = map plain (deque_items s.pending) in
-    let h = c.self.invariant.0 in
-    let p = c.pass.invariant in
-    let mine = c.pass.inside.token.1 in
-    let k = c.pass.inside.token.0 in
-    let full = full_is K L B s.history.items s.keeper s.passes s.state pend s.taken s.marked s.clock s.failure k mine h s.began c.self.invariant.2 c.number.result c.number.ensures.number in
-    let t = c.in-Done.ensures in
-    let n = c.number-number.result in
-    let copy = c.in-Done.copy in
-    let said = c.copy_reply.result in
-    let line = c.in-Some.line in
-    let u = c.try_command.new.state in
-    let e : Note g.row.J.Denot = Accepted n copy said in
-    let of_line = subst (λ (q : ℕ × Command g.row.J.Denot). IsOf q.0 false q.1 line) (λ i. (p.0 i, sym t.0 i)) c.in-Some.ensures in
-    let room : length (commands_of xs) < s.marked + 64 = subst HasRoom (sym (ap (λ (v : Register g.row.J.Denot). v.session) c.self.view_is)) c.requires.room in
-    let here = outcome_is K B xs s.keeper s.passes s.state pend s.taken s.marked s.clock s.failure h in
-    let a = accepts K L B s.history.items s.keeper s.passes s.state pend s.taken s.marked s.clock s.failure k mine h c.note-in-Done.ensures.known (omega (arith, p.1))
-    c.args.command copy said n u (plain c.in-Done.entry) line _ full t.0 t.1 (c.copy_reply.ensures ∙ t.2) t.3 (t.4 B (commands_of xs) here) c.number-number.ensures.number of_line room in
-    let v = c.self.view_is in (
-      a.3 ∙ ap (λ (w : Register g.row.J.Denot). w.session.state.number + 1) v,
-      t.2 ∙ ap (λ (w : Register g.row.J.Denot). reply w.session.state c.args.command) v,
-      subst (λ (z : ℕ × List (Note g.row.J.Denot)). greatest z.1 < n) c.pass.view_is a.2,
-    )
+    record {
+      number = a.3 ∙ ap (λ (w : Register g.row.J.Denot). w.session.state.number + 1) v;
+      reply = t.2 ∙ ap (λ (w : Register g.row.J.Denot). reply w.session.state c.args.command) v;
+      rises = subst (λ (z : ℕ × List (Note g.row.J.Denot)). greatest z.1 < n) pv a.2;
+      event = ap (λ l. register K (told K B [] l) u s.slot s.taken s.marked s.clock s.passes s.opener s.failure s.shut) items
+          ∙ ap (λ l. register K l u s.slot s.taken s.marked s.clock s.passes s.opener s.failure s.shut) a.0
+          ∙ shows ∙ (λ i. entered (pv i).0 (Accepted n (t.0 i) (c.copy_reply.ensures i)) (asked K (t.0 i) (v i).session) (v i));
+      noted = c.note-in-Done.ensures.token ∙ (λ i. ((pv i).0, (pv i).1 ++ Accepted n (t.0 i) (c.copy_reply.ensures i) ∷ []));
+    }

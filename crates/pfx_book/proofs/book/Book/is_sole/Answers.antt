@@ -1,7 +1,6 @@
-use Rattle.std.proofs.Common.{◌≡◌, ℕ, List, sym, ap, ◌∙◌}
-use Rattle.pfx_book.specs.declared.note.Note.{Note}
+use Rattle.std.proofs.Common.{◌≡◌, sym, ap, ◌∙◌}
 use Rattle.pfx_book.specs.Merging.{of}
-use Rattle.pfx_book.specs.Notes.{alone, answers_of}
+use Rattle.pfx_book.specs.Notes.{answers_of}
 use Rattle.pfx_book.specs.Register.{Register}
 use Rattle.pfx_book.proofs.Gathering.{sole_session}
 use Rattle.pfx_book.proofs.book.Book.is_sole.Goals as goal

@@ -44,7 +44,7 @@ invariant_of-self-in-Err g c =
     let r = refuses K L B s.history.items s.keeper s.passes s.state pend s.taken s.marked s.clock s.failure k mine h c.note.ensures.known (omega (arith, p.1))
     command.Slot command.Slot fault n u l _ full refl why c.try_open.ensures.same c.number-in-Err.ensures.number (p.0, refl, refl) in
     let items = c.push_reserved.ensures.items ∙ ap (λ q. q ++ l ∷ []) c.make_room.ensures.items in
-    let none = none_shown K s.slot (ap (λ (v : Register g.row.J.Denot). v.session.opened) c.self.view_is ∙ c.requires.none_open) in (
+    let none = none_shown K s.slot (ap (λ (v : Register g.row.J.Denot). v.session.opened) c.self.view_is ∙ c.requires.ready.none_open) in (
       subst (λ (q : List (List (Note g.row.J.Denot)) × List (Line g.row.J.Denot)). IsKept K B (told K B [] q.1) q.0 s.passes u pend s.taken s.marked s.clock s.failure)
           (λ i. (sym c.note.ensures.keeper i, sym items i)) r.1,
       fits_none K u B.number s.slot s.marked _ _ none,
@@ -113,7 +113,7 @@ invariant_of-self-in-Ok g c =
     let still = c.try_open.ensures.same in
     let items = c.make_room.ensures.items in
     let wide : length c.make_room.new.list.items < vec_capacity c.make_room.new.list = omega (arith, c.if-not-make_room.ensures.fits refl) in
-    let room : length (commands_of xs) < s.marked + 64 = subst HasRoom (sym (ap (λ (v : Register g.row.J.Denot). v.session) c.self.view_is)) c.requires.room in
+    let room : length (commands_of xs) < s.marked + 64 = subst HasRoom (sym (ap (λ (v : Register g.row.J.Denot). v.session) c.self.view_is)) c.requires.ready.room in
     let number = state_number K B xs s.keeper s.passes s.state pend s.taken s.marked s.clock s.failure h in
     let full = full_is K L B s.history.items s.keeper s.passes s.state pend s.taken s.marked s.clock s.failure 0 [] h s.began c.self.invariant.2 c.number.result c.number.ensures.number in
     let few : length (commands_of xs) < 2 ^ 20 = room_of (length (commands_of xs)) K s.state command.Slot (ap (λ b. refused_at b K s.state command.Slot) (sym full) ∙ c.in-Ok.ensures.free) in (
@@ -129,8 +129,8 @@ invariant_of-self-in-Ok g c =
       c.self.invariant.3,
     )
 
-pub returns-in-Ok-clause-event : goal.returns-in-Ok-clause-event
-returns-in-Ok-clause-event g c =
+pub returns-in-Ok-clause-begun : goal.returns-in-Ok-clause-begun
+returns-in-Ok-clause-begun g c =
     let s = c.self.inside in
     let K = g.J.Job.kind in
     let B = g.B.Named.start in
@@ -141,5 +141,8 @@ returns-in-Ok-clause-event g c =
     let by = c.pass.invariant.0 ∙ ap (λ (z : ℕ × List (Note g.row.J.Denot)). z.0) c.pass.view_is in
     let shows = shows_opened K xs s.state s.slot s.taken s.marked s.clock s.passes s.opener s.failure s.shut o c.pass.inside.number u c.try_open.ensures.same
     (opening_is K s.state o c.in-Ok.ensures.stands c.in-Ok.ensures.none_back) in
-    ap (λ q. register K (told K B [] q) u (Some o) s.taken s.marked s.clock s.passes c.pass.inside.number s.failure s.shut) c.make_room.ensures.items
-    ∙ shows ∙ (λ i. record (v i) { session = begun K (v i).session; opener = by i })
+    record {
+      event = ap (λ q. register K (told K B [] q) u (Some o) s.taken s.marked s.clock s.passes c.pass.inside.number s.failure s.shut) c.make_room.ensures.items
+          ∙ shows ∙ (λ i. record (v i) { session = begun K (v i).session; opener = by i });
+      silent = refl;
+    }

@@ -60,8 +60,8 @@ invariant_of-pass g c =
       p.3 ∙ sym (ap (λ x. lost_in x.1) z ∙ lost_more mine e refl),
     )
 
-pub returns-clause-event : goal.returns-clause-event
-returns-clause-event g c =
+pub returns-clause-receipted : goal.returns-clause-receipted
+returns-clause-receipted g c =
     let s = c.self.inside in
     let K = g.J.Job.kind in
     let B = g.B.Named.start in
@@ -74,6 +74,9 @@ returns-clause-event g c =
     let l : Line g.row.J.Denot = line.Receipt c.pass.inside.number n s.clock in
     let items = c.push_reserved.ensures.items ∙ ap (λ v. v ++ l ∷ []) c.make_room.ensures.items in
     let r = ap (told K B []) items ∙ told_receipt K B s.history.items c.pass.inside.number n s.clock ∙ ap (λ (q : ℕ). xs ++ (q, e) ∷ []) p.0 in
-    ap (λ l. register K l s.state s.slot s.taken s.marked s.clock s.passes s.opener s.failure s.shut) r
-    ∙ shows_receipt K xs s.state s.slot s.taken s.marked s.clock s.passes s.opener s.failure s.shut c.pass.inside.token.0 n
-    ∙ (λ i. entered (pv i).0 (Receipt n (v i).session.marked_at) (receipted n (v i).session) (v i))
+    record {
+      event = ap (λ l. register K l s.state s.slot s.taken s.marked s.clock s.passes s.opener s.failure s.shut) r
+          ∙ shows_receipt K xs s.state s.slot s.taken s.marked s.clock s.passes s.opener s.failure s.shut c.pass.inside.token.0 n
+          ∙ (λ i. entered (pv i).0 (Receipt n (v i).session.marked_at) (receipted n (v i).session) (v i));
+      noted = c.note.ensures.token ∙ (λ i. ((pv i).0, (pv i).1 ++ Receipt n (v i).session.marked_at ∷ []));
+    }

@@ -141,8 +141,8 @@ returns-clause-may g c =
       sym (ap (λ (w : Register g.row.J.Denot). w.opener) v) ∙ same ∙ c.pass.invariant.0 ∙ ap (λ (z : ℕ × List (Note g.row.J.Denot)). z.0) c.pass.view_is,
     )
 
-pub returns-clause-event : goal.returns-clause-event
-returns-clause-event g c =
+pub returns-clause-accepted : goal.returns-clause-accepted
+returns-clause-accepted g c =
     let s = c.self.inside in
     let K = g.J.Job.kind in
     let L = g.met.J.Job.laws in
@@ -173,38 +173,13 @@ returns-clause-event g c =
     let pv = c.pass.view_is in
     let step = one_step K L s.state u command.Slot c.seal_on.ensures.outcome ∙ sym (sealed_is K s.state o c.number-total.ensures.state fits.0 fits.4 all) in
     let shows = shows_sealed K xs s.state s.slot s.taken s.marked s.clock s.passes s.opener s.failure s.shut o k n said u was step in
-    ap (λ q. register K (told K B [] q) u c.take.new.self s.taken s.marked s.clock s.passes s.opener s.failure s.shut) c.push_reserved.ensures.items
-    ∙ ap (λ q. register K q u c.take.new.self s.taken s.marked s.clock s.passes s.opener s.failure s.shut) a.0
-    ∙ ap (λ (q : Option (Dealt g.row.J.Denot)). register K (xs ++ (k, Accepted n command.Slot said) ∷ []) u q s.taken s.marked s.clock s.passes s.opener s.failure s.shut) c.take.ensures.after
-    ∙ shows ∙ (λ i. entered (pv i).0 (Accepted n command.Slot (c.copy_reply.ensures i)) (sealed (v i).session) (v i))
-
-pub returns-clause-answer : goal.returns-clause-answer
-returns-clause-answer g c =
-    let s = c.self.inside in
-    let K = g.J.Job.kind in
-    let L = g.met.J.Job.laws in
-    let B = g.B.Named.start in
-    let xs = told K B [] s.history.items in
-    let pend = map plain (deque_items s.pending) in
-    let h = c.self.invariant.0 in
-    let p = c.pass.invariant in
-    let mine = c.pass.inside.token.1 in
-    let k = c.pass.inside.token.0 in
-    let n = c.number-number.result in
-    let said = c.copy_reply.result in
-    let u = c.seal_on.new.state in
-    let done = c.in_ok-reply.field-0 in
-    let l : Line g.row.J.Denot = line.Slot c.pass.inside.number false in
-    let was : s.slot ≡ Some c.in_ok-open.open = sym c.in_ok-open.ensures.value in
-    let fits = subst (λ (o : Option (Dealt g.row.J.Denot)). OpenFits K s.state B.number o s.marked (length s.history.items) (vec_capacity s.history)) was c.self.invariant.1 in
-    let number = state_number K B xs s.keeper s.passes s.state pend s.taken s.marked s.clock s.failure h in
-    let here = outcome_is K B xs s.keeper s.passes s.state pend s.taken s.marked s.clock s.failure h in
-    let free = free_in (length (commands_of xs)) K s.state command.Slot (omega (arith, fits.3, number)) fits.0.accepted in
-    let a = accepts K L B s.history.items s.keeper s.passes s.state pend s.taken s.marked s.clock s.failure k mine h c.note.ensures.known (omega (arith, p.1))
-    command.Slot command.Slot said n u (plain done.entry) l (nat_le (2 ^ 20) (length (commands_of xs))) refl refl free (c.copy_reply.ensures ∙ c.in_ok-reply.ensures.reply) c.in_ok-reply.ensures.entry
-    (c.seal_on.ensures.outcome B (commands_of xs) here) c.number-number.ensures.number (p.0, refl, refl) (omega (arith, fits.2, number)) in
-    let v = c.self.view_is in (
-      a.3 ∙ ap (λ (w : Register g.row.J.Denot). w.session.state.number + 1) v,
-      c.in_ok-reply.ensures.reply ∙ ap (λ (w : Register g.row.J.Denot). reply w.session.state command.Slot) v,
-      subst (λ (z : ℕ × List (Note g.row.J.Denot)). greatest z.1 < n) c.pass.view_is a.2,
-    )
+    record {
+      number = a.3 ∙ ap (λ (w : Register g.row.J.Denot). w.session.state.number + 1) v;
+      reply = c.in_ok-reply.ensures.reply ∙ ap (λ (w : Register g.row.J.Denot). reply w.session.state command.Slot) v;
+      rises = subst (λ (z : ℕ × List (Note g.row.J.Denot)). greatest z.1 < n) c.pass.view_is a.2;
+      event = ap (λ q. register K (told K B [] q) u c.take.new.self s.taken s.marked s.clock s.passes s.opener s.failure s.shut) c.push_reserved.ensures.items
+          ∙ ap (λ q. register K q u c.take.new.self s.taken s.marked s.clock s.passes s.opener s.failure s.shut) a.0
+          ∙ ap (λ (q : Option (Dealt g.row.J.Denot)). register K (xs ++ (k, Accepted n command.Slot said) ∷ []) u q s.taken s.marked s.clock s.passes s.opener s.failure s.shut) c.take.ensures.after
+          ∙ shows ∙ (λ i. entered (pv i).0 (Accepted n command.Slot (c.copy_reply.ensures i)) (sealed (v i).session) (v i));
+      noted = c.note.ensures.token ∙ (λ i. ((pv i).0, (pv i).1 ++ Accepted n command.Slot (c.copy_reply.ensures i) ∷ []));
+    }

@@ -115,25 +115,8 @@ invariant_of-self-in-Some g c =
       omega (arith, c.self.invariant.3, c.take_front-records.ensures.capacity),
     )
 
-pub returns-in-Some-clause-commands : goal.returns-in-Some-clause-commands
-returns-in-Some-clause-commands g c =
-    let s = c.self.inside in
-    let K = g.J.Job.kind in
-    let L = g.met.J.Job.laws in
-    let B = g.B.Named.start in
-    let xs = told K B [] s.history.items in
-    let batch = map plain c.take_front-records.result.items in
-    let rest = map plain (deque_items c.take_front-records.new.pending) in
-    let split = ap (map plain) c.take_front-records.ensures.split ∙ map-append plain c.take_front-records.result.items (deque_items c.take_front-records.new.pending) in
-    let h = subst (λ l. IsKept K B xs s.keeper s.passes s.state l s.taken s.marked s.clock s.failure) split c.self.invariant.0 in
-    let same = some_is c.take_front-records.result c.in-Some.records (sym c.took_of.ensures ∙ c.in-Some.is) in
-    let records = same ∙ sym c.new.ensures.records in
-    let next = next_is K L B xs s.keeper s.passes s.state batch rest s.taken s.marked s.clock s.failure h in
-    let long = length_map plain c.take_front-records.result.items ∙ (λ i. length (records i).items) in
-    (λ i. map plain (sym records i).items) ∙ next ∙ (λ i. next_records K B (long i) (c.self.view_is i).session)
-
-pub returns-in-Some-clause-next : goal.returns-in-Some-clause-next
-returns-in-Some-clause-next g c =
+pub returns-in-Some-clause-taken : goal.returns-in-Some-clause-taken
+returns-in-Some-clause-taken g c =
     let s = c.self.inside in
     let K = g.J.Job.kind in
     let L = g.met.J.Job.laws in
@@ -155,8 +138,15 @@ returns-in-Some-clause-next g c =
     let goes = goes_on K L B xs s.keeper s.passes s.state batch rest s.taken s.marked s.clock s.failure mine c.workers-workers.result first h at w
     (omega (arith, some, n, long, mapped, c.number.ensures.number)) in
     let records = same ∙ sym c.new.ensures.records in
-    subst (λ (q : List (Note g.row.J.Denot) × ℕ × ℕ × List (Recorded g.row.J.Denot)). GoesOn K B q.0 q.1 q.2 q.3)
-    (λ i. (c.share.view_is i, sym c.new.ensures.workers i, sym c.new.ensures.first i, map plain (records i).items)) goes
+    let next = next_is K L B xs s.keeper s.passes s.state batch rest s.taken s.marked s.clock s.failure h in
+    let length_is = length_map plain c.take_front-records.result.items ∙ (λ i. length (records i).items) in
+    record {
+      event = search rules;
+      noted = search rules;
+      commands = (λ i. map plain (sym records i).items) ∙ next ∙ (λ i. next_records K B (length_is i) (c.self.view_is i).session);
+      next = subst (λ (q : List (Note g.row.J.Denot) × ℕ × ℕ × List (Recorded g.row.J.Denot)). GoesOn K B q.0 q.1 q.2 q.3)
+          (λ i. (c.share.view_is i, sym c.new.ensures.workers i, sym c.new.ensures.first i, map plain (records i).items)) goes;
+    }
 
 pub returns-in-Some-clause-width : goal.returns-in-Some-clause-width
 returns-in-Some-clause-width g c =

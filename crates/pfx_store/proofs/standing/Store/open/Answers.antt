@@ -10,16 +10,16 @@ pub invariant_of-result : goal.invariant_of-result
 invariant_of-result g c = λ whole honest.
     (let V = g.D.Disk.view in
     let before = c.in-Ok.ensures.looks.honest (subst (λ f. IsHonest (V f.disk)) c.in-Ok-furnished.ensures.file honest) in
-    c.in-Ok-furnished.ensures.stands (V c.args.disk).contents (c.in-Ok.ensures.opened before))
+    (c.in-Ok-furnished.ensures.found (V c.args.disk).contents (c.in-Ok.ensures.opened before)).stands)
 
 pub returns-in-Ok-furnished-clause-found : goal.returns-in-Ok-furnished-clause-found
-returns-in-Ok-furnished-clause-found g c = λ honest. c.in-Ok-furnished.ensures.found (g.D.Disk.view c.args.disk).contents (c.in-Ok.ensures.opened honest)
+returns-in-Ok-furnished-clause-found g c = λ honest. (c.in-Ok-furnished.ensures.found (g.D.Disk.view c.args.disk).contents (c.in-Ok.ensures.opened honest)).recovers
 
 pub returns-in-Ok-furnished-clause-left : goal.returns-in-Ok-furnished-clause-left
 returns-in-Ok-furnished-clause-left g c = λ honest f is.
     left_by c.in-Ok-furnished.journal.file.places.turned c.in-Ok-furnished.journal.file.places.begun f.parts.turned _ _
     (ap (λ i. i.places.begun) c.in-Ok-furnished.ensures.file ∙ c.in-Ok.ensures.unbegun)
-    (c.in-Ok-furnished.ensures.turned (g.D.Disk.view c.args.disk).contents (c.in-Ok.ensures.opened honest) f is)
+    ((c.in-Ok-furnished.ensures.found (g.D.Disk.view c.args.disk).contents (c.in-Ok.ensures.opened honest)).turned f is)
 
 pub returns-in-Ok-furnished-clause-durable : goal.returns-in-Ok-furnished-clause-durable
 returns-in-Ok-furnished-clause-durable g c = λ honest.
@@ -27,7 +27,7 @@ returns-in-Ok-furnished-clause-durable g c = λ honest.
     let K = g.J.Job.kind in
     let L = g.met.J.Job.laws in
     let j = c.in-Ok-furnished.journal in
-    let stands = c.in-Ok-furnished.ensures.stands (V c.args.disk).contents (c.in-Ok.ensures.opened honest) in
+    let stands = (c.in-Ok-furnished.ensures.found (V c.args.disk).contents (c.in-Ok.ensures.opened honest)).stands in
     record {
       images = recovered_since K L j.file.places j.state j.spelled.items (V j.file.disk) stands (g.met.D.Disk.only_now j.file.disk);
       marks = covers_begun K L j.file.places j.state j.spelled.items (V j.file.disk) stands (g.met.D.Disk.only_now j.file.disk) j.file.broken;
@@ -46,7 +46,7 @@ returns-in-Ok-furnished-clause-acts g c = λ honest.
       broken_off = tt;
       between = subst (λ f. HasKeptTo (Sync ∷ []) a (V f.disk)) same (sync_within a b leaves);
       only = subst (λ f. Only a.contents (V f.disk)) same opened.kept.only;
-      file = c.in-Ok-furnished.ensures.place a.contents opened;
+      file = (c.in-Ok-furnished.ensures.found a.contents opened).file;
     })
 
 pub returns-in-Err-clause-acts : goal.returns-in-Err-clause-acts

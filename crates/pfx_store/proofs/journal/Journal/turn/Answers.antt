@@ -1,0 +1,67 @@
+use Rattle.std.proofs.Common.{◌+◌, ◌∙◌, ap, rules}
+use Rattle.pfx_format.specs.Format.{format}
+use Rattle.pfx_format.proofs.Keeping.{format_laws}
+use Rattle.pfx_store_file.specs.Holding.{IsStart}
+use Rattle.pfx_store.proofs.Standings.{stands_turned}
+use Rattle.std.proofs.Common.{◌≡◌, ◌++◌, ◌∷◌, []}
+use Rattle.pfx_record.specs.Numbers.{number_bytes}
+use Rattle.pfx_store_file.specs.declared.faults.StoreFault.TheVariants.{Device}
+use Rattle.pfx_store_file.proofs.Calling.{fault_back}
+use Rattle.pfx_store.specs.Files.{start_of}
+use Rattle.pfx_store.proofs.Filing.{turn_made, turn_broken, turn_within}
+use Rattle.pfx_store.proofs.journal.Journal.turn.Goals as goal
+
+pub returns-in_err-turn-clause-stands : goal.returns-in_err-turn-clause-stands
+returns-in_err-turn-clause-stands g c =
+    let K = g.J.Job.kind in
+    let s = c.args.self.now.state in
+    let begins : IsStart (format K) (s.number + 1) c.start_behind-start.result = record { long = c.start_behind-start.ensures.long; number = c.start_behind-start.ensures.number ∙ ap (λ n. n + 1) c.number.ensures.number; closed = c.start_behind-start.ensures.closed } in
+    record {
+      goes_on = search rules;
+      keeps = λ stands start all replays. (c.turn.ensures.keeps (format K) (format_laws K g.met.J.Job.laws) stands.header stands.parts s c.args.self.now.spelled.items stands.holds begins []).keeps start all replays;
+    }
+
+pub returns-clause-stands : goal.returns-clause-stands
+returns-clause-stands g c =
+    let K = g.J.Job.kind in
+    let s = c.args.self.now.state in
+    let begins : IsStart (format K) (s.number + 1) c.start_behind-start.result = record { long = c.start_behind-start.ensures.long; number = c.start_behind-start.ensures.number ∙ ap (λ n. n + 1) c.number.ensures.number; closed = c.start_behind-start.ensures.closed } in
+    record {
+      goes_on = λ stands. stands_turned K g.met.J.Job.laws stands.header c.turn.new.self.places stands.parts s c.encode.new.spelled.items (g.D.Disk.view c.turn.new.self.disk) c.encode.ensures.state stands.set c.encode.ensures.spelled
+          ((c.in_ok-turn.ensures.keeps (format K) (format_laws K g.met.J.Job.laws) stands.header stands.parts s c.args.self.now.spelled.items stands.holds begins c.encode.new.spelled.items).holds);
+      keeps = λ stands start all replays. (c.turn.ensures.keeps (format K) (format_laws K g.met.J.Job.laws) stands.header stands.parts s c.args.self.now.spelled.items stands.holds begins []).keeps start all replays;
+    }
+
+pub returns-in_err-turn-clause-acts : goal.returns-in_err-turn-clause-acts
+returns-in_err-turn-clause-acts g c =
+    let K = g.J.Job.kind in
+    let V = g.D.Disk.view in
+    let old = c.args.self.now in
+    let s = old.state in
+    let start = c.start_behind-start.result in
+    let starts : start ≡ start_of s = c.start_behind-start.ensures.bytes ∙ ap (λ k. number_bytes 8 (k + 1) ++ 0 ∷ []) c.number.ensures.number in
+    let a = V old.file.disk in
+    let b = V c.turn.new.self.disk in
+    record {
+      made = search rules;
+      broken_off = λ f has honest is. turn_broken K f old.file.places old.spelled.items has s start starts a b ((c.turn.ensures.acts (format K) f has.are honest).broken_off (fault_back _ c.turn.result _ Device (c.in_err-turn.was) c.from_residual.ensures.1 is));
+      between = λ f has honest. turn_within K f old.file.places old.spelled.items has s start starts a b ((c.turn.ensures.acts (format K) f has.are honest).between);
+      file = search rules;
+    }
+
+pub returns-clause-acts : goal.returns-clause-acts
+returns-clause-acts g c =
+    let K = g.J.Job.kind in
+    let V = g.D.Disk.view in
+    let old = c.args.self.now in
+    let s = old.state in
+    let start = c.start_behind-start.result in
+    let starts : start ≡ start_of s = c.start_behind-start.ensures.bytes ∙ ap (λ k. number_bytes 8 (k + 1) ++ 0 ∷ []) c.number.ensures.number in
+    let a = V old.file.disk in
+    let b = V c.turn.new.self.disk in
+    record {
+      made = λ f has honest is. turn_made K f old.file.places old.spelled.items has s start starts a b ((c.in_ok-turn.ensures.acts (format K) f has.are honest).made);
+      broken_off = search rules;
+      between = λ f has honest. turn_within K f old.file.places old.spelled.items has s start starts a b ((c.turn.ensures.acts (format K) f has.are honest).between);
+      file = λ f has honest is. record { are = c.in_ok-turn.ensures.file (format g.J.Job.kind) f has.are c.args.self.now.state; spells = λ turned. c.encode.ensures.spelled };
+    }

@@ -1,0 +1,25 @@
+// A state and the file that keeps it, with nothing said yet of whether they agree.
+ghost use Rattle.std.specs.Prelude.{◌≡◌, ◌≤◌, ◌+◌, ◌*◌, length, vec_capacity};
+ghost use Rattle.pfx_checkpoint.specs.Spelling.{state_len};
+
+use pfx_disk::Disk;
+use pfx_jobs::job::Job;
+use pfx_machine::State;
+use pfx_store_file::StoreFile;
+
+/// A state, and the file on a disk that is to keep it. That the file stands for the state is a store's promise.
+#[derive(Drop)]
+pub(crate) struct Journal<D: Disk, J: Job> {
+    /// The file.
+    pub file: StoreFile<D>,
+    /// The state.
+    pub state: State<J>,
+    /// The body of the slot that the checkpoint in progress writes.
+    pub spelled: Vec<u8>,
+    /// Room for the longest frame.
+    pub frame: Vec<u8>,
+    ghost long: { length spelled.items ≡ file.places.body },
+    ghost body: { file.places.body ≡ state_len state.ledger.set },
+    ghost fits: { 41 + 2096 * state.ledger.set.workers ≤ file.places.segment_len },
+    ghost room: { 32 + 2096 * state.ledger.set.workers ≤ vec_capacity frame },
+}
