@@ -35,7 +35,7 @@ module _ {J : Type 0} (K : Kind J) (B : Plain J) (H : List (Command J)) (s t : P
   fits_refused copy f n at full_is same refused still is =
       (is ∙ ap (λ (u : Plain J). u.number) (still ∙ at), (λ i. refused_at (sym full_is i) K (sym at i) (same i)) ∙ refused)
 
-  -- the number behind one command more
+  -- the number after one command more
   pub number_next : (n : ℕ) → s ≡ outcome K B H → t ≡ outcome K B (H ++ c ∷ []) → n ≡ t.number → n ≡ s.number + 1
   number_next n at next is =
       let a = number_is K B H in

@@ -70,7 +70,7 @@ module _ {J : Type 0} where
   IsRepelled None d fault = fault ≡ Stranger d.task
   IsRepelled (Some o) d fault = Repels o.quanta d o.back fault
 
-  -- the records of the next n accepted commands behind those that were taken
+  -- the records of the next n accepted commands after those that were taken
   abbrev pub next_records : Kind J → Plain J → ℕ → Session J → List (Recorded J)
   next_records K start n b = records_of K (outcome K start (take b.taken b.accepted)) (take n (drop b.taken b.accepted))
 

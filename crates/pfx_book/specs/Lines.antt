@@ -1,4 +1,4 @@
--- What a book keeps of each entry, and what the entry is behind those before it.
+-- What a book keeps of each entry, and what the entry is after those before it.
 use Rattle.std.specs.Prelude.{◌≡◌, ℕ, ◌+◌, List, [], ◌∷◌, ◌++◌, unwrap_or, Bool, true, false}
 use Rattle.pfx_jobs.specs.Kind.{Kind}
 use Rattle.pfx_machine.specs.Plain.{Plain}
@@ -28,7 +28,7 @@ module _ {J : Type 0} where
   IsOf p r c (Withdraw pass refused task) = (pass ≡ p) × (refused ≡ r) × (command.Withdraw task ≡ c)
   IsOf p r c (Receipt pass number clock) = ⊥
 
-  -- the entry of a command behind these: its number and reply, or why it is refused, are what they have to be there
+  -- the entry of a command after these: its number and reply, or why it is refused, are what they have to be there
   abbrev pub said_of : Kind J → Plain J → List (Command J) → Bool → Command J → Note J
   said_of K B H true c = note.Refused (outcome K B H).number c (unwrap_or (refused_in K B H c) SessionFull)
   said_of K B H false c = note.Accepted ((outcome K B H).number + 1) c (reply (outcome K B H) c)

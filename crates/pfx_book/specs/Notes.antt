@@ -47,11 +47,11 @@ module _ {J : Type 0} where
   refused_at true K s c = Some SessionFull
   refused_at false K s c = option_map Machine (refusal K s c)
 
-  -- why a command is refused behind these: a session has at most 2^20 accepted commands
+  -- why a command is refused after these: a session has at most 2^20 accepted commands
   abbrev pub refused_in : Kind J → Plain J → List (Command J) → Command J → Option BookFault
   refused_in K B H c = refused_at (nat_le (2 ^ 20) (length H)) K (outcome K B H) c
 
-  -- the note is right behind these commands: of a session, or of a client that was told of a failure
+  -- the note is right after these commands: of a session, or of a client that was told of a failure
   abbrev pub Fits : Kind J → Plain J → List (Command J) → Note J → Type 0
   Fits K B H (Accepted n c r) = (n ≡ (outcome K B H).number + 1) × ((refused_in K B H c ≡ None) × (r ≡ reply (outcome K B H) c))
   Fits K B H (Refused n c f) = (n ≡ (outcome K B H).number) × (refused_in K B H c ≡ Some f)
@@ -69,7 +69,7 @@ module _ {J : Type 0} where
   number_in (Accepted n c r) = n
   number_in other = 0
 
-  -- the greatest number that was accepted, 0 where none was
+  -- the greatest number that was accepted, 0 if none was
   abbrev pub greatest : List (Note J) → ℕ
   greatest [] = 0
   greatest (x ∷ xs) = max (number_in x) (greatest xs)
@@ -108,7 +108,7 @@ module _ {J : Type 0} where
   AllBacked notes [] = ⊤
   AllBacked notes (x ∷ xs) = Backed notes x.1 × AllBacked notes xs
 
-  -- these records may come next behind the notes: where the noted ones lead to a state, they are of its set, begin behind its
+  -- these records may come next after the notes: where the noted ones lead to a state, they are of its set, begin after its
   -- number, and lead on
   abbrev pub GoesOn : Kind J → Plain J → List (Note J) → ℕ → ℕ → List (Recorded J) → Type 0
   GoesOn K start notes workers first records = (t : Plain J) → applied K start (records_in notes) ≡ Some t →

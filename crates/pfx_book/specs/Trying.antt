@@ -22,7 +22,7 @@ Tries {J = J} K full s c t (Done copy said entry) = (copy ≡ c) × (refused_at 
 Tries K full s c t (Refused copy fault) = (copy ≡ c) × (refused_at full K s c ≡ Some fault) × (t ≡ s)
 Tries K full s c t NoMemory = t ≡ s
 
--- why no slot was opened: memory was refused, or the session refuses one
+-- why no slot was opened: an allocation failed, or the session refuses one
 abbrev pub StaysUnopened : {J : Type 0} → Kind J → Bool → Plain J → BookFault → Type 0
 StaysUnopened K full s why = (why ≡ Machine fault.NoMemory) ⊎ (refused_at full K s Slot ≡ Some why)
 

@@ -128,7 +128,7 @@ impl<J: Job, B: Named<J>> Model for Book<J, B> {
 
 impl<J: Job, B: Named<J>> Book<J, B> {
     /// A book that begins at this state, which counts as durable since this clock of the disk, and the flusher's share, which
-    /// notes that mark. `AllocError` where memory is refused.
+    /// notes that mark. `AllocError` if an allocation fails.
     pub fn new(
         alloc: Global,
         tokens: Opened<Note<J>>,
@@ -208,7 +208,7 @@ impl<J: Job, B: Named<J>> Book<J, B> {
         self.state.number() - self.began == self.marked
     }
 
-    /// The board of the state behind all that was accepted. `AllocError` where memory is refused.
+    /// The board of the state after all that was accepted. `AllocError` if an allocation fails.
     pub fn board(&self) -> Result<Board, AllocError>
         ensures number { IfOk result (λ b. b.number ≡ self.now.session.state.number) }
         ensures slot { IfOk result (λ b. b.slot ≡ self.now.session.state.ledger.slot) }
@@ -217,7 +217,7 @@ impl<J: Job, B: Named<J>> Book<J, B> {
         self.state.board(self.alloc)
     }
 
-    /// A copy of the state behind all that was accepted. `AllocError` where memory is refused.
+    /// A copy of the state after all that was accepted. `AllocError` if an allocation fails.
     pub fn state(&self) -> Result<State<J>, AllocError>
         ensures { IfOk result (λ copy. copy ≡ self.now.session.state) }
     {
@@ -231,7 +231,7 @@ impl<J: Job, B: Named<J>> Book<J, B> {
         self.passes
     }
 
-    /// A new pass, with no notes. `None` where 64 are out.
+    /// A new pass, with no notes. `None` if 64 are out.
     pub fn pass(&mut self) -> Option<Pass<J, B>>
         ensures some { IfSome result (λ p. (p ≡ (self.old.passes + 1, [])) × (self.new ≡ record self.old { passes = self.old.passes + 1 })) }
         ensures none { IfNone result ((self.old.passes ≡ 64) × (self.new ≡ self.old)) }

@@ -28,7 +28,7 @@ pub struct Receipt {
 }
 
 impl<J: Job, B: Named<J>> Book<J, B> {
-    /// A receipt for a number up to the mark, with the mark's clock and an entry for the pass. `AllocError` if memory is refused;
+    /// A receipt for a number up to the mark, with the mark's clock and an entry for the pass. `AllocError` if an allocation fails;
     /// then nothing changes.
     pub fn receipt(&mut self, pass: &mut Pass<J, B>, number: u64) -> Result<Receipt, AllocError>
         requires { number ≤ B.start.number + self.old.session.marked }

@@ -71,7 +71,7 @@ impl<J: Job, B: Named<J>> Book<J, B> {
     }
 
     /// All that was taken counts as durable, since this clock of the disk. `number` is that of the last command that the share
-    /// took, or of the start where it took none.
+    /// took, or of the start if it took none.
     pub fn mark(&mut self, share: &mut Share<J, B>, number: u64, clock: u64)
         requires { number ≡ B.start.number + length (records_in share.old) }
         ensures event { self.new ≡ record self.old { session = marked_now clock self.old.session } }

@@ -5,7 +5,7 @@
 //! of the world in `pfx_world/specs/Session.antt`, in that world's own words, or changes nothing there.
 //!
 //! What its type keeps:
-//! 1. the session is legal: each command stands there with the number, the reply or the refusal that it has to have behind
+//! 1. the session is legal: each command stands there with the number, the reply or the refusal that it has to have after
 //!    those before it, and the accepted ones lead from the start to the state;
 //! 2. the records that the flusher took, and then those that wait, are those of the accepted commands;
 //! 3. the mark is at most what was taken, and what is accepted at most 64 beyond the mark; each receipt is of a number up to

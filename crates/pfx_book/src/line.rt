@@ -36,7 +36,7 @@ pub enum Line<J> {
     },
 }
 
-/// The line of an accepted command. `None` where memory is refused, which only a Submit takes.
+/// The line of an accepted command. `None` if an allocation fails, which only a Submit takes.
 pub fn line_of<J: Job>(alloc: Global, pass: u8, command: &Command<J>) -> Option<Line<J>>
     ensures { IfSome result (IsOf pass false command.now) }
 {

@@ -68,7 +68,7 @@ impl<J: Job, B: Named<J>> Book<J, B> {
         }
     }
 
-    /// Again the first quantum of the open slot whose result isn't back. `None` where none is missing, or no slot is open.
+    /// Again the first quantum of the open slot whose result isn't back. `None` if none is missing, or no slot is open.
     pub fn missing(&self) -> Option<Quantum<J>>
         ensures { MatchOption result (NoneMissing self.now.session.opened)
             (λ q. IsFirstMissing self.now.session.opened (deal q.number q.slot q.task q.before)) }
@@ -79,8 +79,8 @@ impl<J: Job, B: Named<J>> Book<J, B> {
         }
     }
 
-    /// Takes a result of the open slot in, or refuses it with nothing changed: as a `Stranger` where it answers no quantum of
-    /// the open slot or none is open, and as a `Double` where that quantum's result is back. It takes no memory.
+    /// Takes a result of the open slot in, or refuses it with nothing changed: as a `Stranger` if it answers no quantum of
+    /// the open slot or none is open, and as a `Double` if that quantum's result is back. It takes no memory.
     pub fn give(&mut self, done: Done<J>) -> Result<(), GatherFault>
         ensures event { OnOk result (ComesBack J.kind (deal done.number done.slot done.task done.before) self.old self.new) }
         ensures err { IfErr result (λ fault. IsRepelled self.old.session.opened (deal done.number done.slot done.task done.before) fault) }

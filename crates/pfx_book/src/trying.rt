@@ -24,7 +24,7 @@ pub enum Tried<J> {
     NoMemory,
 }
 
-/// Whether a growth of memory was refused.
+/// Whether an allocation failed.
 fn is_memory(fault: MachineFault) -> bool
     ensures { IsTrue result ↔ (fault ≡ MachineFault.NoMemory) }
 {

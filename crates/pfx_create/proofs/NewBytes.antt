@@ -62,7 +62,7 @@ piece_written file at n bytes old new behind inside many before are is =
     place : (m k : ℕ) → at < m → k ≡ min n (m - at) → at + k ≡ min (at + n) m
     place m k inside many = omega (arith, inside, many)
 
--- the piece's length, where the file is so long
+-- the piece's length, if the file is so long
 pub piece_long : (L : Layout) (head body : List ℕ) (segment at piece len k : ℕ) → HasLengths L head body segment → len ≡ len_of head body segment → k ≡ min piece (len - at)
     → k ≡ min piece (length (new_file L head body number_one) - at)
 piece_long L head body segment at piece len k has is many = many ∙ ap (λ m. min piece (m - at)) (is ∙ sym (long_file L head body segment has))

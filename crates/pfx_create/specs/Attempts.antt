@@ -44,7 +44,7 @@ module _ {H S : Type 0} (K : Codec H S) where
   abbrev pub RefusesUnmade : Type 0
   RefusesUnmade = (image : List ℕ) → IsUnmade image → K.read_head image ≡ Err NotAStore
 
-  -- Where the disk was empty since some moment, each image since then is refused as no store's, or recovered to this state.
+  -- If the disk was empty since some moment, each image since then is refused as no store's, or recovered to this state.
   abbrev pub IsNoneOrMade : S → View → View → Type 0
   IsNoneOrMade s old new = (c : ℕ) → c ≤ old.clock → ((image : List ℕ) → old.since c image → image ≡ [])
       → (image : List ℕ) → new.since c image → (recovered K image ≡ Err NotAStore) ⊎ (recovered K image ≡ Ok s)

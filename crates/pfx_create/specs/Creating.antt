@@ -8,7 +8,7 @@ use Rattle.pfx_recovery.specs.Layout.{Layout, IsClosedAt}
 abbrev pub number_one : List ℕ
 number_one = 1 ∷ 0 ∷ 0 ∷ 0 ∷ 0 ∷ 0 ∷ 0 ∷ 0 ∷ []
 
--- how long a file with this header, this body of a slot and segments of this length is
+-- how long a file with this header, this body of a checkpoint area and segments of this length is
 abbrev pub len_of : List ℕ → List ℕ → ℕ → ℕ
 len_of head body segment = length head + 2 * (1 + length body) + 2 * segment
 
@@ -17,7 +17,7 @@ pub record IsInLimits (head body : List ℕ) (segment : ℕ) : Type 0 where
   pub room : 9 < segment
   pub short : len_of head body segment < 2 ^ 62
 
--- A new file can be made with this header, this body of its first slot and such segments: they are in the limits, and the header begins
+-- A new file can be made with this header, this body of its first checkpoint area and such segments: they are in the limits, and the header begins
 -- with its open gate.
 pub record CanBeMade (head body : List ℕ) (segment : ℕ) : Type 0 where
   pub limits : IsInLimits head body segment

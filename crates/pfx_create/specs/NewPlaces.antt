@@ -2,7 +2,7 @@
 use Rattle.std.specs.Prelude.{◌≡◌, ℕ, ◌+◌, ◌*◌, false}
 use Rattle.pfx_store_file.specs.declared.places.Places.{Places}
 
--- the first slot and the first segment are in use, with no frame and no checkpoint in progress, and the other gates closed
+-- the first checkpoint area and the first segment are in use, with no frame and no checkpoint in progress, and the other gates closed
 pub record AreNew (head_len body_len long : ℕ) (places : Places) : Type 0 where
   pub head : places.head ≡ head_len
   pub body : places.body ≡ body_len

@@ -14,7 +14,7 @@ pub fn file_len(head: &[u8], body: &[u8], segment: usize) -> usize
     head.len() + 2 * (1 + body.len()) + 2 * segment
 }
 
-/// The byte at this place of the new file with this header, this body of its first slot, and segments of this length.
+/// The byte at this place of the new file with this header, this body of its first checkpoint area, and segments of this length.
 pub fn byte_at(head: &[u8], body: &[u8], segment: usize, at: usize) -> u8
     requires short { len_of head.now body.now segment < 2 ^ 62 }
     requires inside { at < len_of head.now body.now segment }

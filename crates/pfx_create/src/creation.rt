@@ -11,7 +11,7 @@ use crate::fault::CreateFault;
 use crate::pieces::write_unopened;
 use pfx_disk::{Disk, GATE_OPEN};
 
-/// Makes a new file on an empty disk, with this header, this body of its first slot, and segments of this length in
+/// Makes a new file on an empty disk, with this header, this body of its first checkpoint area, and segments of this length in
 /// bytes. The header begins with its open gate, a segment has more than 9 bytes, and the file fewer than 2^62.
 ///
 /// It asks for the disk's length, and answers `NotEmpty` if that isn't 0, with nothing written. Else it writes a closed

@@ -14,7 +14,7 @@ use crate::fault::CreateFault;
 use pfx_disk::Disk;
 use pfx_store_file::{Places, StoreFile};
 
-/// The places of a new file with a header and a slot's body of these lengths, and segments of this one, all in bytes.
+/// The places of a new file with a header and a checkpoint area's body of these lengths, and segments of this one, all in bytes.
 pub fn new_places(head: usize, body: usize, segment: usize) -> Places
     requires room { 9 < segment }
     requires short { head + 2 * (1 + body) + 2 * segment < 2 ^ 62 }

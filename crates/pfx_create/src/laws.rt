@@ -7,7 +7,7 @@ ghost use Rattle.pfx_create.specs.GatedToy.{gated_toy};
 use pfx_recovery::laws::toy_keeps_the_laws;
 
 /// What `create` rests on can be met: there is a codec that refuses what is no store's file yet, with a header of two bytes
-/// and a slot's body of two that are parts of a new file with segments of 42.
+/// and a checkpoint area's body of two that are parts of a new file with segments of 42.
 pub fn a_new_file_can_be_made()
     ensures refuses { RefusesUnmade gated_toy }
     ensures made { IsMadeOf gated_toy 32 (0 ∷ 0 ∷ []) (GATE_OPEN ∷ 32 ∷ []) (0 ∷ 0 ∷ []) 42 }

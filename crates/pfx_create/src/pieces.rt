@@ -59,7 +59,7 @@ fn write_pieces<D: Disk>(
     Ok(())
 }
 
-/// Writes a new file with its first gate closed onto an empty disk: a byte and a sync, and the pieces behind it, which
+/// Writes a new file with its first gate closed onto an empty disk: a byte and a sync, and the pieces after it, which
 /// aren't synced.
 pub fn write_unopened<D: Disk>(
     disk: &mut D,

@@ -133,7 +133,7 @@ module _ {J : Type 0} (K : Kind J) (f : FileOf J) (places : Places) (body : List
       pub append_within : a.clock ≤ b.clock → HasKeptTo (ending K f n) a b → HasKeptTo rest b c → HasKeptTo (appending K f s frame) a c
       append_within later first second = subst (λ l. HasKeptTo l a c) joins (within_then (ending K f n) rest a b c made later first second)
 
-    -- the body of the checkpoint in progress is as it was, where there was room, and else the state's
+    -- the body of the checkpoint in progress is as it was, if there was room, and else the state's
     abbrev Spelled : FileOf J → Type 0
     Spelled g = g.parts.turned ≡ true → other ≡ state_bytes K g.parts.middle
 
@@ -164,7 +164,7 @@ module _ {J : Type 0} (K : Kind J) (f : FileOf J) (places : Places) (body : List
     pub turn_within : HasKeptTo (turn_acts (format K) f start) old new → HasKeptTo (turning K f s) old new
     turn_within within = subst (λ b. HasKeptTo (turn_acts (format K) f b) old new) starts within
 
--- where the bytes of a slot are read as a state, they are that state's
+-- if the bytes of a slot are read as a state, they are that state's
 module _ {J : Type 0} (K : Kind J) (h : Header) (p : Parts (Plain J)) (s : Plain J) (body image : List ℕ) where
   pub body_same : IsStore (format K) h p s image → read_state K h.set body ≡ Some p.middle → body ≡ state_bytes K p.middle
   body_same store read = sym (only_states K h.set body p.middle (read_filled image h store.head) read).2

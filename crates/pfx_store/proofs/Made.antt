@@ -64,7 +64,7 @@ none_recovered : {J : Type 0} (K : Kind J) (image : List ℕ) → read_header im
 unfolding recovered found
 none_recovered K image is = ap (λ r. on_ok (on_ok r (λ h. from_head (format K) h image)) (λ f. Ok f.state)) is
 
--- where nothing was done, nothing came to be
+-- if nothing was done, nothing came to be
 pub still_none : {J : Type 0} (K : Kind J) (s : Plain J) (a : View) → IsNoneOrMade (format K) s a a
 still_none K s a c le before image is = inl (none_recovered K image (unmade_refused K image (inl (omega (arith, ap length (before image is))))))
 

@@ -53,7 +53,7 @@ holds_after a b was is before after (Err Broken) works room still honest step st
 holds_after a b was is before after (Err NoRoom) works room still honest step stood whole here = absurd (room refl)
 
 module _ {J : Type 0} (K : Kind J) (start : Plain J) (all : List (List ℕ)) where
-  -- a mark stays one, where there may be frames more
+  -- a mark stays one, if there may be frames more
   kept_on : (more : List (List ℕ)) (mark : Mark) (a b : View) → length all ≤ length more → ((k : ℕ) → k ≤ length all → take k more ≡ take k all) → a.clock ≤ b.clock → KeepsAll (format K) start all more a b → IsKept K start all mark a → IsKept K start more mark b
   kept_on more mark a b longer same later keeps kept = record {
     count = kept.count;
@@ -69,7 +69,7 @@ module _ {J : Type 0} (K : Kind J) (start : Plain J) (all : List (List ℕ)) whe
   are_kept_on more [] a b longer same later keeps kept = tt
   are_kept_on more (mark ∷ marks) a b longer same later keeps kept = (kept_on more mark a b longer same later keeps kept.0, are_kept_on more marks a b longer same later keeps kept.1)
 
-  -- behind a call that appends nothing
+  -- after a call that appends nothing
   pub covers_on : (marks : List Mark) (a b : View) (was is : Bool) (s t : Plain J) → t ≡ s → (is ≡ false → was ≡ false) → a.clock ≤ b.clock → KeepsAll (format K) start all all a b → Covers K start all marks was s a → Covers K start all marks is t b
   covers_on marks a b was is s t same whole later keeps covers = record {
     leads = λ here. subst (λ (u : Plain J). Replays (format K) start all u) (sym same) (covers.leads (whole here));
@@ -80,7 +80,7 @@ module _ {J : Type 0} (K : Kind J) (start : Plain J) (all : List (List ℕ)) whe
     still_kept : AreKept K start (all ++ frame ∷ []) marks b
     still_kept = are_kept_on (all ++ frame ∷ []) marks a b (omega (arith, length-append all (frame ∷ []))) (λ k few. take-append-le k all (frame ∷ []) few) later keeps covers.marks
 
-    -- behind an append, whatever it answers
+    -- after an append, whatever it answers
     pub covers_appended : (result : Result Mark StoreFault) → Works a b was is result → (IsErrOf result NoRoom → ⊥) → (IsErrOf result Broken → is ≡ was) → OnOk result (state_after K s frame ≡ Some t) → IfOk result (λ mark. (mark.number ≡ t.number) × (mark.clock ≡ b.clock)) →
         (was ≡ false → OnOk result ((image : List ℕ) → b.since b.clock image → Survives (format K) start (all ++ frame ∷ []) (length all + 1) image)) → Covers K start (all ++ frame ∷ []) (marked result marks) is t b
     covers_appended (Ok mark) works room still led is_mark acknowledged =
@@ -106,7 +106,7 @@ module _ {J : Type 0} (K : Kind J) (start : Plain J) (all : List (List ℕ)) whe
     covers_appended (Err Broken) works room still led is_mark acknowledged = record { leads = λ here. absurd (true≢false (sym (works.broken.0 refl) ∙ (sym (still refl) ∙ here))); marks = still_kept }
     covers_appended (Err NoRoom) works room still led is_mark acknowledged = absurd (room refl)
 
--- Where a store stands each image of now is recovered to its state, and where the disk knows no other, each image since now.
+-- If a store stands each image of now is recovered to its state, and if the disk knows no other, each image since now.
 module _ {J : Type 0} (K : Kind J) (L : Laws K) (places : Places) (s : Plain J) (spelled : List ℕ) (disk : View) (stands : Stands K places s spelled disk) where
   pub recovered_now : (image : List ℕ) → disk.now image → recovered (format K) image ≡ Ok s
   recovered_now image here = recovers (format K) (format_laws K L) stands.header image stands.parts s (stands.holds.images image here).store
@@ -132,6 +132,6 @@ module _ {J : Type 0} (K : Kind J) (L : Laws K) (places : Places) (s : Plain J) 
       );
     }
 
--- the steps that are left where none has been taken
+-- the steps that are left if none has been taken
 pub left_by : (turned begun t : Bool) (a b : ℕ) → begun ≡ false → turned ≡ t → (if turned then (if begun then a else b) else 0) ≡ (if t then b else 0)
 left_by turned begun t a b unbegun same = ap (λ (u : Bool). if u then (if begun then a else b) else 0) same ∙ ap (λ (v : Bool). if t then (if v then a else b) else 0) unbegun

@@ -21,7 +21,7 @@ use Rattle.pfx_store_file.proofs.Keeping.{keeps_then, room_there, room_made}
 use Rattle.pfx_store.specs.Standing.{IsReady, Stands}
 use Rattle.pfx_store.proofs.Slots.{spelled_read}
 
--- how the body of a checkpoint is spelled matters only where one is in progress
+-- how the body of a checkpoint is spelled matters only if one is in progress
 respelled : {J : Type 0} (K : Kind J) (h : Header) (places : Places) (p : Parts (Plain J)) (s : Plain J) (a b : List ℕ) (disk : View) → Holds (format K) h places p s a disk → p.turned ≡ false → Holds (format K) h places p s b disk
 respelled K h places p s a b disk holds single = record {
   honest = holds.honest;
@@ -42,7 +42,7 @@ settled_by p false is = ap (λ b. (if b then finished p else p).turned) is ∙ i
 pub settled_single : {S : Type 0} (p : Parts S) → (settled p).turned ≡ false
 settled_single p = settled_by p p.turned refl
 
--- where no checkpoint is in progress any more
+-- if no checkpoint is in progress any more
 pub stands_settled : {J : Type 0} (K : Kind J) (h : Header) (places : Places) (p : Parts (Plain J)) (s : Plain J) (a b : List ℕ) (disk : View) → Holds (format K) h places (settled p) s a disk → s.ledger.set ≡ h.set → Stands K places s b disk
 stands_settled K h places p s a b disk holds same = record {
   header = h;
@@ -52,7 +52,7 @@ stands_settled K h places p s a b disk holds same = record {
   middle = λ is. absurd (true≢false (sym is ∙ settled_single p));
 }
 
--- where a step of the checkpoint has been taken
+-- if a step of the checkpoint has been taken
 settled_middle : {S : Type 0} (turned : Bool) (p : Parts S) (P : S → Type 0) → (p.turned ≡ true → P p.middle) → (settled_unless turned p).turned ≡ true → P (settled_unless turned p).middle
 settled_middle true p P middle is = middle is
 settled_middle false p P middle is = absurd (true≢false (sym is ∙ settled_single p))
@@ -67,7 +67,7 @@ stands_tended K h places p s a b disk same set middle holds = subst (λ (l : Lis
   middle = settled_middle places.turned p (λ m. read_state K h.set a ≡ Some m) middle;
 })
 
--- where the store was turned, with the state spelled
+-- if the store was turned, with the state spelled
 pub stands_turned : {J : Type 0} (K : Kind J) (L : Laws K) (h : Header) (places : Places) (p : Parts (Plain J)) (s : Plain J) (spelled : List ℕ) (disk : View) → IsState s → s.ledger.set ≡ h.set → spelled ≡ state_bytes K s →
     Holds (format K) h places (turned_at p s) s spelled disk → Stands K places s spelled disk
 stands_turned K L h places p s spelled disk state set is holds = record {
@@ -113,7 +113,7 @@ keeps_more K start all frame a b keeps c n le before image is =
       recovered = s.recovered;
     }
 
--- where nothing is done
+-- if nothing is done
 pub keeps_still : {J : Type 0} (K : Kind J) (start : Plain J) (all : List (List ℕ)) (a : View) → KeepsAll (format K) start all all a a
 keeps_still K start all a c n le before image is = before image is
 

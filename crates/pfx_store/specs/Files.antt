@@ -17,11 +17,11 @@ use Rattle.pfx_store_file.specs.declared.places.Places.{Places}
 abbrev pub FileOf : Type 0 → Type 0
 FileOf J = File Header (Plain J)
 
--- the body of the slot that the checkpoint in progress writes
+-- the body of the checkpoint area that the checkpoint in progress writes
 abbrev pub spelled : {J : Type 0} → Kind J → FileOf J → List ℕ
 spelled K f = state_bytes K f.parts.middle
 
--- a store with these places has this file; where a checkpoint is in progress, this is its body
+-- a store with these places has this file; if a checkpoint is in progress, this is its body
 pub record HasFile {J : Type 0} (K : Kind J) (f : FileOf J) (places : Places) (body : List ℕ) : Type 0 where
   pub are : AreOf (format K) f places
   pub spells : f.parts.turned ≡ true → body ≡ spelled K f
@@ -35,7 +35,7 @@ abbrev pub behind_of : List ℕ → List ℕ
 behind_of frame = drop 1 frame ++ 0 ∷ []
 
 module _ {J : Type 0} (K : Kind J) (f : FileOf J) where
-  -- the calls that append a frame at a state, and the file behind them
+  -- the calls that append a frame at a state, and the file after them
   abbrev pub appending : Plain J → List ℕ → List Act
   appending s frame = append_acts (format K) f s (spelled K f) (start_of s) (behind_of frame)
 
@@ -50,7 +50,7 @@ module _ {J : Type 0} (K : Kind J) (f : FileOf J) where
   abbrev pub turning : Plain J → List Act
   turning s = turn_acts (format K) f (start_of s)
 
-  -- where a frame of n bytes has no room, the calls that end the checkpoint in progress, and the file behind them
+  -- if a frame of n bytes has no room, the calls that end the checkpoint in progress, and the file after them
   abbrev pub ending : ℕ → List Act
   ending n = if has_room (format K) f n then [] else end_acts (format K) f (spelled K f)
 

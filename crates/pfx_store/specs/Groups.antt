@@ -26,11 +26,11 @@ AreSmall (group ∷ groups) = (0 < length group) × (length group ≤ 16) × Are
 abbrev pub alone : {J : Type 0} → List (Command J) → List (List (Command J))
 alone H = map (λ c. c ∷ []) H
 
--- the frame of a group of commands behind a state
+-- the frame of a group of commands after a state
 abbrev pub frame_of : {J : Type 0} → Kind J → Plain J → List (Command J) → List ℕ
 frame_of K s group = batch_bytes K (record { first = s.number + 1; records = records_of K s group })
 
--- the frames of groups, each behind those before it
+-- the frames of groups, each after those before it
 abbrev pub frames_of : {J : Type 0} → Kind J → Plain J → List (List (Command J)) → List (List ℕ)
 frames_of K s [] = []
 frames_of K s (group ∷ groups) = frame_of K s group ∷ frames_of K (outcome K s group) groups
@@ -48,7 +48,7 @@ module _ {J : Type 0} (K : Kind J) where
     pub at_most : count ≤ length groups
     pub recovered : recovered (format K) image ≡ Ok (outcome K start (joined (take count groups)))
 
-  -- Where n of these groups at least survive in each image since some moment, they do so after the call too, in each image
+  -- If n of these groups at least survive in each image since some moment, they do so after the call too, in each image
   -- since that moment; there may be a group more then.
   abbrev pub KeepsAll : Plain J → List (List (Command J)) → List (List (Command J)) → View → View → Type 0
   KeepsAll start groups more old new = (c n : ℕ) → c ≤ old.clock

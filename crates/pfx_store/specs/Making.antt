@@ -1,4 +1,4 @@
--- The calls that the making of a store takes, and which fault comes where it isn't made.
+-- The calls that the making of a store takes, and which fault comes if it isn't made.
 use Rattle.std.specs.Prelude.{◌≡◌, ◌<◌, ◌≤◌, ◌+◌, ◌-◌, ◌*◌, ℕ, List, ⊤}
 use Rattle.pfx_checkpoint.specs.Spelling.{state_bytes}
 use Rattle.pfx_format.specs.Format.{layout}

@@ -13,7 +13,7 @@ use Rattle.pfx_store_file.specs.Fitting.{HasRoom}
 use Rattle.pfx_store_file.specs.Holding.{Holds, IsPending}
 use Rattle.pfx_store_file.specs.declared.places.Places.{Places}
 
--- Under some header and with some parts the store holds on the disk at this state, which is of the header's set; where a
+-- Under some header and with some parts the store holds on the disk at this state, which is of the header's set; if a
 -- checkpoint is in progress, its body is that of the state at the turn.
 pub record Stands {J : Type 0} (K : Kind J) (places : Places) (s : Plain J) (spelled : List ℕ) (disk : View) : Type 0 where
   pub header : Header

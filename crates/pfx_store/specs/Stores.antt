@@ -12,7 +12,7 @@ pub record PlainFile (D : Type 0) : Type 0 where
   pub places : Places
   pub broken : Bool
 
--- the file, the state, and the body of the slot that the checkpoint in progress writes
+-- the file, the state, and the body of the checkpoint area that the checkpoint in progress writes
 pub record PlainStore (D J : Type 0) : Type 0 where
   pub file : PlainFile D
   pub state : Plain J

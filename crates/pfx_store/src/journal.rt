@@ -14,7 +14,7 @@ pub(crate) struct Journal<D: Disk, J: Job> {
     pub file: StoreFile<D>,
     /// The state.
     pub state: State<J>,
-    /// The body of the slot that the checkpoint in progress writes.
+    /// The body of the checkpoint area that the checkpoint in progress writes.
     pub spelled: Vec<u8>,
     /// Room for the longest frame.
     pub frame: Vec<u8>,

@@ -32,15 +32,15 @@ fn header_on<D: Disk, J: Job>(alloc: Global, disk: &mut D) -> Result<FileHeader,
 
 impl<D: Disk, J: Job> Store<D, J> {
     /// The header of the store's file on a disk: its task set, and how many bytes a segment has. It is the one that `open`
-    /// would find there, but nothing behind it is looked at: a file whose header is whole may still be refused. Two calls of
+    /// would find there, but nothing after it is looked at: a file whose header is whole may still be refused. Two calls of
     /// the disk, which only read.
     ///
-    /// `Refused` names the first test that the header doesn't pass, as `open` would. `Device` comes only where the disk failed,
-    /// and `NoMemory` where a growth of memory was refused.
+    /// `Refused` names the first test that the header doesn't pass, as `open` would. `Device` comes only if the disk failed,
+    /// and `NoMemory` if an allocation failed.
     pub fn layout(alloc: Global, disk: &mut D) -> Result<FileHeader, OpenFault>
         ensures header { IsHonest (D.view disk.old) → Gives IsRead (read_header (D.view disk.old).contents) result }
 
-        // Where `open` finds a file, it has this header; and what is refused here, `open` refuses so.
+        // If `open` finds a file, it has this header; and what is refused here, `open` refuses so.
         ensures opens { IsHonest (D.view disk.old) → IfOk result (λ header. (f : Found Header (Plain J))
             → found (format J.kind) (D.view disk.old).contents ≡ Ok f → f.head ≡ header) }
         ensures refused { IsHonest (D.view disk.old) → IfErr result (λ e. IsRefusal e (λ refusal.

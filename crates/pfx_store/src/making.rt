@@ -40,7 +40,7 @@ pub enum InitFault {
     /// The disk failed. Any part of the file may have been written.
     #[error("the disk failed")]
     Device,
-    /// A growth of memory was refused. Nothing was written.
+    /// An allocation failed. Nothing was written.
     #[error("out of memory")]
     NoMemory,
 }
@@ -63,7 +63,7 @@ fn frozen<J: Job>(alloc: Global, state: &State<J>) -> Result<Vec<u8>, AllocError
     Ok(body)
 }
 
-// Makes the file, where all that it takes is there.
+// Makes the file, if all that it takes is there.
 fn placed<D: Disk, J: Job>(
     disk: D,
     set: &TaskSet,
@@ -161,7 +161,7 @@ impl<D: Disk, J: Job> Store<D, J> {
         ensures durable { IsHonest (D.view disk) → IfOk result (λ store.
             IsDurable J.kind store.file.broken store.state (D.view store.file.disk)) }
 
-        // Where the disk was empty since some moment, each image since then is no store's, or the empty state's: at every
+        // If the disk was empty since some moment, each image since then is no store's, or the empty state's: at every
         // moment of the call, whatever it answers.
         ensures recovers { IsHonest (D.view disk) → MatchResult result
             (λ store. IsNoneOrMade (format J.kind) (empty set.now) (D.view disk) (D.view store.file.disk))

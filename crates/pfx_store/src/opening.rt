@@ -77,8 +77,8 @@ fn furnished<D: Disk, J: Job>(
 impl<D: Disk, J: Job> Store<D, J> {
     /// Opens the store of a file: a sync, and then reads alone. With a fault the disk comes back.
     ///
-    /// `Refused` names the first test that the file doesn't pass. `Device` comes only where the disk failed, and `NoMemory`
-    /// where a growth of memory was refused.
+    /// `Refused` names the first test that the file doesn't pass. `Device` comes only if the disk failed, and `NoMemory`
+    /// if an allocation failed.
     pub fn open(alloc: Global, disk: D) -> Result<Store<D, J>, (OpenFault, D)>
         ensures found { IsHonest (D.view disk) → IfOk result (λ store.
             recovered (format J.kind) (D.view disk).contents ≡ Ok store.state) }
@@ -89,7 +89,7 @@ impl<D: Disk, J: Job> Store<D, J> {
             (λ store. Looks (D.view disk) (D.view store.file.disk)) (λ e. Looks (D.view disk) (D.view e.1)) }
         ensures fresh { IfOk result (λ store. (store.file.broken ≡ false) × (store.file.places.begun ≡ false)) }
 
-        // Where two segments were read a checkpoint is in progress, with all its steps to come; else there is none.
+        // If two segments were read a checkpoint is in progress, with all its steps to come; else there is none.
         ensures left { IsHonest (D.view disk) → IfOk result (λ store. (f : Found Header (Plain J))
             → found (format J.kind) (D.view disk).contents ≡ Ok f
             → steps_left store.file.places ≡ (if f.parts.turned then 2 + pieces store.file.places.body else 0)) }

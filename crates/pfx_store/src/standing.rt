@@ -24,7 +24,7 @@ use pfx_record::Batch;
 use pfx_store_file::{Places, StoreFault, Tended};
 use std::marker::Model;
 
-/// A state, and the file on a disk that keeps it. Where no call of the disk has failed and the disk is honest, the file
+/// A state, and the file on a disk that keeps it. If no call of the disk has failed and the disk is honest, the file
 /// stands for the state: no other store can be made.
 #[derive(Drop)]
 pub struct Store<D: Disk, J: Job> {
@@ -91,11 +91,11 @@ impl<D: Disk, J: Job> Store<D, J> {
         self.journal.file.into_disk()
     }
 
-    /// Appends a batch: from the mark on it is durable. Where its frame doesn't fit, the checkpoint in progress is ended
+    /// Appends a batch: from the mark on it is durable. If its frame doesn't fit, the checkpoint in progress is ended
     /// first, if there is one, and the file turned to its other segment. It takes no memory.
     ///
     /// It makes four calls of the disk where the frame fits, and otherwise six more and those of the checkpoint's steps that
-    /// are left: never more than 15 and one for each 4,096 bytes of a slot.
+    /// are left: never more than 15 and one for each 4,096 bytes of a checkpoint area.
     ///
     /// The batch begins with the next number, has rows of the state's workers, and is right at the state. `Device` breaks
     /// the store, and it keeps its state; a broken store answers `Broken` and does nothing.
@@ -157,7 +157,7 @@ impl<D: Disk, J: Job> Store<D, J> {
     }
 
     /// Turns the store to its other segment, by six calls of the disk: a checkpoint of the state is in progress then.
-    /// `false`, and nothing done, where that isn't lawful: a checkpoint is in progress, or the segment that frames go to has
+    /// `false`, and nothing done, if that isn't lawful: a checkpoint is in progress, or the segment that frames go to has
     /// none. It takes no memory.
     ///
     /// `Device` breaks the store; a broken store answers `Broken` and does nothing.

@@ -48,7 +48,7 @@ pub record IsTurned (places : Places) : Type 0 where
   pub begun : places.begun ≡ false
   pub empty : IsEmpty places
 
--- frames go if they went
+-- frames go where they went
 pub record StaysPut (old new : Places) : Type 0 where
   pub segment : new.segment ≡ old.segment
   pub gate : new.gate ≡ old.gate

@@ -31,7 +31,7 @@ pub record MovesTo {T : Type 0} (result : Result T StoreFault) (old new : Places
   pub moved : OnOk result after
   pub same : OnErr result (new ≡ old)
 
--- a step of the checkpoint in progress: frames go if they went, and the places are so once it succeeded, and as they were after a fault
+-- a step of the checkpoint in progress: frames go where they went, and the places are so once it succeeded, and as they were after a fault
 pub record IsStep {T : Type 0} (result : Result T StoreFault) (old new : Places) (after : Type 0) : Type 0 where
   pub stays : StaysPut old new
   pub moved : OnOk result after
@@ -83,7 +83,7 @@ module _ {D T : Type 0} {g : Ghosts D} (old new : StoreFile D g) (result : Resul
           → OnOk result ((image : List ℕ) → (g.view new.disk).since (g.view new.disk).clock image
           → Survives K start (all ++ frame ∷ []) (length all + 1) image)
 
-  -- no checkpoint is in progress any more, once the call succeeded; if none was, nothing was done, and frames go if they went
+  -- no checkpoint is in progress any more, once the call succeeded; if none was, nothing was done, and frames go where they went
   pub record Ends : Type 0 where
     pub nothing : old.places.turned ≡ false → new ≡ old
     pub ended : OnOk result (new.places.turned ≡ false)

@@ -131,7 +131,7 @@ impl<D: Disk> StoreFile<D> {
     /// after a checkpoint area's gate, the same for each step. If the file is broken, nothing is done.
     ///
     /// The spelling is as long as a checkpoint area's body. It is a call of the file, of as many calls of the disk as the next step
-    /// takes. That step is taken, and frames go if they went. After success the store holds, with its checkpoint ended
+    /// takes. That step is taken, and frames go where they went. After success the store holds, with its checkpoint ended
     /// by the last step; at every moment what survived before survives. The calls of the disk are those of that step, and
     /// the places are those of the file after it.
     pub fn tend<H, S>(&mut self, spelling: &[u8]) -> Result<Tended, StoreFault>
@@ -170,7 +170,7 @@ impl<D: Disk> StoreFile<D> {
     /// Takes all steps that are left of the checkpoint in progress, if there is one. `spelling` is as for `tend`.
     ///
     /// The spelling is as long as a checkpoint area's body. It is a call of the file, of as many calls of the disk as those steps
-    /// take. After success no checkpoint is in progress; if none was, nothing is done, and frames go if they went. After
+    /// take. After success no checkpoint is in progress; if none was, nothing is done, and frames go where they went. After
     /// success the store holds so; at every moment what survived before survives. The calls of the disk are those of all
     /// these steps, and the places are those of the file after them.
     pub fn end_checkpoint<H, S>(&mut self, spelling: &[u8]) -> Result<(), StoreFault>
