@@ -1,9 +1,13 @@
 -- How runs of calls that only read go on.
-use Rattle.std.proofs.Common.{inl, inr, ⊎_elim, ℕ, List, length, ◌∙◌, ap, arith, Result}
+use Rattle.std.proofs.Common.{◌≡◌, inl, inr, ⊎_elim, ℕ, List, length, ◌∙◌, ap, sym, subst, arith, Result, Ok, Err}
+use Rattle.std.specs.Prelude.{IsErrAnd}
 use Rattle.pfx_disk.specs.Disk.{View, IsHonest, Leaves, Same, HasFailed, Ticks}
 use Rattle.pfx_disk.specs.declared.device.DeviceFailed.{DeviceFailed}
 use Rattle.pfx_disk.proofs.Steps.{leaves_then, leaves_none}
-use Rattle.pfx_recover.specs.Looking.{IsKept, Looks, Reaches}
+use Rattle.pfx_recovery.proofs.Answers.{err_same, faulty}
+use Rattle.pfx_recover.specs.Looking.{IsKept, Looks, OnlyReads, Reaches}
+use Rattle.pfx_recover.specs.declared.faults.OpenFault.{OpenFault}
+use Rattle.pfx_recover.specs.declared.faults.OpenFault.TheVariants.{Device}
 
 pub looks_then : (a b c : View) → Looks a b → Looks b c → Looks a c
 looks_then a b c first second = record {
@@ -46,3 +50,11 @@ looks_of a b result time honest leaves = record {
   later = time.later;
   no_fewer = time.no_fewer;
 }
+
+-- a fault of calls within, which is the call's
+pub reads_handed : {T U : Type 0} (a b : View) (e : OpenFault) (result : Result U OpenFault) → OnlyReads {T = T} a b (Err e) → IsErrAnd result (λ x. x ≡ e) → OnlyReads a b result
+reads_handed a b e (Ok u) reads same = absurd same
+reads_handed {T = T} {U = U} a b e (Err x) reads same = subst (λ y. OnlyReads {T = U} a b (Err y)) (sym same) (record {
+  looks = reads.looks;
+  device = λ is. reads.device (ap (λ y. faulty {A = T} y) (err_same {A = U} e Device is));
+})

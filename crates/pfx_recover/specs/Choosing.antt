@@ -1,10 +1,17 @@
 -- Which of two slots, and of two segments, was chosen.
-use Rattle.std.specs.Prelude.{◌≡◌, ℕ, List, Bool, not, Result, Ok}
+use Rattle.std.specs.Prelude.{◌≡◌, ℕ, List, Bool, not, if◌then◌else◌, Result, Ok}
 use Rattle.pfx_recovery.specs.Codec.{Codec}
 use Rattle.pfx_recovery.specs.Layout.{slot_at, segment_at, is_open, body_at}
 use Rattle.pfx_recovery.specs.Recovery.{segment_first, on_some}
 use Rattle.pfx_recovery.specs.Refusals.{Refusal, Damaged, Checkpoint}
 use Rattle.pfx_recover.specs.declared.choosing.Choice.{Choice}
+use Rattle.pfx_recover.specs.declared.choosing.Numbered.{Numbered}
+
+-- the second was chosen, or the first, and of the other it says how its gate stands and its number
+pub record IsChoice (is_second : Bool) (low high : Numbered) (choice : Choice) : Type 0 where
+  pub second : choice.second ≡ is_second
+  pub open_other : choice.other_open ≡ (if is_second then low.open else high.open)
+  pub number : choice.other_number ≡ (if is_second then low.number else high.number)
 
 module _ {H S : Type 0} (K : Codec H S) (h : H) (bytes : List ℕ) where
   -- it is the slot that was to be chosen, and the other's gate stands so

@@ -1,5 +1,5 @@
 -- What an opened file is.
-use Rattle.std.specs.Prelude.{◌≡◌, ℕ, List, length, true, false, Option, Some, None, Result, Ok, Vec}
+use Rattle.std.specs.Prelude.{◌≡◌, ◌<◌, ◌^◌, ℕ, List, length, true, false, Option, Some, None, Result, Ok, Vec}
 use Rattle.std.specs.declared.alloc.Global.{Global}
 use Rattle.pfx_disk.specs.Disk.{View}
 use Rattle.pfx_recovery.specs.Codec.{Codec}
@@ -7,6 +7,7 @@ use Rattle.pfx_recovery.specs.Recovery.{Found, found, found_of}
 use Rattle.pfx_recovery.specs.Refusals.{Refusal}
 use Rattle.pfx_recovery.specs.Store.{Parts}
 use Rattle.pfx_store_file.specs.Files.{AreOf, file_in}
+use Rattle.pfx_store_file.specs.Fitting.{Fits}
 use Rattle.pfx_store_file.specs.Holding.{Holds}
 use Rattle.pfx_store_file.specs.declared.places.Places.{Places}
 use Rattle.pfx_recover.specs.Looking.{IsKept}
@@ -33,3 +34,16 @@ module _ {H S : Type 0} (K : Codec H S) (h : H) where
     pub kept : IsKept bytes disk
     pub holds : (spelling : List ℕ) → Holds K h places parts state spelling disk
     pub between : IsMiddle parts middle
+
+-- A store can go on with what was found: its slots can hold the state, the file is as long as its parts, the places are those of such a
+-- file, and no checkpoint is begun.
+pub record IsUsable {H S : Type 0} (K : Codec H S) (can_hold : H → S → Type 0) (h : H) (total : ℕ) (places : Places) (state : S) : Type 0 where
+  pub fits : can_hold h state
+  pub len : places.len ≡ total
+  pub sized : Fits (K.layout h) places
+  pub unbegun : places.begun ≡ false
+
+-- a state that a slot can hold, and whose last command has a number below 2^48
+pub record IsSlotState {H S : Type 0} (K : Codec H S) (can_hold : H → S → Type 0) (h : H) (state : S) : Type 0 where
+  pub fits : can_hold h state
+  pub number : K.number state < 2 ^ 48

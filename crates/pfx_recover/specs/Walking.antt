@@ -1,6 +1,7 @@
 -- The frames of a segment, as they were read, and the places of a file that was read.
-use Rattle.std.specs.Prelude.{◌≡◌, ◌<◌, ◌+◌, ℕ, List, Bool, false, All, length, take, Result, Ok}
+use Rattle.std.specs.Prelude.{◌≡◌, ◌<◌, ◌≤◌, ◌+◌, ◌^◌, ℕ, List, Bool, false, All, length, take, drop, Some, Result, Ok}
 use Rattle.std.specs.List.{concat}
+use Rattle.pfx_recovery.specs.Codec.{Codec}
 use Rattle.pfx_recovery.specs.Layout.{Layout, first_gate, segment_end}
 use Rattle.pfx_recovery.specs.Refusals as means
 use Rattle.pfx_segment.specs.Frames.{frame_len}
@@ -20,6 +21,24 @@ IsWalk bytes last read = (frames : List (List ℕ)) × Fill frames bytes × (rea
 -- the bytes of the frames
 abbrev pub frames_of : Walked → List ℕ
 frames_of walked = take walked.len walked.bytes.items
+
+-- the frame here is as long as its head says, if the bytes go on so far; it is some bytes, and ends no later than they do
+pub record IsFrameLen (bytes : List ℕ) (at len : ℕ) : Type 0 where
+  pub some : 0 < len
+  pub inside : at + len ≤ length bytes
+  pub whole : at + frame_len at bytes ≤ length bytes → len ≡ frame_len at bytes
+
+-- the frame here is as long as its head says, it ends before the bytes do, and with it comes this number
+pub record IsHead {H S : Type 0} (K : Codec H S) (bytes : List ℕ) (at last len next : ℕ) : Type 0 where
+  pub fits : at + len < length bytes
+  pub long : len ≡ frame_len at bytes
+  pub after : K.after last (take len (drop at bytes)) ≡ Some next
+
+-- they begin here, their closed gate lies before the end, and the last command's number is below 2^48
+pub record IsWalked (first end : ℕ) (walked : Walked) : Type 0 where
+  pub gate : walked.gate ≡ first + walked.len
+  pub inside : walked.gate < end
+  pub last : walked.last < 2 ^ 48
 
 -- they stand in this segment, with the gate behind them
 pub record StandIn (L : Layout) (second : Bool) (walked : Walked) : Type 0 where

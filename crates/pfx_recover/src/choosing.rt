@@ -17,11 +17,11 @@ pub(crate) struct Choice {
 }
 
 impl Choice {
+    ghost use Rattle.pfx_recover.specs.Choosing.{IsChoice};
+
     /// The choice of the second or the first of these two.
     pub(crate) fn of(is_second: bool, first: Numbered, second: Numbered) -> Choice
-        ensures second { result.second ≡ is_second }
-        ensures open { result.other_open ≡ (if is_second then first.open else second.open) }
-        ensures number { result.other_number ≡ (if is_second then first.number else second.number) }
+        ensures chosen { IsChoice is_second first second result }
     {
         let other = if is_second { first } else { second };
         Choice {

@@ -1,10 +1,9 @@
 // The frames of a segment.
-ghost use Rattle.std.specs.Prelude.{◌≡◌, ◌≤◌, ◌<◌, ◌+◌, ◌^◌, ℕ, List, length, take, drop, IfOk, IsErrOf};
-ghost use Rattle.pfx_disk.specs.Disk.{HasFailed};
+ghost use Rattle.std.specs.Prelude.{◌≡◌, ◌≤◌, ◌<◌, ◌+◌, ◌*◌, ◌^◌, ℕ, List, length, take, drop, IfOk, IsErrOf};
 ghost use Rattle.pfx_recovery.specs.Recovery.{walk};
 ghost use Rattle.pfx_recover.specs.Answers.{Gives};
-ghost use Rattle.pfx_recover.specs.Looking.{IsKept, Looks, Reaches};
-ghost use Rattle.pfx_recover.specs.Walking.{IsWalk, frames_of};
+ghost use Rattle.pfx_recover.specs.Looking.{IsKept, OnlyReads, Reaches};
+ghost use Rattle.pfx_recover.specs.Walking.{IsWalk, IsWalked, frames_of};
 
 use crate::faults::{OpenFault, Part, Refusal};
 use crate::format::Format;
@@ -21,8 +20,7 @@ fn walk_held<F: Format>(bytes: &[u8], first: usize, number: u64) -> Result<(usiz
     requires place { first + length bytes.now < 2 ^ 64 }
     requires number { number < 2 ^ 48 }
     ensures device { ¬ IsErrOf result OpenFault.Device }
-    ensures inside { IfOk result (λ walked. walked.0 < length bytes.now) }
-    ensures last { IfOk result (λ walked. walked.1 < 2 ^ 48) }
+    ensures ends { IfOk result (λ walked. (walked.0 < length bytes.now) × (walked.1 < 2 ^ 48)) }
     ensures exact { (image : List ℕ) → bytes.now ≡ take (length bytes.now) (drop first image)
         → (n : ℕ) → first + length bytes.now ≤ n
         → Gives (λ walked. IsWalk (take walked.0 bytes.now) walked.1)
@@ -56,11 +54,8 @@ fn read_singly<F: Format, D: Disk>(
     requires order { first < end }
     requires number { number < 2 ^ 48 }
     requires inside { Reaches end (D.view disk.old) }
-    ensures looks { Looks (D.view disk.old) (D.view disk.new) }
-    ensures device { IsErrOf result OpenFault.Device → HasFailed (D.view disk.old) (D.view disk.new) }
-    ensures gate { IfOk result (λ walked. walked.gate ≡ first + walked.len) }
-    ensures inside { IfOk result (λ walked. walked.gate < end) }
-    ensures last { IfOk result (λ walked. walked.last < 2 ^ 48) }
+    ensures call { OnlyReads (D.view disk.old) (D.view disk.new) result }
+    ensures walked { IfOk result (IsWalked first end) }
     ensures exact { (bytes : List ℕ) → IsKept bytes (D.view disk.old) → (n : ℕ) → end ≤ n
         → Gives (λ walked. IsWalk (frames_of walked) walked.last) (walk F.codec (1 + n) first end number bytes) result }
 {
@@ -102,11 +97,8 @@ pub(crate) fn read_frames<F: Format, D: Disk>(
     requires order { first < end }
     requires number { number < 2 ^ 48 }
     requires inside { Reaches end (D.view disk.old) }
-    ensures looks { Looks (D.view disk.old) (D.view disk.new) }
-    ensures device { IsErrOf result OpenFault.Device → HasFailed (D.view disk.old) (D.view disk.new) }
-    ensures gate { IfOk result (λ walked. walked.gate ≡ first + walked.len) }
-    ensures inside { IfOk result (λ walked. walked.gate < end) }
-    ensures last { IfOk result (λ walked. walked.last < 2 ^ 48) }
+    ensures call { OnlyReads (D.view disk.old) (D.view disk.new) result }
+    ensures walked { IfOk result (IsWalked first end) }
     ensures exact { (bytes : List ℕ) → IsKept bytes (D.view disk.old) → (n : ℕ) → end ≤ n
         → Gives (λ walked. IsWalk (frames_of walked) walked.last) (walk F.codec (1 + n) first end number bytes) result }
 {

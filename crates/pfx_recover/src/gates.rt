@@ -1,8 +1,7 @@
 // The gates of slots and segments, and the numbers behind them.
-ghost use Rattle.std.specs.Prelude.{◌≡◌, ◌≤◌, ◌+◌, ℕ, List, IfOk, IsErr};
-ghost use Rattle.pfx_disk.specs.Disk.{HasFailed};
+ghost use Rattle.std.specs.Prelude.{◌≡◌, ◌≤◌, ◌+◌, ℕ, List, IfOk};
 ghost use Rattle.pfx_recovery.specs.Layout.{is_open, first_at};
-ghost use Rattle.pfx_recover.specs.Looking.{IsKept, Looks, Reaches};
+ghost use Rattle.pfx_recover.specs.Looking.{IsKept, IsLook, Reaches};
 
 use pfx_disk::{DeviceFailed, Disk, GATE_OPEN};
 
@@ -16,8 +15,7 @@ pub(crate) struct GateHead {
 /// The gate of a slot or a segment and the bytes behind it, by one call of the disk.
 pub(crate) fn read_gate<D: Disk>(disk: &mut D, at: usize) -> Result<GateHead, DeviceFailed>
     requires inside { Reaches (at + 9) (D.view disk.old) }
-    ensures looks { Looks (D.view disk.old) (D.view disk.new) }
-    ensures device { IsErr result → HasFailed (D.view disk.old) (D.view disk.new) }
+    ensures call { IsLook (D.view disk.old) (D.view disk.new) result }
     ensures gate { (bytes : List ℕ) → IsKept bytes (D.view disk.old)
         → IfOk result (λ head. head.open ≡ is_open at bytes) }
     ensures bytes { (bytes : List ℕ) → IsKept bytes (D.view disk.old)

@@ -1,11 +1,10 @@
 // The records of one segment or of two, where the heads of all frames are right.
-ghost use Rattle.std.specs.Prelude.{◌≡◌, ◌≤◌, ◌<◌, ◌+◌, ◌^◌, ℕ, List, false, not, IfOk, IsErrOf};
+ghost use Rattle.std.specs.Prelude.{◌≡◌, ◌≤◌, ◌<◌, ◌+◌, ◌^◌, ℕ, List, not, IfOk, IsErrOf};
 ghost use Rattle.pfx_recovery.specs.Layout.{segment_at, segment_end, IsOpenAt};
 ghost use Rattle.pfx_recovery.specs.Recovery.{slot_taken, segment_begun, from_one, from_two};
-ghost use Rattle.pfx_store_file.specs.Fitting.{Fits};
 ghost use Rattle.pfx_recover.specs.Answers.{Gives};
 ghost use Rattle.pfx_recover.specs.Choosing.{IsSlot, IsSegment};
-ghost use Rattle.pfx_recover.specs.Finding.{IsFound};
+ghost use Rattle.pfx_recover.specs.Finding.{IsFound, IsUsable};
 ghost use Rattle.pfx_recover.specs.Formats.{total_len};
 ghost use Rattle.pfx_recover.specs.Walking.{StandIn, AreInUse, Fill, frames_of};
 
@@ -74,10 +73,7 @@ pub(crate) fn read_single<F: Format>(
     requires last { walked.last < 2 ^ 48 }
     requires fits { F.fits file.now.header state }
     ensures device { ¬ IsErrOf result OpenFault.Device }
-    ensures fits { IfOk result (λ c. F.fits file.now.header c.state) }
-    ensures len { IfOk result (λ c. c.places.len ≡ total_len file.now.sizes) }
-    ensures sized { IfOk result (λ c. Fits (F.codec.layout file.now.header) c.places) }
-    ensures unbegun { IfOk result (λ c. c.places.begun ≡ false) }
+    ensures usable { IfOk result (λ c. IsUsable F.codec F.fits file.now.header (total_len file.now.sizes) c.places c.state) }
     ensures exact { (bytes : List ℕ)
         → IsSlot F.codec file.now.header bytes slot (slot_taken F.codec file.now.header bytes)
         → (n : ℕ)
@@ -122,10 +118,7 @@ pub(crate) fn read_double<F: Format>(
     requires before { StandIn (F.codec.layout file.now.header) second before }
     requires stand { StandIn (F.codec.layout file.now.header) (not second) walked }
     ensures device { ¬ IsErrOf result OpenFault.Device }
-    ensures fits { IfOk result (λ c. F.fits file.now.header c.state) }
-    ensures len { IfOk result (λ c. c.places.len ≡ total_len file.now.sizes) }
-    ensures sized { IfOk result (λ c. Fits (F.codec.layout file.now.header) c.places) }
-    ensures unbegun { IfOk result (λ c. c.places.begun ≡ false) }
+    ensures usable { IfOk result (λ c. IsUsable F.codec F.fits file.now.header (total_len file.now.sizes) c.places c.state) }
     ensures exact { (bytes : List ℕ)
         → IsSlot F.codec file.now.header bytes slot (slot_taken F.codec file.now.header bytes)
         → IsOpenAt (segment_at (F.codec.layout file.now.header) second) bytes

@@ -1,13 +1,12 @@
 // A synced disk, read in the order of the tests.
-ghost use Rattle.std.specs.Prelude.{◌≡◌, ◌≤◌, ◌<◌, ◌+◌, ◌^◌, ℕ, List, false, length, IfOk, OnOk, IsErrOf};
-ghost use Rattle.pfx_disk.specs.Disk.{IsHonest, HasFailed};
+ghost use Rattle.std.specs.Prelude.{◌≡◌, ◌≤◌, ◌<◌, ◌+◌, ◌^◌, ℕ, List, length, IfOk, OnOk};
+ghost use Rattle.pfx_disk.specs.Disk.{IsHonest};
 ghost use Rattle.pfx_recovery.specs.Recovery.{slot_taken, segment_begun, from_frames, from_state, from_slot, found, on_ok};
-ghost use Rattle.pfx_store_file.specs.Fitting.{Fits};
 ghost use Rattle.pfx_recover.specs.Answers.{Gives, IsRead};
 ghost use Rattle.pfx_recover.specs.Choosing.{IsSlot, IsSegment};
-ghost use Rattle.pfx_recover.specs.Finding.{IsFound};
+ghost use Rattle.pfx_recover.specs.Finding.{IsFound, IsSlotState, IsUsable};
 ghost use Rattle.pfx_recover.specs.Formats.{total_len};
-ghost use Rattle.pfx_recover.specs.Looking.{IsKept, Looks, Reaches};
+ghost use Rattle.pfx_recover.specs.Looking.{IsKept, OnlyReads, Reaches};
 ghost use Rattle.pfx_recover.specs.Walking.{StandIn, Fill, frames_of};
 
 use crate::choosing::Choice;
@@ -36,12 +35,8 @@ fn read_on<F: Format, D: Disk>(
     requires fits { F.fits file.now.header state }
     requires stand { StandIn (F.codec.layout file.now.header) segment.second walked }
     requires last { walked.last < 2 ^ 48 }
-    ensures looks { Looks (D.view disk.old) (D.view disk.new) }
-    ensures device { IsErrOf result OpenFault.Device → HasFailed (D.view disk.old) (D.view disk.new) }
-    ensures fits { IfOk result (λ c. F.fits file.now.header c.state) }
-    ensures len { IfOk result (λ c. c.places.len ≡ total_len file.now.sizes) }
-    ensures sized { IfOk result (λ c. Fits (F.codec.layout file.now.header) c.places) }
-    ensures unbegun { IfOk result (λ c. c.places.begun ≡ false) }
+    ensures call { OnlyReads (D.view disk.old) (D.view disk.new) result }
+    ensures usable { IfOk result (λ c. IsUsable F.codec F.fits file.now.header (total_len file.now.sizes) c.places c.state) }
     ensures exact { (bytes : List ℕ) → IsKept bytes (D.view disk.old)
         → IsSlot F.codec file.now.header bytes slot (slot_taken F.codec file.now.header bytes)
         → (n : ℕ)
@@ -68,14 +63,9 @@ fn read_segments<F: Format, D: Disk>(
     state: F::State,
 ) -> Result<Contents<F>, OpenFault>
     requires inside { Reaches (total_len file.now.sizes) (D.view disk.old) }
-    requires fits { F.fits file.now.header state }
-    requires number { F.codec.number state < 2 ^ 48 }
-    ensures looks { Looks (D.view disk.old) (D.view disk.new) }
-    ensures device { IsErrOf result OpenFault.Device → HasFailed (D.view disk.old) (D.view disk.new) }
-    ensures fits { IfOk result (λ c. F.fits file.now.header c.state) }
-    ensures len { IfOk result (λ c. c.places.len ≡ total_len file.now.sizes) }
-    ensures sized { IfOk result (λ c. Fits (F.codec.layout file.now.header) c.places) }
-    ensures unbegun { IfOk result (λ c. c.places.begun ≡ false) }
+    requires state { IsSlotState F.codec F.fits file.now.header state }
+    ensures call { OnlyReads (D.view disk.old) (D.view disk.new) result }
+    ensures usable { IfOk result (λ c. IsUsable F.codec F.fits file.now.header (total_len file.now.sizes) c.places c.state) }
     ensures exact { (bytes : List ℕ) → IsKept bytes (D.view disk.old)
         → IsSlot F.codec file.now.header bytes slot (slot_taken F.codec file.now.header bytes)
         → Gives (λ c. IsFound F.codec file.now.header bytes c.places c.state c.middle)
@@ -96,12 +86,8 @@ fn read_contents<F: Format, D: Disk>(
     file: &Outline<F>,
 ) -> Result<Contents<F>, OpenFault>
     requires inside { Reaches (total_len file.now.sizes) (D.view disk.old) }
-    ensures looks { Looks (D.view disk.old) (D.view disk.new) }
-    ensures device { IsErrOf result OpenFault.Device → HasFailed (D.view disk.old) (D.view disk.new) }
-    ensures fits { IfOk result (λ c. F.fits file.now.header c.state) }
-    ensures len { IfOk result (λ c. c.places.len ≡ total_len file.now.sizes) }
-    ensures sized { IfOk result (λ c. Fits (F.codec.layout file.now.header) c.places) }
-    ensures unbegun { IfOk result (λ c. c.places.begun ≡ false) }
+    ensures call { OnlyReads (D.view disk.old) (D.view disk.new) result }
+    ensures usable { IfOk result (λ c. IsUsable F.codec F.fits file.now.header (total_len file.now.sizes) c.places c.state) }
     ensures exact { (bytes : List ℕ) → IsKept bytes (D.view disk.old)
         → Gives (λ c. IsFound F.codec file.now.header bytes c.places c.state c.middle)
         (on_ok (slot_taken F.codec file.now.header bytes) (from_slot F.codec file.now.header bytes)) result }
@@ -118,8 +104,7 @@ fn read_header<F: Format, D: Disk>(
     len: usize,
 ) -> Result<F::Header, OpenFault>
     requires inside { Reaches len (D.view disk.old) }
-    ensures looks { Looks (D.view disk.old) (D.view disk.new) }
-    ensures device { IsErrOf result OpenFault.Device → HasFailed (D.view disk.old) (D.view disk.new) }
+    ensures call { OnlyReads (D.view disk.old) (D.view disk.new) result }
     ensures exact { (bytes : List ℕ) → IsKept bytes (D.view disk.old) → len ≡ length bytes
         → Gives IsRead (F.codec.read_head bytes) result }
 {
@@ -133,11 +118,8 @@ fn read_synced<F: Format, D: Disk>(
     alloc: Global,
     disk: &mut D,
 ) -> Result<(Outline<F>, Contents<F>), OpenFault>
-    ensures looks { Looks (D.view disk.old) (D.view disk.new) }
-    ensures device { IsErrOf result OpenFault.Device → HasFailed (D.view disk.old) (D.view disk.new) }
-    ensures fits { IfOk result (λ r. F.fits r.0.header r.1.state) }
-    ensures sized { IfOk result (λ r. Fits (F.codec.layout r.0.header) r.1.places) }
-    ensures unbegun { IfOk result (λ r. r.1.places.begun ≡ false) }
+    ensures call { OnlyReads (D.view disk.old) (D.view disk.new) result }
+    ensures usable { IfOk result (λ r. IsUsable F.codec F.fits r.0.header (total_len r.0.sizes) r.1.places r.1.state) }
     ensures inside { IfOk result (λ r. Reaches r.1.places.len (D.view disk.new)) }
     ensures exact { (bytes : List ℕ) → IsKept bytes (D.view disk.old)
         → Gives (λ r. IsFound F.codec r.0.header bytes r.1.places r.1.state r.1.middle)
@@ -162,11 +144,8 @@ pub(crate) fn read_file<F: Format, D: Disk>(
     alloc: Global,
     disk: &mut D,
 ) -> Result<(Outline<F>, Contents<F>), OpenFault>
-    ensures looks { Looks (D.view disk.old) (D.view disk.new) }
-    ensures device { IsErrOf result OpenFault.Device → HasFailed (D.view disk.old) (D.view disk.new) }
-    ensures fits { IfOk result (λ r. F.fits r.0.header r.1.state) }
-    ensures sized { IfOk result (λ r. Fits (F.codec.layout r.0.header) r.1.places) }
-    ensures unbegun { IfOk result (λ r. r.1.places.begun ≡ false) }
+    ensures call { OnlyReads (D.view disk.old) (D.view disk.new) result }
+    ensures usable { IfOk result (λ r. IsUsable F.codec F.fits r.0.header (total_len r.0.sizes) r.1.places r.1.state) }
     ensures inside { IfOk result (λ r. Reaches r.1.places.len (D.view disk.new)) }
     ensures kept { IsHonest (D.view disk.old)
         → OnOk result (IsKept (D.view disk.old).contents (D.view disk.new)) }

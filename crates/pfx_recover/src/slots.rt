@@ -1,11 +1,11 @@
 // The slot that is taken, and the state in it.
-ghost use Rattle.std.specs.Prelude.{◌≡◌, ◌≤◌, ◌<◌, ◌+◌, ◌^◌, ℕ, List, Ok, IfOk, IsErrOf};
-ghost use Rattle.pfx_disk.specs.Disk.{HasFailed};
+ghost use Rattle.std.specs.Prelude.{◌≡◌, ◌≤◌, ◌<◌, ◌+◌, ◌^◌, ℕ, List, Ok, IfOk};
 ghost use Rattle.pfx_recovery.specs.Recovery.{slot_taken};
 ghost use Rattle.pfx_recover.specs.Answers.{Gives, IsRead};
 ghost use Rattle.pfx_recover.specs.Choosing.{IsSlot, slot_state};
+ghost use Rattle.pfx_recover.specs.Finding.{IsSlotState};
 ghost use Rattle.pfx_recover.specs.Formats.{total_len};
-ghost use Rattle.pfx_recover.specs.Looking.{IsKept, Looks, Reaches};
+ghost use Rattle.pfx_recover.specs.Looking.{IsKept, OnlyReads, Reaches};
 
 use crate::choosing::{Choice, Numbered, newer};
 use crate::faults::{OpenFault, Part, Refusal};
@@ -21,8 +21,7 @@ pub(crate) fn take_slot<F: Format, D: Disk>(
     file: &Outline<F>,
 ) -> Result<Choice, OpenFault>
     requires inside { Reaches (total_len file.now.sizes) (D.view disk.old) }
-    ensures looks { Looks (D.view disk.old) (D.view disk.new) }
-    ensures device { IsErrOf result OpenFault.Device → HasFailed (D.view disk.old) (D.view disk.new) }
+    ensures call { OnlyReads (D.view disk.old) (D.view disk.new) result }
     ensures exact { (bytes : List ℕ) → IsKept bytes (D.view disk.old)
         → Gives (IsSlot F.codec file.now.header bytes)
         (slot_taken F.codec file.now.header bytes) result }
@@ -53,10 +52,8 @@ pub(crate) fn read_slot<F: Format, D: Disk>(
     second: bool,
 ) -> Result<F::State, OpenFault>
     requires inside { Reaches (total_len file.now.sizes) (D.view disk.old) }
-    ensures looks { Looks (D.view disk.old) (D.view disk.new) }
-    ensures device { IsErrOf result OpenFault.Device → HasFailed (D.view disk.old) (D.view disk.new) }
-    ensures fits { IfOk result (F.fits file.now.header) }
-    ensures number { IfOk result (λ state. F.codec.number state < 2 ^ 48) }
+    ensures call { OnlyReads (D.view disk.old) (D.view disk.new) result }
+    ensures state { IfOk result (IsSlotState F.codec F.fits file.now.header) }
     ensures exact { (bytes : List ℕ) → IsKept bytes (D.view disk.old)
         → Gives IsRead (slot_state F.codec file.now.header bytes second) result }
 {

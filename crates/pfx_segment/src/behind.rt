@@ -35,8 +35,8 @@ pub fn put_behind<D: Disk>(disk: &mut D, gate: usize, bytes: &[u8]) -> Result<()
 ///
 /// A closed gate isn't written closed again, since a stop within that write could leave it open. The gate lies before
 /// the end, if the disk is honest. It is a run of two calls, and these two. At every moment only the gate changes, and
-/// nothing if it stood closed. After success a stop leaves what a read gives, and there the gate is closed, if it stood
-/// open exactly as was said.
+/// nothing if it was said to be closed. After success a stop leaves what a read gives, and there the gate is closed, if
+/// one that was said to be closed was so.
 pub fn close<D: Disk>(disk: &mut D, gate: usize, is_open: bool) -> Result<(), DeviceFailed>
     requires inside { IsHonest (D.view disk.old) → gate < length (D.view disk.old).contents }
     ensures call { IsRun 2 (D.view disk.old) (D.view disk.new) result }
@@ -63,8 +63,9 @@ pub fn close<D: Disk>(disk: &mut D, gate: usize, is_open: bool) -> Result<(), De
 /// Closes the gate, if it is open, and then puts bytes behind it and opens it: six calls, by `close` and `put_behind`.
 ///
 /// The bytes end before the disk does, if it is honest, and below 2^63. It is a run of six calls, and these six. At every
-/// moment, whatever it answers, all is as before, or the gate is closed, or it is open and the bytes stand behind it.
-/// After success a stop leaves what a read gives, and that has the bytes behind the open gate.
+/// moment, whatever it answers, all is as before, or the gate is closed, or it is open and the bytes stand behind it, if
+/// a gate that was said to be open or closed was so. After success a stop leaves what a read gives, and that has the
+/// bytes behind the open gate.
 pub fn prepare<D: Disk>(
     disk: &mut D,
     gate: usize,

@@ -1,14 +1,13 @@
 //! Frames of one row of two tasks behind their gates, in a segment that has room for three of them and a closed gate.
-ghost use Rattle.std.specs.Prelude.{◌≤◌, length};
+ghost use Rattle.std.specs.Prelude.{◌≤◌, ◌<◌, length};
 ghost use Rattle.pfx_disk.specs.Disk.{IsHonest};
 
 use crate::check::{check, check_pair};
 use crate::held::{has_failed_at, is_held};
 use pfx_disk::{DeviceFailed, Disk, Fate, FaultDisk, GATE_OPEN, MemoryDisk};
+use pfx_segment::frame::{COUNT_AT, FIRST_AT, FRAME_HEAD, LENGTH_AT, frame_len_at};
 use pfx_segment::laws::{frames_stay, reading_gives_the_frames};
-use pfx_segment::{
-    ReadFault, Segment, SegmentFault, close, open_gate, prepare, put_behind, read_all, read_one,
-};
+use pfx_segment::{ReadFault, close, open_gate, prepare, put_behind, read_one};
 use std::alloc::Global;
 
 /// The place of the first frame's gate, and the segment's end.
@@ -32,31 +31,49 @@ const BODIES: [[u8; 22]; 3] = [
     ],
 ];
 
-fn append_three<D: Disk>(disk: &mut D, segment: &mut Segment) -> Result<(), SegmentFault>
-    requires { IsHonest (D.view disk.old) → segment.old.end ≤ length (D.view disk.old).contents }
+/// Puts three frames behind their gates.
+fn put_three<D: Disk>(disk: &mut D) -> Result<(), DeviceFailed>
+    requires { IsHonest (D.view disk.old) → END ≤ length (D.view disk.old).contents }
 {
-    segment.append(disk, &BODIES[0])?;
-    segment.append(disk, &BODIES[1])?;
-    segment.append(disk, &BODIES[2])
+    put_behind(disk, FIRST, &BODIES[0])?;
+    put_behind(disk, FIRST + LONG, &BODIES[1])?;
+    put_behind(disk, FIRST + 2 * LONG, &BODIES[2])
 }
 
-/// Appends behind a call of `len`.
-fn append_to<D: Disk>(
-    disk: &mut D,
-    segment: &mut Segment,
-    frame: &[u8; 22],
-) -> Result<(), SegmentFault> {
-    if disk.len()? < segment.end {
-        return Err(SegmentFault::Device);
-    }
-    segment.append(disk, frame)
-}
-
-fn frames_of<D: Disk>(alloc: Global, disk: &mut D) -> Result<Vec<Vec<u8>>, ReadFault> {
+/// Puts the frame that comes after so many behind its gate, after a call of `len`.
+fn put_next<D: Disk>(disk: &mut D, before: usize) -> Result<(), DeviceFailed>
+    requires { before < 3 }
+{
     if disk.len()? < END {
+        return Err(DeviceFailed);
+    }
+    put_behind(disk, FIRST + LONG * before, &BODIES[before])
+}
+
+/// The frame at this gate, after a call of `len`.
+fn frame_at<D: Disk>(
+    alloc: Global,
+    disk: &mut D,
+    gate: usize,
+) -> Result<Option<Vec<u8>>, ReadFault> {
+    if gate >= END || disk.len()? < END {
         return Err(ReadFault::Device);
     }
-    read_all(alloc, disk, FIRST, END)
+    read_one(alloc, disk, gate, END)
+}
+
+/// The frames up to the first closed gate.
+fn frames_of<D: Disk>(alloc: Global, disk: &mut D) -> Result<Vec<Vec<u8>>, ReadFault> {
+    let mut gate = FIRST;
+    let mut frames = Vec::new(alloc);
+    for _ in 0..4 {
+        let Some(frame) = frame_at(alloc, disk, gate)? else {
+            return Ok(frames);
+        };
+        gate = gate.saturating_add(frame.len());
+        frames.push(frame)?;
+    }
+    Ok(frames)
 }
 
 /// Whether these are the first frames, with their gates.
@@ -88,50 +105,41 @@ fn has_made<D: Disk>(disk: &D, calls: u64) -> bool {
     disk.clock() == calls && disk.failures() == 0
 }
 
-fn three_frames_are_appended(alloc: Global) -> Option<bool> {
+fn three_frames_are_put(alloc: Global) -> Option<bool> {
     let mut disk = MemoryDisk::new(alloc, &[0; 76], END, 100, 100).ok()?;
-    let mut segment = Segment::new(FIRST, END);
-    append_three(&mut disk, &mut segment).ok()?;
-    let is_full = has_made(&disk, 12) && segment.gate == 75 && segment.end == 76;
-    Some(is_full && has_frames(alloc, &mut disk, 3))
+    put_three(&mut disk).ok()?;
+    let is_made = has_made(&disk, 12);
+    Some(is_made && has_frames(alloc, &mut disk, 3))
 }
 
 #[test]
 fn three_frames_take_twelve_calls(rt: HostRuntime) {
-    let holds = three_frames_are_appended(rt.alloc()) == Some(true);
-    check(&rt, holds, "calls, gate, end and frames");
+    let holds = three_frames_are_put(rt.alloc()) == Some(true);
+    check(&rt, holds, "calls and frames");
     frames_stay();
     reading_gives_the_frames();
 }
 
-/// Whether a segment a byte too short makes no call.
-fn short_is_refused(alloc: Global) -> Option<bool> {
-    let mut disk = MemoryDisk::new(alloc, &[0; 76], END, 100, 100).ok()?;
-    let mut short = Segment::new(FIRST, FIRST + 22);
-    let is_refused = short.append(&mut disk, &BODIES[0]) == Err(SegmentFault::NoRoom);
-    Some(is_refused && has_made(&disk, 0) && short.gate == 9 && short.end == 31)
+/// Whether the head of a frame says how long it is, and its numbers stand at their places.
+fn is_head_told() -> bool {
+    let mut frame = [0; 23];
+    frame[0] = GATE_OPEN;
+    frame[1..].copy_from_slice(&BODIES[1]);
+    frame_len_at(&frame, 0) == LONG
+        && frame[LENGTH_AT] as usize == LONG - FRAME_HEAD
+        && frame[FIRST_AT] == 2
+        && frame[COUNT_AT] == 1
 }
 
-/// Whether a segment of just the length takes the frame.
-fn just_is_taken(alloc: Global) -> Option<bool> {
-    let mut disk = MemoryDisk::new(alloc, &[0; 76], END, 100, 100).ok()?;
-    let mut just = Segment::new(FIRST, FIRST + 23);
-    let is_taken = just.append(&mut disk, &BODIES[0]) == Ok(());
-    Some(is_taken && has_made(&disk, 4) && just.gate == 31)
-}
-
-// The frame and the next closed gate take 23 bytes.
 #[test]
-fn a_frame_that_does_not_fit_makes_no_call(rt: HostRuntime) {
-    check(&rt, short_is_refused(rt.alloc()) == Some(true), "22 bytes");
-    check(&rt, just_is_taken(rt.alloc()) == Some(true), "23 bytes");
+fn a_head_says_how_long_its_frame_is(rt: HostRuntime) {
+    check(&rt, is_head_told(), "length, first number and count");
 }
 
 /// The disk behind the three frames.
 fn filled(alloc: Global) -> Option<MemoryDisk> {
     let mut disk = MemoryDisk::new(alloc, &[0; 76], END, 100, 100).ok()?;
-    let mut segment = Segment::new(FIRST, END);
-    append_three(&mut disk, &mut segment).ok()?;
+    put_three(&mut disk).ok()?;
     Some(disk)
 }
 
@@ -145,17 +153,15 @@ fn surviving(after: usize, fate: Fate) -> usize {
     after / 4 + usize::from(after % 4 == 3 && is_opened)
 }
 
-/// Whether the next frame, if there is one, is appended behind so many.
+/// Whether the next frame, if there is one, is put behind so many.
 fn goes_on(alloc: Global, disk: &mut MemoryDisk, survived: usize) -> bool {
     if survived >= 3 {
         return true;
     }
-    let mut segment = Segment::new(FIRST + LONG * survived, END);
-    append_to(disk, &mut segment, &BODIES[survived]).is_ok()
-        && has_frames(alloc, disk, survived + 1)
+    put_next(disk, survived).is_ok() && has_frames(alloc, disk, survived + 1)
 }
 
-/// Whether a stop leaves the frames that survive it, and what it leaves behind the closed gate does the next append no harm.
+/// Whether a stop leaves the frames that survive it, and what it leaves behind the closed gate does the next frame no harm.
 fn is_left(alloc: Global, disk: &MemoryDisk, after: usize, fate: Fate) -> Option<bool> {
     if disk.clock() < after as u64 {
         return None;
@@ -165,7 +171,7 @@ fn is_left(alloc: Global, disk: &MemoryDisk, after: usize, fate: Fate) -> Option
     Some(has_frames(alloc, &mut left, survived) && goes_on(alloc, &mut left, survived))
 }
 
-// Within an append, a stop behind its first call or before its third leaves the frames of before, whatever becomes of
+// As a frame is put behind its gate, a stop behind its first call or before its third leaves the frames of before, whatever becomes of
 // the unsynced bytes; one behind its third leaves the new one exactly where the gate is left open.
 #[test]
 fn stops_leave_the_frames_with_or_without_the_new_one(rt: HostRuntime) {
@@ -189,7 +195,7 @@ fn stops_leave_the_frames_with_or_without_the_new_one(rt: HostRuntime) {
     }
 }
 
-/// Whether the append ends at call k, with its work done or not, and what is read has the new frame where its gate was
+/// Whether the frame is broken off at call k, with its work done or not, and what is read has it exactly if its gate was
 /// written.
 fn is_ended(alloc: Global, k: u64, works: bool) -> Option<bool> {
     let memory = zeros(alloc)?;
@@ -197,16 +203,14 @@ fn is_ended(alloc: Global, k: u64, works: bool) -> Option<bool> {
         false => FaultDisk::new(memory, k),
         true => FaultDisk::with_work_done(memory, k),
     };
-    let mut segment = Segment::new(FIRST, END);
-    let answer = append_to(&mut disk, &mut segment, &BODIES[0]);
-    let is_counted = has_failed_at(&disk, k);
-    let is_failed = answer == Err(SegmentFault::Device) && is_counted && segment.gate == FIRST;
+    let answer = put_next(&mut disk, 0);
+    let is_failed = answer == Err(DeviceFailed) && has_failed_at(&disk, k);
     let is_new = k == 4 || k == 3 && works;
     Some(is_failed && has_frames(alloc, &mut disk, usize::from(is_new)))
 }
 
 #[test]
-fn a_failing_call_ends_the_append(rt: HostRuntime) {
+fn a_failing_call_ends_the_frame(rt: HostRuntime) {
     let alloc = rt.alloc();
     for k in 1..5 {
         for works in [false, true] {

@@ -1,4 +1,4 @@
-use Rattle.std.proofs.Common.{◌≡◌, ◌+◌, ◌∙◌, List, ℕ, length, take, drop, sym, ap, subst, arith, Err}
+use Rattle.std.proofs.Common.{◌≡◌, ◌+◌, ◌∙◌, List, ℕ, length, take, drop, refl, sym, ap, subst, arith, Err}
 use Rattle.pfx_recovery.specs.Recovery.{walk}
 use Rattle.pfx_recover.specs.Answers.{Gives}
 use Rattle.pfx_recover.specs.Walking.{IsWalk, frames_of}
@@ -7,7 +7,7 @@ use Rattle.pfx_recover.proofs.Looking.{kept_after}
 use Rattle.pfx_recover.proofs.frames.read_frames.Goals as goal
 
 pub returns-in_default-clause-exact : goal.returns-in_default-clause-exact
-returns-in_default-clause-exact g c bytes kept n long = c.read_singly.ensures.exact bytes (kept_after bytes _ _ c.hold.ensures.looks kept) n long
+returns-in_default-clause-exact g c bytes kept n long = c.read_singly.ensures.exact bytes (kept_after bytes _ _ c.hold.ensures.call.looks kept) n long
 
 pub returns-in_err-len-clause-exact : goal.returns-in_err-len-clause-exact
 returns-in_err-len-clause-exact g c bytes kept n long =
@@ -29,3 +29,6 @@ returns-clause-exact g c bytes kept n long =
     let gives = c.in_ok-len.ensures.exact bytes is n (omega (arith, end, long)) in
     subst (λ (l : List ℕ). IsWalk (take c.in_ok-len.len l) c.in_ok-len.last (walk g.F.Format.codec (1 + n) c.args.first c.args.end c.args.number bytes)) c.deref.ensures.value
     (subst (λ (k : ℕ). IsWalk (take c.in_ok-len.len c.deref.result.now) c.in_ok-len.last (walk g.F.Format.codec (1 + n) c.args.first k c.args.number bytes)) end gives)
+
+pub returns-in_err-bytes-clause-call : goal.returns-in_err-bytes-clause-call
+returns-in_err-bytes-clause-call g c = record { looks = c.hold.ensures.call.looks; device = λ is. c.in_err-bytes.ensures.call.failed refl }

@@ -66,10 +66,10 @@ walk-preserved g c =
     let pushed : c.extend_from_slice.new.self.items ≡ c.walk.bytes.items ++ c.in-Some.frame.items = c.in_ok-extend_from_slice.ensures.items ∙ ap (λ (l : List ℕ). c.walk.bytes.items ++ l) c.deref-in-walk.ensures.value in
     let after : K.after c.walk.last c.in-Some.frame.items ≡ Some c.in-Some-after.next = ap (λ (l : List ℕ). K.after c.walk.last l) (sym c.deref.ensures.value) ∙ sym c.after.ensures ∙ c.in-Some-after.is in
     let read : Looks (g.D.Disk.view c.walk.disk) (g.D.Disk.view c.read_one.new.disk) = record {
-      leaves = c.read_one.ensures.leaves;
-      honest = c.read_one.ensures.honest;
-      later = c.read_one.ensures.later;
-      no_fewer = c.read_one.ensures.no_fewer;
+      leaves = c.read_one.ensures.call.leaves;
+      honest = c.read_one.ensures.call.honest.1;
+      later = c.read_one.ensures.call.later;
+      no_fewer = c.read_one.ensures.call.no_fewer;
     } in
     record {
       order = omega (arith, size_is.1, len);

@@ -12,10 +12,10 @@ returns-in_default-clause-exact g c image is n long =
 
 pub walk-preserved : goal.walk-preserved
 walk-preserved g c =
-    let of = c.in-Some.ensures in
+    let of = c.in-Some.ensures.head in
     record {
       order = of.fits;
       last = g.met.F.Format.bounds.after _ _ _ of.after;
       walks = λ image is.
-          held_on c.args.first c.args.bytes.now image is g.F.Format.codec c.args.number c.walk.at c.walk.last (c.walk.invariant.walks image is) c.walk.invariant.order c.in-Some.len c.in-Some.next c.if-bytes-at.false of.len of.fits of.after;
+          held_on c.args.first c.args.bytes.now image is g.F.Format.codec c.args.number c.walk.at c.walk.last (c.walk.invariant.walks image is) c.walk.invariant.order c.in-Some.len c.in-Some.next c.if-bytes-at.false of.long of.fits of.after;
     }

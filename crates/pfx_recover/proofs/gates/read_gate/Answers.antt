@@ -1,4 +1,5 @@
-use Rattle.std.proofs.Common.{◌∙◌}
+use Rattle.std.proofs.Common.{◌∙◌, refl}
+use Rattle.pfx_recover.proofs.Looking.{looks_of}
 use Rattle.pfx_recover.proofs.Numbers.{first_is}
 use Rattle.pfx_recover.proofs.gates.read_gate.Goals as goal
 
@@ -6,3 +7,9 @@ pub returns-clause-bytes : goal.returns-clause-bytes
 returns-clause-bytes g c bytes kept =
     c.copy_from_slice.ensures.after
     ∙ first_is c.args.at c.read.new.out (g.D.Disk.view c.args.disk.now).contents bytes kept.contents (c.in_ok-read.ensures.bytes kept.honest)
+
+pub returns-in_err-read-clause-call : goal.returns-in_err-read-clause-call
+returns-in_err-read-clause-call g c = record {
+  looks = looks_of _ _ c.read.result c.read.ensures.time c.read.ensures.honest c.read.ensures.leaves;
+  failed = λ is. c.in_err-read.ensures.time.err refl;
+}

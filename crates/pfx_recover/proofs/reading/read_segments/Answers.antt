@@ -32,7 +32,7 @@ returns-in_err-walked-clause-exact g c bytes kept in_slot =
     gives_handed (λ w. IsWalk (frames_of w) w.last) (λ r. IsFound K file.header bytes r.places r.state r.middle) _ _ _ _ c.in_err-walked.field-0.0 c.from_residual-in_err-walked.result
     (from_state_as K file.header bytes c.args.slot.second c.args.state b begun ∙ segment_is K file.header bytes c.args.slot.second c.args.state b)
     (ap (λ (k : ℕ). walk_segment K file.header bytes k b) (sym c.number-number.ensures) ∙ walk_same K file.header bytes b _ _ _ at end)
-    (c.in_err-walked.ensures.exact bytes (kept_after bytes _ _ c.find_segment.ensures.looks kept) _ long) c.from_residual-in_err-walked.ensures.1
+    (c.in_err-walked.ensures.exact bytes (kept_after bytes _ _ c.find_segment.ensures.call.looks kept) _ long) c.from_residual-in_err-walked.ensures.1
 
 pub returns-clause-exact : goal.returns-clause-exact
 returns-clause-exact g c bytes kept in_slot =
@@ -44,9 +44,9 @@ returns-clause-exact g c bytes kept in_slot =
     let at = c.segment_at-at.ensures.at _ file.sized in
     let end : c.segment_at-at.result + file.sizes.segment ≡ segment_end (K.layout file.header) b = omega (arith, at, file.sized.segment) in
     let long : c.segment_at-at.result + file.sizes.segment ≤ file_len (K.layout file.header) = omega (arith, c.segment_at-at.ensures.inside, file.sized.head, file.sized.body, file.sized.segment) in
-    let then = kept_after bytes _ _ c.find_segment.ensures.looks kept in
+    let then = kept_after bytes _ _ c.find_segment.ensures.call.looks kept in
     let walked = c.in_ok-walked.ensures.exact bytes then _ long in
     let walk = ap (λ (k : ℕ). walk_segment K file.header bytes k b) (sym c.number-number.ensures) ∙ walk_same K file.header bytes b _ _ _ at end ∙ walked.2 in
     gives_as (λ r. IsFound K file.header bytes r.places r.state r.middle) _ _ c.read_on.result
     (from_state_as K file.header bytes c.args.slot.second c.args.state b begun ∙ from_segment_as K file.header bytes c.args.slot.second c.args.state b _ _ walk)
-    (c.read_on.ensures.exact bytes (kept_after bytes _ _ c.read_frames.ensures.looks then) in_slot _ in_segment walked.0 walked.1)
+    (c.read_on.ensures.exact bytes (kept_after bytes _ _ c.read_frames.ensures.call.looks then) in_slot _ in_segment walked.0 walked.1)

@@ -38,7 +38,7 @@ returns-in_err-contents-clause-exact g c bytes kept =
     let whole : length bytes ≡ file_len (K.layout h) = sym long ∙ c.if-len-file_len.false ∙ c.file_len.ensures.layout (K.layout h) c.sizes-sizes.ensures in
     gives_handed (λ (r : Contents g.row.F.Denot g.row.F-Header.Denot g.row.F-State.Denot). IsFound K h bytes r.places r.state r.middle) (λ r. IsFound K r.0.header bytes r.1.places r.1.state r.1.middle) _ _ _ _ c.in_err-contents.field-0.0 c.from_residual-in_err-contents.result
     (whole_is _) (found_with K bytes h head ∙ head_is K h bytes whole)
-    (c.in_err-contents.ensures.exact bytes (kept_after bytes _ _ c.read_header.ensures.looks then)) c.from_residual-in_err-contents.ensures.1
+    (c.in_err-contents.ensures.exact bytes (kept_after bytes _ _ c.read_header.ensures.call.looks then)) c.from_residual-in_err-contents.ensures.1
 
 pub returns-clause-exact : goal.returns-clause-exact
 returns-clause-exact g c bytes kept =
@@ -52,4 +52,4 @@ returns-clause-exact g c bytes kept =
     let contents = c.in_ok-contents.contents in
     gives_as (λ r. IsFound K h bytes r.places r.state r.middle) _ _ (Ok contents)
     (found_with K bytes h head ∙ head_is K h bytes whole)
-    (c.in_ok-contents.ensures.exact bytes (kept_after bytes _ _ c.read_header.ensures.looks then))
+    (c.in_ok-contents.ensures.exact bytes (kept_after bytes _ _ c.read_header.ensures.call.looks then))

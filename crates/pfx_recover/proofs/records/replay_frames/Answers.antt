@@ -9,7 +9,7 @@ pub returns-then-not-branch-clause-exact : goal.returns-then-not-branch-clause-e
 returns-then-not-branch-clause-exact g c frames fill =
     let K = g.F.Format.codec in
     let part = ap (λ (k : ℕ). K.apply c.frames.reached (take k (drop c.frames.at c.args.bytes.now))) (part_is c.frames.at c.len_at-len.result) in
-    replay_wrong K c.args.gate c.args.state frames c.args.bytes.now c.frames.at c.frames.reached (c.frames.invariant.run frames fill) c.frames-test.true c.len_at-len.result c.len_at-len.ensures.whole (part ∙ c.in_ok-apply.ensures.wrong c.if-not-branch.true)
+    replay_wrong K c.args.gate c.args.state frames c.args.bytes.now c.frames.at c.frames.reached (c.frames.invariant.run frames fill) c.frames-test.true c.len_at-len.result c.len_at-len.ensures.len.whole (part ∙ c.in_ok-apply.ensures.wrong c.if-not-branch.true)
 
 pub frames-preserved : goal.frames-preserved
 frames-preserved g c =
@@ -17,10 +17,10 @@ frames-preserved g c =
     let part = ap (λ (k : ℕ). K.apply c.frames.reached (take k (drop c.frames.at c.args.bytes.now))) (part_is c.frames.at c.len_at-len.result) in
     let taken = c.in_ok-apply.ensures.taken c.if-not-branch.false in
     record {
-      inside = c.len_at-len.ensures.inside;
+      inside = c.len_at-len.ensures.len.inside;
       fits = λ h fit. g.met.F.Format.bounds.applied h c.frames.reached _ c.apply.new.state (c.frames.invariant.fits h fit) taken;
       run = λ frames fill.
-          replay_on K c.args.gate c.args.state frames c.args.bytes.now c.frames.at c.frames.reached (c.frames.invariant.run frames fill) c.frames-test.true c.len_at-len.result c.len_at-len.ensures.whole c.apply.new.state (part ∙ taken);
+          replay_on K c.args.gate c.args.state frames c.args.bytes.now c.frames.at c.frames.reached (c.frames.invariant.run frames fill) c.frames-test.true c.len_at-len.result c.len_at-len.ensures.len.whole c.apply.new.state (part ∙ taken);
     }
 
 pub returns-clause-exact : goal.returns-clause-exact

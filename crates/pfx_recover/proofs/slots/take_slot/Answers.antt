@@ -1,18 +1,21 @@
-use Rattle.std.proofs.Common.{◌≤◌, ◌∙◌, ap, sym, arith, Ok}
+use Rattle.std.proofs.Common.{◌≤◌, ◌∙◌, ap, sym, arith, refl, rules, Ok}
 use Rattle.pfx_recover.specs.Choosing.{IsSlot}
 use Rattle.pfx_recover.proofs.Giving.{gives_refused}
 use Rattle.pfx_recover.proofs.Looking.{looks_then, kept_after}
 use Rattle.pfx_recover.proofs.Numbers.{slot_taken_by, slot_open_by}
 use Rattle.pfx_recover.proofs.slots.take_slot.Goals as goal
 
-pub returns-clause-looks : goal.returns-clause-looks
-returns-clause-looks g c = looks_then _ _ _ c.read_gate.ensures.looks c.read_gate-2.ensures.looks
+pub returns-clause-call : goal.returns-clause-call
+returns-clause-call g c = record {
+  looks = looks_then _ _ _ c.read_gate.ensures.call.looks c.read_gate-2.ensures.call.looks;
+  device = search rules;
+}
 
 pub returns-in_err-is_second-clause-exact : goal.returns-in_err-is_second-clause-exact
 returns-in_err-is_second-clause-exact g c bytes kept =
     let K = g.F.Format.codec in
     let file = c.args.file.now in
-    let then = kept_after bytes _ _ c.read_gate.ensures.looks kept in
+    let then = kept_after bytes _ _ c.read_gate.ensures.call.looks kept in
     let long : 8 ≤ (K.layout file.header).body = omega (arith, file.sizes.number, file.sized.body) in
     let same = slot_taken_by K file.header bytes g.F.Format.fits _ g.met.F.Format.bounds long _ _ _ _ _ _ _ _
     (c.slot_at-low.ensures.at _ file.sized) (c.slot_at-high.ensures.at _ file.sized) (c.in_ok-low_gate.ensures.gate bytes kept) (c.in_ok-high_gate.ensures.gate bytes then)
@@ -23,7 +26,7 @@ pub returns-clause-exact : goal.returns-clause-exact
 returns-clause-exact g c bytes kept =
     let K = g.F.Format.codec in
     let file = c.args.file.now in
-    let then = kept_after bytes _ _ c.read_gate.ensures.looks kept in
+    let then = kept_after bytes _ _ c.read_gate.ensures.call.looks kept in
     let long : 8 ≤ (K.layout file.header).body = omega (arith, file.sizes.number, file.sized.body) in
     let low = c.slot_at-low.ensures.at _ file.sized in
     let high = c.slot_at-high.ensures.at _ file.sized in
@@ -33,6 +36,9 @@ returns-clause-exact g c bytes kept =
     low high low_open high_open
     (c.in_ok-low_gate.ensures.bytes bytes kept) (c.in_ok-high_gate.ensures.bytes bytes then) c.slot_number.ensures c.slot_number-2.ensures in
     record {
-      chosen = sym same ∙ c.in_ok-is_second.ensures ∙ ap Ok (sym c.of.ensures.second);
-      other = slot_open_by K file.header bytes _ _ _ _ _ _ _ low high low_open high_open c.of.ensures.second c.of.ensures.open;
+      chosen = sym same ∙ c.in_ok-is_second.ensures ∙ ap Ok (sym c.of.ensures.chosen.second);
+      other = slot_open_by K file.header bytes _ _ _ _ _ _ _ low high low_open high_open c.of.ensures.chosen.second c.of.ensures.chosen.open_other;
     }
+
+pub returns-in_err-low_gate-clause-call : goal.returns-in_err-low_gate-clause-call
+returns-in_err-low_gate-clause-call g c = record { looks = c.read_gate.ensures.call.looks; device = λ is. c.in_err-low_gate.ensures.call.failed refl }
