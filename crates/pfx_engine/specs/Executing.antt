@@ -1,5 +1,5 @@
 -- What comes of a command that an engine carries out over its store.
-use Rattle.std.specs.Prelude.{◌≡◌, ◌↔◌, ◌+◌, ◌++◌, ℕ, List, [], ◌∷◌, Bool, false, Result, Ok, IfOk}
+use Rattle.std.specs.Prelude.{◌≡◌, ◌↔◌, ◌≤◌, ◌+◌, ◌++◌, ℕ, List, [], ◌∷◌, length, Bool, false, Result, Ok, OnOk, OnErr, IfOk, IsErrOf}
 use Rattle.pfx_disk.specs.Disk.{View, IsHonest}
 use Rattle.pfx_format.specs.Format.{format}
 use Rattle.pfx_kinds.specs.AnyKind.{any_kind}
@@ -10,9 +10,15 @@ use Rattle.pfx_machine.specs.Runs.{answer}
 use Rattle.pfx_machine.specs.Sessions.{IsAcceptable}
 use Rattle.pfx_machine.specs.declared.command.Command.{Command}
 use Rattle.pfx_machine.specs.declared.command.Reply.{Reply}
+use Rattle.pfx_program.specs.Promises.{AreAnswered, slots_for}
 use Rattle.pfx_recovery.specs.Recovery.{recovered}
 use Rattle.pfx_segment.specs.Segment.{Takes}
+use Rattle.pfx_store.specs.Stores.{PlainStore}
 use Rattle.pfx_store.specs.declared.store.Mark.{Mark}
+use Rattle.pfx_store_file.specs.Calls.{GoesOn, Works}
+use Rattle.pfx_store_file.specs.declared.faults.StoreFault.{StoreFault}
+use Rattle.pfx_store_file.specs.declared.faults.StoreFault.TheVariants.{NoRoom}
+use Rattle.pfx_engine.specs.Keeping.{Anchors}
 use Rattle.pfx_engine.specs.Surviving.{KeepsAll}
 
 -- a command was accepted at a state: the mark has the next number and the disk's clock, the reply is the machine's, and the state is
@@ -23,6 +29,41 @@ pub record IsExecuted (s : Plain AnyJob) (c : Command AnyJob) (t : Plain AnyJob)
   pub reply : answer any_kind s c ≡ Ok r.1
   pub state : t ≡ outcome any_kind s (c ∷ [])
   pub whole : broken ≡ false
+
+-- a command was accepted at a state: the reply is the machine's, and the state is the one after the command, over a store that isn't broken
+pub record IsCarriedOut (s : Plain AnyJob) (c : Command AnyJob) (t : Plain AnyJob) (broken : Bool) (reply_given : Reply) : Type 0 where
+  pub reply : answer any_kind s c ≡ Ok reply_given
+  pub moves : t ≡ outcome any_kind s (c ∷ [])
+  pub whole : broken ≡ false
+
+-- Slots were accepted one after the other from a state on, in one frame, which has 16 at the most: their numbers and replies are the
+-- machine's, and the state is the one after them, over a store that isn't broken.
+pub record AreCarriedOut (s t : Plain AnyJob) (broken : Bool) (said : List (ℕ × Reply)) : Type 0 where
+  pub few : length said ≤ 16
+  pub answered : AreAnswered s said
+  pub moves : t ≡ outcome any_kind s (slots_for said)
+  pub whole : broken ≡ false
+
+-- the disk after a call is the one before: time went on, failures stayed, and it is honest if and only if it was
+pub record Follows (old new : View) : Type 0 where
+  pub goes : GoesOn old new
+  pub honest : IsHonest old ↔ IsHonest new
+
+-- At every moment of a call the commands that survived before survive, with these or without; and once it succeeded each image is
+-- recovered to the state after it.
+pub record Commits {T E : Type 0} (s : Plain AnyJob) (group : List (Command AnyJob)) (t : Plain AnyJob) (old new : View) (result : Result T E) : Type 0 where
+  pub keeps : (start : Plain AnyJob) → (H : List (Command AnyJob)) → IsState start → IsAcceptable any_kind start H → s ≡ outcome any_kind start H
+      → KeepsAll start H (H ++ group) old new
+  pub acknowledged : OnOk result (Anchors new t)
+
+-- A call of a store that keeps commands. It fails only if the disk does or the store was broken before, never for lack of room, and
+-- then the state stays; once it succeeded the mark has the state's number and the disk's clock.
+pub record IsKeeping {D : Type 0} (view : D → View) (old new : PlainStore D AnyJob) (result : Result Mark StoreFault) : Type 0 where
+  pub works : Works (view old.file.disk) (view new.file.disk) old.file.broken new.file.broken result
+  pub follows : Follows (view old.file.disk) (view new.file.disk)
+  pub roomy : ¬ IsErrOf result NoRoom
+  pub same : OnErr result (new.state ≡ old.state)
+  pub mark : IfOk result (λ mark. (mark.number ≡ new.state.number) × (mark.clock ≡ (view new.file.disk).clock))
 
 -- so many calls of the disk, and an honest disk is one before and after
 pub record TakesCalls {T E : Type 0} (calls : ℕ) (old new : View) (result : Result T E) : Type 0 where

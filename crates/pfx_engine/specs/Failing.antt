@@ -1,5 +1,5 @@
 -- What an engine answers if its store has failed.
-use Rattle.std.specs.Prelude.{◌≡◌, ℕ, Bool, if◌then◌else◌, Some, Result, Ok, Err, ⊤}
+use Rattle.std.specs.Prelude.{◌≡◌, ℕ, Bool, true, false, if◌then◌else◌, Some, Result, Ok, Err, IfErr, ⊤}
 use Rattle.pfx_feasible.specs.Commands.{limit_fault}
 use Rattle.pfx_fault.specs.declared.parts.Cause.TheVariants as cause
 use Rattle.pfx_fault.specs.declared.refusals.Fault.{Fault}
@@ -28,6 +28,19 @@ abbrev pub Fails : ℕ → Type 0 → Type 0 → CallFault → Type 0
 Fails marked failed same (callfault.Refused f) = same
 Fails marked failed same (callfault.Failed fault.NoMemory) = same
 Fails marked failed same (callfault.Failed other) = (other ≡ stopped_at marked) × failed
+
+-- If a call doesn't accept a command it tells why, and what stayed the same then; and if the disk had failed before, the call
+-- answers only that, with this number, and nothing changes.
+pub record Stops {T : Type 0} (marked : ℕ) (was_broken : Bool) (failed unchanged : Type 0) (result : Result T CallFault) : Type 0 where
+  pub fails : IfErr result (Fails marked failed unchanged)
+  pub broken : was_broken ≡ true → (result ≡ Err (callfault.Failed (stopped_at marked))) × unchanged
+
+-- A look at an engine changes nothing. If the disk had failed before, it answers only that, with this number; else it fails only
+-- if there is no memory.
+pub record IsLook {E T : Type 0} (marked : ℕ) (was_broken : Bool) (old new : E) (result : Result T Fault) : Type 0 where
+  pub broken : was_broken ≡ true → result ≡ Err (stopped_at marked)
+  pub whole : was_broken ≡ false → IfErr result (λ f. f ≡ fault.NoMemory)
+  pub stays : new ≡ old
 
 -- the machine refuses the command, and the state is as before, or the engine failed
 abbrev pub NotAccepted : Plain AnyJob → Command AnyJob → Plain AnyJob → CallFault → Type 0

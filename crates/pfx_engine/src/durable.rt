@@ -1,26 +1,19 @@
 //! The engine that keeps each command in a store before it answers it.
 
-ghost use Rattle.std.specs.Prelude.{◌≡◌, ◌<◌, ◌≤◌, ◌+◌, ◌++◌, ◌∷◌, [], List, ℕ, length, true, false, Ok, Err, IfOk, IfErr, OnOk, OnErr};
+ghost use Rattle.std.specs.Prelude.{◌≡◌, ◌<◌, ◌∷◌, [], List, ℕ, true, false, Ok, IfOk, IfErr, OnOk};
 ghost use Rattle.pfx_disk.specs.Disk.{IsHonest, HasFailed};
 ghost use Rattle.pfx_feasible.specs.Endless.{IsEndless};
 ghost use Rattle.pfx_format.specs.Format.{format};
 ghost use Rattle.pfx_kinds.specs.AnyKind.{any_kind};
 ghost use Rattle.pfx_kinds.specs.declared.any.AnyJob.{AnyJob};
-ghost use Rattle.pfx_machine.specs.Outcome.{outcome};
-ghost use Rattle.pfx_machine.specs.Plain.{Plain, IsState};
-ghost use Rattle.pfx_machine.specs.Runs.{answer};
-ghost use Rattle.pfx_machine.specs.Sessions.{IsAcceptable};
 ghost use Rattle.pfx_machine.specs.declared.command.Command.{Command};
-ghost use Rattle.pfx_program.specs.Promises.{Promise, Laws, AreAnswered, AreDone, AreNotDone, IsDone, IsNotDone, IsSame, IsEngineFault, Shows, slots_for};
+ghost use Rattle.pfx_program.specs.Promises.{Promise, Laws, AreDone, AreNotDone, IsDone, IsNotDone, IsSame, IsEngineFault, Shows};
 ghost use Rattle.pfx_recovery.specs.Recovery.{recovered};
-ghost use Rattle.pfx_segment.specs.Segment.{Takes};
-ghost use Rattle.pfx_store_file.specs.Calls.{GoesOn};
-ghost use Rattle.pfx_engine.specs.Executing.{CommitsOne, IsExecuted, TakesCalls};
-ghost use Rattle.pfx_engine.specs.Failing.{Fails, IsInDoubt, IsServed, NotAccepted, last_kept, stopped_at};
-ghost use Rattle.pfx_engine.specs.Keeping.{KeepsFrom};
+ghost use Rattle.pfx_engine.specs.Executing.{AreCarriedOut, Commits, CommitsOne, Follows, IsCarriedOut, IsExecuted, TakesCalls};
+ghost use Rattle.pfx_engine.specs.Failing.{IsInDoubt, IsLook, IsServed, NotAccepted, Stops, last_kept, stopped_at};
+ghost use Rattle.pfx_engine.specs.Keeping.{Anchors, KeepsFrom};
 ghost use Rattle.pfx_engine.specs.KeepingLaws.{keeps_none, keeps_more, keeps_fewer};
 ghost use Rattle.pfx_engine.specs.Stepping.{command_calls, frame_len};
-ghost use Rattle.pfx_engine.specs.Surviving.{KeepsAll};
 
 use crate::keeping::commit;
 use crate::windows::{Window, is_memory, run_slots};
@@ -115,13 +108,10 @@ impl<D: Disk> DurableEngine<D> {
         // a Slot, and such schedules go on from the new state.
         ensures serves { IsEndless self.old.state.ledger
             → IfErr result (IsServed self.old.state command) × OnOk result (IsEndless self.new.state.ledger) }
-        ensures fails { IfErr result (Fails self.old.store.state.number
+        ensures stops { Stops self.old.store.state.number self.old.store.file.broken
             ((self.new.store.file.broken ≡ true)
             × (self.old.store.file.broken ≡ false → HasFailed (D.view self.old.store.file.disk) (D.view self.new.store.file.disk)))
-            ((self.new.state ≡ self.old.state) × (self.new.store ≡ self.old.store))) }
-        ensures broken { self.old.store.file.broken ≡ true
-            → (result ≡ Err (CallFault.Failed (stopped_at self.old.store.state.number))) × (self.new.state ≡ self.old.state)
-            × (self.new.store ≡ self.old.store) }
+            ((self.new.state ≡ self.old.state) × (self.new.store ≡ self.old.store)) result }
 
         // A step of the checkpoint in progress, if there is one, and the command: so many calls of the disk.
         ensures calls { TakesCalls (command_calls (frame_len self.old.state (command ∷ [])) self.old.store.file.places)
@@ -162,38 +152,27 @@ impl<D: Disk> Engine for DurableEngine<D> {
       keeps = λ a H n b. KeepsFrom (D.view a.store.file.disk) a.store.file.broken a.store.state H n (D.view b.store.file.disk) b.store.state;
     } };
 
+    /// Carries a command out: its number and its reply, and it is done; or it isn't, as every engine says.
+    ///
+    /// An accepted command has the machine's reply, and the state is the one after it; a refused one leaves the state. If fair
+    /// schedules of every length go on from the state, as in each store that `init` made, the limits alone refuse a Slot, and
+    /// such schedules go on from the new state.
+    ///
+    /// `StoreFailed` breaks the store; a broken store does nothing, and answers so to every command. The disk is honest after the
+    /// call if and only if it was before. At every moment of the call, whatever it answers, the commands that survived before
+    /// survive, with this one or without; from the return on each image is recovered to the state after it.
     fn call(&mut self, alloc: Global, command: Command<AnyJob>) -> Result<(u64, Reply), CallFault>
         ensures done { IfOk result (λ r. IsDone ⟦<DurableEngine<D> as Engine>⟧.promise command r.0 r.1 self.old self.new) }
         ensures not_done { IfErr result (IsNotDone ⟦<DurableEngine<D> as Engine>⟧.promise command self.old self.new) }
-        ensures reply { IfOk result (λ r. answer any_kind self.old.state command ≡ Ok r.1) }
-        ensures moves { OnOk result (self.new.state ≡ outcome any_kind self.old.state (command ∷ [])) }
-        ensures whole { OnOk result (self.new.store.file.broken ≡ false) }
+        ensures accepted { IfOk result (λ r. IsCarriedOut self.old.state command self.new.state self.new.store.file.broken r.1) }
         ensures refused { IfErr result (NotAccepted self.old.state command self.new.state) }
-
-        // If fair schedules of every length go on from the state, as in each store that `init` made, the limits alone refuse
-        // a Slot, and such schedules go on from the new state.
-        ensures served { IsEndless self.old.state.ledger → IfErr result (IsServed self.old.state command) }
-        ensures endless { IsEndless self.old.state.ledger → OnOk result (IsEndless self.new.state.ledger) }
-        ensures fails { IfErr result (Fails self.old.store.state.number (self.new.store.file.broken ≡ true)
-            ((self.new.state ≡ self.old.state) × (self.new.store ≡ self.old.store))) }
-        ensures broken { self.old.store.file.broken ≡ true
-            → (result ≡ Err (CallFault.Failed (stopped_at self.old.store.state.number))) × (self.new.state ≡ self.old.state)
-            × (self.new.store ≡ self.old.store) }
-        ensures goes { GoesOn (D.view self.old.store.file.disk) (D.view self.new.store.file.disk) }
-        ensures honest { IsHonest (D.view self.new.store.file.disk) → IsHonest (D.view self.old.store.file.disk) }
-        ensures kept { IsHonest (D.view self.old.store.file.disk) → IsHonest (D.view self.new.store.file.disk) }
-
-        // From the return on, each image is recovered to the state after the command.
-        ensures acknowledged { IsHonest (D.view self.old.store.file.disk)
-            → OnOk result ((image : List ℕ) → (D.view self.new.store.file.disk).since (D.view self.new.store.file.disk).clock image
-            → recovered (format any_kind) image ≡ Ok self.new.state) }
-
-        // At every moment of the call, whatever it answers, the commands that survived before survive, with this one or
-        // without.
-        ensures keeps { IsHonest (D.view self.old.store.file.disk)
-            → (start : Plain AnyJob) → (H : List (Command AnyJob))
-            → IsState start → IsAcceptable any_kind start H → self.old.store.state ≡ outcome any_kind start H
-            → KeepsAll start H (H ++ command ∷ []) (D.view self.old.store.file.disk) (D.view self.new.store.file.disk) }
+        ensures serves { IsEndless self.old.state.ledger
+            → IfErr result (IsServed self.old.state command) × OnOk result (IsEndless self.new.state.ledger) }
+        ensures stops { Stops self.old.store.state.number self.old.store.file.broken (self.new.store.file.broken ≡ true)
+            ((self.new.state ≡ self.old.state) × (self.new.store ≡ self.old.store)) result }
+        ensures calls { Follows (D.view self.old.store.file.disk) (D.view self.new.store.file.disk) }
+        ensures commits { IsHonest (D.view self.old.store.file.disk)
+            → Commits self.old.store.state (command ∷ []) self.new.state (D.view self.old.store.file.disk) (D.view self.new.store.file.disk) result }
     {
         let _number = self.store.state().number();
         match self.execute(alloc, command) {
@@ -202,30 +181,25 @@ impl<D: Disk> Engine for DurableEngine<D> {
         }
     }
 
+    /// Carries Slots out one after the other, at least one and at most `count`: their numbers and their replies, and they are
+    /// done; or they aren't, as every engine says.
+    ///
+    /// Accepted ones share a frame, which has 16 at the most; they have the machine's replies, and the state is the one after
+    /// them. If the first is refused the state stays.
+    ///
+    /// `StoreFailed` breaks the store; a broken store does nothing, and answers so to every call. The disk is honest after the
+    /// call if and only if it was before. From the return on each image is recovered to the state after the Slots.
     fn slots(&mut self, alloc: Global, count: u32) -> Result<Vec<(u64, Reply)>, CallFault>
         requires some { 0 < count }
         ensures done { IfOk result (λ said. AreDone ⟦<DurableEngine<D> as Engine>⟧.promise count said.items self.old self.new) }
         ensures not_done { IfErr result (AreNotDone ⟦<DurableEngine<D> as Engine>⟧.promise count self.old self.new) }
-
-        // They share a frame, which has 16 at the most.
-        ensures few { IfOk result (λ said. length said.items ≤ 16) }
-        ensures answered { IfOk result (λ said. AreAnswered self.old.state said.items) }
-        ensures moves { IfOk result (λ said. self.new.state ≡ outcome any_kind self.old.state (slots_for said.items)) }
-        ensures whole { OnOk result (self.new.store.file.broken ≡ false) }
+        ensures accepted { IfOk result (λ said. AreCarriedOut self.old.state self.new.state self.new.store.file.broken said.items) }
         ensures refused { IfErr result (NotAccepted self.old.state Command.Slot self.new.state) }
-        ensures fails { IfErr result (Fails self.old.store.state.number (self.new.store.file.broken ≡ true)
-            ((self.new.state ≡ self.old.state) × (self.new.store ≡ self.old.store))) }
-        ensures broken { self.old.store.file.broken ≡ true
-            → (result ≡ Err (CallFault.Failed (stopped_at self.old.store.state.number))) × (self.new.state ≡ self.old.state)
-            × (self.new.store ≡ self.old.store) }
-        ensures goes { GoesOn (D.view self.old.store.file.disk) (D.view self.new.store.file.disk) }
-        ensures honest { IsHonest (D.view self.new.store.file.disk) → IsHonest (D.view self.old.store.file.disk) }
-        ensures kept { IsHonest (D.view self.old.store.file.disk) → IsHonest (D.view self.new.store.file.disk) }
-
-        // From the return on, each image is recovered to the state after the Slots.
+        ensures stops { Stops self.old.store.state.number self.old.store.file.broken (self.new.store.file.broken ≡ true)
+            ((self.new.state ≡ self.old.state) × (self.new.store ≡ self.old.store)) result }
+        ensures calls { Follows (D.view self.old.store.file.disk) (D.view self.new.store.file.disk) }
         ensures acknowledged { IsHonest (D.view self.old.store.file.disk)
-            → OnOk result ((image : List ℕ) → (D.view self.new.store.file.disk).since (D.view self.new.store.file.disk).clock image
-            → recovered (format any_kind) image ≡ Ok self.new.state) }
+            → OnOk result (Anchors (D.view self.new.store.file.disk) self.new.state) }
     {
         if self.store.is_broken() {
             return Err(CallFault::Failed(stopped(&self.store)));
@@ -256,9 +230,7 @@ impl<D: Disk> Engine for DurableEngine<D> {
         ensures settled { OnOk result (self.new.store.file.broken ≡ false) }
         ensures same { IsSame ⟦<DurableEngine<D> as Engine>⟧.promise self.old self.new }
         ensures fails { IfErr result (IsEngineFault ⟦<DurableEngine<D> as Engine>⟧.promise.faults self.old.store.state) }
-        ensures broken { self.old.store.file.broken ≡ true → result ≡ Err (stopped_at self.old.store.state.number) }
-        ensures whole { self.old.store.file.broken ≡ false → IfErr result (λ fault. fault ≡ Fault.NoMemory) }
-        ensures stays { self.new ≡ self.old }
+        ensures look { IsLook self.old.store.state.number self.old.store.file.broken self.old self.new result }
     {
         if let Err(fault) = self.last_kept() {
             return Err(fault);
@@ -274,9 +246,7 @@ impl<D: Disk> Engine for DurableEngine<D> {
         ensures settled { OnOk result (self.new.store.file.broken ≡ false) }
         ensures same { IsSame ⟦<DurableEngine<D> as Engine>⟧.promise self.old self.new }
         ensures fails { IfErr result (IsEngineFault ⟦<DurableEngine<D> as Engine>⟧.promise.faults self.old.store.state) }
-        ensures broken { self.old.store.file.broken ≡ true → result ≡ Err (stopped_at self.old.store.state.number) }
-        ensures whole { self.old.store.file.broken ≡ false → IfErr result (λ fault. fault ≡ Fault.NoMemory) }
-        ensures stays { self.new ≡ self.old }
+        ensures look { IsLook self.old.store.state.number self.old.store.file.broken self.old self.new result }
     {
         let _number = self.last_kept()?;
         match self.store.state().copy_of(alloc) {

@@ -1,8 +1,7 @@
 //! Keeping commands.
 
-ghost use Rattle.std.specs.Prelude.{◌≡◌, ◌<◌, ◌≤◌, ◌++◌, List, ℕ, length, map, Ok, IfOk, OnOk, OnErr, IsErrOf};
+ghost use Rattle.std.specs.Prelude.{◌≡◌, ◌<◌, ◌≤◌, ◌++◌, List, length, map, OnOk};
 ghost use Rattle.pfx_disk.specs.Disk.{IsHonest};
-ghost use Rattle.pfx_format.specs.Format.{format};
 ghost use Rattle.pfx_store.specs.Groups.{AreRecordsOf};
 ghost use Rattle.pfx_kinds.specs.AnyKind.{any_kind};
 ghost use Rattle.pfx_kinds.specs.declared.any.AnyJob.{AnyJob};
@@ -11,9 +10,9 @@ ghost use Rattle.pfx_machine.specs.Plain.{Plain, IsState};
 ghost use Rattle.pfx_machine.specs.Sessions.{IsAcceptable};
 ghost use Rattle.pfx_machine.specs.declared.command.Command.{Command};
 ghost use Rattle.pfx_record.specs.Records.{plain};
-ghost use Rattle.pfx_recovery.specs.Recovery.{recovered};
-ghost use Rattle.pfx_store_file.specs.Calls.{Works, GoesOn};
 ghost use Rattle.pfx_segment.specs.Segment.{Takes};
+ghost use Rattle.pfx_engine.specs.Executing.{IsKeeping};
+ghost use Rattle.pfx_engine.specs.Keeping.{Anchors};
 ghost use Rattle.pfx_engine.specs.Stepping.{command_calls, frame_len};
 ghost use Rattle.pfx_engine.specs.Surviving.{KeepsAll};
 
@@ -32,20 +31,13 @@ pub(crate) fn commit<D: Disk>(
     requires some { 0 < length records.items }
     requires few { length records.items ≤ 16 }
     requires right { (G : List (Command AnyJob)) × AreRecordsOf any_kind store.old.state G (map plain records.items) }
-    ensures works { Works (D.view store.old.file.disk) (D.view store.new.file.disk) store.old.file.broken store.new.file.broken result }
-    ensures goes { GoesOn (D.view store.old.file.disk) (D.view store.new.file.disk) }
-    ensures honest { IsHonest (D.view store.new.file.disk) → IsHonest (D.view store.old.file.disk) }
-    ensures kept { IsHonest (D.view store.old.file.disk) → IsHonest (D.view store.new.file.disk) }
-    ensures room { ¬ IsErrOf result StoreFault.NoRoom }
-    ensures same { OnErr result (store.new.state ≡ store.old.state) }
+    ensures call { IsKeeping D.view store.old store.new result }
     ensures state { (G : List (Command AnyJob)) → AreRecordsOf any_kind store.old.state G (map plain records.items)
         → OnOk result (store.new.state ≡ outcome any_kind store.old.state G) }
 
     // A step of the checkpoint in progress, and then the records.
     ensures calls { (G : List (Command AnyJob)) → AreRecordsOf any_kind store.old.state G (map plain records.items)
         → Takes (command_calls (frame_len store.old.state G) store.old.file.places) (D.view store.old.file.disk) (D.view store.new.file.disk) result }
-    ensures mark { IfOk result (λ mark. (mark.number ≡ store.new.state.number)
-        × (mark.clock ≡ (D.view store.new.file.disk).clock)) }
 
     // At every moment of the call, whatever it answers, what survived before survives, with these commands or without.
     ensures keeps { IsHonest (D.view store.old.file.disk)
@@ -56,8 +48,7 @@ pub(crate) fn commit<D: Disk>(
 
     // From the return on, each image is recovered to the state after the commands.
     ensures acknowledged { IsHonest (D.view store.old.file.disk)
-        → OnOk result ((image : List ℕ) → (D.view store.new.file.disk).since (D.view store.new.file.disk).clock image
-        → recovered (format any_kind) image ≡ Ok store.new.state) }
+        → OnOk result (Anchors (D.view store.new.file.disk) store.new.state) }
 {
     let _tended = store.tend()?;
     let batch = batch_of(store.state(), records);

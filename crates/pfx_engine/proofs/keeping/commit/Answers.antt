@@ -1,5 +1,5 @@
 use Rattle.std.specs.Prelude.{length}
-use Rattle.std.proofs.Common.{◌≡◌, ◌+◌, ◌++◌, [], map, refl, sym, ◌∙◌, ap, arith, subst}
+use Rattle.std.proofs.Common.{rules, ◌≡◌, ◌+◌, ◌++◌, [], map, refl, sym, ◌∙◌, ap, arith, subst}
 use Rattle.std.proofs.lemmas.List.{length-map}
 use Rattle.pfx_kinds.specs.AnyKind.{any_kind}
 use Rattle.pfx_kinds.specs.declared.any.AnyJob.{AnyJob}
@@ -74,3 +74,21 @@ returns-clause-calls g c = λ done given.
     takes_both _ (frame_len old done) c.args.store.now.file.places c.tend.new.self.file.places (V c.args.store.now.file.disk) (V c.tend.new.self.file.disk) (V c.append.new.self.file.disk) c.in_ok-_tended._tended c.append.result
     (ap length (frame_is old done (map plain c.batch_of-batch.result.records.items) c.batch_of-batch.result.first (subst (λ (t : Plain AnyJob). IsState t) (c.state.ensures ∙ c.tend.ensures.state) c.batch_of-batch.ensures.state) is next))
     c.tend.ensures.tends.stays c.in_ok-_tended.ensures.tends.fewer c.in_ok-_tended.ensures.call.takes c.append.ensures.call.takes)
+
+pub returns-in_err-_tended-clause-call : goal.returns-in_err-_tended-clause-call
+returns-in_err-_tended-clause-call g c = record {
+  works = search rules;
+  follows = record { goes = search rules; honest = c.tend.ensures.call.honest };
+  roomy = search rules;
+  same = search rules;
+  mark = search rules;
+}
+
+pub returns-clause-call : goal.returns-clause-call
+returns-clause-call g c = record {
+  works = search rules;
+  follows = record { goes = search rules; honest = search rules };
+  roomy = search rules;
+  same = search rules;
+  mark = search rules;
+}

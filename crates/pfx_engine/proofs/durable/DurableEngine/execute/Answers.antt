@@ -42,7 +42,7 @@ invariant_of-self-in-Ok-run_recorded g c = record {
       (rw (c.push_reserved.ensures.items, c.in-Ok.ensures.items) (ap (λ r. r ∷ []) (done.kept_as ∙ ap (λ (t : Plain AnyJob). record_of any_kind t c.args.command) at))) in
       done.outcome c.args.self.now.state [] (sym (outcome-none any_kind c.args.self.now.state))
       ∙ (ap (λ (t : Plain AnyJob). outcome any_kind t (c.args.command ∷ [])) at
-      ∙ sym (worked c.commit.result _ _ _ _ c.commit.ensures.works c.commit.ensures.room before whole (c.commit.ensures.state (c.args.command ∷ []) mine)));
+      ∙ sym (worked c.commit.result _ _ _ _ c.commit.ensures.call.works c.commit.ensures.call.roomy before whole (c.commit.ensures.state (c.args.command ∷ []) mine)));
 }
 
 pub returns-in-Ok-commit-clause-commits : goal.returns-in-Ok-commit-clause-commits
@@ -54,10 +54,10 @@ returns-in-Ok-commit-clause-commits g c = λ honest.
     one_record c.args.self.now.store.state c.args.command (map plain c.push_reserved.new.self.items) (subst (λ (t : Plain AnyJob). refusal any_kind t c.args.command ≡ None) at done.exact)
     (rw (c.push_reserved.ensures.items, c.in-Ok.ensures.items) (ap (λ r. r ∷ []) (done.kept_as ∙ ap (λ (t : Plain AnyJob). record_of any_kind t c.args.command) at))) in
     let new = c.commit.new.store in
-    let whole : new.file.broken ≡ false = c.in-Ok-commit.ensures.works.whole refl in
+    let whole : new.file.broken ≡ false = c.in-Ok-commit.ensures.call.works.whole refl in
     record {
       keeps = λ start H h all there. c.commit.ensures.keeps honest start H (c.args.command ∷ []) h all there mine;
-      acknowledged = λ image here. c.in-Ok-commit.ensures.acknowledged honest image (subst (λ n. (V new.file.disk).since n image) c.in-Ok-commit.ensures.mark.1 here)
+      acknowledged = λ image here. c.in-Ok-commit.ensures.acknowledged honest image (subst (λ n. (V new.file.disk).since n image) c.in-Ok-commit.ensures.call.mark.1 here)
           ∙ ap Ok (c.in-Ok-commit.ensures.state (c.args.command ∷ []) mine ∙ ap (λ (t : Plain AnyJob). outcome any_kind t (c.args.command ∷ [])) (sym at) ∙ sym (done.outcome c.args.self.now.state [] (sym (outcome-none any_kind c.args.self.now.state))));
     })
 
@@ -111,7 +111,7 @@ returns-in-Ok-commit-clause-calls g c =
     record {
       takes = takes_as (command_calls (frame_len c.args.self.now.state (c.args.command ∷ [])) c.args.self.now.store.file.places) (V c.args.self.now.store.file.disk) (V c.commit.new.store.file.disk) c.commit.result _ (λ _. subst (λ r. IsOk r) (sym c.in-Ok-commit.is) refl)
           (subst (λ (t : Plain AnyJob). Takes (command_calls (frame_len t (c.args.command ∷ [])) c.args.self.now.store.file.places) (V c.args.self.now.store.file.disk) (V c.commit.new.store.file.disk) c.commit.result) (sym at) (c.commit.ensures.calls (c.args.command ∷ []) mine));
-      honest = (c.commit.ensures.kept, c.commit.ensures.honest);
+      honest = c.commit.ensures.call.follows.honest;
     }
 
 pub returns-clause-calls : goal.returns-clause-calls
@@ -125,7 +125,7 @@ returns-clause-calls g c =
     record {
       takes = takes_as (command_calls (frame_len c.args.self.now.state (c.args.command ∷ [])) c.args.self.now.store.file.places) (V c.args.self.now.store.file.disk) (V c.commit.new.store.file.disk) c.commit.result _ (λ is. absurd (true≢false (sym is)))
           (subst (λ (t : Plain AnyJob). Takes (command_calls (frame_len t (c.args.command ∷ [])) c.args.self.now.store.file.places) (V c.args.self.now.store.file.disk) (V c.commit.new.store.file.disk) c.commit.result) (sym at) (c.commit.ensures.calls (c.args.command ∷ []) mine));
-      honest = (c.commit.ensures.kept, c.commit.ensures.honest);
+      honest = c.commit.ensures.call.follows.honest;
     }
 
 pub commit-requires-clause-right : goal.commit-requires-clause-right
@@ -145,9 +145,9 @@ returns-in-Ok-commit-clause-done g c =
     one_record c.args.self.now.store.state c.args.command (map plain c.push_reserved.new.self.items) (subst (λ (t : Plain AnyJob). refusal any_kind t c.args.command ≡ None) at done.exact)
     (rw (c.push_reserved.ensures.items, c.in-Ok.ensures.items) (ap (λ r. r ∷ []) (done.kept_as ∙ ap (λ (t : Plain AnyJob). record_of any_kind t c.args.command) at))) in
     record {
-      number = c.in-Ok-commit.ensures.mark.0 ∙ ap (λ (t : Plain AnyJob). t.number) (c.in-Ok-commit.ensures.state (c.args.command ∷ []) mine) ∙ ap (λ (t : Plain AnyJob). t.number + 1) (sym at);
-      clock_now = c.in-Ok-commit.ensures.mark.1;
+      number = c.in-Ok-commit.ensures.call.mark.0 ∙ ap (λ (t : Plain AnyJob). t.number) (c.in-Ok-commit.ensures.state (c.args.command ∷ []) mine) ∙ ap (λ (t : Plain AnyJob). t.number + 1) (sym at);
+      clock_now = c.in-Ok-commit.ensures.call.mark.1;
       reply = rw done.exact (ap Ok (sym done.reply));
       state = done.outcome c.args.self.now.state [] (sym (outcome-none any_kind c.args.self.now.state));
-      whole = c.in-Ok-commit.ensures.works.whole refl;
+      whole = c.in-Ok-commit.ensures.call.works.whole refl;
     }

@@ -14,7 +14,7 @@ returns-in-Ok-clause-done g c =
     let old = c.args.self.now in
     let new = c.execute.new.self in
     let h = c.in-Ok.ensures in
-    let whole : old.store.file.broken ≡ false = not_broken old.store.file.broken c.execute.result (c.in-Ok.mark, c.in-Ok.reply) c.in-Ok.is (λ was. (c.execute.ensures.broken was).0) in
+    let whole : old.store.file.broken ≡ false = not_broken old.store.file.broken c.execute.result (c.in-Ok.mark, c.in-Ok.reply) c.in-Ok.is (λ was. (c.execute.ensures.stops.broken was).0) in
     let at = old.same whole in
     let next = new.same h.done.whole in
     let moved : new.store.state ≡ outcome any_kind old.store.state (c.args.command ∷ []) = sym next ∙ h.done.state ∙ ap (λ (s : Plain AnyJob). outcome any_kind s (c.args.command ∷ [])) at in
@@ -35,13 +35,20 @@ returns-in-Err-clause-not_done g c =
     let new = c.execute.new.self in
     let h = c.in-Err.ensures in
     not_done (λ engine. V engine.store.file.disk) (λ engine. engine.store.file.broken) (λ engine. engine.store.state) c.args.command old new old.state new.state _ _ c.in-Err.fault
-    old.same h.refused.0 h.refused.1 h.doubt h.fails
+    old.same h.refused.0 h.refused.1 h.doubt h.stops.fails
     (λ y. rw y.1 (keeps_none (V old.store.file.disk) old.store.file.broken old.store.state, λ whole. whole))
-    (λ was. let t = c.execute.ensures.broken was in (err_is c.execute.result _ c.in-Err.fault c.in-Err.is t.0, (t.1, t.2)))
+    (λ was. let t = c.execute.ensures.stops.broken was in (err_is c.execute.result _ c.in-Err.fault c.in-Err.is t.0, t.1))
     (λ accepted. keeps_doubt (V old.store.file.disk) (V new.store.file.disk) old.store.file.broken old.store.state new.store.state c.args.command (subst IsState c.state.ensures c.number-number.ensures.state) accepted h.calls.takes.later h.calls.honest.0 (λ honest. (h.commits honest).keeps))
 
-pub returns-in-Ok-clause-keeps : goal.returns-in-Ok-clause-keeps
-returns-in-Ok-clause-keeps g c = λ honest. (c.in-Ok.ensures.commits honest).keeps
+pub returns-in-Ok-clause-commits : goal.returns-in-Ok-clause-commits
+returns-in-Ok-clause-commits g c = λ honest.
+    (let V = g.D.Disk.view in
+    let h = c.in-Ok.ensures in
+    let one = h.commits honest in
+    record {
+      keeps = one.keeps;
+      acknowledged = λ image here. one.acknowledged image (subst (λ n. (V c.execute.new.self.store.file.disk).since n image) (sym h.done.clock_now) here);
+    })
 
-pub returns-in-Err-clause-keeps : goal.returns-in-Err-clause-keeps
-returns-in-Err-clause-keeps g c = λ honest. (c.in-Err.ensures.commits honest).keeps
+pub returns-in-Err-clause-commits : goal.returns-in-Err-clause-commits
+returns-in-Err-clause-commits g c = λ honest. record { keeps = (c.in-Err.ensures.commits honest).keeps; acknowledged = tt }

@@ -62,7 +62,7 @@ returns-in-Ok-commit-clause-done g c =
       answered = subst (λ (s : Plain AnyJob). AreAnswered s said) at ran.answered;
       state = moved;
       keeps = subst (λ (n : ℕ). KeepsFrom (V old.store.file.disk) old.store.file.broken old.store.state G n (V c.commit.new.store.file.disk) c.commit.new.store.state) (length_slots said)
-          (keeps_all (V old.store.file.disk) (V c.commit.new.store.file.disk) old.store.file.broken old.store.state c.commit.new.store.state G mine.accepted moved c.in-Ok-commit.ensures.kept c.in-Ok-commit.ensures.acknowledged);
+          (keeps_all (V old.store.file.disk) (V c.commit.new.store.file.disk) old.store.file.broken old.store.state c.commit.new.store.state G mine.accepted moved c.in-Ok-commit.ensures.call.follows.honest.0 c.in-Ok-commit.ensures.acknowledged);
       settled = search rules;
     }
 
@@ -77,7 +77,7 @@ returns-in-Err-commit-clause-not_done g c =
     let few = ran.few in
     let some = ran.some in
     let mine : AreRecordsOf any_kind old.store.state G (map plain c.in-Ok.field-0.records.items) = subst (λ (s : Plain AnyJob). AreRecordsOf any_kind s G (map plain c.in-Ok.field-0.records.items)) at ran.recorded in
-    let same : c.commit.new.store.state ≡ old.store.state = c.in-Err-commit.ensures.same in
+    let same : c.commit.new.store.state ≡ old.store.state = c.in-Err-commit.ensures.call.same in
     rw c.stopped-in-Err-commit.ensures (
       ap (λ (s : Plain AnyJob). stopped_at s.number) same,
       inr (record {
@@ -86,6 +86,6 @@ returns-in-Err-commit-clause-not_done g c =
         answered = subst (λ (s : Plain AnyJob). AreAnswered s said) at ran.answered;
         state = inl same;
         keeps = keeps_some (V old.store.file.disk) (V c.commit.new.store.file.disk) old.store.file.broken old.store.state c.commit.new.store.state G (subst IsState at c.number-number.ensures.state) mine.accepted
-            (omega (arith, some, length_slots said)) c.in-Err-commit.ensures.goes.later c.in-Err-commit.ensures.kept (λ honest start H h all there. c.in-Err-commit.ensures.keeps honest start H G h all there mine);
+            (omega (arith, some, length_slots said)) c.in-Err-commit.ensures.call.follows.goes.later c.in-Err-commit.ensures.call.follows.honest.0 (λ honest start H h all there. c.in-Err-commit.ensures.keeps honest start H G h all there mine);
       }),
     )
