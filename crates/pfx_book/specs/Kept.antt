@@ -49,7 +49,7 @@ module _ {J : Type 0} where
     pub is_told : IsTold K start flushed all lists passes state pending
     pub is_marked : IsMarked start.number flushed all taken marked clock failure
 
-  -- a slot is open: it is the state's, there is a place for its entry, it has room before the mark is 64 after and before the
+  -- a slot is open: it is the state's, there is a place for its entry, it has room before the mark is 64 behind and before the
   -- session is full, and each result that is back is its quantum's
   abbrev pub OpenFits : Kind J → Plain J → ℕ → Option (Dealt J) → ℕ → ℕ → ℕ → Type 0
   OpenFits K state first None marked entries places = ⊤

@@ -90,7 +90,7 @@ module _ {D T : Type 0} {g : Ghosts D} (old new : StoreFile D g) (result : Resul
     pub stays : StaysPut old.places new.places
 
 -- A step of the checkpoint in progress was taken, the one that comes next, and one fewer is to come; after a fault the places are as they
--- were. Frames go if they went, and if none is in progress nothing was done.
+-- were. Frames go where they went, and if none is in progress nothing was done.
 pub record Tends {D : Type 0} {g : Ghosts D} (old new : StoreFile D g) (result : Result Tended StoreFault) : Type 0 where
   pub step : IfOk result (λ tended. tended ≡ next_step old.places)
   pub stays : StaysPut old.places new.places
