@@ -20,7 +20,7 @@ abbrev file : File ℕ (List ℕ)
 file = record {
   head = 10;
   parts = record {
-    slot = false;
+    area = false;
     base = 0 ∷ 0 ∷ [];
     turned = true;
     before = [];
@@ -28,7 +28,7 @@ file = record {
     segment = true;
     frames = (195 ∷ 1 ∷ 2 ∷ 3 ∷ 4 ∷ 5 ∷ []) ∷ [];
   };
-  slot_open = true;
+  area_open = true;
   segment_open = false;
   begun = false;
   done = 0;
@@ -46,8 +46,8 @@ all_steps : end_acts toy file (1 ∷ 7 ∷ []) ≡ steps_acts toy 3 file (1 ∷ 
 all_steps = refl
 
 -- then the second checkpoint area is in use, and one segment is read
-ended_slot : (ended_file toy file).parts.slot ≡ true
-ended_slot = refl
+ended_area : (ended_file toy file).parts.area ≡ true
+ended_area = refl
 
 ended_turned : (ended_file toy file).parts.turned ≡ false
 ended_turned = refl

@@ -12,14 +12,14 @@ use Rattle.pfx_segment.specs.Turning.{Closing}
 use Rattle.pfx_segment.specs.Frames.{IsFrame}
 use Rattle.pfx_segment.proofs.FrameLemmas.{Agree, shut_behind}
 use Rattle.pfx_recovery.specs.Codec.{Codec, Laws}
-use Rattle.pfx_recovery.specs.Layout.{slot_at, segment_at}
+use Rattle.pfx_recovery.specs.Layout.{area_at, segment_at}
 use Rattle.pfx_recovery.specs.Store.{IsStore, Other, next_gate, with_frame, turned_at, finished}
-use Rattle.pfx_recovery.proofs.Regions.{slot_inside, segment_inside, slot_of_segment, other_segment, segment_of_slot, other_slot}
+use Rattle.pfx_recovery.proofs.Regions.{area_inside, segment_inside, area_of_segment, other_segment, segment_of_area, other_area}
 use Rattle.pfx_recovery.proofs.Runs.{not_not}
 use Rattle.pfx_recovery.proofs.Steps.{append_step, turn_shut, turn_whole, close_step, piece_step, open_step, open_whole}
 use Rattle.pfx_store_file.specs.Holding.{IsGate, IsStart}
 use Rattle.pfx_acts.specs.Files.{IsFile, IsWhole}
-use Rattle.pfx_store_file.specs.Files.{File, slot_of, segment_of}
+use Rattle.pfx_store_file.specs.Files.{File, area_of, segment_of}
 use Rattle.pfx_store_file.specs.Acts.{piece_len, closed_file, pieced_file, finished_file, turned_file, framed_file, gate_of}
 use Rattle.pfx_acts.proofs.Partly.{same_again}
 
@@ -52,22 +52,22 @@ module _ {H S : Type 0} (K : Codec H S) (laws : Laws K) (f : File H S) (s : S) w
       stored : IsStore K f.head (with_frame f.parts (GATE_OPEN ∷ body)) t z
       stored = ⊎_elim (λ still. absurd (shut_behind (segment_at (K.layout f.head) f.parts.segment + 9) (segment_at (K.layout f.head) f.parts.segment + (K.layout f.head).segment) f.parts.frames z still.current.are opened)) (λ more. more) (append_any x z is.file appended)
 
-      slot_agrees : Agree (slot_at (K.layout f.head) (not f.parts.slot)) (slot_at (K.layout f.head) (not f.parts.slot) + 1 + (K.layout f.head).body) x z
-      slot_agrees = slot_of_segment (K.layout f.head) (next_gate K f.head f.parts) (1 + length (body ++ 0 ∷ [])) x z is.file.store.long appended.torn f.parts.segment (not f.parts.slot) low
+      area_agrees : Agree (area_at (K.layout f.head) (not f.parts.area)) (area_at (K.layout f.head) (not f.parts.area) + 1 + (K.layout f.head).body) x z
+      area_agrees = area_of_segment (K.layout f.head) (next_gate K f.head f.parts) (1 + length (body ++ 0 ∷ [])) x z is.file.store.long appended.torn f.parts.segment (not f.parts.area) low
 
       segment_agrees : Agree (segment_at (K.layout f.head) (not f.parts.segment)) (segment_at (K.layout f.head) (not f.parts.segment) + (K.layout f.head).segment) x z
       segment_agrees = other_segment (K.layout f.head) (next_gate K f.head f.parts) (1 + length (body ++ 0 ∷ [])) x z is.file.store.long appended.torn f.parts.segment low high
 
-      pub append_all : f.begun ≡ true → length spelling ≡ (K.layout f.head).body → StandAt (slot_of K f + 1) (take f.done spelling) z
+      pub append_all : f.begun ≡ true → length spelling ≡ (K.layout f.head).body → StandAt (area_of K f + 1) (take f.done spelling) z
       append_all begun long i below =
           let short = length-take f.done spelling in
-          slot_agrees (slot_of K f + 1 + i) (omega arith) (omega (arith, below, short, long)) ∙ is.stand begun i below
+          area_agrees (area_of K f + 1 + i) (omega arith) (omega (arith, below, short, long)) ∙ is.stand begun i below
 
       pub append_whole : (f.begun ≡ true → length spelling ≡ (K.layout f.head).body) → IsWhole K spelling t (framed_file K f (GATE_OPEN ∷ body)) z
       append_whole long = record {
         file = record {
           store = stored;
-          slot_gate = gate_same f.slot_open (slot_of K f) x z (slot_agrees (slot_of K f) (omega arith) (omega arith)) is.file.slot_gate;
+          area_gate = gate_same f.area_open (area_of K f) x z (area_agrees (area_of K f) (omega arith) (omega arith)) is.file.area_gate;
           segment_gate = λ single. gate_same f.segment_open (segment_of K f) x z (segment_agrees (segment_of K f) (omega arith) (let r = (K.layout f.head).room in omega (arith, r))) (is.file.segment_gate single);
           begun = is.file.begun;
         };
@@ -100,14 +100,14 @@ module _ {H S : Type 0} (K : Codec H S) (laws : Laws K) (f : File H S) (s : S) w
     torn_of true x y torn = wide x y torn
     torn_of false x y same = subst (λ z. Torn (segment_of K f) (1 + length start) x z) (sym same) (record { no_shorter = omega arith; no_longer = omega arith; elsewhere = λ i inside out. refl })
 
-    slot_kept : (x y : List ℕ) → IsStore K f.head f.parts s x → Torn (segment_of K f) (1 + length start) x y → get_or y (slot_of K f) 0 ≡ get_or x (slot_of K f) 0
-    slot_kept x y is torn = slot_of_segment (K.layout f.head) (segment_of K f) (1 + length start) x y is.long torn (not f.parts.segment) (not f.parts.slot) (omega arith) (slot_of K f) (omega arith) (omega arith)
+    area_kept : (x y : List ℕ) → IsStore K f.head f.parts s x → Torn (segment_of K f) (1 + length start) x y → get_or y (area_of K f) 0 ≡ get_or x (area_of K f) 0
+    area_kept x y is torn = area_of_segment (K.layout f.head) (segment_of K f) (1 + length start) x y is.long torn (not f.parts.segment) (not f.parts.area) (omega arith) (area_of K f) (omega arith) (omega arith)
 
     pub shut_whole : (spelling x y : List ℕ) → IsWhole K spelling s f x → Closing (segment_of K f) f.segment_open x y → get_or y (segment_of K f) 0 ≢ GATE_OPEN → IsWhole K spelling s (record f { segment_open = false }) y
     shut_whole spelling x y is closing shut = record {
       file = record {
         store = shut_any x y is.file closing;
-        slot_gate = gate_same f.slot_open (slot_of K f) x y (slot_kept x y is.file.store (torn_of f.segment_open x y closing)) is.file.slot_gate;
+        area_gate = gate_same f.area_open (area_of K f) x y (area_kept x y is.file.store (torn_of f.segment_open x y closing)) is.file.area_gate;
         segment_gate = λ _. shut;
         begun = is.file.begun;
       };
@@ -139,7 +139,7 @@ module _ {H S : Type 0} (K : Codec H S) (laws : Laws K) (f : File H S) (s : S) w
     turned_whole spelling next x z shut is appended opened = record {
       file = record {
         store = turned x z shut is.file appended opened;
-        slot_gate = gate_same f.slot_open (slot_of K f) x z (slot_kept x z is.file.store appended.torn) is.file.slot_gate;
+        area_gate = gate_same f.area_open (area_of K f) x z (area_kept x z is.file.store appended.torn) is.file.area_gate;
         segment_gate = λ is_single. absurd (true≢false is_single);
         begun = λ began. absurd (false≢true began);
       };
@@ -148,14 +148,14 @@ module _ {H S : Type 0} (K : Codec H S) (laws : Laws K) (f : File H S) (s : S) w
 
   -- A checkpoint's steps.
   module _ (turned : f.parts.turned ≡ true) where
-    pub close_any : (x y : List ℕ) → IsFile K s f x → Closing (slot_of K f) f.slot_open x y → IsStore K f.head f.parts s y
-    close_any x y is closing = close_step K laws f.head f.parts s f.slot_open x y (known_open f.slot_open (slot_of K f) x is.slot_gate) closing is.store
+    pub close_any : (x y : List ℕ) → IsFile K s f x → Closing (area_of K f) f.area_open x y → IsStore K f.head f.parts s y
+    close_any x y is closing = close_step K laws f.head f.parts s f.area_open x y (known_open f.area_open (area_of K f) x is.area_gate) closing is.store
 
-    pub close_whole : (spelling next x y : List ℕ) → IsWhole K spelling s f x → Closing (slot_of K f) f.slot_open x y → get_or y (slot_of K f) 0 ≢ GATE_OPEN → IsWhole K next s (closed_file K f) y
+    pub close_whole : (spelling next x y : List ℕ) → IsWhole K spelling s f x → Closing (area_of K f) f.area_open x y → get_or y (area_of K f) 0 ≢ GATE_OPEN → IsWhole K next s (closed_file K f) y
     close_whole spelling next x y is closing shut = record {
       file = record {
         store = close_any x y is.file closing;
-        slot_gate = shut;
+        area_gate = shut;
         segment_gate = λ single. absurd (false≢true (sym single ∙ turned));
         begun = λ _. (turned, refl);
       };
@@ -163,7 +163,7 @@ module _ {H S : Type 0} (K : Codec H S) (laws : Laws K) (f : File H S) (s : S) w
     }
 
     -- a piece of the body
-    module _ (spelling : List ℕ) (begun : f.begun ≡ true) (shut : f.slot_open ≡ false) (long : length spelling ≡ (K.layout f.head).body) (less : f.done < (K.layout f.head).body) where
+    module _ (spelling : List ℕ) (begun : f.begun ≡ true) (shut : f.area_open ≡ false) (long : length spelling ≡ (K.layout f.head).body) (less : f.done < (K.layout f.head).body) where
       abbrev piece : List ℕ
       piece = take (piece_len K f) (drop f.done spelling)
 
@@ -171,33 +171,33 @@ module _ {H S : Type 0} (K : Codec H S) (laws : Laws K) (f : File H S) (s : S) w
       n_is = omega (arith, length-take (piece_len K f) (drop f.done spelling), length-drop f.done spelling, long)
 
       abbrev at : ℕ
-      at = slot_of K f + 1 + f.done
+      at = area_of K f + 1 + f.done
 
-      pub piece_file : (x y : List ℕ) → IsFile K s f x → Torn (slot_of K f + 1 + f.done) (length (take (piece_len K f) (drop f.done spelling))) x y → IsFile K s (pieced_file K f) y
+      pub piece_file : (x y : List ℕ) → IsFile K s f x → Torn (area_of K f + 1 + f.done) (length (take (piece_len K f) (drop f.done spelling))) x y → IsFile K s (pieced_file K f) y
       piece_file x y is torn =
-          let both = piece_step K laws f.head f.parts s at (length piece) x y (omega arith) (omega (arith, n_is, less)) (known_shut f.slot_open (slot_of K f) x is.slot_gate shut) torn is.store in
+          let both = piece_step K laws f.head f.parts s at (length piece) x y (omega arith) (omega (arith, n_is, less)) (known_shut f.area_open (area_of K f) x is.area_gate shut) torn is.store in
           record {
             store = both.0;
-            slot_gate = subst (λ b. IsGate b (slot_of K f) y) (sym shut) both.1;
+            area_gate = subst (λ b. IsGate b (area_of K f) y) (sym shut) both.1;
             segment_gate = λ single. absurd (false≢true (sym single ∙ turned));
             begun = is.begun;
           }
 
-      pub piece_whole : (x : List ℕ) → IsWhole K spelling s f x → IsWhole K spelling s (pieced_file K f) (put (slot_of K f + 1 + f.done) (take (piece_len K f) (drop f.done spelling)) x)
+      pub piece_whole : (x : List ℕ) → IsWhole K spelling s f x → IsWhole K spelling s (pieced_file K f) (put (area_of K f + 1 + f.done) (take (piece_len K f) (drop f.done spelling)) x)
       piece_whole x is = record { file = piece_file x (put at piece x) is.file torn; stand = λ _ i below. stands i below }
         where
           torn : Torn at (length piece) x (put at piece x)
           torn = put_torn at piece x
 
-          inside : slot_of K f + 1 + (K.layout f.head).body ≤ length x
-          inside = omega (arith, is.file.store.long, slot_inside (K.layout f.head) (not f.parts.slot))
+          inside : area_of K f + 1 + (K.layout f.head).body ≤ length x
+          inside = omega (arith, is.file.store.long, area_inside (K.layout f.head) (not f.parts.area))
 
           written : Written at piece x (put at piece x)
           written = put_inside at piece x (omega (arith, inside, less))
 
-          stands : StandAt (slot_of K f + 1) (take (f.done + piece_len K f) spelling) (put at piece x)
+          stands : StandAt (area_of K f + 1) (take (f.done + piece_len K f) spelling) (put at piece x)
           stands i below = ⊎_elim
-              (λ early. torn.elsewhere (slot_of K f + 1 + i) (omega (arith, inside, early, less)) (inl (omega (arith, early)))
+              (λ early. torn.elsewhere (area_of K f + 1 + i) (omega (arith, inside, early, less)) (inl (omega (arith, early)))
               ∙ is.stand begun i (omega (arith, early, length-take f.done spelling, long, less))
               ∙ get_or-take f.done spelling i 0 early ∙ sym (get_or-take (f.done + piece_len K f) spelling i 0 short))
               (λ late. ap (λ (k : ℕ). get_or (put at piece x) k 0) (place late) ∙ written_stands at piece x (put at piece x) (omega (arith, inside, less)) written (i - f.done) (omega (arith, late, short, n_is))
@@ -208,25 +208,25 @@ module _ {H S : Type 0} (K : Codec H S) (laws : Laws K) (f : File H S) (s : S) w
               short : i < f.done + piece_len K f
               short = omega (arith, below, length-take (f.done + piece_len K f) spelling)
 
-              place : f.done ≤ i → slot_of K f + 1 + i ≡ slot_of K f + 1 + f.done + (i - f.done)
+              place : f.done ≤ i → area_of K f + 1 + i ≡ area_of K f + 1 + f.done + (i - f.done)
               place late = omega (arith, late)
 
     -- the end
-    module _ (spelling : List ℕ) (begun : f.begun ≡ true) (shut : f.slot_open ≡ false) (read : K.read_state f.head spelling ≡ Some f.parts.middle) (long : length spelling ≡ (K.layout f.head).body) (whole : (K.layout f.head).body ≤ f.done) where
-      pub finish_inside : (x : List ℕ) → IsWhole K spelling s f x → slot_of K f + length spelling < length x
-      finish_inside x is = omega (arith, long, is.file.store.long, slot_inside (K.layout f.head) (not f.parts.slot))
+    module _ (spelling : List ℕ) (begun : f.begun ≡ true) (shut : f.area_open ≡ false) (read : K.read_state f.head spelling ≡ Some f.parts.middle) (long : length spelling ≡ (K.layout f.head).body) (whole : (K.layout f.head).body ≤ f.done) where
+      pub finish_inside : (x : List ℕ) → IsWhole K spelling s f x → area_of K f + length spelling < length x
+      finish_inside x is = omega (arith, long, is.file.store.long, area_inside (K.layout f.head) (not f.parts.area))
 
-      pub finish_stand : (x : List ℕ) → IsWhole K spelling s f x → StandAt (slot_of K f + 1) spelling x
-      finish_stand x is = subst (λ (l : List ℕ). StandAt (slot_of K f + 1) l x) (take_all f.done spelling (omega (arith, whole, long))) (is.stand begun)
+      pub finish_stand : (x : List ℕ) → IsWhole K spelling s f x → StandAt (area_of K f + 1) spelling x
+      finish_stand x is = subst (λ (l : List ℕ). StandAt (area_of K f + 1) l x) (take_all f.done spelling (omega (arith, whole, long))) (is.stand begun)
 
-      pub finish_any : (x z : List ℕ) → IsWhole K spelling s f x → Appended (slot_of K f) spelling x z → IsStore K f.head f.parts s z ⊎ IsStore K f.head (finished f.parts) s z
-      finish_any x z is appended = open_step K laws f.head f.parts s spelling x z turned read long (known_shut f.slot_open (slot_of K f) x is.file.slot_gate shut) appended is.file.store
+      pub finish_any : (x z : List ℕ) → IsWhole K spelling s f x → Appended (area_of K f) spelling x z → IsStore K f.head f.parts s z ⊎ IsStore K f.head (finished f.parts) s z
+      finish_any x z is appended = open_step K laws f.head f.parts s spelling x z turned read long (known_shut f.area_open (area_of K f) x is.file.area_gate shut) appended is.file.store
 
-      pub finish_whole : (next x z : List ℕ) → IsWhole K spelling s f x → Appended (slot_of K f) spelling x z → get_or z (slot_of K f) 0 ≡ GATE_OPEN → IsWhole K next s (finished_file K f) z
+      pub finish_whole : (next x z : List ℕ) → IsWhole K spelling s f x → Appended (area_of K f) spelling x z → get_or z (area_of K f) 0 ≡ GATE_OPEN → IsWhole K next s (finished_file K f) z
       finish_whole next x z is appended opened = record {
         file = record {
           store = ended;
-          slot_gate = used_open;
+          area_gate = used_open;
           segment_gate = λ _. older_open;
           begun = λ began. absurd (false≢true began);
         };
@@ -238,19 +238,19 @@ module _ {H S : Type 0} (K : Codec H S) (laws : Laws K) (f : File H S) (s : S) w
 
           ended : IsStore K f.head (finished f.parts) s z
           ended = ⊎_elim
-              (λ same. absurd (known_shut f.slot_open (slot_of K f) x is.file.slot_gate shut (sym same ∙ opened)))
+              (λ same. absurd (known_shut f.area_open (area_of K f) x is.file.area_gate shut (sym same ∙ opened)))
               (λ stand. open_whole K laws f.head f.parts s spelling x z turned read long appended.torn opened stand was)
               (appended.gate_last (omega (arith, finish_inside x is)))
 
-          used_agrees : Agree (slot_at (K.layout f.head) f.parts.slot) (slot_at (K.layout f.head) f.parts.slot + 1 + (K.layout f.head).body) x z
-          used_agrees = subst (λ t. Agree (slot_at (K.layout f.head) t) (slot_at (K.layout f.head) t + 1 + (K.layout f.head).body) x z) (not_not f.parts.slot)
-              (other_slot (K.layout f.head) (slot_of K f) (1 + length spelling) x z was.long appended.torn (not f.parts.slot) (omega arith) (omega (arith, long)))
+          used_agrees : Agree (area_at (K.layout f.head) f.parts.area) (area_at (K.layout f.head) f.parts.area + 1 + (K.layout f.head).body) x z
+          used_agrees = subst (λ t. Agree (area_at (K.layout f.head) t) (area_at (K.layout f.head) t + 1 + (K.layout f.head).body) x z) (not_not f.parts.area)
+              (other_area (K.layout f.head) (area_of K f) (1 + length spelling) x z was.long appended.torn (not f.parts.area) (omega arith) (omega (arith, long)))
 
-          used_open : get_or z (slot_at (K.layout f.head) (not (not f.parts.slot))) 0 ≡ GATE_OPEN
-          used_open = subst (λ t. get_or z (slot_at (K.layout f.head) t) 0 ≡ GATE_OPEN) (sym (not_not f.parts.slot)) (used_agrees (slot_at (K.layout f.head) f.parts.slot) (omega arith) (omega arith) ∙ was.slot.gate)
+          used_open : get_or z (area_at (K.layout f.head) (not (not f.parts.area))) 0 ≡ GATE_OPEN
+          used_open = subst (λ t. get_or z (area_at (K.layout f.head) t) 0 ≡ GATE_OPEN) (sym (not_not f.parts.area)) (used_agrees (area_at (K.layout f.head) f.parts.area) (omega arith) (omega arith) ∙ was.area.gate)
 
           older_open : get_or z (segment_at (K.layout f.head) (not f.parts.segment)) 0 ≡ GATE_OPEN
           older_open =
               let two : Other K f.head true f.parts s x = subst (λ t. Other K f.head t f.parts s x) turned was.other in
-              segment_of_slot (K.layout f.head) (slot_of K f) (1 + length spelling) x z was.long appended.torn (not f.parts.slot) (not f.parts.segment) (omega (arith, long))
+              segment_of_area (K.layout f.head) (area_of K f) (1 + length spelling) x z was.long appended.torn (not f.parts.area) (not f.parts.segment) (omega (arith, long))
               (segment_at (K.layout f.head) (not f.parts.segment)) (omega arith) (let r = (K.layout f.head).room in omega (arith, r)) ∙ two.0.gate

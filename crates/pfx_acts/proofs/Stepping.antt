@@ -8,11 +8,11 @@ use Rattle.pfx_segment.specs.Frames.{IsFrame, size}
 use Rattle.pfx_recovery.specs.Codec.{Codec, Laws}
 use Rattle.pfx_recovery.specs.Layout.{segment_at, segment_end}
 use Rattle.pfx_recovery.specs.Store.{Parts, IsStore, next_gate, turned_at, finished}
-use Rattle.pfx_recovery.proofs.Regions.{slot_inside, segment_inside}
+use Rattle.pfx_recovery.proofs.Regions.{area_inside, segment_inside}
 use Rattle.pfx_store_file.specs.Holding.{IsStart}
 use Rattle.pfx_acts.specs.Files.{IsFile, IsWhole}
 use Rattle.pfx_segment.specs.Acts.{put_acts, close_acts, open_acts}
-use Rattle.pfx_store_file.specs.Files.{File, slot_of, segment_of}
+use Rattle.pfx_store_file.specs.Files.{File, area_of, segment_of}
 use Rattle.pfx_store_file.specs.Acts.{piece_acts, tend_acts, closed_file, pieced_file, finished_file, tended_file, steps_acts, stepped_file, end_acts, ended_file, turn_acts, turned_file, gate_of, has_room, framed_file, append_acts, appended_file, roomy_file}
 use Rattle.pfx_store_file.proofs.Ends.{by_if₂, Kept, tended_kept, stepped_kept, has_ended}
 use Rattle.pfx_acts.proofs.Chains.{Chain, chain_then, chain_none, chain_with, chain_write}
@@ -41,15 +41,15 @@ module _ {H S : Type 0} (K : Codec H S) (laws : Laws K) (D : List ℕ → Type 0
     file : (f : File H S) (spelling x : List ℕ) → IsWhole K spelling s f x → IsFile K s f x
     file f spelling x is = is.file
 
-    slot_there : (f : File H S) (spelling x : List ℕ) → IsWhole K spelling s f x → slot_of K f < length x
-    slot_there f spelling x is = omega (arith, is.file.store.long, slot_inside (K.layout f.head) (not f.parts.slot))
+    area_there : (f : File H S) (spelling x : List ℕ) → IsWhole K spelling s f x → area_of K f < length x
+    area_there f spelling x is = omega (arith, is.file.store.long, area_inside (K.layout f.head) (not f.parts.area))
 
-    closes : (f : File H S) (spelling next : List ℕ) → f.parts.turned ≡ true → Goes f s spelling (close_acts (slot_of K f) f.slot_open) (closed_file K f) s next
-    closes f spelling next turned = close_chain D (IsFile K s f) (IsWhole K spelling s f) (IsFile K s (closed_file K f)) (IsWhole K next s (closed_file K f)) (slot_of K f)
-        (within f) (within (closed_file K f)) (λ x w. w.file) f.slot_open (slot_there f spelling)
+    closes : (f : File H S) (spelling next : List ℕ) → f.parts.turned ≡ true → Goes f s spelling (close_acts (area_of K f) f.area_open) (closed_file K f) s next
+    closes f spelling next turned = close_chain D (IsFile K s f) (IsWhole K spelling s f) (IsFile K s (closed_file K f)) (IsWhole K next s (closed_file K f)) (area_of K f)
+        (within f) (within (closed_file K f)) (λ x w. w.file) f.area_open (area_there f spelling)
         (λ x y is closing. one f.head f.parts y (close_any K laws f s turned x y is closing))
         (λ x y is closing shut. close_whole K laws f s turned spelling next x y is closing shut)
-        (λ x is shut. known_shut f.slot_open (slot_of K f) x is.file.slot_gate shut)
+        (λ x is shut. known_shut f.area_open (area_of K f) x is.file.area_gate shut)
 
     pieces : (f : File H S) (spelling : List ℕ) → f.parts.turned ≡ true → f.begun ≡ true → Spells K f spelling → f.done < (K.layout f.head).body → Goes f s spelling (piece_acts K f spelling) (pieced_file K f) s spelling
     pieces f spelling turned begun spells less = chain_with D (IsFile K s f) (IsWhole K spelling s f) (IsFile K s (pieced_file K f)) (IsWhole K spelling s (pieced_file K f)) (piece_acts K f spelling) (λ x was.
@@ -59,12 +59,12 @@ module _ {H S : Type 0} (K : Codec H S) (laws : Laws K) (D : List ℕ → Type 0
         (λ x y is torn. piece_file K laws f s turned spelling begun shut long less x y is torn)
         (λ x is. piece_whole K laws f s turned spelling begun shut long less x is))
 
-    finishes : (f : File H S) (spelling next : List ℕ) → f.parts.turned ≡ true → f.begun ≡ true → Spells K f spelling → (K.layout f.head).body ≤ f.done → Goes f s spelling (open_acts (slot_of K f)) (finished_file K f) s next
-    finishes f spelling next turned begun spells whole = chain_with D (IsFile K s f) (IsWhole K spelling s f) (IsFile K s (finished_file K f)) (IsWhole K next s (finished_file K f)) (open_acts (slot_of K f)) (λ x was.
+    finishes : (f : File H S) (spelling next : List ℕ) → f.parts.turned ≡ true → f.begun ≡ true → Spells K f spelling → (K.layout f.head).body ≤ f.done → Goes f s spelling (open_acts (area_of K f)) (finished_file K f) s next
+    finishes f spelling next turned begun spells whole = chain_with D (IsFile K s f) (IsWhole K spelling s f) (IsFile K s (finished_file K f)) (IsWhole K next s (finished_file K f)) (open_acts (area_of K f)) (λ x was.
         let shut = (was.file.begun begun).1 in
         let read = (spells turned).0 in
         let long = (spells turned).1 in
-        open_chain D (IsFile K s f) (IsWhole K spelling s f) (IsFile K s (finished_file K f)) (IsWhole K next s (finished_file K f)) (slot_of K f) (within f) (within (finished_file K f)) (λ x w. w.file)
+        open_chain D (IsFile K s f) (IsWhole K spelling s f) (IsFile K s (finished_file K f)) (IsWhole K next s (finished_file K f)) (area_of K f) (within f) (within (finished_file K f)) (λ x w. w.file)
         spelling (λ x w. w.file)
         (λ x is. finish_inside K laws f s turned spelling begun shut read long whole x is)
         (λ x is. finish_stand K laws f s turned spelling begun shut read long whole x is)
@@ -78,8 +78,8 @@ module _ {H S : Type 0} (K : Codec H S) (laws : Laws K) (D : List ℕ → Type 0
     pub tends : (f : File H S) (spelling : List ℕ) → Spells K f spelling → Goes f s spelling (tend_acts K f spelling) (tended_file K f) s spelling
     tends f spelling spells =
         by_if₂ (λ calls g. Goes f s spelling calls g s spelling) f.parts.turned _ [] _ f
-        (λ turned. by_if₂ (λ calls g. Goes f s spelling calls g s spelling) f.begun _ (close_acts (slot_of K f) f.slot_open) _ (closed_file K f)
-        (λ begun. by_if₂ (λ calls g. Goes f s spelling calls g s spelling) (nat_lt f.done (K.layout f.head).body) (piece_acts K f spelling) (open_acts (slot_of K f)) (pieced_file K f) (finished_file K f)
+        (λ turned. by_if₂ (λ calls g. Goes f s spelling calls g s spelling) f.begun _ (close_acts (area_of K f) f.area_open) _ (closed_file K f)
+        (λ begun. by_if₂ (λ calls g. Goes f s spelling calls g s spelling) (nat_lt f.done (K.layout f.head).body) (piece_acts K f spelling) (open_acts (area_of K f)) (pieced_file K f) (finished_file K f)
         (λ less. pieces f spelling turned begun spells (ltb-true _ _ less))
         (λ whole. finishes f spelling spelling turned begun spells (ltb-false _ _ whole)))
         (λ none. closes f spelling spelling turned))
@@ -113,7 +113,7 @@ module _ {H S : Type 0} (K : Codec H S) (laws : Laws K) (D : List ℕ → Type 0
 
         back : (z : List ℕ) → IsWhole K next s (turned_file K f1 s) z → IsWhole K next s (turned_file K f s) z
         back z w = record {
-          file = record { store = w.file.store; slot_gate = w.file.slot_gate; segment_gate = λ is. absurd (true≢false is); begun = w.file.begun };
+          file = record { store = w.file.store; area_gate = w.file.area_gate; segment_gate = λ is. absurd (true≢false is); begun = w.file.begun };
           stand = w.stand;
         }
 

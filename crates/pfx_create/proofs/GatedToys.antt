@@ -34,7 +34,7 @@ gated_meets laws = record {
   head_whole = λ h bytes is. head_whole h bytes is;
   head_alone = λ h bytes other is same. sym (front other) ∙ ap gated_head same ∙ front bytes ∙ is;
   head_refused = λ bytes refusal is. head_refused bytes refusal is;
-  slot_number = λ h body s is. laws.slot_number h body s is;
+  area_number = λ h body s is. laws.area_number h body s is;
   later = λ n frame m is. laws.later n frame m is;
   after = λ s frame t is. laws.after s frame t is;
 }

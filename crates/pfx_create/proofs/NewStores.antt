@@ -2,7 +2,7 @@
 use Rattle.std.proofs.Common.{◌≡◌, ℕ, ◌+◌, ◌*◌, List, length, sym, ◌∙◌, ap, subst, arith, Bool, true, false, not}
 use Rattle.std.proofs.lemmas.Bool.{true≢false}
 use Rattle.pfx_recovery.specs.Codec.{Codec}
-use Rattle.pfx_recovery.specs.Layout.{Layout, slot_at, segment_at, IsClosedAt}
+use Rattle.pfx_recovery.specs.Layout.{Layout, area_at, segment_at, IsClosedAt}
 use Rattle.pfx_recovery.specs.NewFile.{new_file, new_parts, IsNewFile}
 use Rattle.pfx_recovery.proofs.NewFiles.{made_new}
 use Rattle.pfx_store_file.specs.Holding.{ArePlaces, IsGate}
@@ -31,7 +31,7 @@ module _ {H S : Type 0} (K : Codec H S) (h : H) (s : S) (head body : List ℕ) (
     pub are_places : ArePlaces K h (new_parts s) places
     are_places = record {
       fits = record { head = are.head ∙ made.parts.head_long; body = are.body ∙ made.parts.body_long; segment = are.segment_len ∙ made.of_segment };
-      slot = are.slot;
+      area = are.area;
       segment = are.segment;
       turned = are.turned;
       gate = omega (arith, are.gate, made.parts.head_long, made.parts.body_long);
@@ -39,8 +39,8 @@ module _ {H S : Type 0} (K : Codec H S) (h : H) (s : S) (head body : List ℕ) (
     }
 
     module _ (contents : List ℕ) (is : contents ≡ new_file (K.layout h) head body number_one) where
-      pub slot_gate : IsGate places.slot_open (slot_at (K.layout h) (not false)) contents
-      slot_gate = gate_of places.slot_open (slot_at (K.layout h) (not false)) contents are.slot_open (subst (λ (l : List ℕ). IsClosedAt (slot_at (K.layout h) true) l) (sym is) is_new.other_slot)
+      pub area_gate : IsGate places.area_open (area_at (K.layout h) (not false)) contents
+      area_gate = gate_of places.area_open (area_at (K.layout h) (not false)) contents are.area_open (subst (λ (l : List ℕ). IsClosedAt (area_at (K.layout h) true) l) (sym is) is_new.other_area)
 
       pub segment_gate : IsGate places.segment_open (segment_at (K.layout h) (not false)) contents
       segment_gate = gate_of places.segment_open (segment_at (K.layout h) (not false)) contents are.segment_open (subst (λ (l : List ℕ). IsClosedAt (segment_at (K.layout h) true) l) (sym is) is_new.other_segment)

@@ -7,12 +7,12 @@ pub record AreNew (head_len body_len long : ℕ) (places : Places) : Type 0 wher
   pub head : places.head ≡ head_len
   pub body : places.body ≡ body_len
   pub segment_len : places.segment_len ≡ long
-  pub slot : places.slot ≡ false
+  pub area : places.area ≡ false
   pub segment : places.segment ≡ false
   pub turned : places.turned ≡ false
   pub gate : places.gate ≡ head_len + 2 * (1 + body_len) + 9
   pub end : places.end ≡ head_len + 2 * (1 + body_len) + long
-  pub slot_open : places.slot_open ≡ false
+  pub area_open : places.area_open ≡ false
   pub segment_open : places.segment_open ≡ false
   pub begun : places.begun ≡ false
   pub done : places.done ≡ 0

@@ -21,16 +21,16 @@ pub fn byte_at(head: &[u8], body: &[u8], segment: usize, at: usize) -> u8
     ensures { (L : Layout) → HasLengths L head.now body.now segment
         → result ≡ slice_index (new_file L head.now body.now number_one) at }
 {
-    let slot = head.len();
-    let segments = slot + 2 * (1 + body.len());
-    if at < slot {
+    let area = head.len();
+    let segments = area + 2 * (1 + body.len());
+    if at < area {
         return head[at];
     }
-    if at == slot || at == segments {
+    if at == area || at == segments {
         return GATE_OPEN;
     }
-    if at <= slot + body.len() {
-        return body[at - slot - 1];
+    if at <= area + body.len() {
+        return body[at - area - 1];
     }
     if at == segments + 1 { 1 } else { 0 }
 }

@@ -32,7 +32,7 @@ module _ {J : Type 0} (K : Kind J) (L : Laws K) (h : Header) where
     header_is = read_a_header image h is.head
 
     base_is : IsOf h p.base
-    base_is = let only = only_states K h.set _ p.base (read_filled image h is.head) is.slot.body in record { state = only.0; set = only.1 }
+    base_is = let only = only_states K h.set _ p.base (read_filled image h is.head) is.area.body in record { state = only.0; set = only.1 }
 
     middle_by : (t : Bool) → Other (format K) h t p s image → IsOf h p.middle
     middle_by false other = subst (IsOf h) other.1 base_is

@@ -25,7 +25,7 @@ use Rattle.pfx_machine.specs.Plain.{Plain, IsState}
 use Rattle.pfx_machine.specs.Outcome.{outcome}
 use Rattle.pfx_machine.specs.Sessions.{IsAcceptable}
 use Rattle.pfx_machine.specs.declared.command.Command.{Command}
-use Rattle.pfx_recovery.specs.Layout.{slot_at, segment_at, is_open}
+use Rattle.pfx_recovery.specs.Layout.{area_at, segment_at, is_open}
 use Rattle.pfx_recovery.specs.Recovery.{Found, found}
 use Rattle.pfx_recovery.specs.Refusals.{Refusal}
 use Rattle.pfx_recovery.specs.Store.{Parts, IsStore}
@@ -50,7 +50,7 @@ module _ {J : Type 0} (K : Kind J) (L : Laws K) where
   file_is : (h : Header) (p : Parts (Plain J)) (s : Plain J) (image : List ℕ) → IsStore (format K) h p s image → IsFile (format K) s (file_in (format K) image h p) image
   file_is h p s image is = record {
     store = is;
-    slot_gate = gate_is (slot_at (layout h) (not p.slot)) image;
+    area_gate = gate_is (area_at (layout h) (not p.area)) image;
     segment_gate = λ single. gate_is (segment_at (layout h) (not p.segment)) image;
     begun = λ began. absurd (false≢true began);
   }

@@ -44,7 +44,7 @@ format_laws K L = record {
   head_whole = λ h bytes is. read_whole bytes h is;
   head_alone = λ h bytes other is same. alone bytes other h is same;
   head_refused = λ bytes refusal is. refused_of_header bytes refusal is;
-  slot_number = λ h bytes s is. ap (λ (t : Plain _). t.number) (read_of K h.set bytes s is).is;
+  area_number = λ h bytes s is. ap (λ (t : Plain _). t.number) (read_of K h.set bytes s is).is;
   later = later;
   after = λ s frame t is. number_agrees K L s frame t is;
 }

@@ -21,7 +21,7 @@ abbrev pub format : {J : Type 0} → Kind J → Codec Header (Plain J)
 format K = record {
   read_head = read_header;
   layout = layout;
-  slot_number = number_at 0;
+  area_number = number_at 0;
   read_state = λ h bytes. read_state K h.set bytes;
   number = λ s. s.number;
   segment_number = little_number 8;

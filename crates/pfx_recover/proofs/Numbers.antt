@@ -2,8 +2,8 @@
 use Rattle.std.proofs.Common.{◌≡◌, ℕ, ◌+◌, ◌≤◌, List, take, drop, ◌∙◌, ap, refl, sym, arith, Bool, true, false, not, cond}
 use Rattle.std.proofs.lemmas.List.{drop-take, drop-drop, take-take}
 use Rattle.pfx_recovery.specs.Codec.{Codec}
-use Rattle.pfx_recovery.specs.Layout.{slot_at, segment_at, is_open, first_at, body_at}
-use Rattle.pfx_recovery.specs.Recovery.{taken, begun, slot_taken, segment_begun}
+use Rattle.pfx_recovery.specs.Layout.{area_at, segment_at, is_open, first_at, body_at}
+use Rattle.pfx_recovery.specs.Recovery.{taken, begun, area_taken, segment_begun}
 use Rattle.pfx_recover.specs.Formats.{Bounds}
 
 pub first_is : (at : ℕ) (read contents bytes : List ℕ) → contents ≡ bytes → read ≡ take 9 (drop at contents) → take 8 (drop 1 read) ≡ first_at at bytes
@@ -30,23 +30,23 @@ module _ {H S : Type 0} (K : Codec H S) (h : H) (bytes : List ℕ) where
   open_is p r g place is = is ∙ ap (λ (k : ℕ). is_open k bytes) place
 
   -- the number of a checkpoint area is read from its first eight bytes
-  number_is : (fits : H → S → Type 0) (most : ℕ) → Bounds K fits most → (p at a : ℕ) (m : List ℕ) → p ≡ at → 8 ≤ (K.layout h).body → m ≡ first_at p bytes → a ≡ K.slot_number m → a ≡ K.slot_number (body_at (K.layout h) at bytes)
+  number_is : (fits : H → S → Type 0) (most : ℕ) → Bounds K fits most → (p at a : ℕ) (m : List ℕ) → p ≡ at → 8 ≤ (K.layout h).body → m ≡ first_at p bytes → a ≡ K.area_number m → a ≡ K.area_number (body_at (K.layout h) at bytes)
   number_is fits most bounds p at a m place long is of =
-      of ∙ ap (λ (l : List ℕ). K.slot_number l) is ∙ ap (λ (k : ℕ). K.slot_number (first_at k bytes)) place
-      ∙ ap (λ (l : List ℕ). K.slot_number l) (sym (take-take 8 (K.layout h).body (drop (at + 1) bytes) long)) ∙ bounds.eight (body_at (K.layout h) at bytes)
+      of ∙ ap (λ (l : List ℕ). K.area_number l) is ∙ ap (λ (k : ℕ). K.area_number (first_at k bytes)) place
+      ∙ ap (λ (l : List ℕ). K.area_number l) (sym (take-take 8 (K.layout h).body (drop (at + 1) bytes) long)) ∙ bounds.eight (body_at (K.layout h) at bytes)
 
-  pub slot_taken_by : (fits : H → S → Type 0) (most : ℕ) → Bounds K fits most → 8 ≤ (K.layout h).body
-      → (p q : ℕ) (g j : Bool) (a b : ℕ) (m n : List ℕ) → p ≡ slot_at (K.layout h) false → q ≡ slot_at (K.layout h) true → g ≡ is_open p bytes → j ≡ is_open q bytes
-      → m ≡ first_at p bytes → n ≡ first_at q bytes → a ≡ K.slot_number m → b ≡ K.slot_number n → taken p q g j a b ≡ slot_taken K h bytes
-  slot_taken_by fits most bounds long p q g j a b m n p_is q_is g_is j_is m_is n_is a_is b_is =
-      taken_same p q (slot_at (K.layout h) false) (slot_at (K.layout h) true) g j _ _ a b _ _ p_is q_is (open_is p _ g p_is g_is) (open_is q _ j q_is j_is)
+  pub area_taken_by : (fits : H → S → Type 0) (most : ℕ) → Bounds K fits most → 8 ≤ (K.layout h).body
+      → (p q : ℕ) (g j : Bool) (a b : ℕ) (m n : List ℕ) → p ≡ area_at (K.layout h) false → q ≡ area_at (K.layout h) true → g ≡ is_open p bytes → j ≡ is_open q bytes
+      → m ≡ first_at p bytes → n ≡ first_at q bytes → a ≡ K.area_number m → b ≡ K.area_number n → taken p q g j a b ≡ area_taken K h bytes
+  area_taken_by fits most bounds long p q g j a b m n p_is q_is g_is j_is m_is n_is a_is b_is =
+      taken_same p q (area_at (K.layout h) false) (area_at (K.layout h) true) g j _ _ a b _ _ p_is q_is (open_is p _ g p_is g_is) (open_is q _ j q_is j_is)
       (number_is fits most bounds p _ a m p_is long m_is a_is) (number_is fits most bounds q _ b n q_is long n_is b_is)
 
-  pub slot_open_by : (p q : ℕ) (g j : Bool) (second is_second other : Bool) → p ≡ slot_at (K.layout h) false → q ≡ slot_at (K.layout h) true → g ≡ is_open p bytes → j ≡ is_open q bytes
-      → second ≡ is_second → other ≡ cond is_second g j → other ≡ is_open (slot_at (K.layout h) (not second)) bytes
-  slot_open_by p q g j second is_second other p_is q_is g_is j_is same is =
-      is ∙ other_is (λ b. is_open (slot_at (K.layout h) b) bytes) g j is_second (open_is p _ g p_is g_is) (open_is q _ j q_is j_is)
-      ∙ ap (λ b. is_open (slot_at (K.layout h) (not b)) bytes) (sym same)
+  pub area_open_by : (p q : ℕ) (g j : Bool) (second is_second other : Bool) → p ≡ area_at (K.layout h) false → q ≡ area_at (K.layout h) true → g ≡ is_open p bytes → j ≡ is_open q bytes
+      → second ≡ is_second → other ≡ cond is_second g j → other ≡ is_open (area_at (K.layout h) (not second)) bytes
+  area_open_by p q g j second is_second other p_is q_is g_is j_is same is =
+      is ∙ other_is (λ b. is_open (area_at (K.layout h) b) bytes) g j is_second (open_is p _ g p_is g_is) (open_is q _ j q_is j_is)
+      ∙ ap (λ b. is_open (area_at (K.layout h) (not b)) bytes) (sym same)
 
   first_number : (p at a : ℕ) (m : List ℕ) → p ≡ at → m ≡ first_at p bytes → a ≡ K.segment_number m → a ≡ K.segment_number (first_at at bytes)
   first_number p at a m place is of = of ∙ ap (λ (l : List ℕ). K.segment_number l) is ∙ ap (λ (k : ℕ). K.segment_number (first_at k bytes)) place

@@ -3,8 +3,8 @@ use Rattle.std.proofs.Common.{◌≡◌, ◌≢◌, ℕ, ◌+◌, List, length, 
 use Rattle.std.specs.declared.alloc.Global.{Global}
 use Rattle.pfx_segment.specs.Frames.{size}
 use Rattle.pfx_recovery.specs.Codec.{Codec}
-use Rattle.pfx_recovery.specs.Layout.{slot_at, segment_at, first_gate, segment_end, is_open, IsOpenAt, file_len, body_at}
-use Rattle.pfx_recovery.specs.Recovery.{Found, found_of, on_ok, on_some, walk, replay, slot_taken, segment_begun, walk_segment, follows, is_passed, from_one, from_two, from_frames, from_segment, from_state, from_slot, from_head, found, recovered}
+use Rattle.pfx_recovery.specs.Layout.{area_at, segment_at, first_gate, segment_end, is_open, IsOpenAt, file_len, body_at}
+use Rattle.pfx_recovery.specs.Recovery.{Found, found_of, on_ok, on_some, walk, replay, area_taken, segment_begun, walk_segment, follows, is_passed, from_one, from_two, from_frames, from_segment, from_state, from_area, from_head, found, recovered}
 use Rattle.pfx_recovery.specs.Refusals as means
 use Rattle.pfx_recovery.specs.Store.{single, double}
 use Rattle.pfx_recovery.proofs.Backs.{opened_at, shut_at}
@@ -13,7 +13,7 @@ use Rattle.pfx_recovery.proofs.Stages.{from_one_as, from_two_as}
 use Rattle.pfx_store_file.specs.Holding.{IsGate}
 use Rattle.pfx_store_file.specs.declared.places.Places.{Places}
 use Rattle.pfx_recover.specs.Answers.{Gives, IsRefusal, refusal_of}
-use Rattle.pfx_recover.specs.Choosing.{IsSlot, IsSegment, slot_state}
+use Rattle.pfx_recover.specs.Choosing.{IsArea, IsSegment, area_state}
 use Rattle.pfx_recover.specs.Finding.{IsFound}
 use Rattle.pfx_recover.specs.Walking.{StandIn, AreInUse, Fill, frames_of}
 use Rattle.pfx_recover.specs.declared.choosing.Choice.{Choice}
@@ -80,11 +80,11 @@ module _ {H S : Type 0} (K : Codec H S) (h : H) (bytes : List ℕ) where
   some_is (Some s) e f = refl
   some_is None e f = refl
 
-  pub slot_is : (c : Bool) → from_slot K h bytes c ≡ on_ok (slot_state K h bytes c) (λ s. from_state K h bytes c s)
-  unfolding from_slot
-  slot_is c = some_is (K.read_state h (body_at (K.layout h) (slot_at (K.layout h) c) bytes)) (means.Damaged (slot_at (K.layout h) c) means.Checkpoint) (λ s. from_state K h bytes c s)
+  pub area_is : (c : Bool) → from_area K h bytes c ≡ on_ok (area_state K h bytes c) (λ s. from_state K h bytes c s)
+  unfolding from_area
+  area_is c = some_is (K.read_state h (body_at (K.layout h) (area_at (K.layout h) c) bytes)) (means.Damaged (area_at (K.layout h) c) means.Checkpoint) (λ s. from_state K h bytes c s)
 
-  pub head_is : length bytes ≡ file_len (K.layout h) → from_head K h bytes ≡ on_ok (slot_taken K h bytes) (from_slot K h bytes)
+  pub head_is : length bytes ≡ file_len (K.layout h) → from_head K h bytes ≡ on_ok (area_taken K h bytes) (from_area K h bytes)
   unfolding from_head
   head_is long = rw (same_true _ _ long) refl
 
@@ -101,23 +101,23 @@ module _ {H S : Type 0} (K : Codec H S) (h : H) (bytes : List ℕ) where
   gate_at : (b : Bool) (frames : List (List ℕ)) (walked : Walked) → StandIn (K.layout h) b walked → Fill frames (frames_of walked) → walked.gate ≡ first_gate (K.layout h) b + size frames
   gate_at b frames walked stand fill = omega (arith, stand.gate, fill_size frames (frames_of walked) fill, length-take walked.len walked.bytes.items, walked.inside)
 
-  pub single_found : (slot segment : Choice) (taken begun : Result Bool means.Refusal) (s t : S) (walked : Walked) (frames : List (List ℕ)) (places : Places) → IsSlot K h bytes slot taken → IsSegment K h bytes segment begun → StandIn (K.layout h) segment.second walked
-      → Fill frames (frames_of walked) → AreInUse (K.layout h) slot.second slot.other_open false segment.second segment.other_open walked.gate places
+  pub single_found : (area segment : Choice) (taken begun : Result Bool means.Refusal) (s t : S) (walked : Walked) (frames : List (List ℕ)) (places : Places) → IsArea K h bytes area taken → IsSegment K h bytes segment begun → StandIn (K.layout h) segment.second walked
+      → Fill frames (frames_of walked) → AreInUse (K.layout h) area.second area.other_open false segment.second segment.other_open walked.gate places
       → replay K (first_gate (K.layout h) segment.second) s frames ≡ Ok t → is_passed K h bytes walked.last (not segment.second) ≡ true
-      → IsFound K h bytes places t None (from_one K h bytes slot.second s segment.second frames walked.last)
-  single_found slot segment taken begun s t walked frames places in_slot in_segment stand fill used run past = record {
-    parts = single slot.second s segment.second frames;
-    found = from_one_as K h bytes slot.second s segment.second frames walked.last t run past;
+      → IsFound K h bytes places t None (from_one K h bytes area.second s segment.second frames walked.last)
+  single_found area segment taken begun s t walked frames places in_area in_segment stand fill used run past = record {
+    parts = single area.second s segment.second frames;
+    found = from_one_as K h bytes area.second s segment.second frames walked.last t run past;
     file = record {
       are = record {
         fits = used.fits;
-        slot = used.slot;
+        area = used.area;
         segment = used.segment;
         turned = used.turned;
         gate = used.gate ∙ gate_at segment.second frames walked stand fill;
         end = used.end;
       };
-      slot_open = used.slot_open ∙ in_slot.other;
+      area_open = used.area_open ∙ in_area.other;
       segment_open = used.segment_open ∙ in_segment.other;
       begun = used.unbegun;
       done = used.undone;
@@ -125,24 +125,24 @@ module _ {H S : Type 0} (K : Codec H S) (h : H) (bytes : List ℕ) where
     between = refl;
   }
 
-  pub double_found : (slot : Choice) (b : Bool) (taken : Result Bool means.Refusal) (s m t : S) (walked : Walked) (before frames : List (List ℕ)) (places : Places) (spelled : Vec ℕ Global) → IsSlot K h bytes slot taken → IsOpenAt (segment_at (K.layout h) b) bytes
-      → StandIn (K.layout h) (not b) walked → Fill frames (frames_of walked) → AreInUse (K.layout h) slot.second slot.other_open true (not b) true walked.gate places
+  pub double_found : (area : Choice) (b : Bool) (taken : Result Bool means.Refusal) (s m t : S) (walked : Walked) (before frames : List (List ℕ)) (places : Places) (spelled : Vec ℕ Global) → IsArea K h bytes area taken → IsOpenAt (segment_at (K.layout h) b) bytes
+      → StandIn (K.layout h) (not b) walked → Fill frames (frames_of walked) → AreInUse (K.layout h) area.second area.other_open true (not b) true walked.gate places
       → replay K (first_gate (K.layout h) b) s before ≡ Ok m → replay K (first_gate (K.layout h) (not b)) m frames ≡ Ok t
       → length spelled.items ≡ (K.layout h).body → K.read_state h spelled.items ≡ Some m
-      → IsFound K h bytes places t (Some spelled) (from_two K h bytes slot.second s b before frames)
-  double_found slot b taken s m t walked before frames places spelled in_slot gate stand fill used first second long read = record {
-    parts = double slot.second s b before m frames;
-    found = from_two_as K h bytes slot.second s b before frames m t first second;
+      → IsFound K h bytes places t (Some spelled) (from_two K h bytes area.second s b before frames)
+  double_found area b taken s m t walked before frames places spelled in_area gate stand fill used first second long read = record {
+    parts = double area.second s b before m frames;
+    found = from_two_as K h bytes area.second s b before frames m t first second;
     file = record {
       are = record {
         fits = used.fits;
-        slot = used.slot;
+        area = used.area;
         segment = used.segment;
         turned = used.turned;
         gate = used.gate ∙ gate_at (not b) frames walked stand fill;
         end = used.end;
       };
-      slot_open = used.slot_open ∙ in_slot.other;
+      area_open = used.area_open ∙ in_area.other;
       segment_open = subst (λ (k : Bool). places.segment_open ≡ is_open (segment_at (K.layout h) k) bytes) (sym (not_not b)) (used.segment_open ∙ sym (same_true _ _ gate));
       begun = used.unbegun;
       done = used.undone;

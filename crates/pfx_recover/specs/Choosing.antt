@@ -1,7 +1,7 @@
 -- Which of two checkpoint areas, and of two segments, was chosen.
 use Rattle.std.specs.Prelude.{◌≡◌, ℕ, List, Bool, not, if◌then◌else◌, Result, Ok}
 use Rattle.pfx_recovery.specs.Codec.{Codec}
-use Rattle.pfx_recovery.specs.Layout.{slot_at, segment_at, is_open, body_at}
+use Rattle.pfx_recovery.specs.Layout.{area_at, segment_at, is_open, body_at}
 use Rattle.pfx_recovery.specs.Recovery.{segment_first, on_some}
 use Rattle.pfx_recovery.specs.Refusals.{Refusal, Damaged, Checkpoint}
 use Rattle.pfx_recover.specs.declared.choosing.Choice.{Choice}
@@ -15,14 +15,14 @@ pub record IsChoice (is_second : Bool) (low high : Numbered) (choice : Choice) :
 
 module _ {H S : Type 0} (K : Codec H S) (h : H) (bytes : List ℕ) where
   -- it is the checkpoint area that was to be chosen, and the other's gate stands so
-  pub record IsSlot (choice : Choice) (read : Result Bool Refusal) : Type 0 where
+  pub record IsArea (choice : Choice) (read : Result Bool Refusal) : Type 0 where
     pub chosen : read ≡ Ok choice.second
-    pub other : choice.other_open ≡ is_open (slot_at (K.layout h) (not choice.second)) bytes
+    pub other : choice.other_open ≡ is_open (area_at (K.layout h) (not choice.second)) bytes
 
   -- the state in this checkpoint area
-  abbrev pub slot_state : Bool → Result S Refusal
-  slot_state second =
-      on_some (K.read_state h (body_at (K.layout h) (slot_at (K.layout h) second) bytes)) (Damaged (slot_at (K.layout h) second) Checkpoint) (λ s. Ok s)
+  abbrev pub area_state : Bool → Result S Refusal
+  area_state second =
+      on_some (K.read_state h (body_at (K.layout h) (area_at (K.layout h) second) bytes)) (Damaged (area_at (K.layout h) second) Checkpoint) (λ s. Ok s)
 
   -- it is the segment that was to be chosen, the other's gate stands so, and the other has this number
   pub record IsSegment (choice : Choice) (read : Result Bool Refusal) : Type 0 where

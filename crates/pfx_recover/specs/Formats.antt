@@ -17,7 +17,7 @@ pub record Bounds {H S : Type 0} (K : Codec H S) (fits : H → S → Type 0) (mo
   -- so many bytes at the front are enough for each header
   pub front : (bytes : List ℕ) → K.read_head (take most bytes) ≡ K.read_head bytes
   -- the number in a checkpoint area is read from its first eight bytes
-  pub eight : (bytes : List ℕ) → K.slot_number (take 8 bytes) ≡ K.slot_number bytes
+  pub eight : (bytes : List ℕ) → K.area_number (take 8 bytes) ≡ K.area_number bytes
   -- numbers stay below 2^48
   pub after : (n : ℕ) (frame : List ℕ) (m : ℕ) → K.after n frame ≡ Some m → m < 2 ^ 48
   pub number : (h : H) (bytes : List ℕ) (s : S) → K.read_state h bytes ≡ Some s → K.number s < 2 ^ 48

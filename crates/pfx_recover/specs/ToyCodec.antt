@@ -32,7 +32,7 @@ abbrev pub small_codec : Codec ℕ (ℕ × ℕ)
 small_codec = record {
   read_head = toy_head;
   layout = small_layout;
-  slot_number = λ body. slice_index body 0;
+  area_number = λ body. slice_index body 0;
   read_state = small_state;
   number = λ s. s.0;
   segment_number = λ bytes. slice_index bytes 0;

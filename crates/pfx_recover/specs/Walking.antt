@@ -47,10 +47,10 @@ pub record StandIn (L : Layout) (second : Bool) (walked : Walked) : Type 0 where
 
 -- These are the checkpoint area and the segment in use, how the gates of the others stand, and the next frame's gate; and no
 -- checkpoint is begun, nor anything of one done.
-pub record AreInUse (L : Layout) (in_slot other_slot is_turned second other_segment : Bool) (next : ℕ) (places : Places) : Type 0 where
+pub record AreInUse (L : Layout) (in_area other_area is_turned second other_segment : Bool) (next : ℕ) (places : Places) : Type 0 where
   pub fits : Fits L places
-  pub slot : places.slot ≡ in_slot
-  pub slot_open : places.slot_open ≡ other_slot
+  pub area : places.area ≡ in_area
+  pub area_open : places.area_open ≡ other_area
   pub turned : places.turned ≡ is_turned
   pub segment : places.segment ≡ second
   pub segment_open : places.segment_open ≡ other_segment

@@ -41,8 +41,8 @@ pub trait Format {
         ensures { HasSizes (codec.layout header.now) result };
 
     /// The number at the beginning of a checkpoint area's body, which isn't tested.
-    fn slot_number(bytes: &[u8; 8]) -> u64
-        ensures { result ≡ codec.slot_number bytes.now };
+    fn area_number(bytes: &[u8; 8]) -> u64
+        ensures { result ≡ codec.area_number bytes.now };
 
     /// The state that a checkpoint area's body stands for, or `None` if it doesn't pass its tests.
     fn read_state(

@@ -14,6 +14,7 @@
 //! The first that fails gives the refusal. No stage writes, and none looks behind a closed gate but at the number there.
 #![tactic(auto)]
 
+mod areas;
 mod choosing;
 mod faults;
 mod format;
@@ -27,7 +28,6 @@ mod reading;
 mod records;
 mod segments;
 mod sizes;
-mod slots;
 mod walked;
 
 pub use faults::{HeadFault, OpenFault, Refusal};

@@ -1,9 +1,9 @@
 // The records of one segment or of two, if the heads of all frames are right.
 ghost use Rattle.std.specs.Prelude.{◌≡◌, ◌≤◌, ◌<◌, ◌+◌, ◌^◌, ℕ, List, not, IfOk, IsErrOf};
 ghost use Rattle.pfx_recovery.specs.Layout.{segment_at, segment_end, IsOpenAt};
-ghost use Rattle.pfx_recovery.specs.Recovery.{slot_taken, segment_begun, from_one, from_two};
+ghost use Rattle.pfx_recovery.specs.Recovery.{area_taken, segment_begun, from_one, from_two};
 ghost use Rattle.pfx_recover.specs.Answers.{Gives};
-ghost use Rattle.pfx_recover.specs.Choosing.{IsSlot, IsSegment};
+ghost use Rattle.pfx_recover.specs.Choosing.{IsArea, IsSegment};
 ghost use Rattle.pfx_recover.specs.Finding.{IsFound, IsUsable};
 ghost use Rattle.pfx_recover.specs.Formats.{total_len};
 ghost use Rattle.pfx_recover.specs.Walking.{StandIn, AreInUse, Fill, frames_of};
@@ -32,7 +32,7 @@ pub(crate) struct Contents<F: Format> {
 // The places of a file whose frames go to this segment.
 fn places_of<F: Format>(
     file: &Outline<F>,
-    slot: Choice,
+    area: Choice,
     turned: bool,
     second: bool,
     segment_open: bool,
@@ -40,7 +40,7 @@ fn places_of<F: Format>(
 ) -> Places
     requires { gate < segment_end (F.codec.layout file.now.header) second }
     ensures len { result.len ≡ total_len file.now.sizes }
-    ensures placed { AreInUse (F.codec.layout file.now.header) slot.second slot.other_open turned second
+    ensures placed { AreInUse (F.codec.layout file.now.header) area.second area.other_open turned second
         segment_open gate result }
 {
     let sizes = file.sizes;
@@ -49,12 +49,12 @@ fn places_of<F: Format>(
         body: sizes.body,
         segment_len: sizes.segment,
         len: sizes.file_len(),
-        slot: slot.second,
+        area: area.second,
         segment: second,
         turned,
         gate,
         end: sizes.segment_at(second) + sizes.segment,
-        slot_open: slot.other_open,
+        area_open: area.other_open,
         segment_open,
         begun: false,
         done: 0,
@@ -65,7 +65,7 @@ fn places_of<F: Format>(
 pub(crate) fn read_single<F: Format>(
     alloc: Global,
     file: &Outline<F>,
-    slot: Choice,
+    area: Choice,
     segment: Choice,
     state: F::State,
     walked: Walked,
@@ -76,12 +76,12 @@ pub(crate) fn read_single<F: Format>(
     ensures device { ¬ IsErrOf result OpenFault.Device }
     ensures usable { IfOk result (λ c. IsUsable F.codec F.fits file.now.header (total_len file.now.sizes) c.places c.state) }
     ensures exact { (bytes : List ℕ)
-        → IsSlot F.codec file.now.header bytes slot (slot_taken F.codec file.now.header bytes)
+        → IsArea F.codec file.now.header bytes area (area_taken F.codec file.now.header bytes)
         → (n : ℕ)
         → IsSegment F.codec file.now.header bytes segment (segment_begun F.codec file.now.header bytes n)
         → (frames : List (List ℕ)) → Fill frames (frames_of walked)
         → Gives (λ c. IsFound F.codec file.now.header bytes c.places c.state c.middle)
-        (from_one F.codec file.now.header bytes slot.second state segment.second frames walked.last) result }
+        (from_one F.codec file.now.header bytes area.second state segment.second frames walked.last) result }
 {
     let first = file.sizes.segment_at(segment.second) + 9;
     let reached = replay_frames::<F>(alloc, first, state, walked.frames())?;
@@ -94,7 +94,7 @@ pub(crate) fn read_single<F: Format>(
     Ok(Contents {
         places: places_of(
             file,
-            slot,
+            area,
             false,
             segment.second,
             segment.other_open,
@@ -109,7 +109,7 @@ pub(crate) fn read_single<F: Format>(
 pub(crate) fn read_double<F: Format>(
     alloc: Global,
     file: &Outline<F>,
-    slot: Choice,
+    area: Choice,
     second: bool,
     state: F::State,
     before: Walked,
@@ -121,11 +121,11 @@ pub(crate) fn read_double<F: Format>(
     ensures device { ¬ IsErrOf result OpenFault.Device }
     ensures usable { IfOk result (λ c. IsUsable F.codec F.fits file.now.header (total_len file.now.sizes) c.places c.state) }
     ensures exact { (bytes : List ℕ)
-        → IsSlot F.codec file.now.header bytes slot (slot_taken F.codec file.now.header bytes)
+        → IsArea F.codec file.now.header bytes area (area_taken F.codec file.now.header bytes)
         → IsOpenAt (segment_at (F.codec.layout file.now.header) second) bytes
         → (first next : List (List ℕ)) → Fill first (frames_of before) → Fill next (frames_of walked)
         → Gives (λ c. IsFound F.codec file.now.header bytes c.places c.state c.middle)
-        (from_two F.codec file.now.header bytes slot.second state second first next) result }
+        (from_two F.codec file.now.header bytes area.second state second first next) result }
 {
     let first = file.sizes.segment_at(second) + 9;
     let next = file.sizes.segment_at(!second) + 9;
@@ -134,7 +134,7 @@ pub(crate) fn read_double<F: Format>(
     F::encode(&file.header, &between, &mut middle);
     let reached = replay_frames::<F>(alloc, next, between, walked.frames())?;
     Ok(Contents {
-        places: places_of(file, slot, true, !second, true, walked.gate),
+        places: places_of(file, area, true, !second, true, walked.gate),
         state: reached,
         middle: Some(middle),
     })

@@ -1,14 +1,15 @@
 // A synced disk, read in the order of the tests.
 ghost use Rattle.std.specs.Prelude.{◌≡◌, ◌≤◌, ◌<◌, ◌+◌, ◌^◌, ℕ, List, length, IfOk, OnOk};
 ghost use Rattle.pfx_disk.specs.Disk.{IsHonest};
-ghost use Rattle.pfx_recovery.specs.Recovery.{slot_taken, segment_begun, from_frames, from_state, from_slot, found, on_ok};
+ghost use Rattle.pfx_recovery.specs.Recovery.{area_taken, segment_begun, from_frames, from_state, from_area, found, on_ok};
 ghost use Rattle.pfx_recover.specs.Answers.{Gives, IsRead};
-ghost use Rattle.pfx_recover.specs.Choosing.{IsSlot, IsSegment};
+ghost use Rattle.pfx_recover.specs.Choosing.{IsArea, IsSegment};
 ghost use Rattle.pfx_recover.specs.Finding.{IsFound, IsHeldState, IsUsable};
 ghost use Rattle.pfx_recover.specs.Formats.{total_len};
 ghost use Rattle.pfx_recover.specs.Looking.{IsKept, OnlyReads, Reaches};
 ghost use Rattle.pfx_recover.specs.Walking.{StandIn, Fill, frames_of};
 
+use crate::areas::{read_area, take_area};
 use crate::choosing::Choice;
 use crate::faults::{OpenFault, Refusal};
 use crate::format::Format;
@@ -16,7 +17,6 @@ use crate::frames::read_frames;
 use crate::outline::Outline;
 use crate::parts::{Contents, read_double, read_single};
 use crate::segments::find_segment;
-use crate::slots::{read_slot, take_slot};
 use crate::walked::Walked;
 use pfx_disk::Disk;
 use pfx_fault::Part;
@@ -27,7 +27,7 @@ fn read_on<F: Format, D: Disk>(
     alloc: Global,
     disk: &mut D,
     file: &Outline<F>,
-    slot: Choice,
+    area: Choice,
     segment: Choice,
     state: F::State,
     walked: Walked,
@@ -39,20 +39,20 @@ fn read_on<F: Format, D: Disk>(
     ensures call { OnlyReads (D.view disk.old) (D.view disk.new) result }
     ensures usable { IfOk result (λ c. IsUsable F.codec F.fits file.now.header (total_len file.now.sizes) c.places c.state) }
     ensures exact { (bytes : List ℕ) → IsKept bytes (D.view disk.old)
-        → IsSlot F.codec file.now.header bytes slot (slot_taken F.codec file.now.header bytes)
+        → IsArea F.codec file.now.header bytes area (area_taken F.codec file.now.header bytes)
         → (n : ℕ)
         → IsSegment F.codec file.now.header bytes segment (segment_begun F.codec file.now.header bytes n)
         → (frames : List (List ℕ)) → Fill frames (frames_of walked)
         → Gives (λ c. IsFound F.codec file.now.header bytes c.places c.state c.middle)
-        (from_frames F.codec file.now.header bytes slot.second state segment.second frames walked.last) result }
+        (from_frames F.codec file.now.header bytes area.second state segment.second frames walked.last) result }
 {
     if !segment.goes_on(walked.last) {
-        return read_single(alloc, file, slot, segment, state, walked);
+        return read_single(alloc, file, area, segment, state, walked);
     }
     let at = file.sizes.segment_at(!segment.second);
     let end = at + file.sizes.segment;
     let next = read_frames::<F, D>(alloc, disk, at + 9, end, walked.last)?;
-    read_double(alloc, file, slot, segment.second, state, walked, next)
+    read_double(alloc, file, area, segment.second, state, walked, next)
 }
 
 // The segments, after the checkpoint area's state.
@@ -60,7 +60,7 @@ fn read_segments<F: Format, D: Disk>(
     alloc: Global,
     disk: &mut D,
     file: &Outline<F>,
-    slot: Choice,
+    area: Choice,
     state: F::State,
 ) -> Result<Contents<F>, OpenFault>
     requires inside { Reaches (total_len file.now.sizes) (D.view disk.old) }
@@ -68,16 +68,16 @@ fn read_segments<F: Format, D: Disk>(
     ensures call { OnlyReads (D.view disk.old) (D.view disk.new) result }
     ensures usable { IfOk result (λ c. IsUsable F.codec F.fits file.now.header (total_len file.now.sizes) c.places c.state) }
     ensures exact { (bytes : List ℕ) → IsKept bytes (D.view disk.old)
-        → IsSlot F.codec file.now.header bytes slot (slot_taken F.codec file.now.header bytes)
+        → IsArea F.codec file.now.header bytes area (area_taken F.codec file.now.header bytes)
         → Gives (λ c. IsFound F.codec file.now.header bytes c.places c.state c.middle)
-        (from_state F.codec file.now.header bytes slot.second state) result }
+        (from_state F.codec file.now.header bytes area.second state) result }
 {
     let number = F::number(&state);
     let segment = find_segment(disk, file, number + 1)?;
     let at = file.sizes.segment_at(segment.second);
     let end = at + file.sizes.segment;
     let walked = read_frames::<F, D>(alloc, disk, at + 9, end, number)?;
-    read_on(alloc, disk, file, slot, segment, state, walked)
+    read_on(alloc, disk, file, area, segment, state, walked)
 }
 
 // The checkpoint area that is taken, and what follows on it.
@@ -91,11 +91,11 @@ fn read_contents<F: Format, D: Disk>(
     ensures usable { IfOk result (λ c. IsUsable F.codec F.fits file.now.header (total_len file.now.sizes) c.places c.state) }
     ensures exact { (bytes : List ℕ) → IsKept bytes (D.view disk.old)
         → Gives (λ c. IsFound F.codec file.now.header bytes c.places c.state c.middle)
-        (on_ok (slot_taken F.codec file.now.header bytes) (from_slot F.codec file.now.header bytes)) result }
+        (on_ok (area_taken F.codec file.now.header bytes) (from_area F.codec file.now.header bytes)) result }
 {
-    let slot = take_slot(disk, file)?;
-    let state = read_slot(alloc, disk, file, slot.second)?;
-    read_segments(alloc, disk, file, slot, state)
+    let area = take_area(disk, file)?;
+    let state = read_area(alloc, disk, file, area.second)?;
+    read_segments(alloc, disk, file, area, state)
 }
 
 // The header, of a file of this length.

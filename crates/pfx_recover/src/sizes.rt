@@ -16,7 +16,7 @@ pub struct Sizes {
 }
 
 impl Sizes {
-    ghost use Rattle.pfx_recovery.specs.Layout.{Layout, slot_at, segment_at, file_len};
+    ghost use Rattle.pfx_recovery.specs.Layout.{Layout, area_at, segment_at, file_len};
     ghost use Rattle.pfx_recover.specs.Formats.{HasSizes, total_len};
 
     /// The file's length.
@@ -29,8 +29,8 @@ impl Sizes {
     }
 
     /// Where a checkpoint area stands.
-    pub fn slot_at(&self, b: bool) -> usize
-        ensures at { (L : Layout) → HasSizes L self.now → result ≡ slot_at L b }
+    pub fn area_at(&self, b: bool) -> usize
+        ensures at { (L : Layout) → HasSizes L self.now → result ≡ area_at L b }
         ensures inside { result + 1 + self.now.body + 2 * self.now.segment ≤ total_len self.now }
     {
         if b {

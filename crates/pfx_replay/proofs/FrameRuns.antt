@@ -15,7 +15,7 @@ use Rattle.pfx_record.proofs.Bodies.{one_batch}
 use Rattle.pfx_segment.specs.Frames.{AreFrames}
 use Rattle.pfx_segment.proofs.FrameLemmas.{read_is}
 use Rattle.pfx_recovery.specs.Codec.{Codec}
-use Rattle.pfx_recovery.specs.Layout.{slot_at, segment_at}
+use Rattle.pfx_recovery.specs.Layout.{area_at, segment_at}
 use Rattle.pfx_recovery.specs.Store.{Parts, Replays}
 use Rattle.pfx_recovery.proofs.Answers.{ok_same}
 use Rattle.pfx_recovery.proofs.Stages.{replay_is}
@@ -47,7 +47,7 @@ module _ {H S : Type 0} (K : Codec H S) where
   some_one a b h = ap (λ o. elim o [ Some x ↦ x | None ↦ a ]) h
 
   -- a way is the one that was found
-  pub way_is : (h : H) (p : Parts S) (image : List ℕ) (at body place segment : ℕ) (start : S) (found : List (List ℕ)) → at ≡ slot_at (K.layout h) (not p.slot) → body ≡ (K.layout h).body
+  pub way_is : (h : H) (p : Parts S) (image : List ℕ) (at body place segment : ℕ) (start : S) (found : List (List ℕ)) → at ≡ area_at (K.layout h) (not p.area) → body ≡ (K.layout h).body
       → place ≡ segment_at (K.layout h) (not p.segment) → segment ≡ (K.layout h).segment → place + segment ≤ length image
       → Some start ≡ K.read_state h (take body (drop (at + 1) image)) → AreFrames (place + 9) (place + segment) found image
       → (s : S) (frames : List (List ℕ)) → IsWay K h p image s frames → (s ≡ start) × (frames ≡ found)
@@ -55,7 +55,7 @@ module _ {H S : Type 0} (K : Codec H S) where
       let room : place + 9 < place + segment = omega (arith, (K.layout h).room, segment_is) in
       let there : AreFrames (place + 9) (place + segment) frames image = subst (λ k. AreFrames (k + 9) (k + segment) frames image) (sym place_is)
       (subst (λ k. AreFrames (segment_at (K.layout h) (not p.segment) + 9) (segment_at (K.layout h) (not p.segment) + k) frames image) (sym segment_is) way.segment.are) in (
-        some_one s start (sym way.slot.body ∙ ap₂ (λ a b. K.read_state h (take b (drop (a + 1) image))) (sym at_is) (sym body_is) ∙ sym read),
+        some_one s start (sym way.area.body ∙ ap₂ (λ a b. K.read_state h (take b (drop (a + 1) image))) (sym at_is) (sym body_is) ∙ sym read),
         one_run (place + 9) (place + segment) frames found image room inside there are,
       )
 

@@ -9,7 +9,7 @@ use Rattle.pfx_header.specs.Headers.{Header}
 use Rattle.pfx_jobs.specs.Kind.{Kind, Laws}
 use Rattle.pfx_machine.specs.Plain.{Plain}
 use Rattle.pfx_record.specs.Records.{Plain as Recorded}
-use Rattle.pfx_recovery.specs.Layout.{segment_at, slot_at}
+use Rattle.pfx_recovery.specs.Layout.{segment_at, area_at}
 use Rattle.pfx_recovery.specs.Store.{Parts, IsStore, Other, Replays}
 use Rattle.pfx_segment.specs.Frames.{AreFrames}
 use Rattle.pfx_replay.specs.Trails.{IsWay, IsWayIf, history, records_in}
@@ -48,7 +48,7 @@ module _ {J : Type 0} (K : Kind J) (L : Laws K) (h : Header) where
   lead_before false p t image is = subst (λ l. Replays (format K) p.base l p.middle) (sym is.2) is.1
   lead_before true p t image is = is.1
 
-  module _ (image : List ℕ) (p : Parts (Plain J)) (t : Plain J) (is : IsStore (format K) h p t image) (slot segment turned : Bool) (slot_is : p.slot ≡ slot) (segment_is : p.segment ≡ segment) (turned_is : p.turned ≡ turned) where
+  module _ (image : List ℕ) (p : Parts (Plain J)) (t : Plain J) (is : IsStore (format K) h p t image) (area segment turned : Bool) (area_is : p.area ≡ area) (segment_is : p.segment ≡ segment) (turned_is : p.turned ≡ turned) where
     pub found_by : (P : List (List ℕ) → List (List ℕ) → Type 0)
         → ((before frames : List (List ℕ)) → (turned ≡ false → before ≡ []) → (turned ≡ true → AreIn h image (not segment) before) → AreIn h image segment frames → P before frames) → P p.before p.frames
     found_by P f = f p.before p.frames (λ e. none_before p.turned p t image is.other (turned_is ∙ e))
@@ -56,10 +56,10 @@ module _ {J : Type 0} (K : Kind J) (L : Laws K) (h : Header) where
         (subst (λ b. AreIn h image b p.frames) segment_is is.current.are)
 
     base_set : p.base.ledger.set ≡ h.set
-    base_set = read_set K h _ p.base is.slot.body
+    base_set = read_set K h _ p.base is.area.body
 
-    pub base_is : (at body : ℕ) (b : Plain J) → at ≡ slot_at (layout h) slot → body ≡ (layout h).body → Some b ≡ read_state K h.set (take body (drop (at + 1) image)) → b ≡ p.base
-    base_is at body b at_is body_is read = some_same b p.base (read ∙ ap₂ (λ a n. read_state K h.set (take n (drop (a + 1) image))) (at_is ∙ ap (slot_at (layout h)) (sym slot_is)) body_is ∙ is.slot.body)
+    pub base_is : (at body : ℕ) (b : Plain J) → at ≡ area_at (layout h) area → body ≡ (layout h).body → Some b ≡ read_state K h.set (take body (drop (at + 1) image)) → b ≡ p.base
+    base_is at body b at_is body_is read = some_same b p.base (read ∙ ap₂ (λ a n. read_state K h.set (take n (drop (a + 1) image))) (at_is ∙ ap (area_at (layout h)) (sym area_is)) body_is ∙ is.area.body)
 
     behind_applied : applied K p.base (records_in K h.set.workers (p.before ++ p.frames)) ≡ Some t
     behind_applied =
@@ -94,7 +94,7 @@ module _ {J : Type 0} (K : Kind J) (L : Laws K) (h : Header) where
         → MatchOption found ((x y : Plain J) → applied K start before ≡ Some x → applied K base behind ≡ Some y → ⊥) (λ v. IsVerdict K (record { start = start; before = before; checkpoint = base; behind = behind }) v)
         → MatchOption found ⊥ (λ v. (way : Option (Plain J × List (List ℕ))) × IsWayIf (format K) h p image way × IsVerdict K (history K h.set.workers p way) v)
     verdict_some found start base frames before behind base_same before_same behind_same way given =
-        let set = read_set K h _ start way.slot.body in
+        let set = read_set K h _ start way.area.body in
         verdict_by found _ _ _ given
         (λ none. none way.reached t (subst (λ l. applied K start l ≡ Some way.reached) (sym before_same) (frames_applied K L h start way.reached frames set way.leads))
         (subst (λ b. applied K b behind ≡ Some t) (sym base_same) (subst (λ l. applied K p.base l ≡ Some t) (sym behind_same) behind_applied)))

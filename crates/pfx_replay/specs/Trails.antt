@@ -8,10 +8,10 @@ use Rattle.pfx_machine.specs.Plain.{Plain}
 use Rattle.pfx_record.specs.Batches.{PlainBatch}
 use Rattle.pfx_record.specs.Records.{Plain as Recorded}
 use Rattle.pfx_recovery.specs.Codec.{Codec}
-use Rattle.pfx_recovery.specs.Layout.{slot_at, segment_at}
+use Rattle.pfx_recovery.specs.Layout.{area_at, segment_at}
 use Rattle.pfx_recovery.specs.Recovery.{Found}
 use Rattle.pfx_recovery.specs.Refusals.{Refusal}
-use Rattle.pfx_recovery.specs.Store.{Parts, InSlot, InSegment, Replays}
+use Rattle.pfx_recovery.specs.Store.{Parts, InArea, InSegment, Replays}
 use Rattle.pfx_replay.specs.Verdicts.{History, IsVerdict}
 use Rattle.pfx_replay.specs.declared.verdict.Verdict.{Verdict}
 
@@ -19,7 +19,7 @@ module _ {H S : Type 0} (K : Codec H S) (h : H) (p : Parts S) (image : List ℕ)
   -- The other checkpoint holds this state, and these frames, which stand in the other segment, lead from it to the number of
   -- the checkpoint in use.
   pub record IsWay (s : S) (frames : List (List ℕ)) : Type 0 where
-    pub slot : InSlot K h s (slot_at (K.layout h) (not p.slot)) image
+    pub area : InArea K h s (area_at (K.layout h) (not p.area)) image
     pub segment : InSegment K h (K.number s + 1) frames (segment_at (K.layout h) (not p.segment)) image
     pub reached : S
     pub leads : Replays K s frames reached

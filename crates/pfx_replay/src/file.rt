@@ -109,25 +109,25 @@ pub(crate) fn judge_file<J: Job>(
     alloc: Global,
     header: &FileHeader,
     image: &[u8],
-    slot: bool,
+    area: bool,
     segment: bool,
     turned: bool,
 ) -> Result<Option<Verdict>, AllocError>
     requires { length image.now ≡ file_len (layout header.now) }
     ensures { IfOk result (λ found. (p : Parts (Plain J)) → (t : Plain J) → IsStore (format J.kind) header.now p t image.now
-        → p.slot ≡ slot → p.segment ≡ segment → p.turned ≡ turned
+        → p.area ≡ area → p.segment ≡ segment → p.turned ≡ turned
         → MatchOption found ⊥ (λ verdict. (way : Option (Plain J × List (List ℕ)))
         × IsWayIf (format J.kind) header.now p image.now way × IsVerdict J.kind (history J.kind header.now.set.workers p way) verdict)) }
 {
     let sizes = FileFormat::<J>::sizes(header);
-    let at = sizes.slot_at(slot);
+    let at = sizes.area_at(area);
     let Some(base) = state_in::<FileFormat<J>>(alloc, header, image, at, sizes.body)? else {
         return Ok(None);
     };
     let Some(behind) = file_records(alloc, header, image, segment, turned)? else {
         return Ok(None);
     };
-    match find_way::<FileFormat<J>>(alloc, header, image, slot, segment, base.number())? {
+    match find_way::<FileFormat<J>>(alloc, header, image, area, segment, base.number())? {
         None => {
             let start = base.copy_of(alloc)?;
             let before = Vec::new(alloc);

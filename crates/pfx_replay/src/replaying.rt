@@ -60,7 +60,7 @@ pub fn replay<J: Job, D: Disk>(alloc: Global, disk: D) -> Result<(Verdict, D), (
         alloc,
         &header,
         &image,
-        places.slot,
+        places.area,
         places.segment,
         places.turned,
     ) {

@@ -36,16 +36,16 @@ pub(crate) fn find_way<F: Format>(
     alloc: Global,
     header: &F::Header,
     image: &[u8],
-    slot: bool,
+    area: bool,
     segment: bool,
     number: u64,
 ) -> Result<Option<(F::State, Vec<Vec<u8>>)>, AllocError>
     requires { length image.now ≡ file_len (F.codec.layout header.now) }
-    ensures { IfOk result (λ found. (p : Parts F.State) → p.slot ≡ slot → p.segment ≡ segment → F.codec.number p.base ≡ number
+    ensures { IfOk result (λ found. (p : Parts F.State) → p.area ≡ area → p.segment ≡ segment → F.codec.number p.base ≡ number
         → IsWayIf F.codec header.now p image.now (way_of found)) }
 {
     let sizes = F::sizes(header);
-    let at = sizes.slot_at(!slot);
+    let at = sizes.area_at(!area);
     if image[at] != GATE_OPEN {
         return Ok(None);
     }

@@ -26,7 +26,7 @@ respelled : {J : Type 0} (K : Kind J) (h : Header) (places : Places) (p : Parts 
 respelled K h places p s a b disk holds single = record {
   honest = holds.honest;
   fits = holds.fits;
-  slot = holds.slot;
+  area = holds.area;
   segment = holds.segment;
   turned = holds.turned;
   gate = holds.gate;

@@ -96,7 +96,7 @@ impl<J: Job> Format for FileFormat<J> {
         }
     }
 
-    fn slot_number(bytes: &[u8; 8]) -> u64 {
+    fn area_number(bytes: &[u8; 8]) -> u64 {
         number_of(bytes)
     }
 

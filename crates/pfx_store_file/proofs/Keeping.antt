@@ -10,11 +10,11 @@ use Rattle.pfx_segment.specs.Turning.{Closing, Prepared}
 use Rattle.pfx_segment.specs.Frames.{AreFrames, size}
 use Rattle.pfx_segment.proofs.FrameLemmas.{Agree, shut_behind, size-push}
 use Rattle.pfx_recovery.specs.Codec.{Codec, Laws}
-use Rattle.pfx_recovery.specs.Layout.{slot_at, segment_at, segment_end}
+use Rattle.pfx_recovery.specs.Layout.{area_at, segment_at, segment_end}
 use Rattle.pfx_recovery.specs.Recovery.{recovered, found, found_of}
 use Rattle.pfx_recovery.specs.Store.{Parts, Replays, IsStore, Other, next_gate, with_frame, turned_at, finished}
 use Rattle.pfx_recovery.proofs.Recovers.{recovers}
-use Rattle.pfx_recovery.proofs.Regions.{slot_inside, segment_inside, slot_of_segment, other_segment, segment_of_slot, other_slot}
+use Rattle.pfx_recovery.proofs.Regions.{area_inside, segment_inside, area_of_segment, other_segment, segment_of_area, other_area}
 use Rattle.pfx_recovery.proofs.Runs.{not_not, replays_one}
 use Rattle.pfx_recovery.proofs.Stands.{found_stands}
 use Rattle.pfx_recovery.proofs.Steps.{append_step, turn_step, turn_whole, close_step, piece_step, open_step, open_whole}
@@ -161,8 +161,8 @@ module _ {H S : Type 0} (K : Codec H S) (laws : Laws K) (h : H) where
         stored : IsStore K h (with_frame p (GATE_OPEN ∷ body)) t new.contents
         stored = ⊎_elim (λ still. absurd (shut_behind (segment_at (K.layout h) p.segment + 9) (segment_at (K.layout h) p.segment + (K.layout h).segment) p.frames new.contents still.current.are opened)) (λ more. more) (appended old.contents new.contents holds.honest.here leaves.contents)
 
-        slot_agrees : Agree (slot_at (K.layout h) (not p.slot)) (slot_at (K.layout h) (not p.slot) + 1 + (K.layout h).body) old.contents new.contents
-        slot_agrees = slot_of_segment (K.layout h) (next_gate K h p) (1 + length bytes) old.contents new.contents was.long torn p.segment (not p.slot) low
+        area_agrees : Agree (area_at (K.layout h) (not p.area)) (area_at (K.layout h) (not p.area) + 1 + (K.layout h).body) old.contents new.contents
+        area_agrees = area_of_segment (K.layout h) (next_gate K h p) (1 + length bytes) old.contents new.contents was.long torn p.segment (not p.area) low
 
         segment_agrees : Agree (segment_at (K.layout h) (not p.segment)) (segment_at (K.layout h) (not p.segment) + (K.layout h).segment) old.contents new.contents
         segment_agrees = other_segment (K.layout h) (next_gate K h p) (1 + length bytes) old.contents new.contents was.long torn p.segment low high
@@ -170,7 +170,7 @@ module _ {H S : Type 0} (K : Codec H S) (laws : Laws K) (h : H) where
         known : IsKnown K h places (with_frame p (GATE_OPEN ∷ body)) t new.contents
         known = record {
           store = stored;
-          slot_gate = gate_same places.slot_open (slot_at (K.layout h) (not p.slot)) old.contents new.contents (slot_agrees (slot_at (K.layout h) (not p.slot)) (omega arith) (omega arith)) here.slot_gate;
+          area_gate = gate_same places.area_open (area_at (K.layout h) (not p.area)) old.contents new.contents (area_agrees (area_at (K.layout h) (not p.area)) (omega arith) (omega arith)) here.area_gate;
           segment_gate = λ single. gate_same places.segment_open (segment_at (K.layout h) (not p.segment)) old.contents new.contents (segment_agrees (segment_at (K.layout h) (not p.segment)) (omega arith) (omega (arith, (K.layout h).room))) (here.segment_gate single);
         }
 
@@ -180,30 +180,30 @@ module _ {H S : Type 0} (K : Codec H S) (laws : Laws K) (h : H) where
           shut = b.shut;
           read = b.read;
           long = b.long;
-          stand = λ i below. slot_agrees (slot_at (K.layout h) (not p.slot) + 1 + i) (omega arith) (omega (arith, below, length-take places.done spelling, b.long)) ∙ b.stand i below;
+          stand = λ i below. area_agrees (area_at (K.layout h) (not p.area) + 1 + i) (omega arith) (omega (arith, below, length-take places.done spelling, b.long)) ∙ b.stand i below;
         }
 
-        pub append_holds : (then : Places) → Fits (K.layout h) then → then.slot ≡ places.slot → then.segment ≡ places.segment → then.turned ≡ places.turned → then.gate ≡ places.gate + length bytes → then.end ≡ places.end
-            → then.slot_open ≡ places.slot_open → then.segment_open ≡ places.segment_open → then.begun ≡ places.begun → then.done ≡ places.done → Holds K h then (with_frame p (GATE_OPEN ∷ body)) t spelling new
-        append_holds then fitting slot segment turned gate end slot_open segment_open begun done = record {
+        pub append_holds : (then : Places) → Fits (K.layout h) then → then.area ≡ places.area → then.segment ≡ places.segment → then.turned ≡ places.turned → then.gate ≡ places.gate + length bytes → then.end ≡ places.end
+            → then.area_open ≡ places.area_open → then.segment_open ≡ places.segment_open → then.begun ≡ places.begun → then.done ≡ places.done → Holds K h then (with_frame p (GATE_OPEN ∷ body)) t spelling new
+        append_holds then fitting area segment turned gate end area_open segment_open begun done = record {
           honest = leaves.honest;
           fits = fitting;
-          slot = slot ∙ holds.slot;
+          area = area ∙ holds.area;
           segment = segment ∙ holds.segment;
           turned = turned ∙ holds.turned;
           gate = omega (arith, gate, holds.gate, bytes_len, size-push p.frames (GATE_OPEN ∷ body));
           end = end ∙ holds.end;
           images = λ image now. subst (λ (l : List ℕ). IsKnown K h then (with_frame p (GATE_OPEN ∷ body)) t l) (sym (only image now)) (record {
             store = known.store;
-            slot_gate = subst (λ b. IsGate b (slot_at (K.layout h) (not p.slot)) new.contents) (sym slot_open) known.slot_gate;
+            area_gate = subst (λ b. IsGate b (area_at (K.layout h) (not p.area)) new.contents) (sym area_open) known.area_gate;
             segment_gate = λ single. subst (λ b. IsGate b (segment_at (K.layout h) (not p.segment)) new.contents) (sym segment_open) (known.segment_gate single);
           });
           begun = λ is. let b = begun_then (holds.begun (sym begun ∙ is)) in record {
             turned = b.turned;
-            shut = slot_open ∙ b.shut;
+            shut = area_open ∙ b.shut;
             read = b.read;
             long = b.long;
-            stand = subst (λ (k : ℕ). StandAt (slot_at (K.layout h) (not p.slot) + 1) (take k spelling) new.contents) (sym done) b.stand;
+            stand = subst (λ (k : ℕ). StandAt (area_at (K.layout h) (not p.area) + 1) (take k spelling) new.contents) (sym done) b.stand;
           };
         }
 
@@ -214,42 +214,42 @@ module _ {H S : Type 0} (K : Codec H S) (laws : Laws K) (h : H) where
             (recovers K laws h image (with_frame p (GATE_OPEN ∷ body)) t (subst (λ (l : List ℕ). IsStore K h (with_frame p (GATE_OPEN ∷ body)) t l) (sym (only image (only_now image is))) stored))
 
     -- A checkpoint's steps. The gate of the checkpoint area that isn't in use is at this place.
-    module _ (at : ℕ) (at_is : at ≡ slot_at (K.layout h) (not p.slot)) where
-      closing_torn : (b : Bool) (x y : List ℕ) → Closing at b x y → Torn (slot_at (K.layout h) (not p.slot)) 1 x y
+    module _ (at : ℕ) (at_is : at ≡ area_at (K.layout h) (not p.area)) where
+      closing_torn : (b : Bool) (x y : List ℕ) → Closing at b x y → Torn (area_at (K.layout h) (not p.area)) 1 x y
       closing_torn true x y torn = subst (λ (k : ℕ). Torn k 1 x y) at_is torn
-      closing_torn false x y same = torn_same (slot_at (K.layout h) (not p.slot)) 1 x y same
+      closing_torn false x y same = torn_same (area_at (K.layout h) (not p.area)) 1 x y same
 
-      closing_here : (b : Bool) (x y : List ℕ) → Closing at b x y → Closing (slot_at (K.layout h) (not p.slot)) b x y
+      closing_here : (b : Bool) (x y : List ℕ) → Closing at b x y → Closing (area_at (K.layout h) (not p.area)) b x y
       closing_here b x y step = subst (λ (k : ℕ). Closing k b x y) at_is step
 
-      closed : (x y : List ℕ) → old.now x → Closing at places.slot_open x y → IsStore K h p s y
-      closed x y now step = close_step K laws h p s places.slot_open x y (known_open places.slot_open (slot_at (K.layout h) (not p.slot)) x (holds.images x now).slot_gate) (closing_here places.slot_open x y step) (store_of x now)
+      closed : (x y : List ℕ) → old.now x → Closing at places.area_open x y → IsStore K h p s y
+      closed x y now step = close_step K laws h p s places.area_open x y (known_open places.area_open (area_at (K.layout h) (not p.area)) x (holds.images x now).area_gate) (closing_here places.area_open x y step) (store_of x now)
 
-      pub begin_shut : places.slot_open ≡ false → get_or old.contents at 0 ≢ GATE_OPEN
-      begin_shut shut = subst (λ (k : ℕ). get_or old.contents k 0 ≢ GATE_OPEN) (sym at_is) (known_shut places.slot_open (slot_at (K.layout h) (not p.slot)) old.contents here.slot_gate shut)
+      pub begin_shut : places.area_open ≡ false → get_or old.contents at 0 ≢ GATE_OPEN
+      begin_shut shut = subst (λ (k : ℕ). get_or old.contents k 0 ≢ GATE_OPEN) (sym at_is) (known_shut places.area_open (area_at (K.layout h) (not p.area)) old.contents here.area_gate shut)
 
-      pub begin_keeps : (new : View) → Leaves (Closing at places.slot_open) old new → (start : S) (all : List (List ℕ)) → Replays K start all s → KeepsAll K start all all old new
-      begin_keeps new leaves start all run = keeps_same old new holds.honest (Closing at places.slot_open) leaves s start all run (λ x y now step. recovers K laws h y p s (closed x y now step))
+      pub begin_keeps : (new : View) → Leaves (Closing at places.area_open) old new → (start : S) (all : List (List ℕ)) → Replays K start all s → KeepsAll K start all all old new
+      begin_keeps new leaves start all run = keeps_same old new holds.honest (Closing at places.area_open) leaves s start all run (λ x y now step. recovers K laws h y p s (closed x y now step))
 
-      pub begin_holds : (new : View) → Leaves (Closing at places.slot_open) old new → Only new.contents new → get_or new.contents at 0 ≢ GATE_OPEN → (code : List ℕ) → p.turned ≡ true → K.read_state h code ≡ Some p.middle → length code ≡ (K.layout h).body
-          → (then : Places) → Fits (K.layout h) then → then.slot ≡ places.slot → then.segment ≡ places.segment → then.turned ≡ places.turned → then.gate ≡ places.gate → then.end ≡ places.end
-          → then.slot_open ≡ false → then.segment_open ≡ places.segment_open → then.done ≡ 0 → Holds K h then p s code new
-      begin_holds new leaves only shut code turned read long then fitting slot segment turned_is gate end slot_open segment_open done = record {
+      pub begin_holds : (new : View) → Leaves (Closing at places.area_open) old new → Only new.contents new → get_or new.contents at 0 ≢ GATE_OPEN → (code : List ℕ) → p.turned ≡ true → K.read_state h code ≡ Some p.middle → length code ≡ (K.layout h).body
+          → (then : Places) → Fits (K.layout h) then → then.area ≡ places.area → then.segment ≡ places.segment → then.turned ≡ places.turned → then.gate ≡ places.gate → then.end ≡ places.end
+          → then.area_open ≡ false → then.segment_open ≡ places.segment_open → then.done ≡ 0 → Holds K h then p s code new
+      begin_holds new leaves only shut code turned read long then fitting area segment turned_is gate end area_open segment_open done = record {
         honest = leaves.honest;
         fits = fitting;
-        slot = slot ∙ holds.slot;
+        area = area ∙ holds.area;
         segment = segment ∙ holds.segment;
         turned = turned_is ∙ holds.turned;
         gate = gate ∙ holds.gate;
         end = end ∙ holds.end;
         images = λ image now. subst (λ (l : List ℕ). IsKnown K h then p s l) (sym (only image now)) (record {
           store = closed old.contents new.contents holds.honest.here leaves.contents;
-          slot_gate = subst (λ b. IsGate b (slot_at (K.layout h) (not p.slot)) new.contents) (sym slot_open) (subst (λ (k : ℕ). get_or new.contents k 0 ≢ GATE_OPEN) at_is shut);
+          area_gate = subst (λ b. IsGate b (area_at (K.layout h) (not p.area)) new.contents) (sym area_open) (subst (λ (k : ℕ). get_or new.contents k 0 ≢ GATE_OPEN) at_is shut);
           segment_gate = λ single. absurd (false≢true (sym single ∙ turned));
         });
         begun = λ _. record {
           turned = turned;
-          shut = slot_open;
+          shut = area_open;
           read = read;
           long = long;
           stand = λ i below. absurd (omega (arith, below, length-take then.done code, done));
@@ -261,18 +261,18 @@ module _ {H S : Type 0} (K : Codec H S) (laws : Laws K) (h : H) where
         piece_len : length piece ≡ n
         piece_len = omega (arith, ap length is, length-take n (drop places.done spelling), length-drop places.done spelling, b.long, fits)
 
-        shut_in : (x : List ℕ) → old.now x → get_or x (slot_at (K.layout h) (not p.slot)) 0 ≢ GATE_OPEN
-        shut_in x now = known_shut places.slot_open (slot_at (K.layout h) (not p.slot)) x (holds.images x now).slot_gate b.shut
+        shut_in : (x : List ℕ) → old.now x → get_or x (area_at (K.layout h) (not p.area)) 0 ≢ GATE_OPEN
+        shut_in x now = known_shut places.area_open (area_at (K.layout h) (not p.area)) x (holds.images x now).area_gate b.shut
 
-        pieced : (x y : List ℕ) → old.now x → Torn (at + 1 + places.done) (length piece) x y → IsStore K h p s y × (get_or y (slot_at (K.layout h) (not p.slot)) 0 ≢ GATE_OPEN)
+        pieced : (x y : List ℕ) → old.now x → Torn (at + 1 + places.done) (length piece) x y → IsStore K h p s y × (get_or y (area_at (K.layout h) (not p.area)) 0 ≢ GATE_OPEN)
         pieced x y now torn = piece_step K laws h p s (at + 1 + places.done) (length piece) x y (omega (arith, at_is)) (omega (arith, at_is, piece_len, fits)) (shut_in x now) torn (store_of x now)
 
         pub piece_keeps : (new : View) → Leaves (Torn (at + 1 + places.done) (length piece)) old new → (start : S) (all : List (List ℕ)) → Replays K start all s → KeepsAll K start all all old new
         piece_keeps new leaves start all run = keeps_same old new holds.honest (Torn (at + 1 + places.done) (length piece)) leaves s start all run (λ x y now torn. recovers K laws h y p s (pieced x y now torn).0)
 
-        stands_on : (y : List ℕ) → Torn (at + 1 + places.done) (length piece) old.contents y → Written (at + 1 + places.done) piece old.contents y → StandAt (slot_at (K.layout h) (not p.slot) + 1) (take (places.done + n) spelling) y
+        stands_on : (y : List ℕ) → Torn (at + 1 + places.done) (length piece) old.contents y → Written (at + 1 + places.done) piece old.contents y → StandAt (area_at (K.layout h) (not p.area) + 1) (take (places.done + n) spelling) y
         stands_on y torn written i below = ⊎_elim
-            (λ early. torn.elsewhere (slot_at (K.layout h) (not p.slot) + 1 + i) (omega (arith, inside, early, fits)) (inl (omega (arith, early, at_is)))
+            (λ early. torn.elsewhere (area_at (K.layout h) (not p.area) + 1 + i) (omega (arith, inside, early, fits)) (inl (omega (arith, early, at_is)))
             ∙ b.stand i (omega (arith, early, length-take places.done spelling, b.long, fits))
             ∙ get_or-take places.done spelling i 0 early ∙ sym (get_or-take (places.done + n) spelling i 0 short))
             (λ late. ap (λ (k : ℕ). get_or y k 0) (omega (arith, late, at_is)) ∙ written_stands (at + 1 + places.done) piece old.contents y (omega (arith, inside, at_is, fits)) written (i - places.done) (omega (arith, late, short, piece_len))
@@ -284,48 +284,48 @@ module _ {H S : Type 0} (K : Codec H S) (laws : Laws K) (h : H) where
             short : i < places.done + n
             short = omega (arith, below, length-take (places.done + n) spelling)
 
-            inside : slot_at (K.layout h) (not p.slot) + 1 + (K.layout h).body ≤ length old.contents
-            inside = omega (arith, here.store.long, slot_inside (K.layout h) (not p.slot))
+            inside : area_at (K.layout h) (not p.area) + 1 + (K.layout h).body ≤ length old.contents
+            inside = omega (arith, here.store.long, area_inside (K.layout h) (not p.area))
 
         pub piece_holds : (new : View) → Leaves (Torn (at + 1 + places.done) (length piece)) old new → Written (at + 1 + places.done) piece old.contents new.contents
-            → (then : Places) → Fits (K.layout h) then → then.slot ≡ places.slot → then.segment ≡ places.segment → then.turned ≡ places.turned → then.gate ≡ places.gate → then.end ≡ places.end
-            → then.slot_open ≡ places.slot_open → then.segment_open ≡ places.segment_open → then.done ≡ places.done + n → Holds K h then p s spelling new
-        piece_holds new leaves written then fitting slot segment turned gate end slot_open segment_open done = record {
+            → (then : Places) → Fits (K.layout h) then → then.area ≡ places.area → then.segment ≡ places.segment → then.turned ≡ places.turned → then.gate ≡ places.gate → then.end ≡ places.end
+            → then.area_open ≡ places.area_open → then.segment_open ≡ places.segment_open → then.done ≡ places.done + n → Holds K h then p s spelling new
+        piece_holds new leaves written then fitting area segment turned gate end area_open segment_open done = record {
           honest = leaves.honest;
           fits = fitting;
-          slot = slot ∙ holds.slot;
+          area = area ∙ holds.area;
           segment = segment ∙ holds.segment;
           turned = turned ∙ holds.turned;
           gate = gate ∙ holds.gate;
           end = end ∙ holds.end;
           images = λ image now. let d = leaves.now image now in let after = pieced d.0 image d.1 d.2 in record {
             store = after.0;
-            slot_gate = subst (λ t. IsGate t (slot_at (K.layout h) (not p.slot)) image) (sym (slot_open ∙ b.shut)) after.1;
+            area_gate = subst (λ t. IsGate t (area_at (K.layout h) (not p.area)) image) (sym (area_open ∙ b.shut)) after.1;
             segment_gate = λ single. absurd (false≢true (sym single ∙ b.turned));
           };
           begun = λ _. record {
             turned = b.turned;
-            shut = slot_open ∙ b.shut;
+            shut = area_open ∙ b.shut;
             read = b.read;
             long = b.long;
-            stand = subst (λ (k : ℕ). StandAt (slot_at (K.layout h) (not p.slot) + 1) (take k spelling) new.contents) (sym done) (stands_on new.contents leaves.contents written);
+            stand = subst (λ (k : ℕ). StandAt (area_at (K.layout h) (not p.area) + 1) (take k spelling) new.contents) (sym done) (stands_on new.contents leaves.contents written);
           };
         }
 
       -- the end
       module _ (b : IsBegun K h places p spelling old.contents) (whole : places.done ≡ (K.layout h).body) where
         pub finish_inside : at + length spelling < length old.contents
-        finish_inside = omega (arith, at_is, b.long, here.store.long, slot_inside (K.layout h) (not p.slot))
+        finish_inside = omega (arith, at_is, b.long, here.store.long, area_inside (K.layout h) (not p.area))
 
         pub finish_stand : StandAt (at + 1) spelling old.contents
         finish_stand = subst (λ (k : ℕ). StandAt (k + 1) spelling old.contents) (sym at_is)
-            (subst (λ (l : List ℕ). StandAt (slot_at (K.layout h) (not p.slot) + 1) l old.contents) (take_all places.done spelling (omega (arith, whole, b.long))) b.stand)
+            (subst (λ (l : List ℕ). StandAt (area_at (K.layout h) (not p.area) + 1) l old.contents) (take_all places.done spelling (omega (arith, whole, b.long))) b.stand)
 
-        put_here : (x y : List ℕ) → Appended at spelling x y → Appended (slot_at (K.layout h) (not p.slot)) spelling x y
+        put_here : (x y : List ℕ) → Appended at spelling x y → Appended (area_at (K.layout h) (not p.area)) spelling x y
         put_here x y a = subst (λ (k : ℕ). Appended k spelling x y) at_is a
 
-        shut_then : (x : List ℕ) → old.now x → get_or x (slot_at (K.layout h) (not p.slot)) 0 ≢ GATE_OPEN
-        shut_then x now = known_shut places.slot_open (slot_at (K.layout h) (not p.slot)) x (holds.images x now).slot_gate b.shut
+        shut_then : (x : List ℕ) → old.now x → get_or x (area_at (K.layout h) (not p.area)) 0 ≢ GATE_OPEN
+        shut_then x now = known_shut places.area_open (area_at (K.layout h) (not p.area)) x (holds.images x now).area_gate b.shut
 
         pub finish_keeps : (new : View) → Leaves (Appended at spelling) old new → (start : S) (all : List (List ℕ)) → Replays K start all s → KeepsAll K start all all old new
         finish_keeps new leaves start all run = keeps_same old new holds.honest (Appended at spelling) leaves s start all run
@@ -333,44 +333,44 @@ module _ {H S : Type 0} (K : Codec H S) (laws : Laws K) (h : H) where
             (open_step K laws h p s spelling x y b.turned b.read b.long (shut_then x now) (put_here x y a) (store_of x now)))
 
         module _ (new : View) (leaves : Leaves (Appended at spelling) old new) (only : Only new.contents new) (opened : get_or new.contents at 0 ≡ GATE_OPEN) where
-          gate_open : get_or new.contents (slot_at (K.layout h) (not p.slot)) 0 ≡ GATE_OPEN
+          gate_open : get_or new.contents (area_at (K.layout h) (not p.area)) 0 ≡ GATE_OPEN
           gate_open = subst (λ (k : ℕ). get_or new.contents k 0 ≡ GATE_OPEN) at_is opened
 
-          a_here : Appended (slot_at (K.layout h) (not p.slot)) spelling old.contents new.contents
+          a_here : Appended (area_at (K.layout h) (not p.area)) spelling old.contents new.contents
           a_here = put_here old.contents new.contents leaves.contents
 
           ended : IsStore K h (finished p) s new.contents
           ended = ⊎_elim
               (λ same. absurd (shut_then old.contents holds.honest.here (sym same ∙ gate_open)))
               (λ stand. open_whole K laws h p s spelling old.contents new.contents b.turned b.read b.long a_here.torn gate_open stand here.store)
-              (a_here.gate_last (omega (arith, here.store.long, slot_inside (K.layout h) (not p.slot))))
+              (a_here.gate_last (omega (arith, here.store.long, area_inside (K.layout h) (not p.area))))
 
-          used_agrees : Agree (slot_at (K.layout h) p.slot) (slot_at (K.layout h) p.slot + 1 + (K.layout h).body) old.contents new.contents
-          used_agrees = subst (λ t. Agree (slot_at (K.layout h) t) (slot_at (K.layout h) t + 1 + (K.layout h).body) old.contents new.contents) (not_not p.slot)
-              (other_slot (K.layout h) (slot_at (K.layout h) (not p.slot)) (1 + length spelling) old.contents new.contents here.store.long a_here.torn (not p.slot) (omega arith) (omega (arith, b.long)))
+          used_agrees : Agree (area_at (K.layout h) p.area) (area_at (K.layout h) p.area + 1 + (K.layout h).body) old.contents new.contents
+          used_agrees = subst (λ t. Agree (area_at (K.layout h) t) (area_at (K.layout h) t + 1 + (K.layout h).body) old.contents new.contents) (not_not p.area)
+              (other_area (K.layout h) (area_at (K.layout h) (not p.area)) (1 + length spelling) old.contents new.contents here.store.long a_here.torn (not p.area) (omega arith) (omega (arith, b.long)))
 
-          used_open : get_or new.contents (slot_at (K.layout h) (not (not p.slot))) 0 ≡ GATE_OPEN
-          used_open = subst (λ t. get_or new.contents (slot_at (K.layout h) t) 0 ≡ GATE_OPEN) (sym (not_not p.slot)) (used_agrees (slot_at (K.layout h) p.slot) (omega arith) (omega arith) ∙ here.store.slot.gate)
+          used_open : get_or new.contents (area_at (K.layout h) (not (not p.area))) 0 ≡ GATE_OPEN
+          used_open = subst (λ t. get_or new.contents (area_at (K.layout h) t) 0 ≡ GATE_OPEN) (sym (not_not p.area)) (used_agrees (area_at (K.layout h) p.area) (omega arith) (omega arith) ∙ here.store.area.gate)
 
           older_open : get_or new.contents (segment_at (K.layout h) (not p.segment)) 0 ≡ GATE_OPEN
           older_open =
               let two : Other K h true p s old.contents = subst (λ t. Other K h t p s old.contents) b.turned here.store.other in
-              segment_of_slot (K.layout h) (slot_at (K.layout h) (not p.slot)) (1 + length spelling) old.contents new.contents here.store.long a_here.torn (not p.slot) (not p.segment) (omega (arith, b.long))
+              segment_of_area (K.layout h) (area_at (K.layout h) (not p.area)) (1 + length spelling) old.contents new.contents here.store.long a_here.torn (not p.area) (not p.segment) (omega (arith, b.long))
               (segment_at (K.layout h) (not p.segment)) (omega arith) (omega (arith, (K.layout h).room)) ∙ two.0.gate
 
-          pub finish_holds : (then : Places) → Fits (K.layout h) then → then.slot ≡ not places.slot → then.segment ≡ places.segment → then.turned ≡ false → then.gate ≡ places.gate → then.end ≡ places.end
-              → then.slot_open ≡ true → then.segment_open ≡ true → then.begun ≡ false → Holds K h then (finished p) s spelling new
-          finish_holds then fitting slot segment turned gate end slot_open segment_open begun = record {
+          pub finish_holds : (then : Places) → Fits (K.layout h) then → then.area ≡ not places.area → then.segment ≡ places.segment → then.turned ≡ false → then.gate ≡ places.gate → then.end ≡ places.end
+              → then.area_open ≡ true → then.segment_open ≡ true → then.begun ≡ false → Holds K h then (finished p) s spelling new
+          finish_holds then fitting area segment turned gate end area_open segment_open begun = record {
             honest = leaves.honest;
             fits = fitting;
-            slot = slot ∙ ap not holds.slot;
+            area = area ∙ ap not holds.area;
             segment = segment ∙ holds.segment;
             turned = turned;
             gate = gate ∙ holds.gate;
             end = end ∙ holds.end;
             images = λ image now. subst (λ (l : List ℕ). IsKnown K h then (finished p) s l) (sym (only image now)) (record {
               store = ended;
-              slot_gate = subst (λ t. IsGate t (slot_at (K.layout h) (not (not p.slot))) new.contents) (sym slot_open) used_open;
+              area_gate = subst (λ t. IsGate t (area_at (K.layout h) (not (not p.area))) new.contents) (sym area_open) used_open;
               segment_gate = λ _. subst (λ t. IsGate t (segment_at (K.layout h) (not p.segment)) new.contents) (sym segment_open) older_open;
             });
             begun = λ is. absurd (false≢true (sym begun ∙ is));
@@ -390,21 +390,21 @@ module _ {H S : Type 0} (K : Codec H S) (laws : Laws K) (h : H) where
           (turn_step K laws h p s places.segment_open bytes x y alone some nine spelled shut (known_open places.segment_open (segment_at (K.layout h) (not p.segment)) x ((holds.images x now).segment_gate alone)) (prepared_here x y step) (store_of x now)))
 
       pub turn_holds : (next : List ℕ) (new : View) → Leaves (Prepared at places.segment_open bytes) old new → Only new.contents new → StandAt at (GATE_OPEN ∷ bytes) new.contents
-          → (then : Places) → Fits (K.layout h) then → then.slot ≡ places.slot → then.segment ≡ not places.segment → then.turned ≡ true → then.gate ≡ at + 9 → then.end ≡ at + places.segment_len
-          → then.slot_open ≡ places.slot_open → then.begun ≡ false → Holds K h then (turned_at p s) s next new
-      turn_holds next new leaves only stand then fitting slot segment turned gate end slot_open begun = record {
+          → (then : Places) → Fits (K.layout h) then → then.area ≡ places.area → then.segment ≡ not places.segment → then.turned ≡ true → then.gate ≡ at + 9 → then.end ≡ at + places.segment_len
+          → then.area_open ≡ places.area_open → then.begun ≡ false → Holds K h then (turned_at p s) s next new
+      turn_holds next new leaves only stand then fitting area segment turned gate end area_open begun = record {
         honest = leaves.honest;
         fits = fitting;
-        slot = slot ∙ holds.slot;
+        area = area ∙ holds.area;
         segment = segment ∙ ap not holds.segment;
         turned = turned;
         gate = omega (arith, gate, at_is);
         end = omega (arith, end, at_is, holds.fits.segment);
         images = λ image now. subst (λ (l : List ℕ). IsKnown K h then (turned_at p s) s l) (sym (only image now)) (record {
           store = turn_whole K laws h p s bytes old.contents new.contents alone some nine spelled shut torn here.store (subst (λ (k : ℕ). StandAt k (GATE_OPEN ∷ bytes) new.contents) at_is stand);
-          slot_gate = subst (λ t. IsGate t (slot_at (K.layout h) (not p.slot)) new.contents) (sym slot_open)
-              (gate_same places.slot_open (slot_at (K.layout h) (not p.slot)) old.contents new.contents
-              (slot_of_segment (K.layout h) (segment_at (K.layout h) (not p.segment)) (1 + length bytes) old.contents new.contents here.store.long torn (not p.segment) (not p.slot) (omega arith) (slot_at (K.layout h) (not p.slot)) (omega arith) (omega arith)) here.slot_gate);
+          area_gate = subst (λ t. IsGate t (area_at (K.layout h) (not p.area)) new.contents) (sym area_open)
+              (gate_same places.area_open (area_at (K.layout h) (not p.area)) old.contents new.contents
+              (area_of_segment (K.layout h) (segment_at (K.layout h) (not p.segment)) (1 + length bytes) old.contents new.contents here.store.long torn (not p.segment) (not p.area) (omega arith) (area_at (K.layout h) (not p.area)) (omega arith) (omega arith)) here.area_gate);
           segment_gate = λ is. absurd (false≢true (sym is));
         });
         begun = λ is. absurd (false≢true (sym begun ∙ is));
@@ -418,16 +418,16 @@ module _ {H S : Type 0} (K : Codec H S) (laws : Laws K) (h : H) where
 
   -- What is found in the contents of a synced disk holds.
   pub open_holds : (places : Places) (p : Parts S) (s : S) (disk : View) → IsHonest disk → Only disk.contents disk → found K disk.contents ≡ Ok (found_of h p s) → ArePlaces K h p places → places.begun ≡ false
-      → IsGate places.slot_open (slot_at (K.layout h) (not p.slot)) disk.contents → IsGate places.segment_open (segment_at (K.layout h) (not p.segment)) disk.contents → (spelling : List ℕ) → Holds K h places p s spelling disk
-  open_holds places p s disk honest only is are begun slot_gate segment_gate spelling = record {
+      → IsGate places.area_open (area_at (K.layout h) (not p.area)) disk.contents → IsGate places.segment_open (segment_at (K.layout h) (not p.segment)) disk.contents → (spelling : List ℕ) → Holds K h places p s spelling disk
+  open_holds places p s disk honest only is are begun area_gate segment_gate spelling = record {
     honest = honest;
     fits = are.fits;
-    slot = are.slot;
+    area = are.area;
     segment = are.segment;
     turned = are.turned;
     gate = are.gate;
     end = are.end;
-    images = λ image now. subst (λ (l : List ℕ). IsKnown K h places p s l) (sym (only image now)) (record { store = found_stands K laws (found_of h p s) disk.contents is; slot_gate = slot_gate; segment_gate = λ _. segment_gate });
+    images = λ image now. subst (λ (l : List ℕ). IsKnown K h places p s l) (sym (only image now)) (record { store = found_stands K laws (found_of h p s) disk.contents is; area_gate = area_gate; segment_gate = λ _. segment_gate });
     begun = λ opened. absurd (false≢true (sym begun ∙ opened));
   }
 

@@ -7,7 +7,7 @@ use Rattle.pfx_recovery.specs.Codec.{Codec}
 use Rattle.pfx_recovery.specs.Layout.{segment_end}
 use Rattle.pfx_recovery.specs.Store.{next_gate, with_frame, turned_at, finished}
 use Rattle.pfx_store_file.specs.declared.checkpoint.TheConstants.{PIECE}
-use Rattle.pfx_store_file.specs.Files.{File, slot_of, segment_of}
+use Rattle.pfx_store_file.specs.Files.{File, area_of, segment_of}
 
 module _ {H S : Type 0} (K : Codec H S) where
   -- how long the next piece of the checkpoint in progress is
@@ -16,19 +16,19 @@ module _ {H S : Type 0} (K : Codec H S) where
 
   -- that piece, written after those before it
   abbrev pub piece_acts : File H S → List ℕ → List Act
-  piece_acts f spelling = Write (slot_of K f + 1 + f.done) (take (piece_len f) (drop f.done spelling)) ∷ []
+  piece_acts f spelling = Write (area_of K f + 1 + f.done) (take (piece_len f) (drop f.done spelling)) ∷ []
 
   -- the next step of the checkpoint in progress, whose body is spelled so: closed, a piece, finished
   abbrev pub tend_acts : File H S → List ℕ → List Act
   tend_acts f spelling = if f.parts.turned
       then (if f.begun
-      then (if nat_lt f.done (K.layout f.head).body then piece_acts f spelling else open_acts (slot_of K f))
-      else close_acts (slot_of K f) f.slot_open)
+      then (if nat_lt f.done (K.layout f.head).body then piece_acts f spelling else open_acts (area_of K f))
+      else close_acts (area_of K f) f.area_open)
       else []
 
   -- the file after its first step
   abbrev pub closed_file : File H S → File H S
-  closed_file f = record f { slot_open = false; begun = true; done = 0 }
+  closed_file f = record f { area_open = false; begun = true; done = 0 }
 
   -- after a piece
   abbrev pub pieced_file : File H S → File H S
@@ -36,7 +36,7 @@ module _ {H S : Type 0} (K : Codec H S) where
 
   -- after its last step
   abbrev pub finished_file : File H S → File H S
-  finished_file f = record f { parts = finished f.parts; slot_open = true; segment_open = true; begun = false }
+  finished_file f = record f { parts = finished f.parts; area_open = true; segment_open = true; begun = false }
 
   -- after the next step, whichever that is
   abbrev pub tended_file : File H S → File H S

@@ -1,7 +1,7 @@
 -- A store's file by its parts, and what is known of it besides, as the places of a store have it.
 use Rattle.std.specs.Prelude.{◌≡◌, ℕ, List, Bool, false, not}
 use Rattle.pfx_recovery.specs.Codec.{Codec}
-use Rattle.pfx_recovery.specs.Layout.{slot_at, segment_at, is_open}
+use Rattle.pfx_recovery.specs.Layout.{area_at, segment_at, is_open}
 use Rattle.pfx_recovery.specs.Store.{Parts}
 use Rattle.pfx_store_file.specs.Holding.{ArePlaces}
 use Rattle.pfx_store_file.specs.declared.places.Places.{Places}
@@ -11,15 +11,15 @@ use Rattle.pfx_store_file.specs.declared.places.Places.{Places}
 pub record File (H S : Type 0) : Type 0 where
   pub head : H
   pub parts : Parts S
-  pub slot_open : Bool
+  pub area_open : Bool
   pub segment_open : Bool
   pub begun : Bool
   pub done : ℕ
 
 module _ {H S : Type 0} (K : Codec H S) where
   -- where the checkpoint area that isn't in use stands
-  abbrev pub slot_of : File H S → ℕ
-  slot_of f = slot_at (K.layout f.head) (not f.parts.slot)
+  abbrev pub area_of : File H S → ℕ
+  area_of f = area_at (K.layout f.head) (not f.parts.area)
 
   -- where the segment that isn't in use stands
   abbrev pub segment_of : File H S → ℕ
@@ -30,7 +30,7 @@ module _ {H S : Type 0} (K : Codec H S) where
   file_in image h p = record {
     head = h;
     parts = p;
-    slot_open = is_open (slot_at (K.layout h) (not p.slot)) image;
+    area_open = is_open (area_at (K.layout h) (not p.area)) image;
     segment_open = is_open (segment_at (K.layout h) (not p.segment)) image;
     begun = false;
     done = 0;
@@ -39,7 +39,7 @@ module _ {H S : Type 0} (K : Codec H S) where
   -- the places of a store are those of the file
   pub record AreOf (f : File H S) (places : Places) : Type 0 where
     pub are : ArePlaces K f.head f.parts places
-    pub slot_open : places.slot_open ≡ f.slot_open
+    pub area_open : places.area_open ≡ f.area_open
     pub segment_open : places.segment_open ≡ f.segment_open
     pub begun : places.begun ≡ f.begun
     pub done : places.done ≡ f.done

@@ -5,7 +5,7 @@ use Rattle.pfx_disk.specs.declared.gates.TheConstants.{GATE_OPEN}
 use Rattle.pfx_segment.specs.Segment.{StandAt}
 use Rattle.pfx_segment.specs.Frames.{IsFrame}
 use Rattle.pfx_recovery.specs.Codec.{Codec}
-use Rattle.pfx_recovery.specs.Layout.{slot_at, segment_at, segment_end, IsOpenAt, IsClosedAt}
+use Rattle.pfx_recovery.specs.Layout.{area_at, segment_at, segment_end, IsOpenAt, IsClosedAt}
 use Rattle.pfx_recovery.specs.Recovery.{recovered}
 use Rattle.pfx_recovery.specs.Store.{Parts, Replays, IsStore, next_gate}
 use Rattle.pfx_store_file.specs.Fitting.{Fits}
@@ -48,21 +48,21 @@ module _ {H S : Type 0} (K : Codec H S) where
     -- the image is one of the store, and the gates of the checkpoint area and the segment that aren't in use stand as they are known to
     pub record IsKnown (places : Places) (p : Parts S) (s : S) (image : List ℕ) : Type 0 where
       pub store : IsStore K h p s image
-      pub slot_gate : IsGate places.slot_open (slot_at (K.layout h) (not p.slot)) image
+      pub area_gate : IsGate places.area_open (area_at (K.layout h) (not p.area)) image
       pub segment_gate : p.turned ≡ false → IsGate places.segment_open (segment_at (K.layout h) (not p.segment)) image
 
     -- a checkpoint has been begun: so much of the spelling of the state at the turn stands behind the closed gate
     pub record IsBegun (places : Places) (p : Parts S) (spelling : List ℕ) (contents : List ℕ) : Type 0 where
       pub turned : p.turned ≡ true
-      pub shut : places.slot_open ≡ false
+      pub shut : places.area_open ≡ false
       pub read : K.read_state h spelling ≡ Some p.middle
       pub long : length spelling ≡ (K.layout h).body
-      pub stand : StandAt (slot_at (K.layout h) (not p.slot) + 1) (take places.done spelling) contents
+      pub stand : StandAt (area_at (K.layout h) (not p.area) + 1) (take places.done spelling) contents
 
     -- the places are those of the store's parts
     pub record ArePlaces (p : Parts S) (places : Places) : Type 0 where
       pub fits : Fits (K.layout h) places
-      pub slot : places.slot ≡ p.slot
+      pub area : places.area ≡ p.area
       pub segment : places.segment ≡ p.segment
       pub turned : places.turned ≡ p.turned
       pub gate : places.gate ≡ next_gate K h p
@@ -73,7 +73,7 @@ module _ {H S : Type 0} (K : Codec H S) where
     pub record Holds (places : Places) (p : Parts S) (s : S) (spelling : List ℕ) (disk : View) : Type 0 where
       pub honest : IsHonest disk
       pub fits : Fits (K.layout h) places
-      pub slot : places.slot ≡ p.slot
+      pub area : places.area ≡ p.area
       pub segment : places.segment ≡ p.segment
       pub turned : places.turned ≡ p.turned
       pub gate : places.gate ≡ next_gate K h p

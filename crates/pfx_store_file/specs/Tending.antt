@@ -58,10 +58,10 @@ pub record StaysPut (old new : Places) : Type 0 where
 pub record MovesOn (n : ℕ) (old new : Places) : Type 0 where
   pub gate : new.gate ≡ old.gate + n
   pub end : new.end ≡ old.end
-  pub slot : new.slot ≡ old.slot
+  pub area : new.area ≡ old.area
   pub segment : new.segment ≡ old.segment
   pub turned : new.turned ≡ old.turned
-  pub slot_open : new.slot_open ≡ old.slot_open
+  pub area_open : new.area_open ≡ old.area_open
   pub segment_open : new.segment_open ≡ old.segment_open
   pub begun : new.begun ≡ old.begun
   pub done : new.done ≡ old.done

@@ -6,7 +6,7 @@ ghost use Rattle.pfx_recovery.specs.Codec.{Codec, Laws};
 ghost use Rattle.pfx_recovery.specs.Store.{Parts, Replays, finished};
 ghost use Rattle.pfx_segment.specs.Acts.{close_acts, open_acts};
 ghost use Rattle.pfx_store_file.specs.Acts.{closed_file, finished_file, tend_acts, tended_file, end_acts, ended_file};
-ghost use Rattle.pfx_store_file.specs.Files.{File, AreOf, slot_of};
+ghost use Rattle.pfx_store_file.specs.Files.{File, AreOf, area_of};
 ghost use Rattle.pfx_store_file.specs.Holding.{Holds, KeepsAll};
 ghost use Rattle.pfx_store_file.specs.Tending.{next_step, calls_of, calls_left, settled, settled_unless};
 ghost use Rattle.pfx_store_file.specs.Working.{Ends, IsCall, IsPiece, IsStep, Keeps, Makes, Tends};
@@ -50,14 +50,14 @@ impl<D: Disk> StoreFile<D> {
             → (start : S) → (all : List (List ℕ)) → Replays K start all s
             → KeepsAll K start all all (D.view self.old.disk) (D.view self.new.disk) }
         ensures acts { (K : Codec H S) → (f : File H S) → AreOf K f self.old.places → IsHonest (D.view self.old.disk)
-            → Makes self.old self.new result (close_acts (slot_of K f) f.slot_open) }
+            → Makes self.old self.new result (close_acts (area_of K f) f.area_open) }
         ensures file { (K : Codec H S) → (f : File H S) → AreOf K f self.old.places
             → OnOk result (AreOf K (closed_file K f) self.new.places) }
     {
-        let at = self.places.slot_at(!self.places.slot);
+        let at = self.places.area_at(!self.places.area);
         self.broken = true;
-        close(&mut self.disk, at, self.places.slot_open)?;
-        self.places.slot_open = false;
+        close(&mut self.disk, at, self.places.area_open)?;
+        self.places.area_open = false;
         self.places.begun = true;
         self.places.done = 0;
         self.broken = false;
@@ -75,11 +75,11 @@ impl<D: Disk> StoreFile<D> {
             → Holds K h self.old.places p s spelling.now (D.view self.old.disk)
             → Keeps self.old self.new result K h p s spelling.now }
         ensures acts { (K : Codec H S) → (f : File H S) → AreOf K f self.old.places → IsHonest (D.view self.old.disk)
-            → Makes self.old self.new result (Write (slot_of K f + 1 + f.done) (take n (drop f.done spelling.now)) ∷ []) }
+            → Makes self.old self.new result (Write (area_of K f + 1 + f.done) (take n (drop f.done spelling.now)) ∷ []) }
         ensures file { (K : Codec H S) → (f : File H S) → AreOf K f self.old.places
             → OnOk result (AreOf K (record f { done = f.done + n }) self.new.places) }
     {
-        let at = self.places.slot_at(!self.places.slot);
+        let at = self.places.area_at(!self.places.area);
         let done = self.places.done;
         self.broken = true;
         self.disk
@@ -100,11 +100,11 @@ impl<D: Disk> StoreFile<D> {
             → Holds K h self.old.places p s spelling (D.view self.old.disk)
             → Keeps self.old self.new result K h (finished p) s spelling }
         ensures acts { (K : Codec H S) → (f : File H S) → AreOf K f self.old.places → IsHonest (D.view self.old.disk)
-            → Makes self.old self.new result (open_acts (slot_of K f)) }
+            → Makes self.old self.new result (open_acts (area_of K f)) }
         ensures file { (K : Codec H S) → (f : File H S) → AreOf K f self.old.places
             → OnOk result (AreOf K (finished_file K f) self.new.places) }
     {
-        let at = self.places.slot_at(!self.places.slot);
+        let at = self.places.area_at(!self.places.area);
         self.broken = true;
         open_gate(&mut self.disk, at)?;
         let old = self.places;
@@ -113,12 +113,12 @@ impl<D: Disk> StoreFile<D> {
             body: old.body,
             segment_len: old.segment_len,
             len: old.len,
-            slot: !old.slot,
+            area: !old.area,
             segment: old.segment,
             turned: false,
             gate: old.gate,
             end: old.end,
-            slot_open: true,
+            area_open: true,
             segment_open: true,
             begun: false,
             done: old.done,

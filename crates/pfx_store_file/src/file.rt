@@ -2,7 +2,7 @@
 ghost use Rattle.std.specs.Prelude.{◌≡◌, ◌≤◌, ℕ, List, length, not, Ok, false};
 ghost use Rattle.pfx_disk.specs.Disk.{IsHonest, Only};
 ghost use Rattle.pfx_recovery.specs.Codec.{Codec, Laws};
-ghost use Rattle.pfx_recovery.specs.Layout.{slot_at, segment_at};
+ghost use Rattle.pfx_recovery.specs.Layout.{area_at, segment_at};
 ghost use Rattle.pfx_recovery.specs.Recovery.{found, found_of};
 ghost use Rattle.pfx_recovery.specs.Store.{Parts};
 ghost use Rattle.pfx_store_file.specs.Holding.{ArePlaces, Holds, IsGate};
@@ -36,7 +36,7 @@ impl<D: Disk> StoreFile<D> {
             → IsHonest (D.view disk) → Only (D.view disk).contents (D.view disk)
             → found K (D.view disk).contents ≡ Ok (found_of h p s)
             → ArePlaces K h p places → places.begun ≡ false
-            → IsGate places.slot_open (slot_at (K.layout h) (not p.slot)) (D.view disk).contents
+            → IsGate places.area_open (area_at (K.layout h) (not p.area)) (D.view disk).contents
             → IsGate places.segment_open (segment_at (K.layout h) (not p.segment)) (D.view disk).contents
             → (spelling : List ℕ) → Holds K h result.places p s spelling (D.view result.disk) }
     {

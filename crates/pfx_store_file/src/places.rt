@@ -14,7 +14,7 @@ pub struct Places {
     /// The file's length.
     pub len: usize,
     /// The checkpoint area in use.
-    pub slot: bool,
+    pub area: bool,
     /// The segment that frames go to.
     pub segment: bool,
     /// Whether the other segment is to be read before it, since no checkpoint of its frames has ended.
@@ -24,7 +24,7 @@ pub struct Places {
     /// The end of the segment that frames go to.
     pub end: usize,
     /// Whether the gate of the checkpoint area that isn't in use stands open.
-    pub slot_open: bool,
+    pub area_open: bool,
     /// Whether the gate of the other segment stands open, if that isn't to be read.
     pub segment_open: bool,
     /// Whether that checkpoint area was closed for the checkpoint in progress.
@@ -40,12 +40,12 @@ pub struct Places {
 }
 
 impl Places {
-    ghost use Rattle.pfx_recovery.specs.Layout.{Layout, slot_at, segment_at};
+    ghost use Rattle.pfx_recovery.specs.Layout.{Layout, area_at, segment_at};
     ghost use Rattle.pfx_store_file.specs.Fitting.{Fits};
 
     /// Where a checkpoint area stands.
-    pub fn slot_at(&self, b: bool) -> usize
-        ensures at { (L : Layout) → Fits L self.now → result ≡ slot_at L b }
+    pub fn area_at(&self, b: bool) -> usize
+        ensures at { (L : Layout) → Fits L self.now → result ≡ area_at L b }
         ensures inside { result + 1 + self.now.body ≤ self.now.len }
     {
         if b {

@@ -228,10 +228,10 @@ fn have_lengths(places: &Places) -> bool {
 }
 
 fn are_at_the_start(places: &Places) -> bool {
-    !places.slot
+    !places.area
         && !places.segment
         && !places.turned
-        && !places.slot_open
+        && !places.area_open
         && !places.segment_open
         && !places.begun
         && places.done == 0

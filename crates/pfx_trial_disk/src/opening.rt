@@ -13,7 +13,7 @@ use std::alloc::Global;
 
 const LEN: usize = 104;
 
-/// A new file: the first slot and the first segment are open, and all else is 0.
+/// A new file: the first area and the first segment are open, and all else is 0.
 fn new_file() -> [u8; 104] {
     let mut bytes = [0; 104];
     bytes[0] = 1;
@@ -77,10 +77,10 @@ fn stands_at(opened: &Opened<MemoryDisk, Toy>, number: u64, sum: u64) -> bool {
     opened.state.number() == number && opened.state.sum() == sum
 }
 
-/// Whether the slot and the segment are these, the first or the second, and turned or not.
-fn is_in(file: &StoreFile<MemoryDisk>, slot: bool, segment: bool, turned: bool) -> bool {
+/// Whether the area and the segment are these, the first or the second, and turned or not.
+fn is_in(file: &StoreFile<MemoryDisk>, area: bool, segment: bool, turned: bool) -> bool {
     let places = &file.places;
-    places.slot == slot && places.segment == segment && places.turned == turned
+    places.area == area && places.segment == segment && places.turned == turned
 }
 
 /// Whether the frames end at this gate, and the segment there.
@@ -88,9 +88,9 @@ fn ends_at(file: &StoreFile<MemoryDisk>, gate: usize, end: usize) -> bool {
     file.places.gate == gate && file.places.end == end
 }
 
-/// Whether the slot and the segment that aren't read from stand open.
-fn stand_open(file: &StoreFile<MemoryDisk>, slot: bool, segment: bool) -> bool {
-    file.places.slot_open == slot && file.places.segment_open == segment
+/// Whether the area and the segment that aren't read from stand open.
+fn stand_open(file: &StoreFile<MemoryDisk>, area: bool, segment: bool) -> bool {
+    file.places.area_open == area && file.places.segment_open == segment
 }
 
 #[test]
@@ -122,7 +122,7 @@ fn a_closed_gate_ends_the_frames(rt: HostRuntime) {
     check(&rt, opened.middle.is_none(), "middle");
 }
 
-// Both slots and both segments are open: the slot with the greater number is taken, and the segment of lower numbers is
+// Both areas and both segments are open: the area with the greater number is taken, and the segment of lower numbers is
 // passed over.
 #[test]
 fn the_newer_slot_is_taken(rt: HostRuntime) {

@@ -26,19 +26,19 @@ fn places() -> Places
         body: 2,
         segment_len: 42,
         len: LEN,
-        slot: false,
+        area: false,
         segment: false,
         turned: false,
         gate: 17,
         end: 50,
-        slot_open: false,
+        area_open: false,
         segment_open: false,
         begun: false,
         done: 0,
     }
 }
 
-/// The bytes of a new file: the first slot and the first segment are open, and all else is 0.
+/// The bytes of a new file: the first area and the first segment are open, and all else is 0.
 fn new_bytes() -> [u8; 92] {
     let mut bytes = [0; 92];
     bytes[0] = 1;

@@ -93,7 +93,7 @@ impl Format for Toy {
         }
     }
 
-    fn slot_number(bytes: &[u8; 8]) -> u64 {
+    fn area_number(bytes: &[u8; 8]) -> u64 {
         bytes[0] as u64
     }
 

@@ -4,7 +4,7 @@ use Rattle.pfx_recovery.specs.Recovery.{found}
 use Rattle.pfx_create.specs.Attempts.{IsNoneOrMade}
 use Rattle.pfx_create.proofs.NewBytes.{some_layout}
 use Rattle.pfx_create.proofs.Creations.{lengths, whole_is_found}
-use Rattle.pfx_create.proofs.NewStores.{as_long, are_places, slot_gate, segment_gate}
+use Rattle.pfx_create.proofs.NewStores.{as_long, are_places, area_gate, segment_gate}
 use Rattle.pfx_create.proofs.file.create_file.Goals as goal
 
 pub new-requires : goal.new-requires
@@ -27,7 +27,7 @@ returns-in-Ok-clause-holds g c K h s made honest spelling =
     c.new.ensures.holds K made.laws h (new_parts s) s (c.create.ensures.attempts.leaves honest (K.layout h) has).honest (c.in-Ok.ensures.made honest).durable
     (ap (found K) is ∙ whole_is_found K h s c.args.head.now c.args.body.now c.args.segment made)
     (are_places K h s c.args.head.now c.args.body.now c.args.segment made places c.new_places-places.ensures) c.new_places-places.ensures.begun
-    (slot_gate K h s c.args.head.now c.args.body.now c.args.segment made places c.new_places-places.ensures contents is)
+    (area_gate K h s c.args.head.now c.args.body.now c.args.segment made places c.new_places-places.ensures contents is)
     (segment_gate K h s c.args.head.now c.args.body.now c.args.segment made places c.new_places-places.ensures contents is) spelling
 
 pub returns-in-Ok-clause-recovers : goal.returns-in-Ok-clause-recovers

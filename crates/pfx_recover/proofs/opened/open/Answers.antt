@@ -1,5 +1,5 @@
 use Rattle.std.proofs.Common.{◌∙◌, ℕ, List, sym, subst, ap, not}
-use Rattle.pfx_recovery.specs.Layout.{slot_at, segment_at}
+use Rattle.pfx_recovery.specs.Layout.{area_at, segment_at}
 use Rattle.pfx_recovery.specs.Recovery.{found}
 use Rattle.pfx_store_file.specs.Files.{AreOf, file_in}
 use Rattle.pfx_store_file.specs.Holding.{IsGate}
@@ -26,7 +26,7 @@ returns-in-Ok-clause-opened g c honest =
       kept = subst (λ (d : g.row.D.Denot). IsKept bytes (g.D.Disk.view d)) (sym c.new.ensures.disk) kept;
       holds = c.new.ensures.holds K g.met.F.Format.laws h p c.in-Ok.contents.state kept.honest (λ image is. kept.only image is ∙ sym kept.contents)
           (ap (λ (l : List ℕ). found K l) kept.contents ∙ of.found) of.file.are of.file.begun
-          (subst (λ (l : List ℕ). IsGate places.slot_open (slot_at (K.layout h) (not p.slot)) l) (sym kept.contents) (gate_is K h bytes places.slot_open _ of.file.slot_open))
+          (subst (λ (l : List ℕ). IsGate places.area_open (area_at (K.layout h) (not p.area)) l) (sym kept.contents) (gate_is K h bytes places.area_open _ of.file.area_open))
           (subst (λ (l : List ℕ). IsGate places.segment_open (segment_at (K.layout h) (not p.segment)) l) (sym kept.contents) (gate_is K h bytes places.segment_open _ of.file.segment_open));
       between = of.between;
     }

@@ -9,9 +9,9 @@ use Rattle.pfx_replay.proofs.Stores.{answered_as, base_is, found_by, set_of_read
 use Rattle.pfx_replay.proofs.file.judge_file.Goals as goal
 
 pub returns-in_default-2 : goal.returns-in_default-2
-returns-in_default-2 g c p t is slot segment turned =
+returns-in_default-2 g c p t is area segment turned =
     let none = rw c.in_default-2.is at c.in_ok-behind.ensures in
-    found_by g.J.Job.kind g.met.J.Job.laws c.args.header.now c.args.image.now p t is c.args.slot c.args.segment c.args.turned slot segment turned (λ before frames. ⊥) none
+    found_by g.J.Job.kind g.met.J.Job.laws c.args.header.now c.args.image.now p t is c.args.area c.args.segment c.args.turned area segment turned (λ before frames. ⊥) none
 
 pub returns-in-None : goal.returns-in-None
 returns-in-None g c =
@@ -24,13 +24,13 @@ returns-in-None g c =
     let records = rw c.in-Some-2.is at c.in_ok-behind.ensures in
     let way = rw c.in-None.is at c.in_ok-find_way.ensures in
     let behind = map plain c.deref-in-None.result.now in
-    IfOk-weaker c.judge_trail.result _ _ (λ found given p t is slot segment turned.
-    let same = base_is K L h image p t is c.args.slot c.args.segment c.args.turned slot segment turned c.slot_at-at.result c.sizes-sizes.result.body base
-    (c.slot_at-at.ensures.at (layout h) c.sizes-sizes.ensures) c.sizes-sizes.ensures.body read in
-    let all = found_by K L h image p t is c.args.slot c.args.segment c.args.turned slot segment turned (λ before frames. map plain c.in-Some-2.behind.items ≡ records_in K h.set.workers (before ++ frames)) records in
-    verdict_none K L h image p t is c.args.slot c.args.segment c.args.turned slot segment turned found base behind same (ap (λ l. map plain l) c.deref-in-None.ensures.value ∙ all)
-    (way p slot segment (ap (λ (s : Plain _). s.number) (sym same) ∙ sym c.number.ensures.number))
-    (answered_as K L h image p t is c.args.slot c.args.segment c.args.turned slot segment turned found c.in_ok-start-in-None.start base (map plain c.deref.result.now) [] base behind
+    IfOk-weaker c.judge_trail.result _ _ (λ found given p t is area segment turned.
+    let same = base_is K L h image p t is c.args.area c.args.segment c.args.turned area segment turned c.area_at-at.result c.sizes-sizes.result.body base
+    (c.area_at-at.ensures.at (layout h) c.sizes-sizes.ensures) c.sizes-sizes.ensures.body read in
+    let all = found_by K L h image p t is c.args.area c.args.segment c.args.turned area segment turned (λ before frames. map plain c.in-Some-2.behind.items ≡ records_in K h.set.workers (before ++ frames)) records in
+    verdict_none K L h image p t is c.args.area c.args.segment c.args.turned area segment turned found base behind same (ap (λ l. map plain l) c.deref-in-None.ensures.value ∙ all)
+    (way p area segment (ap (λ (s : Plain _). s.number) (sym same) ∙ sym c.number.ensures.number))
+    (answered_as K L h image p t is c.args.area c.args.segment c.args.turned area segment turned found c.in_ok-start-in-None.start base (map plain c.deref.result.now) [] base behind
     c.in_ok-start-in-None.ensures (ap (λ l. map plain l) (c.deref.ensures.value ∙ c.new-before.ensures.items)) given)) c.judge_trail.ensures
 
 pub judge_trail-requires-in-Some-3 : goal.judge_trail-requires-in-Some-3
@@ -40,8 +40,8 @@ judge_trail-requires-in-Some-3 g c =
     let h = c.args.header.now in
     let base = c.in-Some.base in
     let read = rw c.in-Some.is at c.in_ok-base.ensures in
-    let way = (rw c.in-Some-3.is at c.in_ok-find_way.ensures) (record { slot = c.args.slot; base = base; turned = false; before = []; middle = base; segment = c.args.segment; frames = [] }) refl refl (sym c.number.ensures.number) in
-    set_of_read K L h _ c.in-Some-3.start (sym way.slot.body) ∙ sym (set_of_read K L h _ base read)
+    let way = (rw c.in-Some-3.is at c.in_ok-find_way.ensures) (record { area = c.args.area; base = base; turned = false; before = []; middle = base; segment = c.args.segment; frames = [] }) refl refl (sym c.number.ensures.number) in
+    set_of_read K L h _ c.in-Some-3.start (sym way.area.body) ∙ sym (set_of_read K L h _ base read)
 
 pub returns : goal.returns
 returns g c =
@@ -61,9 +61,9 @@ returns g c =
     ∙ ap (λ l. map plain l ++ records_in K c.workers.result (views c.deref-in-Some-3.result.now)) c.new-before-in-Some-3.ensures.items
     ∙ ap (λ l. records_in K c.workers.result (views l)) c.deref-in-Some-3.ensures.value
     ∙ ap (λ k. records_in K k frames) (c.workers.ensures ∙ ap (λ (s : _). s.workers) c.set.ensures.set) in
-    IfOk-weaker c.judge_trail-in-Some-3.result _ _ (λ found given p t is slot segment turned.
-    let same = base_is K L h image p t is c.args.slot c.args.segment c.args.turned slot segment turned c.slot_at-at.result c.sizes-sizes.result.body base
-    (c.slot_at-at.ensures.at (layout h) c.sizes-sizes.ensures) c.sizes-sizes.ensures.body read in
-    let all = found_by K L h image p t is c.args.slot c.args.segment c.args.turned slot segment turned (λ before frames. map plain c.in-Some-2.behind.items ≡ records_in K h.set.workers (before ++ frames)) records in
-    verdict_some K L h image p t is c.args.slot c.args.segment c.args.turned slot segment turned found start base frames before behind same led (ap (λ l. map plain l) c.deref-in-Some-3-3.ensures.value ∙ all)
-    (way p slot segment (ap (λ (s : Plain _). s.number) (sym same) ∙ sym c.number.ensures.number)) given) c.judge_trail-in-Some-3.ensures
+    IfOk-weaker c.judge_trail-in-Some-3.result _ _ (λ found given p t is area segment turned.
+    let same = base_is K L h image p t is c.args.area c.args.segment c.args.turned area segment turned c.area_at-at.result c.sizes-sizes.result.body base
+    (c.area_at-at.ensures.at (layout h) c.sizes-sizes.ensures) c.sizes-sizes.ensures.body read in
+    let all = found_by K L h image p t is c.args.area c.args.segment c.args.turned area segment turned (λ before frames. map plain c.in-Some-2.behind.items ≡ records_in K h.set.workers (before ++ frames)) records in
+    verdict_some K L h image p t is c.args.area c.args.segment c.args.turned area segment turned found start base frames before behind same led (ap (λ l. map plain l) c.deref-in-Some-3-3.ensures.value ∙ all)
+    (way p area segment (ap (λ (s : Plain _). s.number) (sym same) ∙ sym c.number.ensures.number)) given) c.judge_trail-in-Some-3.ensures

@@ -1,17 +1,17 @@
 use Rattle.std.proofs.Common.{◌≤◌, ◌+◌, ◌∙◌, length, not, ap, sym, subst, arith}
 use Rattle.pfx_segment.specs.Reading.{views}
-use Rattle.pfx_recovery.specs.Layout.{slot_at, segment_at}
+use Rattle.pfx_recovery.specs.Layout.{area_at, segment_at}
 use Rattle.pfx_recovery.specs.Store.{Replays}
 use Rattle.pfx_replay.proofs.FrameRuns.{one_end, way_is}
 use Rattle.pfx_replay.proofs.way.find_way.Goals as goal
 
 pub returns-in_default-3 : goal.returns-in_default-3
-returns-in_default-3 g c p slot segment number s frames way =
+returns-in_default-3 g c p area segment number s frames way =
     let K = g.F.Format.codec in
     let h = c.args.header.now in
     let L = K.layout h in
     let sized = c.sizes-sizes.ensures in
-    let at = c.slot_at-at.ensures.at L sized ∙ ap (λ b. slot_at L (not b)) (sym slot) in
+    let at = c.area_at-at.ensures.at L sized ∙ ap (λ b. area_at L (not b)) (sym area) in
     let place = c.segment_at-place.ensures.at L sized ∙ ap (λ b. segment_at L (not b)) (sym segment) in
     let inside : c.segment_at-place.result + c.sizes-sizes.result.segment ≤ length c.args.image.now = omega (arith, c.segment_at-place.ensures.inside, c.requires, sized.head, sized.body, sized.segment) in
     let read = rw c.in-Some.is at c.in_ok-start.ensures in
@@ -22,12 +22,12 @@ returns-in_default-3 g c p slot segment number s frames way =
     (subst (λ t. Replays K t (views c.in-Some-2.frames.items) way.reached) same.0 (subst (λ l. Replays K s l way.reached) same.1 way.leads)))
 
 pub returns-then-number : goal.returns-then-number
-returns-then-number g c p slot segment number s frames way =
+returns-then-number g c p area segment number s frames way =
     let K = g.F.Format.codec in
     let h = c.args.header.now in
     let L = K.layout h in
     let sized = c.sizes-sizes.ensures in
-    let at = c.slot_at-at.ensures.at L sized ∙ ap (λ b. slot_at L (not b)) (sym slot) in
+    let at = c.area_at-at.ensures.at L sized ∙ ap (λ b. area_at L (not b)) (sym area) in
     let place = c.segment_at-place.ensures.at L sized ∙ ap (λ b. segment_at L (not b)) (sym segment) in
     let inside : c.segment_at-place.result + c.sizes-sizes.result.segment ≤ length c.args.image.now = omega (arith, c.segment_at-place.ensures.inside, c.requires, sized.head, sized.body, sized.segment) in
     let read = rw c.in-Some.is at c.in_ok-start.ensures in

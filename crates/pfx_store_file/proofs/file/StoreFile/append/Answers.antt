@@ -87,13 +87,13 @@ returns-clause-file g c K f are next long =
     record {
       are = record {
         fits = record { head = are.are.fits.head; body = are.are.fits.body; segment = are.are.fits.segment };
-        slot = are.are.slot;
+        area = are.are.area;
         segment = are.are.segment;
         turned = are.are.turned;
         gate = omega (arith, are.are.gate, long, size-push f.parts.frames next);
         end = are.are.end;
       };
-      slot_open = are.slot_open;
+      area_open = are.area_open;
       segment_open = are.segment_open;
       begun = are.begun;
       done = are.done;

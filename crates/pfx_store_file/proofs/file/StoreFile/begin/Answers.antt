@@ -3,8 +3,8 @@ use Rattle.std.proofs.Common.{◌≡◌, ◌∙◌, sym, ap, not, refl}
 use Rattle.std.proofs.Common.{ℕ, Bool, subst}
 use Rattle.pfx_segment.specs.Acts.{close_acts}
 use Rattle.pfx_disk.specs.CallsMade.{HasMade, HasBrokenOff, HasKeptTo}
-use Rattle.pfx_store_file.specs.Files.{slot_of}
-use Rattle.pfx_recovery.specs.Layout.{slot_at}
+use Rattle.pfx_store_file.specs.Files.{area_of}
+use Rattle.pfx_recovery.specs.Layout.{area_at}
 use Rattle.pfx_store_file.proofs.Keeping.{begin_keeps, begin_holds, begin_shut}
 use Rattle.pfx_store_file.proofs.file.StoreFile.begin.Goals as goal
 
@@ -12,23 +12,23 @@ pub returns-in_err-close-clause-keeps : goal.returns-in_err-close-clause-keeps
 returns-in_err-close-clause-keeps g c K laws h p s spelling holds start all run =
     let view = g.D.Disk.view in
     let old = c.args.self.now in
-    let at_is : c.slot_at-at.result ≡ slot_at (K.layout h) (not p.slot) = c.slot_at-at.ensures.at (K.layout h) holds.fits ∙ ap (λ b. slot_at (K.layout h) (not b)) holds.slot in
-    begin_keeps K laws h old.places p s spelling (view old.disk) holds c.slot_at-at.result at_is (view c.close.new.disk) (c.close.ensures.leaves holds.honest) start all run
+    let at_is : c.area_at-at.result ≡ area_at (K.layout h) (not p.area) = c.area_at-at.ensures.at (K.layout h) holds.fits ∙ ap (λ b. area_at (K.layout h) (not b)) holds.area in
+    begin_keeps K laws h old.places p s spelling (view old.disk) holds c.area_at-at.result at_is (view c.close.new.disk) (c.close.ensures.leaves holds.honest) start all run
 
 pub returns-clause-keeps : goal.returns-clause-keeps
 returns-clause-keeps g c K laws h p s spelling holds start all run =
     let view = g.D.Disk.view in
     let old = c.args.self.now in
-    let at_is : c.slot_at-at.result ≡ slot_at (K.layout h) (not p.slot) = c.slot_at-at.ensures.at (K.layout h) holds.fits ∙ ap (λ b. slot_at (K.layout h) (not b)) holds.slot in
-    begin_keeps K laws h old.places p s spelling (view old.disk) holds c.slot_at-at.result at_is (view c.close.new.disk) (c.close.ensures.leaves holds.honest) start all run
+    let at_is : c.area_at-at.result ≡ area_at (K.layout h) (not p.area) = c.area_at-at.ensures.at (K.layout h) holds.fits ∙ ap (λ b. area_at (K.layout h) (not b)) holds.area in
+    begin_keeps K laws h old.places p s spelling (view old.disk) holds c.area_at-at.result at_is (view c.close.new.disk) (c.close.ensures.leaves holds.honest) start all run
 
 pub returns-clause-holds : goal.returns-clause-holds
 returns-clause-holds g c K laws h p s spelling holds code read long =
     let view = g.D.Disk.view in
     let old = c.args.self.now in
-    let at_is : c.slot_at-at.result ≡ slot_at (K.layout h) (not p.slot) = c.slot_at-at.ensures.at (K.layout h) holds.fits ∙ ap (λ b. slot_at (K.layout h) (not b)) holds.slot in
-    begin_holds K laws h old.places p s spelling (view old.disk) holds c.slot_at-at.result at_is (view c.close.new.disk) (c.close.ensures.leaves holds.honest)
-    (c.in_ok-close.ensures.durable holds.honest) (c.in_ok-close.ensures.closed holds.honest (begin_shut K laws h old.places p s spelling (view old.disk) holds c.slot_at-at.result at_is)) code (sym holds.turned ∙ c.requires.turned) read long _
+    let at_is : c.area_at-at.result ≡ area_at (K.layout h) (not p.area) = c.area_at-at.ensures.at (K.layout h) holds.fits ∙ ap (λ b. area_at (K.layout h) (not b)) holds.area in
+    begin_holds K laws h old.places p s spelling (view old.disk) holds c.area_at-at.result at_is (view c.close.new.disk) (c.close.ensures.leaves holds.honest)
+    (c.in_ok-close.ensures.durable holds.honest) (c.in_ok-close.ensures.closed holds.honest (begin_shut K laws h old.places p s spelling (view old.disk) holds c.area_at-at.result at_is)) code (sym holds.turned ∙ c.requires.turned) read long _
     (record { head = holds.fits.head; body = holds.fits.body; segment = holds.fits.segment }) refl refl refl refl refl refl refl refl
 
 pub returns-in_err-close-clause-acts : goal.returns-in_err-close-clause-acts
@@ -36,11 +36,11 @@ returns-in_err-close-clause-acts g c K f are honest =
     let view = g.D.Disk.view in
     let a = view c.args.self.now.disk in
     let b = view c.close.new.disk in
-    let at_is : c.slot_at-at.result ≡ slot_of K f = c.slot_at-at.ensures.at (K.layout f.head) are.are.fits ∙ ap (λ b. slot_at (K.layout f.head) (not b)) are.are.slot in
+    let at_is : c.area_at-at.result ≡ area_of K f = c.area_at-at.ensures.at (K.layout f.head) are.are.fits ∙ ap (λ b. area_at (K.layout f.head) (not b)) are.are.area in
     record {
       made = search rules;
-      broken_off = λ is. subst (λ (k : ℕ). HasBrokenOff (close_acts k f.slot_open) a b) at_is (subst (λ (o : Bool). HasBrokenOff (close_acts c.slot_at-at.result o) a b) are.slot_open (c.in_err-close.ensures.acts.broken_off honest refl));
-      between = subst (λ (k : ℕ). HasKeptTo (close_acts k f.slot_open) a b) at_is (subst (λ (o : Bool). HasKeptTo (close_acts c.slot_at-at.result o) a b) are.slot_open (c.close.ensures.acts.between honest));
+      broken_off = λ is. subst (λ (k : ℕ). HasBrokenOff (close_acts k f.area_open) a b) at_is (subst (λ (o : Bool). HasBrokenOff (close_acts c.area_at-at.result o) a b) are.area_open (c.in_err-close.ensures.acts.broken_off honest refl));
+      between = subst (λ (k : ℕ). HasKeptTo (close_acts k f.area_open) a b) at_is (subst (λ (o : Bool). HasKeptTo (close_acts c.area_at-at.result o) a b) are.area_open (c.close.ensures.acts.between honest));
     }
 
 pub returns-clause-acts : goal.returns-clause-acts
@@ -48,11 +48,11 @@ returns-clause-acts g c K f are honest =
     let view = g.D.Disk.view in
     let a = view c.args.self.now.disk in
     let b = view c.close.new.disk in
-    let at_is : c.slot_at-at.result ≡ slot_of K f = c.slot_at-at.ensures.at (K.layout f.head) are.are.fits ∙ ap (λ b. slot_at (K.layout f.head) (not b)) are.are.slot in
+    let at_is : c.area_at-at.result ≡ area_of K f = c.area_at-at.ensures.at (K.layout f.head) are.are.fits ∙ ap (λ b. area_at (K.layout f.head) (not b)) are.are.area in
     record {
-      made = subst (λ (k : ℕ). HasMade (close_acts k f.slot_open) a b) at_is (subst (λ (o : Bool). HasMade (close_acts c.slot_at-at.result o) a b) are.slot_open (c.in_ok-close.ensures.acts.made honest));
+      made = subst (λ (k : ℕ). HasMade (close_acts k f.area_open) a b) at_is (subst (λ (o : Bool). HasMade (close_acts c.area_at-at.result o) a b) are.area_open (c.in_ok-close.ensures.acts.made honest));
       broken_off = search rules;
-      between = subst (λ (k : ℕ). HasKeptTo (close_acts k f.slot_open) a b) at_is (subst (λ (o : Bool). HasKeptTo (close_acts c.slot_at-at.result o) a b) are.slot_open (c.close.ensures.acts.between honest));
+      between = subst (λ (k : ℕ). HasKeptTo (close_acts k f.area_open) a b) at_is (subst (λ (o : Bool). HasKeptTo (close_acts c.area_at-at.result o) a b) are.area_open (c.close.ensures.acts.between honest));
     }
 
 pub returns-clause-file : goal.returns-clause-file
@@ -60,13 +60,13 @@ returns-clause-file g c K f are =
     record {
       are = record {
         fits = record { head = are.are.fits.head; body = are.are.fits.body; segment = are.are.fits.segment };
-        slot = are.are.slot;
+        area = are.are.area;
         segment = are.are.segment;
         turned = are.are.turned;
         gate = are.are.gate;
         end = are.are.end;
       };
-      slot_open = refl;
+      area_open = refl;
       segment_open = are.segment_open;
       begun = refl;
       done = refl;

@@ -3,8 +3,8 @@ use Rattle.std.proofs.Common.{◌≡◌, ◌∙◌, ap, not, refl}
 use Rattle.std.proofs.Common.{ℕ, subst}
 use Rattle.pfx_segment.specs.Acts.{open_acts}
 use Rattle.pfx_disk.specs.CallsMade.{HasMade, HasBrokenOff, HasKeptTo}
-use Rattle.pfx_store_file.specs.Files.{slot_of}
-use Rattle.pfx_recovery.specs.Layout.{slot_at}
+use Rattle.pfx_store_file.specs.Files.{area_of}
+use Rattle.pfx_recovery.specs.Layout.{area_at}
 use Rattle.pfx_store_file.proofs.Keeping.{finish_inside, finish_stand, finish_keeps, finish_holds}
 use Rattle.pfx_store_file.proofs.file.StoreFile.finish.Goals as goal
 
@@ -12,8 +12,8 @@ pub returns-in_err-open_gate-clause-keeps : goal.returns-in_err-open_gate-clause
 returns-in_err-open_gate-clause-keeps g c K laws h p s spelling holds =
     let view = g.D.Disk.view in
     let old = c.args.self.now in
-    let at = c.slot_at-at.result in
-    let at_is : c.slot_at-at.result ≡ slot_at (K.layout h) (not p.slot) = c.slot_at-at.ensures.at (K.layout h) holds.fits ∙ ap (λ b. slot_at (K.layout h) (not b)) holds.slot in
+    let at = c.area_at-at.result in
+    let at_is : c.area_at-at.result ≡ area_at (K.layout h) (not p.area) = c.area_at-at.ensures.at (K.layout h) holds.fits ∙ ap (λ b. area_at (K.layout h) (not b)) holds.area in
     let begun = holds.begun c.requires.begun in
     let whole : old.places.done ≡ (K.layout h).body = c.requires.done ∙ holds.fits.body in
     let leaves = c.open_gate.ensures.leaves holds.honest spelling (finish_inside K laws h old.places p s spelling (view old.disk) holds at at_is begun whole) (finish_stand K laws h old.places p s spelling (view old.disk) holds at at_is begun whole) in
@@ -26,8 +26,8 @@ pub returns-clause-keeps : goal.returns-clause-keeps
 returns-clause-keeps g c K laws h p s spelling holds =
     let view = g.D.Disk.view in
     let old = c.args.self.now in
-    let at = c.slot_at-at.result in
-    let at_is : c.slot_at-at.result ≡ slot_at (K.layout h) (not p.slot) = c.slot_at-at.ensures.at (K.layout h) holds.fits ∙ ap (λ b. slot_at (K.layout h) (not b)) holds.slot in
+    let at = c.area_at-at.result in
+    let at_is : c.area_at-at.result ≡ area_at (K.layout h) (not p.area) = c.area_at-at.ensures.at (K.layout h) holds.fits ∙ ap (λ b. area_at (K.layout h) (not b)) holds.area in
     let begun = holds.begun c.requires.begun in
     let whole : old.places.done ≡ (K.layout h).body = c.requires.done ∙ holds.fits.body in
     let leaves = c.open_gate.ensures.leaves holds.honest spelling (finish_inside K laws h old.places p s spelling (view old.disk) holds at at_is begun whole) (finish_stand K laws h old.places p s spelling (view old.disk) holds at at_is begun whole) in
@@ -41,7 +41,7 @@ returns-in_err-open_gate-clause-acts g c K f are honest =
     let view = g.D.Disk.view in
     let a = view c.args.self.now.disk in
     let b = view c.open_gate.new.disk in
-    let at_is : c.slot_at-at.result ≡ slot_of K f = c.slot_at-at.ensures.at (K.layout f.head) are.are.fits ∙ ap (λ b. slot_at (K.layout f.head) (not b)) are.are.slot in
+    let at_is : c.area_at-at.result ≡ area_of K f = c.area_at-at.ensures.at (K.layout f.head) are.are.fits ∙ ap (λ b. area_at (K.layout f.head) (not b)) are.are.area in
     record {
       made = search rules;
       broken_off = λ is. subst (λ (k : ℕ). HasBrokenOff (open_acts k) a b) at_is (c.in_err-open_gate.ensures.acts.broken_off honest refl);
@@ -53,7 +53,7 @@ returns-clause-acts g c K f are honest =
     let view = g.D.Disk.view in
     let a = view c.args.self.now.disk in
     let b = view c.open_gate.new.disk in
-    let at_is : c.slot_at-at.result ≡ slot_of K f = c.slot_at-at.ensures.at (K.layout f.head) are.are.fits ∙ ap (λ b. slot_at (K.layout f.head) (not b)) are.are.slot in
+    let at_is : c.area_at-at.result ≡ area_of K f = c.area_at-at.ensures.at (K.layout f.head) are.are.fits ∙ ap (λ b. area_at (K.layout f.head) (not b)) are.are.area in
     record {
       made = subst (λ (k : ℕ). HasMade (open_acts k) a b) at_is (c.in_ok-open_gate.ensures.acts.made honest);
       broken_off = search rules;
@@ -65,13 +65,13 @@ returns-clause-file g c K f are =
     record {
       are = record {
         fits = record { head = are.are.fits.head; body = are.are.fits.body; segment = are.are.fits.segment };
-        slot = ap not are.are.slot;
+        area = ap not are.are.area;
         segment = are.are.segment;
         turned = refl;
         gate = are.are.gate;
         end = are.are.end;
       };
-      slot_open = refl;
+      area_open = refl;
       segment_open = refl;
       begun = refl;
       done = are.done;

@@ -79,13 +79,13 @@ returns-clause-file g c K f are s =
     record {
       are = record {
         fits = record { head = are.are.fits.head; body = are.are.fits.body; segment = are.are.fits.segment };
-        slot = are.are.slot;
+        area = are.are.area;
         segment = ap not are.are.segment;
         turned = refl;
         gate = omega (arith, at_is);
         end = omega (arith, at_is, are.are.fits.segment);
       };
-      slot_open = are.slot_open;
+      area_open = are.area_open;
       segment_open = are.segment_open;
       begun = refl;
       done = are.done;
