@@ -1,0 +1,53 @@
+use Rattle.std.specs.declared.cmp.Ordering.{Ordering}
+use Rattle.std.proofs.Common.{◌≡◌, ◌≢◌, ℕ, ◌-◌, ◌<◌, ap, sym, subst, ◌∙◌}
+use Rattle.std.specs.Cmp.Lexicographic.{slice_cmp}
+use Rattle.std.specs.Ordering.{ordering_then, nat_cmp}
+use Rattle.pfx_symbols.specs.declared.keys.Key.{Key}
+use Rattle.pfx_symbols.specs.Symbols.{symbol_cmp}
+use Rattle.pfx_symbols.specs.Ranks.{Parts, substring, tie_cmp, rank_cmp}
+use Rattle.pfx_symbols.specs.Keyed.{IsKeyed, next_of}
+use Rattle.pfx_symbols.specs.Keys.{gap, key_after_gap}
+use Rattle.pfx_symbols.proofs.KeyOrder.{Tells}
+use Rattle.pfx_symbols.proofs.KeyedOrder.{gaps_tell_order, keys_tell, by_numbers, turned_less, decided}
+use Rattle.pfx_symbols.proofs.keyed.compare_keyed.Goals as goal
+
+abbrev order : Parts → Parts → Ordering
+order a b = slice_cmp symbol_cmp (substring a) (substring b)
+
+-- what kept keys tell of two ranks with first gaps of one length
+told : (a b : Parts) (i j : ℕ) (k l : Key) → IsKeyed a i k → IsKeyed b j l → i ≡ j → Tells k l (substring a) (substring b)
+told a b i j k l h u same =
+    subst (λ n. Tells n l (substring a) (substring b)) (sym h.key)
+    (subst (λ n. Tells (key_after_gap a.e a.p (next_of a)) n (substring a) (substring b)) (sym u.key) (keys_tell a b h.rank u.rank (sym h.gap ∙ same ∙ u.gap)))
+
+by_gap : (a b : Parts) (i j : ℕ) (k l : Key) → IsKeyed a i k → IsKeyed b j l → i ≢ j → nat_cmp j i ≡ rank_cmp a b
+by_gap a b i j k l h u other =
+    decided i j (order a b) (tie_cmp a b) other
+    (ap (λ n. nat_cmp n i) u.gap ∙ ap (λ n. nat_cmp (gap b.e (b.p - next_of b)) n) h.gap ∙ gaps_tell_order a b h.rank u.rank (λ is. other (h.gap ∙ is ∙ sym u.gap)))
+
+by_key : (a b : Parts) (i j : ℕ) (k l : Key) → IsKeyed a i k → IsKeyed b j l → i ≡ j → k.number ≢ l.number → nat_cmp l.number k.number ≡ rank_cmp a b
+by_key a b i j k l h u same other =
+    decided k.number l.number (order a b) (tie_cmp a b) other
+    (by_numbers k.number l.number (order a b) other (told a b i j k l h u same).less (λ less. turned_less (substring a) (substring b) ((told b a j i l k u h (sym same)).less less)))
+
+pub returns-then-a-b : goal.returns-then-a-b
+returns-then-a-b c =
+    c.cmp.ensures
+    ∙ by_gap c.a.inside.rank c.b.inside.rank c.a.inside.gap c.b.inside.gap c.a.inside.key c.b.inside.key c.a.invariant c.b.invariant c.if-a-b.true
+    ∙ ap (λ x. rank_cmp x c.b.inside.rank) c.a.view_is
+    ∙ ap (λ x. rank_cmp c.args.a.now x) c.b.view_is
+
+pub returns-then-a-b-2 : goal.returns-then-a-b-2
+returns-then-a-b-2 c =
+    c.cmp-then-a-b-2.ensures
+    ∙ by_key c.a.inside.rank c.b.inside.rank c.a.inside.gap c.b.inside.gap c.a.inside.key c.b.inside.key c.a.invariant c.b.invariant c.if-a-b.false c.if-a-b-2.true
+    ∙ ap (λ x. rank_cmp x c.b.inside.rank) c.a.view_is
+    ∙ ap (λ x. rank_cmp c.args.a.now x) c.b.view_is
+
+pub returns-then-b : goal.returns-then-b
+returns-then-b c =
+    let equal = (told c.a.inside.rank c.b.inside.rank c.a.inside.gap c.b.inside.gap c.a.inside.key c.b.inside.key c.a.invariant c.b.invariant c.if-a-b.false).same c.if-a-b-2.false c.if-a.true c.if-b.true in
+    c.compare_ties.ensures
+    ∙ ap (λ o. ordering_then o (tie_cmp c.a.inside.rank c.b.inside.rank)) (sym equal)
+    ∙ ap (λ x. rank_cmp x c.b.inside.rank) c.a.view_is
+    ∙ ap (λ x. rank_cmp c.args.a.now x) c.b.view_is
