@@ -9,13 +9,15 @@ ghost use Rattle.pfx_choice.specs.Places.{place, ArePlacesIn};
 
 use crate::cuts::Cut;
 use pfx_columns::Columns;
-use pfx_symbols::Rank;
+use pfx_symbols::{Keyed, LastKey};
 use std::alloc::AllocError;
 
-/// Marks the tasks before the cut in place of all places, and gathers those at it, if workers are left for some.
+/// Marks the tasks before the cut in place of all places, and gathers those at it, if workers are left for some. `last` are the
+/// keys that were found last, of as many tasks as there happen to be.
 pub fn mark_before(
     places: &mut [u8],
-    found: &mut Vec<Rank>,
+    found: &mut Vec<Keyed>,
+    last: &mut Vec<LastKey>,
     ledger: &Columns,
     cut: Cut,
 ) -> Result<(), AllocError>
@@ -23,23 +25,28 @@ pub fn mark_before(
     requires cut { IsCut places.old ledger.now.set.workers cut }
     ensures { OnOk result (IsReady ledger.now cut.left places.new found.new.items) }
 {
-    let _total = ledger.total();
+    let total = ledger.total();
     found.clear();
     if cut.left > 0 {
-        gather_at(found, ledger, places, cut.place)?;
+        if last.len() != total {
+            last.resize(total, LastKey::none())?;
+        }
+        gather_at(found, last, ledger, places, cut.place)?;
     }
     mark_below(places, cut.place);
     Ok(())
 }
 
-/// Gathers the ranks of the tasks at a place.
+/// Gathers the ranks of the tasks at a place. Its tasks have that many slots before the end of their next subtasks.
 fn gather_at(
-    found: &mut Vec<Rank>,
+    found: &mut Vec<Keyed>,
+    last: &mut [LastKey],
     ledger: &Columns,
     places: &[u8],
     d: u8,
 ) -> Result<(), AllocError>
-    requires { ArePlacesIn ledger.now places.now }
+    requires places { ArePlacesIn ledger.now places.now }
+    requires last { length last.old ≡ total ledger.now }
     ensures { OnOk result (found.new.items ≡ ranks_if (λ x. place ledger.now x == d) (total ledger.now) ledger.now) }
 {
     let _total = ledger.total();
@@ -48,7 +55,7 @@ fn gather_at(
         if *place != d {
             continue;
         }
-        found.push(ledger.rank(x))?;
+        found.push(Keyed::new(ledger.rank(x), u32::from(d), &mut last[x]))?;
     }
     Ok(())
 }

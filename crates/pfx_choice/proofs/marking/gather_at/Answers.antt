@@ -10,8 +10,8 @@ loop-x-preserved-then-place-d c =
     let g = c.args.ledger.now in
     let x = c.loop-x.x in
     let d = c.args.d in
-    let long = c.requires.long in
-    let at : get_or c.args.places.now x 0 ≡ place g x = c.requires.at x (omega (arith, long, c.loop-x-test.true)) in
+    let long = c.requires.places.long in
+    let at : get_or c.args.places.now x 0 ≡ place g x = c.requires.places.at x (omega (arith, long, c.loop-x-test.true)) in
     let other : (place g x == d) ≡ false = eq_no (place g x) d (λ e. c.if-place-d.true (at ∙ e)) in
     sym (append-nil c.loop-x.found.items) ∙ ranks_more_if (λ y. place g y == d) x g false c.loop-x.found.items c.loop-x.invariant (sym other)
 
@@ -20,8 +20,8 @@ loop-x-preserved c =
     let g = c.args.ledger.now in
     let x = c.loop-x.x in
     let d = c.args.d in
-    let long = c.requires.long in
-    let at : get_or c.args.places.now x 0 ≡ place g x = c.requires.at x (omega (arith, long, c.loop-x-test.true)) in
+    let long = c.requires.places.long in
+    let at : get_or c.args.places.now x 0 ≡ place g x = c.requires.places.at x (omega (arith, long, c.loop-x-test.true)) in
     let same : (place g x == d) ≡ true = eq_yes (place g x) d (sym at ∙ c.if-place-d.false) in
-    c.in_ok-push.ensures.items ∙ ap (λ r. c.loop-x.found.items ++ (r ∷ [])) c.rank.ensures
+    c.in_ok-push.ensures.items ∙ ap (λ r. c.loop-x.found.items ++ (r ∷ [])) (c.new.ensures ∙ c.rank.ensures)
     ∙ ranks_more_if (λ y. place g y == d) x g true c.loop-x.found.items c.loop-x.invariant (sym same)

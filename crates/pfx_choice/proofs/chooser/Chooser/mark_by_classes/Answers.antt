@@ -1,0 +1,16 @@
+use Rattle.std.proofs.Common.{◌∙◌, ap, length}
+use Rattle.pfx_choice.proofs.Placing.{ready_behind, marks_of_placed}
+use Rattle.pfx_choice.proofs.chooser.Chooser.mark_by_classes.Goals as goal
+
+pub place_best-requires : goal.place_best-requires
+place_best-requires c =
+    let s = c.sort_by_classes.new.self in
+    let r = ready_behind c.args.ledger.now c.in-Ok.places s.classes.items c.deref_mut.result.now s.ranks.items c.deref_mut-in-Ok.result.now c.deref_mut.ensures.value c.deref_mut-in-Ok.ensures.value c.in-Ok.ensures in
+    record { within = r.within; ids = r.ids }
+
+pub returns-in-Ok : goal.returns-in-Ok
+returns-in-Ok c =
+    let s = c.sort_by_classes.new.self in
+    let r = ready_behind c.args.ledger.now c.in-Ok.places s.classes.items c.deref_mut.result.now s.ranks.items c.deref_mut-in-Ok.result.now c.deref_mut.ensures.value c.deref_mut-in-Ok.ensures.value c.in-Ok.ensures in
+    marks_of_placed c.args.ledger.now c.in-Ok.places s.classes.len c.deref_mut.result.now c.place_best.new.classes s.classes.items c.deref_mut-in-Ok.result.now r c.place_best.ensures
+    (c.place_best.auto.classes ∙ ap length c.deref_mut.ensures.value) s.classes.ok.0
