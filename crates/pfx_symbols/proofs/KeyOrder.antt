@@ -1,17 +1,16 @@
 -- Keys of strings stand in the order of the strings.
-use Rattle.std.proofs.Common.{◌≡◌, ◌≢◌, ℕ, zero, suc, ◌+◌, ◌-◌, ◌*◌, ◌==◌, ◌<◌, ◌≤◌, ◌^◌, nat_lt, Bool, true, false, if◌then◌else◌, List, [], ◌∷◌, map, refl, ap, sym, subst, ◌∙◌, arith, inl, inr, ◌⊎◌}
-use Rattle.std.proofs.Math.Nat.{mul-le-mul_right}
+use Rattle.std.proofs.Common.{◌≡◌, ℕ, zero, suc, ◌+◌, ◌-◌, ◌*◌, ◌==◌, ◌<◌, ◌≤◌, ◌^◌, nat_lt, Bool, true, false, if◌then◌else◌, List, [], ◌∷◌, map, refl, ap, sym, subst, ◌∙◌, arith, inl, inr, ◌⊎◌}
+use Rattle.std.proofs.Math.Nat.{mul-le-mul_right, zero-div}
 use Rattle.std.proofs.lemmas.Bool.{cases_eq, eq-eqb, ne_eqb, ltb-true}
-use Rattle.std.specs.declared.cmp.Ordering.{Ordering}
-use Rattle.std.specs.declared.cmp.Ordering.TheVariants.{Less, Equal, Greater}
-use Rattle.std.specs.Ordering.{ordering_reverse, nat_cmp}
+use Rattle.std.specs.declared.cmp.Ordering.TheVariants.{Equal, Greater}
+use Rattle.std.specs.Ordering.{ordering_reverse}
 use Rattle.std.specs.Cmp.Lexicographic.{slice_cmp}
 use Rattle.pfx_symbols.specs.declared.kinds.Symbol.{Symbol}
-use Rattle.pfx_symbols.specs.declared.kinds.Symbol.TheVariants.{Minus, Zero, Plus}
+use Rattle.pfx_symbols.specs.declared.kinds.Symbol.TheVariants.{Zero, Plus}
 use Rattle.pfx_symbols.specs.Symbols.{symbol_cmp}
 use Rattle.pfx_symbols.specs.Strings.{Spells}
 use Rattle.pfx_symbols.specs.declared.keys.Key.{Key}
-use Rattle.pfx_symbols.specs.Keys.{start, width, gap, above, back_from, first_key, gaps_key}
+use Rattle.pfx_symbols.specs.Keys.{level, start, width, gap, above, back_from, first_key, gaps_key}
 use Rattle.pfx_symbols.proofs.Strings.{minuses, After, Gaps, negated, complement, negated_cmp}
 use Rattle.pfx_symbols.proofs.Rounds.{Head, head, first_zero, first_plus, gaps_differ, gaps_after, sizes_differ, same_front, same_sizes, some_left, some_steps, two_steps, strings_total, number_greater}
 use Rattle.pfx_symbols.proofs.Splits.{within, split_less, split_same, Reaches, gap_is}
@@ -302,3 +301,38 @@ gaps_tell (suc n) size e p v f q u xs ys x_in y_in h k =
     (let is : a ≡ b = omega (arith, same, x_few.0, y_few.0) in
     let P : ℕ → Type 0 = λ w. Tells (gaps_rest (gaps_key n) (width (a - 1) size) e p v a) (gaps_rest (gaps_key n) w f q u b) xs ys in
     subst P (ap (λ c. width c size) same) (gaps_rest_tells (gaps_key n) (gaps_fit n) (gaps_tell n) (width (a - 1) size) e p v f q u a b xs ys x_in y_in x_at y_at is h k)))
+
+-- a range of no keys
+abbrev pub none : Key
+none = record { number = 0; whole = false }
+
+above_none : (key : Key) → key ≡ none → above 0 key ≡ none
+above_none key is = ap (λ k. above 0 k) is
+
+width_none : (n : ℕ) → width n 0 ≡ 0
+width_none n = zero-div (2 ^ (2 * level n + 1))
+
+start_none : (n : ℕ) → start n 0 ≡ 0
+start_none n =
+    let w = width_none n in
+    let product : (n - 2 ^ level n) * width n 0 ≡ (n - 2 ^ level n) * 0 = ap (λ k. (n - 2 ^ level n) * k) w in
+    omega (arith, product)
+
+first_none : (after : ℕ → ℕ → ℕ → ℕ → Key) → ((e p v : ℕ) → after 0 e p v ≡ none) → (e p r : ℕ) → first_key after 0 e p r ≡ none
+first_none after h e p r =
+    let i = gap e (p - r) in
+    let F : ℕ → ℕ → Key = λ s w. above s (if r + e * i == p then record { number = w - 1; whole = nat_lt 0 w } else after (w - 1) e p (r + e * i - p)) in
+    ap (λ s. F s (width i 0)) (start_none i) ∙ ap (λ w. F 0 w) (width_none i) ∙ elim (cases_eq (r + e * i) p) [
+      | inl same ↦ above_none _ (if_true _ _ _ (eq-eqb (r + e * i) p same))
+      | inr other ↦ above_none _ (if_false _ _ _ (ne_eqb (r + e * i) p other) ∙ h e p (r + e * i - p))
+    ]
+
+pub gaps_none : (k e p v : ℕ) → gaps_key k 0 e p v ≡ none
+gaps_none zero e p v = refl
+gaps_none (suc k) e p v =
+    let a = gap e p in
+    let F : ℕ → ℕ → Key = λ s w. above s (if a == 2 then back_from (w - 1) (first_key (gaps_key k) (w - 1) (p - e) p (p - v)) else first_key (gaps_key k) w (e * a - p) e v) in
+    ap (λ s. F s (width (a - 1) 0)) (start_none (a - 1)) ∙ ap (λ w. F 0 w) (width_none (a - 1)) ∙ elim (cases_eq a 2) [
+      | inl heavy ↦ above_none _ (if_true _ _ _ (eq-eqb a 2 heavy) ∙ ap (λ key. back_from 0 key) (first_none (gaps_key k) (gaps_none k) (p - e) p (p - v)))
+      | inr light ↦ above_none _ (if_false _ _ _ (ne_eqb a 2 light) ∙ first_none (gaps_key k) (gaps_none k) (e * a - p) e v)
+    ]

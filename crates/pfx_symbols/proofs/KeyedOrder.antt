@@ -1,17 +1,16 @@
 -- Ranks are ordered by their first gaps and their keys.
-use Rattle.std.proofs.Common.{◌≡◌, ◌≢◌, ℕ, suc, ◌+◌, ◌-◌, ◌*◌, ◌%◌, ◌==◌, ◌<◌, ◌≤◌, ◌^◌, true, if◌then◌else◌, List, refl, ap, sym, subst, ◌∙◌, arith, inl, inr, ◌⊎◌}
+use Rattle.std.proofs.Common.{◌≡◌, ◌≢◌, ℕ, ◌+◌, ◌-◌, ◌*◌, ◌<◌, ◌≤◌, List, ap, sym, subst, ◌∙◌, arith, inl, inr, ◌⊎◌}
 use Rattle.std.proofs.Math.Nat.{mod-lt, mul-le-mul_left}
 use Rattle.std.proofs.lemmas.Bool.{cases_lt, cases_eq}
 use Rattle.std.specs.declared.cmp.Ordering.{Ordering}
-use Rattle.std.specs.declared.cmp.Ordering.TheVariants.{Less, Equal, Greater}
+use Rattle.std.specs.declared.cmp.Ordering.TheVariants.{Less, Greater}
 use Rattle.std.specs.Ordering.{ordering_reverse, ordering_then, nat_cmp}
 use Rattle.std.specs.Cmp.Lexicographic.{slice_cmp}
-use Rattle.pfx_symbols.specs.declared.keys.Key.{Key}
 use Rattle.pfx_symbols.specs.declared.kinds.Symbol.{Symbol}
-use Rattle.pfx_symbols.specs.Symbols.{symbol_cmp, substring_of}
+use Rattle.pfx_symbols.specs.Symbols.{symbol_cmp}
 use Rattle.pfx_symbols.specs.Strings.{Spells}
-use Rattle.pfx_symbols.specs.Ranks.{Parts, IsRank, substring, tie_cmp, rank_cmp}
-use Rattle.pfx_symbols.specs.Keys.{gap, gaps_key, rounds, keys, key_after_gap}
+use Rattle.pfx_symbols.specs.Ranks.{Parts, IsRank, substring}
+use Rattle.pfx_symbols.specs.Keys.{gap, gaps_key, keys, key_after_gap}
 use Rattle.pfx_symbols.specs.Keyed.{next_of}
 use Rattle.pfx_symbols.specs.Ranges.{HasGaps}
 use Rattle.pfx_symbols.proofs.Phases.{spelled}
@@ -52,19 +51,19 @@ gaps_tell_order a b a_is b_is other =
     gaps_differ (gap a.e (a.p - next_of a)) (gap b.e (b.p - next_of b)) (substring a) (substring b) (some_gap a s) (some_gap b t) other (head_of a s) (head_of b t)
 
 -- of ranks with first gaps of one length, what the keys tell
-pub keys_tell : (a b : Parts) → IsRank a → IsRank b → gap a.e (a.p - next_of a) ≡ gap b.e (b.p - next_of b)
-    → Tells (key_after_gap a.e a.p (next_of a)) (key_after_gap b.e b.p (next_of b)) (substring a) (substring b)
-keys_tell a b a_is b_is same =
+pub keys_tell : (n : ℕ) (a b : Parts) → IsRank a → IsRank b → gap a.e (a.p - next_of a) ≡ gap b.e (b.p - next_of b)
+    → Tells (key_after_gap n a.e a.p (next_of a)) (key_after_gap n b.e b.p (next_of b)) (substring a) (substring b)
+keys_tell n a b a_is b_is same =
     let s = is_spelled a a_is in
     let t = is_spelled b b_is in
     let i = gap a.e (a.p - next_of a) in
     let j = gap b.e (b.p - next_of b) in
-    let x = front (gaps_key rounds) (keys + 1) a.e a.p (next_of a) i (substring a) s.weight s.low s.at s.spells in
-    let y = front (gaps_key rounds) (keys + 1) b.e b.p (next_of b) j (substring b) t.weight t.low t.at t.spells in
-    let k = key_after_gap b.e b.p (next_of b) in
-    let P : ℕ → Type 0 = λ n. Stops (keys + 1) n (substring b) k ⊎ Goes (gaps_key rounds) (keys + 1) n b.e b.p (next_of b + b.e * j - b.p) (substring b) k in
-    rest_tells (gaps_key rounds) (gaps_fit rounds) (gaps_tell rounds) (keys + 1) i a.e a.p (next_of a + a.e * i - a.p) b.e b.p (next_of b + b.e * j - b.p)
-    (substring a) (substring b) (key_after_gap a.e a.p (next_of a)) k x (subst P (sym same) y)
+    let x = front (gaps_key n) (keys + 1) a.e a.p (next_of a) i (substring a) s.weight s.low s.at s.spells in
+    let y = front (gaps_key n) (keys + 1) b.e b.p (next_of b) j (substring b) t.weight t.low t.at t.spells in
+    let k = key_after_gap n b.e b.p (next_of b) in
+    let P : ℕ → Type 0 = λ g. Stops (keys + 1) g (substring b) k ⊎ Goes (gaps_key n) (keys + 1) g b.e b.p (next_of b + b.e * j - b.p) (substring b) k in
+    rest_tells (gaps_key n) (gaps_fit n) (gaps_tell n) (keys + 1) i a.e a.p (next_of a + a.e * i - a.p) b.e b.p (next_of b + b.e * j - b.p)
+    (substring a) (substring b) (key_after_gap n a.e a.p (next_of a)) k x (subst P (sym same) y)
 
 -- the order of numbers, the other way round, where a greater one has the lesser string
 pub by_numbers : (x y : ℕ) (o : Ordering) → x ≢ y → (x < y → o ≡ Greater) → (y < x → o ≡ Less) → nat_cmp y x ≡ o

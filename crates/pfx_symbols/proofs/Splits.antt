@@ -1,8 +1,8 @@
 -- How numbers split a range of keys.
-use Rattle.std.proofs.Common.{◌≡◌, ◌≢◌, ℕ, zero, suc, ◌+◌, ◌-◌, ◌*◌, ◌/◌, ◌<◌, ◌≤◌, ◌^◌, refl, ap, sym, subst, ◌∙◌, arith, inl, inr, ◌⊎◌}
-use Rattle.std.proofs.Math.Nat.{mul-div-le, div-div-eq-div-mul, div-le_self, mul-le-mul_left, mul-le-mul_right, lt-div-mul-add}
+use Rattle.std.proofs.Common.{◌≡◌, ℕ, suc, ◌+◌, ◌-◌, ◌*◌, ◌/◌, ◌<◌, ◌≤◌, ◌^◌, ap, sym, subst, ◌∙◌, arith, inl, inr, ◌⊎◌}
+use Rattle.std.proofs.Math.Nat.{mul-div-le, div-div-eq-div-mul, div-le_self, mul-le-mul_right, lt-div-mul-add}
 use Rattle.std.proofs.lemmas.Grind.{pow_more}
-use Rattle.std.proofs.lemmas.Nat.{leading_top, pow-add, pow_pos}
+use Rattle.std.proofs.lemmas.Nat.{leading_top, pow-add}
 use Rattle.std.proofs.Math.Nat.{pow-le-pow_right}
 use Rattle.std.proofs.lemmas.Bool.{cases_lt, cases_eq}
 use Rattle.std.specs.Int.Count.{count_leading_zeros}

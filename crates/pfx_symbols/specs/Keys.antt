@@ -1,5 +1,5 @@
 -- Keys of strings: numbers that stand in the order of the strings, the greater string's being the lesser.
-use Rattle.std.specs.Prelude.{ℕ, zero, suc, ◌+◌, ◌-◌, ◌*◌, ◌/◌, ◌^◌, ◌==◌, nat_lt, Bool, true, false, if◌then◌else◌}
+use Rattle.std.specs.Prelude.{ℕ, zero, suc, ◌+◌, ◌-◌, ◌*◌, ◌/◌, ◌^◌, ◌==◌, nat_lt, true, false, if◌then◌else◌}
 use Rattle.std.specs.Int.Count.{count_leading_zeros}
 use Rattle.pfx_symbols.specs.declared.keys.Key.{Key}
 
@@ -44,16 +44,12 @@ gaps_key (suc k) size e p v =
 abbrev pub keys : ℕ
 keys = 2 ^ 62
 
--- how many rounds of Euclid's algorithm a key tells at the most
-unfoldable pub rounds : ℕ
-rounds = 24
-
--- the key of the string of e/p from phase v on, behind a gap
-abbrev pub key_behind : ℕ → ℕ → ℕ → Key
-key_behind e p v = gaps_key rounds keys e p v
+-- the key of the string of e/p from phase v on, behind a gap, by k rounds of Euclid's algorithm at the most
+abbrev pub key_behind : ℕ → ℕ → ℕ → ℕ → Key
+key_behind k e p v = gaps_key k keys e p v
 
 -- the key of the string of e/p from phase r on without its first gap
-abbrev pub key_after_gap : ℕ → ℕ → ℕ → Key
-key_after_gap e p r =
+abbrev pub key_after_gap : ℕ → ℕ → ℕ → ℕ → Key
+key_after_gap k e p r =
     let i = gap e (p - r) in
-    if r + e * i == p then record { number = keys; whole = true } else key_behind e p (r + e * i - p)
+    if r + e * i == p then record { number = keys; whole = true } else key_behind k e p (r + e * i - p)

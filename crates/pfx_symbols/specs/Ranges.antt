@@ -1,5 +1,5 @@
 -- Ranges of keys within the range of all keys, and the weights whose strings they are of.
-use Rattle.std.specs.Prelude.{◌≡◌, ℕ, suc, ◌+◌, ◌-◌, ◌*◌, ◌<◌, ◌≤◌, ◌^◌, Bool, true, false, if◌then◌else◌, List}
+use Rattle.std.specs.Prelude.{◌≡◌, ℕ, suc, ◌+◌, ◌<◌, ◌≤◌, ◌^◌, Bool, true, false, if◌then◌else◌, List}
 use Rattle.pfx_symbols.specs.declared.keys.Key.{Key}
 use Rattle.pfx_symbols.specs.declared.range.Range.{Range}
 use Rattle.pfx_symbols.specs.declared.keys.First.{First}
@@ -8,9 +8,18 @@ use Rattle.pfx_symbols.specs.declared.kinds.Symbol.{Symbol}
 use Rattle.pfx_symbols.specs.Keys.{above, back_from, first_key, gaps_key}
 use Rattle.pfx_symbols.specs.Strings.{Spells}
 
--- the key of all keys that is this one of the range
+-- the key of all keys that is this one of a range
+abbrev pub placed_at : Bool → ℕ → Key → Key
+placed_at turned low key = if turned then back_from low key else above low key
+
 abbrev pub placed : Range → Key → Key
-placed range key = if range.turned then back_from range.low key else above range.low key
+placed range key = placed_at range.turned range.low key
+
+-- the parts of a range of keys
+pub record IsRange (low size : ℕ) (turned : Bool) : Type 0 where
+  pub up : turned ≡ false → low + size ≤ 2 ^ 62
+  pub down : turned ≡ true → size ≤ low
+  pub top : low ≤ 2 ^ 62
 
 -- a weight and a phase, and a string that they spell
 pub record HasString (e p r : ℕ) : Type 0 where

@@ -21,6 +21,7 @@ use std::marker::Model;
 pub struct Keyed {
     rank: Rank,
     gap: u32,
+    rounds: u32,
     key: Key,
 }
 
@@ -32,14 +33,15 @@ impl Model for Keyed {
 
     ghost view = { λ a. a.rank };
 
-    ghost invariant = { λ a. IsKeyed a.rank a.gap a.key };
+    ghost invariant = { λ a. IsKeyed a.rank a.gap a.rounds a.key };
 }
 
 impl Keyed {
     /// The rank with its key, which is the last one if the task has rested since.
     ///
     /// `guess` is the number of slots before the one at whose end the task's next subtask ends, if that is known; any number serves.
-    pub fn new(rank: Rank, guess: u32, last: &mut LastKey) -> Keyed
+    /// The key tells so many rounds of Euclid's algorithm: the more, the longer it takes to find, and the seldomer keys are equal.
+    pub fn new(rank: Rank, guess: u32, rounds: u32, last: &mut LastKey) -> Keyed
         ensures { result ≡ rank }
     {
         let (e, p) = rank.weight();
@@ -52,9 +54,14 @@ impl Keyed {
                 whole: true,
             }
         } else {
-            key_at(last, e, p, v)
+            key_at(last, e, p, v, rounds)
         };
-        Keyed { rank, gap, key }
+        Keyed {
+            rank,
+            gap,
+            rounds,
+            key,
+        }
     }
 
     /// The task's number.
@@ -82,16 +89,17 @@ fn first_gap(e: u32, p: u32, r: u32, guess: u32) -> u32
 }
 
 /// The key of the string of e/p from phase v on, which is kept in place of another one.
-fn key_at(last: &mut LastKey, e: u32, p: u32, v: u32) -> Key
+fn key_at(last: &mut LastKey, e: u32, p: u32, v: u32, rounds: u32) -> Key
     requires { HasGaps e p v }
-    ensures { result ≡ key_behind e p v }
+    ensures { result ≡ key_behind rounds e p v }
 {
-    if last.v != v || last.e != e || last.p != p {
+    if last.v != v || last.e != e || last.p != p || last.rounds != rounds {
         *last = LastKey {
             e,
             p,
             v,
-            key: key_of_gaps(e, p, v),
+            rounds,
+            key: key_of_gaps(e, p, v, rounds),
         };
     }
     last.key
@@ -103,6 +111,9 @@ fn compare_keyed(a: &Keyed, b: &Keyed) -> Ordering
 {
     if a.gap != b.gap {
         return b.gap.cmp(&a.gap);
+    }
+    if a.rounds != b.rounds {
+        return compare(&a.rank, &b.rank);
     }
     if a.key.number != b.key.number {
         return b.key.number.cmp(&a.key.number);

@@ -6,21 +6,14 @@
 //! greater string has the lesser key. If the bits are used up before the string ends, strings with the same key may differ.
 
 ghost use Rattle.std.specs.Prelude.{◌≡◌, ℕ, ◌+◌, ◌-◌, ◌*◌, ◌<◌, ◌≤◌, ◌^◌, true, false, zero, nat_lt};
-ghost use Rattle.pfx_symbols.specs.Keys.{level, start, width, gap, above, back_from, gaps_key, key_behind, rounds};
-ghost use Rattle.pfx_symbols.specs.Ranges.{placed, HasString, HasGaps, IsByGaps, IsByFirst};
+ghost use Rattle.pfx_symbols.specs.Keys.{level, start, width, gap, above, back_from, gaps_key, key_behind};
+ghost use Rattle.pfx_symbols.specs.Ranges.{placed, placed_at, IsRange, HasString, HasGaps, IsByGaps, IsByFirst};
 
 use crate::gaps::steps;
 use crate::range::Range;
 
 /// How many keys there are but the last one.
 pub(crate) const KEYS: u64 = 1 << 62;
-
-/// How many rounds of Euclid's algorithm a key tells at the most.
-fn rounds() -> u32
-    ensures { result ≡ rounds }
-{
-    24
-}
 
 /// The key of a string.
 #[derive(Clone, Copy)]
@@ -32,6 +25,7 @@ pub struct Key {
 }
 
 /// The exponent of the greatest power of 2 up to `n`, and what `n` is above that power.
+#[inline(always)]
 fn level_of(n: u32) -> (u32, u32)
     requires { (1 ≤ n) × (n ≤ 2 ^ 20) }
     ensures level { result.0 ≡ level n }
@@ -43,6 +37,7 @@ fn level_of(n: u32) -> (u32, u32)
 }
 
 /// Where the keys of the number `n` begin in a range of so many, and how many they are.
+#[inline(always)]
 fn split(n: u32, size: u64) -> (u64, u64)
     requires number { (1 ≤ n) × (n ≤ 2 ^ 20) }
     requires size { size ≤ 2 ^ 62 }
@@ -57,6 +52,7 @@ fn split(n: u32, size: u64) -> (u64, u64)
 
 impl Range {
     /// The part of the number `n`.
+    #[inline(always)]
     fn part(self, n: u32) -> Range
         requires { (1 ≤ n) × (n ≤ 2 ^ 20) }
         ensures size { result.size ≡ width n self.size }
@@ -76,6 +72,7 @@ impl Range {
     }
 
     /// All of it but the last key.
+    #[inline(always)]
     fn shorter(self) -> Range
         ensures size { result.size ≡ self.size - 1 }
         ensures same { (key : Key) → placed self key ≡ placed result key }
@@ -88,6 +85,7 @@ impl Range {
     }
 
     /// The same range from the other end.
+    #[inline(always)]
     fn turned(self) -> Range
         ensures size { result.size ≡ self.size }
         ensures same { (key : Key) → key.number ≤ self.size → placed self (back_from self.size key) ≡ placed result key }
@@ -105,6 +103,7 @@ impl Range {
     }
 
     /// The key at the end of it.
+    #[inline(always)]
     fn last(self, whole: bool) -> Key
         ensures { result ≡ placed self (record { number = self.size; whole = whole }) }
     {
@@ -126,6 +125,7 @@ pub enum First {
 }
 
 /// The part of the range for the greatest gap of e/p, and the weight and the phase of the string that is left.
+#[inline(always)]
 fn by_gaps(range: Range, e: u32, p: u32, v: u32) -> (Range, u32, u32, u32)
     requires { HasGaps e p v }
     ensures { IsByGaps range e p v result.0 result.1 result.2 result.3 }
@@ -140,6 +140,7 @@ fn by_gaps(range: Range, e: u32, p: u32, v: u32) -> (Range, u32, u32, u32)
 }
 
 /// The part of the range for the first gap of the string of e/p from phase r on, and what is behind it.
+#[inline(always)]
 fn by_first(range: Range, e: u32, p: u32, r: u32) -> First
     requires { HasString e p r }
     ensures { IsByFirst range e p r result }
@@ -154,33 +155,34 @@ fn by_first(range: Range, e: u32, p: u32, r: u32) -> First
     }
 }
 
-/// The key in the range of the string of e/p from phase v on, behind a gap, by `k` rounds at the most.
-fn key_within(range: Range, e: u32, p: u32, v: u32, k: u32) -> Key
+/// The key of the string of e/p from phase v on, behind a gap, by `k` rounds at the most.
+pub(crate) fn key_of_gaps(e: u32, p: u32, v: u32, k: u32) -> Key
     requires { HasGaps e p v }
-    ensures { result ≡ placed range (gaps_key k range.size e p v) }
+    ensures { result ≡ key_behind k e p v }
 {
-    if k == 0 {
-        return Key {
-            number: range.low,
-            whole: false,
-        };
+    let (mut e, mut p, mut v) = (e, p, v);
+    let mut low: u64 = 0;
+    let mut size = KEYS;
+    let mut turned = false;
+    'rounds: for _i in 0..k {
+        if size == 0 {
+            return Key {
+                number: low,
+                whole: false,
+            };
+        }
+        let range = Range { low, size, turned };
+        let (part, d, q, r) = by_gaps(range, e, p, v);
+        match by_first(part, d, q, r) {
+            First::Ends(key) => return key,
+            First::GoesOn(rest, w) => {
+                (low, size, turned) = (rest.low, rest.size, rest.turned);
+                (e, p, v) = (d, q, w);
+            }
+        }
     }
-    let (part, d, q, r) = by_gaps(range, e, p, v);
-    match by_first(part, d, q, r) {
-        First::Ends(key) => key,
-        First::GoesOn(rest, w) => key_within(rest, d, q, w, k - 1),
+    Key {
+        number: low,
+        whole: false,
     }
-}
-
-/// The key of the string of e/p from phase v on, behind a gap.
-pub(crate) fn key_of_gaps(e: u32, p: u32, v: u32) -> Key
-    requires { HasGaps e p v }
-    ensures { result ≡ key_behind e p v }
-{
-    let range = Range {
-        low: 0,
-        size: KEYS,
-        turned: false,
-    };
-    key_within(range, e, p, v, rounds())
 }

@@ -12,8 +12,9 @@ pub struct LastKey {
     pub(crate) e: u32,
     pub(crate) p: u32,
     pub(crate) v: u32,
+    pub(crate) rounds: u32,
     pub(crate) key: Key,
-    ghost is: { 0 < v → key ≡ key_behind e p v },
+    ghost is: { 0 < v → key ≡ key_behind rounds e p v },
 }
 
 impl LastKey {
@@ -23,6 +24,7 @@ impl LastKey {
             e: 0,
             p: 0,
             v: 0,
+            rounds: 0,
             key: Key {
                 number: 0,
                 whole: false,

@@ -1,5 +1,5 @@
 use Rattle.std.specs.declared.cmp.Ordering.{Ordering}
-use Rattle.std.proofs.Common.{◌≡◌, ◌≢◌, ℕ, ◌-◌, ◌<◌, ap, sym, subst, ◌∙◌}
+use Rattle.std.proofs.Common.{◌≡◌, ◌≢◌, ℕ, ◌-◌, ap, sym, subst, ◌∙◌}
 use Rattle.std.specs.Cmp.Lexicographic.{slice_cmp}
 use Rattle.std.specs.Ordering.{ordering_then, nat_cmp}
 use Rattle.pfx_symbols.specs.declared.keys.Key.{Key}
@@ -15,38 +15,41 @@ abbrev order : Parts → Parts → Ordering
 order a b = slice_cmp symbol_cmp (substring a) (substring b)
 
 -- what kept keys tell of two ranks with first gaps of one length
-told : (a b : Parts) (i j : ℕ) (k l : Key) → IsKeyed a i k → IsKeyed b j l → i ≡ j → Tells k l (substring a) (substring b)
-told a b i j k l h u same =
-    subst (λ n. Tells n l (substring a) (substring b)) (sym h.key)
-    (subst (λ n. Tells (key_after_gap a.e a.p (next_of a)) n (substring a) (substring b)) (sym u.key) (keys_tell a b h.rank u.rank (sym h.gap ∙ same ∙ u.gap)))
+told : (a b : Parts) (i j n : ℕ) (k l : Key) → IsKeyed a i n k → IsKeyed b j n l → i ≡ j → Tells k l (substring a) (substring b)
+told a b i j n k l h u same =
+    subst (λ key. Tells key l (substring a) (substring b)) (sym h.key)
+    (subst (λ key. Tells (key_after_gap n a.e a.p (next_of a)) key (substring a) (substring b)) (sym u.key) (keys_tell n a b h.rank u.rank (sym h.gap ∙ same ∙ u.gap)))
 
-by_gap : (a b : Parts) (i j : ℕ) (k l : Key) → IsKeyed a i k → IsKeyed b j l → i ≢ j → nat_cmp j i ≡ rank_cmp a b
-by_gap a b i j k l h u other =
+by_gap : (a b : Parts) (i j n o : ℕ) (k l : Key) → IsKeyed a i n k → IsKeyed b j o l → i ≢ j → nat_cmp j i ≡ rank_cmp a b
+by_gap a b i j n o k l h u other =
     decided i j (order a b) (tie_cmp a b) other
     (ap (λ n. nat_cmp n i) u.gap ∙ ap (λ n. nat_cmp (gap b.e (b.p - next_of b)) n) h.gap ∙ gaps_tell_order a b h.rank u.rank (λ is. other (h.gap ∙ is ∙ sym u.gap)))
 
-by_key : (a b : Parts) (i j : ℕ) (k l : Key) → IsKeyed a i k → IsKeyed b j l → i ≡ j → k.number ≢ l.number → nat_cmp l.number k.number ≡ rank_cmp a b
-by_key a b i j k l h u same other =
+by_key : (a b : Parts) (i j n : ℕ) (k l : Key) → IsKeyed a i n k → IsKeyed b j n l → i ≡ j → k.number ≢ l.number → nat_cmp l.number k.number ≡ rank_cmp a b
+by_key a b i j n k l h u same other =
     decided k.number l.number (order a b) (tie_cmp a b) other
-    (by_numbers k.number l.number (order a b) other (told a b i j k l h u same).less (λ less. turned_less (substring a) (substring b) ((told b a j i l k u h (sym same)).less less)))
+    (by_numbers k.number l.number (order a b) other (told a b i j n k l h u same).less (λ less. turned_less (substring a) (substring b) ((told b a j i n l k u h (sym same)).less less)))
+
+as_rounds : (r : Parts) (g n m : ℕ) (k : Key) → n ≡ m → IsKeyed r g m k → IsKeyed r g n k
+as_rounds r g n m k is h = (let P : ℕ → Type 0 = λ x. IsKeyed r g x k in subst P (sym is) h)
 
 pub returns-then-a-b : goal.returns-then-a-b
 returns-then-a-b c =
     c.cmp.ensures
-    ∙ by_gap c.a.inside.rank c.b.inside.rank c.a.inside.gap c.b.inside.gap c.a.inside.key c.b.inside.key c.a.invariant c.b.invariant c.if-a-b.true
+    ∙ by_gap c.a.inside.rank c.b.inside.rank c.a.inside.gap c.b.inside.gap c.a.inside.rounds c.b.inside.rounds c.a.inside.key c.b.inside.key c.a.invariant c.b.invariant c.if-a-b.true
     ∙ ap (λ x. rank_cmp x c.b.inside.rank) c.a.view_is
     ∙ ap (λ x. rank_cmp c.args.a.now x) c.b.view_is
 
-pub returns-then-a-b-2 : goal.returns-then-a-b-2
-returns-then-a-b-2 c =
-    c.cmp-then-a-b-2.ensures
-    ∙ by_key c.a.inside.rank c.b.inside.rank c.a.inside.gap c.b.inside.gap c.a.inside.key c.b.inside.key c.a.invariant c.b.invariant c.if-a-b.false c.if-a-b-2.true
+pub returns-then-a-b-3 : goal.returns-then-a-b-3
+returns-then-a-b-3 c =
+    c.cmp-then-a-b-3.ensures
+    ∙ by_key c.a.inside.rank c.b.inside.rank c.a.inside.gap c.b.inside.gap c.a.inside.rounds c.a.inside.key c.b.inside.key c.a.invariant (as_rounds c.b.inside.rank c.b.inside.gap c.a.inside.rounds c.b.inside.rounds c.b.inside.key c.if-a-b-2.false c.b.invariant) c.if-a-b.false c.if-a-b-3.true
     ∙ ap (λ x. rank_cmp x c.b.inside.rank) c.a.view_is
     ∙ ap (λ x. rank_cmp c.args.a.now x) c.b.view_is
 
 pub returns-then-b : goal.returns-then-b
 returns-then-b c =
-    let equal = (told c.a.inside.rank c.b.inside.rank c.a.inside.gap c.b.inside.gap c.a.inside.key c.b.inside.key c.a.invariant c.b.invariant c.if-a-b.false).same c.if-a-b-2.false c.if-a.true c.if-b.true in
+    let equal = (told c.a.inside.rank c.b.inside.rank c.a.inside.gap c.b.inside.gap c.a.inside.rounds c.a.inside.key c.b.inside.key c.a.invariant (as_rounds c.b.inside.rank c.b.inside.gap c.a.inside.rounds c.b.inside.rounds c.b.inside.key c.if-a-b-2.false c.b.invariant) c.if-a-b.false).same c.if-a-b-3.false c.if-a.true c.if-b.true in
     c.compare_ties.ensures
     ∙ ap (λ o. ordering_then o (tie_cmp c.a.inside.rank c.b.inside.rank)) (sym equal)
     ∙ ap (λ x. rank_cmp x c.b.inside.rank) c.a.view_is

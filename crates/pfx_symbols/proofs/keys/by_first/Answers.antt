@@ -1,6 +1,5 @@
-use Rattle.std.proofs.Common.{◌≡◌, ℕ, ◌+◌, ◌-◌, ◌*◌, ◌==◌, ◌<◌, ◌≤◌, ◌^◌, nat_lt, if◌then◌else◌, arith, ap, sym, ◌∙◌}
+use Rattle.std.proofs.Common.{◌≡◌, ◌+◌, ◌-◌, ◌*◌, ◌==◌, ◌<◌, nat_lt, if◌then◌else◌, arith, ap, sym, ◌∙◌}
 use Rattle.std.proofs.lemmas.Bool.{ne_eqb}
-use Rattle.pfx_symbols.specs.declared.keys.Key.{Key}
 use Rattle.pfx_symbols.specs.Keys.{start, width, above, gaps_key}
 use Rattle.pfx_symbols.specs.Ranges.{placed}
 use Rattle.pfx_symbols.proofs.Rounds.{first_plus}

@@ -1,6 +1,6 @@
-use Rattle.std.proofs.Common.{◌≡◌, ℕ, suc, ◌+◌, ◌-◌, ◌*◌, ◌==◌, ◌<◌, ◌≤◌, ◌^◌, if◌then◌else◌, arith, ap, sym, ◌∙◌}
+use Rattle.std.proofs.Common.{◌≡◌, ℕ, ◌-◌, ◌*◌, ◌==◌, if◌then◌else◌, ap, sym, ◌∙◌}
 use Rattle.std.proofs.lemmas.Bool.{eq-eqb, ne_eqb}
-use Rattle.pfx_symbols.specs.Keys.{start, width, gap, above, back_from, first_key, gaps_key}
+use Rattle.pfx_symbols.specs.Keys.{start, width, above, back_from, first_key, gaps_key}
 use Rattle.pfx_symbols.specs.Ranges.{placed, HasGaps}
 use Rattle.pfx_symbols.proofs.KeyOrder.{IsInner, if_true, if_false, turned, further, first_within, gaps_fit}
 use Rattle.pfx_symbols.proofs.keys.by_gaps.Goals as goal

@@ -1,5 +1,5 @@
-use Rattle.std.proofs.Common.{◌≡◌, ℕ, ◌+◌, ◌-◌, ◌*◌, ◌/◌, ◌<◌, ◌≤◌, ◌^◌, arith, ap, sym, ◌∙◌}
-use Rattle.pfx_symbols.specs.Keys.{level, start, width}
+use Rattle.std.proofs.Common.{◌≡◌, ℕ, ◌+◌, ◌-◌, ◌*◌, ◌/◌, ◌<◌, ◌≤◌, ◌^◌, arith, ◌∙◌}
+use Rattle.pfx_symbols.specs.Keys.{level}
 use Rattle.pfx_symbols.proofs.Splits.{within}
 use Rattle.pfx_symbols.proofs.keys.split.Goals as goal
 
