@@ -13,13 +13,14 @@ use pfx_symbols::{Keyed, LastKey};
 use std::alloc::AllocError;
 
 /// Marks the tasks before the cut in place of all places, and gathers those at it, if workers are left for some. `last` are the
-/// keys that were found last, of as many tasks as there happen to be.
+/// keys that were found last, of as many tasks as there happen to be; the keys tell so many rounds.
 pub fn mark_before(
     places: &mut [u8],
     found: &mut Vec<Keyed>,
     last: &mut Vec<LastKey>,
     ledger: &Columns,
     cut: Cut,
+    rounds: u32,
 ) -> Result<(), AllocError>
     requires places { ArePlacesIn ledger.now places.old }
     requires cut { IsCut places.old ledger.now.set.workers cut }
@@ -31,7 +32,7 @@ pub fn mark_before(
         if last.len() != total {
             last.resize(total, LastKey::none())?;
         }
-        gather_at(found, last, ledger, places, cut.place)?;
+        gather_at(found, last, ledger, places, cut.place, rounds)?;
     }
     mark_below(places, cut.place);
     Ok(())
@@ -44,6 +45,7 @@ fn gather_at(
     ledger: &Columns,
     places: &[u8],
     d: u8,
+    rounds: u32,
 ) -> Result<(), AllocError>
     requires places { ArePlacesIn ledger.now places.now }
     requires last { length last.old ≡ total ledger.now }
@@ -55,7 +57,7 @@ fn gather_at(
         if *place != d {
             continue;
         }
-        found.push(Keyed::new(ledger.rank(x), u32::from(d), &mut last[x]))?;
+        found.push(Keyed::new(ledger.rank(x), u32::from(d), rounds, &mut last[x]))?;
     }
     Ok(())
 }

@@ -6,12 +6,13 @@ use Rattle.std.specs.declared.cmp.Ordering.{Ordering}
 use Rattle.std.specs.declared.cmp.Ordering.TheVariants.{Less, Greater}
 use Rattle.std.specs.Ordering.{ordering_reverse, ordering_then, nat_cmp}
 use Rattle.std.specs.Cmp.Lexicographic.{slice_cmp}
+use Rattle.pfx_symbols.specs.declared.keys.Key.{Key}
 use Rattle.pfx_symbols.specs.declared.kinds.Symbol.{Symbol}
 use Rattle.pfx_symbols.specs.Symbols.{symbol_cmp}
 use Rattle.pfx_symbols.specs.Strings.{Spells}
 use Rattle.pfx_symbols.specs.Ranks.{Parts, IsRank, substring}
 use Rattle.pfx_symbols.specs.Keys.{gap, gaps_key, keys, key_after_gap}
-use Rattle.pfx_symbols.specs.Keyed.{next_of}
+use Rattle.pfx_symbols.specs.Keyed.{next_of, IsKeyed}
 use Rattle.pfx_symbols.specs.Ranges.{HasGaps}
 use Rattle.pfx_symbols.proofs.Phases.{spelled}
 use Rattle.pfx_symbols.proofs.Rounds.{Head, head, gaps_differ, strings_total, number_greater, number_less, some_steps, first_plus}
@@ -117,3 +118,13 @@ behind_gap q e p r i q_is e_is p_is r_is reach least some =
       high = high;
     })) in
     subst (λ a. P a p r) e_is (subst (λ b. P q.e b r) p_is (subst (λ c. P q.e q.p c) r_is here)) reach least some
+
+-- what kept keys tell of two ranks with first gaps of one length
+pub told : (a b : Parts) (i j n : ℕ) (k l : Key) → IsKeyed a i n k → IsKeyed b j n l → i ≡ j → Tells k l (substring a) (substring b)
+told a b i j n k l h u same =
+    subst (λ key. Tells key l (substring a) (substring b)) (sym h.key)
+    (subst (λ key. Tells (key_after_gap n a.e a.p (next_of a)) key (substring a) (substring b)) (sym u.key) (keys_tell n a b h.rank u.rank (sym h.gap ∙ same ∙ u.gap)))
+
+-- the same with another name of the number of rounds
+pub as_rounds : (r : Parts) (g n m : ℕ) (k : Key) → n ≡ m → IsKeyed r g m k → IsKeyed r g n k
+as_rounds r g n m k is h = (let P : ℕ → Type 0 = λ x. IsKeyed r g x k in subst P (sym is) h)

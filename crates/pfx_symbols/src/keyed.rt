@@ -1,9 +1,12 @@
 //! A rank with a key of its substring, so that most ranks are compared as two numbers.
 
-ghost use Rattle.std.specs.Prelude.{◌≡◌, ◌+◌, ◌-◌, ◌*◌, ◌%◌, ◌<◌, ◌≤◌, ◌^◌, refl};
+ghost use Rattle.std.specs.Prelude.{◌≡◌, ◌+◌, ◌-◌, ◌*◌, ◌%◌, ◌<◌, ◌≤◌, ◌^◌, refl, IsTrue};
 ghost use Rattle.pfx_symbols.specs.Keys.{gap, key_behind};
 ghost use Rattle.pfx_symbols.specs.Ranges.{HasGaps};
-ghost use Rattle.pfx_symbols.specs.Ranks.{rank_cmp};
+ghost use Rattle.pfx_symbols.specs.Ranks.{rank_cmp, substring};
+ghost use Rattle.pfx_symbols.specs.Symbols.{symbol_cmp};
+ghost use Rattle.std.specs.Cmp.Lexicographic.{slice_cmp};
+ghost use Rattle.std.specs.declared.cmp.Ordering.TheVariants.{Equal};
 ghost use Rattle.pfx_symbols.specs.RankLaws.{rank_total};
 ghost use Rattle.std.proofs.lemmas.Cmp.{eq_by_cmp_equiv};
 ghost use Rattle.std.specs.Cmp.{partial_equiv_from_equiv, partial_order_from_total};
@@ -69,6 +72,22 @@ impl Keyed {
         ensures { result ≡ self.now.id }
     {
         self.rank.id()
+    }
+
+    /// Whether the keys tell that both tasks have the same substring. If they leave that open, the answer is no.
+    pub fn is_told_same(&self, other: &Keyed) -> bool
+        ensures { IsTrue result → slice_cmp symbol_cmp (substring self.now) (substring other.now) ≡ Equal }
+    {
+        if self.gap != other.gap {
+            return false;
+        }
+        if self.rounds != other.rounds {
+            return false;
+        }
+        if self.key.number != other.key.number {
+            return false;
+        }
+        self.key.whole && other.key.whole
     }
 }
 

@@ -8,17 +8,11 @@ use Rattle.pfx_symbols.specs.Ranks.{Parts, substring, tie_cmp, rank_cmp}
 use Rattle.pfx_symbols.specs.Keyed.{IsKeyed, next_of}
 use Rattle.pfx_symbols.specs.Keys.{gap, key_after_gap}
 use Rattle.pfx_symbols.proofs.KeyOrder.{Tells}
-use Rattle.pfx_symbols.proofs.KeyedOrder.{gaps_tell_order, keys_tell, by_numbers, turned_less, decided}
+use Rattle.pfx_symbols.proofs.KeyedOrder.{told, as_rounds, gaps_tell_order, by_numbers, turned_less, decided}
 use Rattle.pfx_symbols.proofs.keyed.compare_keyed.Goals as goal
 
 abbrev order : Parts → Parts → Ordering
 order a b = slice_cmp symbol_cmp (substring a) (substring b)
-
--- what kept keys tell of two ranks with first gaps of one length
-told : (a b : Parts) (i j n : ℕ) (k l : Key) → IsKeyed a i n k → IsKeyed b j n l → i ≡ j → Tells k l (substring a) (substring b)
-told a b i j n k l h u same =
-    subst (λ key. Tells key l (substring a) (substring b)) (sym h.key)
-    (subst (λ key. Tells (key_after_gap n a.e a.p (next_of a)) key (substring a) (substring b)) (sym u.key) (keys_tell n a b h.rank u.rank (sym h.gap ∙ same ∙ u.gap)))
 
 by_gap : (a b : Parts) (i j n o : ℕ) (k l : Key) → IsKeyed a i n k → IsKeyed b j o l → i ≢ j → nat_cmp j i ≡ rank_cmp a b
 by_gap a b i j n o k l h u other =
@@ -29,9 +23,6 @@ by_key : (a b : Parts) (i j n : ℕ) (k l : Key) → IsKeyed a i n k → IsKeyed
 by_key a b i j n k l h u same other =
     decided k.number l.number (order a b) (tie_cmp a b) other
     (by_numbers k.number l.number (order a b) other (told a b i j n k l h u same).less (λ less. turned_less (substring a) (substring b) ((told b a j i n l k u h (sym same)).less less)))
-
-as_rounds : (r : Parts) (g n m : ℕ) (k : Key) → n ≡ m → IsKeyed r g m k → IsKeyed r g n k
-as_rounds r g n m k is h = (let P : ℕ → Type 0 = λ x. IsKeyed r g x k in subst P (sym is) h)
 
 pub returns-then-a-b : goal.returns-then-a-b
 returns-then-a-b c =
