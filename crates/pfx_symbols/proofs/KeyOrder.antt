@@ -8,6 +8,7 @@ use Rattle.std.specs.Cmp.Lexicographic.{slice_cmp}
 use Rattle.pfx_symbols.specs.declared.kinds.Symbol.{Symbol}
 use Rattle.pfx_symbols.specs.declared.kinds.Symbol.TheVariants.{Zero, Plus}
 use Rattle.pfx_symbols.specs.Symbols.{symbol_cmp}
+use Rattle.pfx_symbols.specs.Laws.{Tells}
 use Rattle.pfx_symbols.specs.Strings.{Spells}
 use Rattle.pfx_symbols.specs.declared.keys.Key.{Key}
 use Rattle.pfx_symbols.specs.Keys.{level, start, width, gap, above, back_from, first_key, gaps_key}
@@ -31,11 +32,6 @@ pub record IsInner (e p v : ℕ) : Type 0 where
 pub record Within (size : ℕ) (k : Key) : Type 0 where
   pub most : k.number ≤ size
   pub room : k.whole ≡ true → k.number < size
-
--- what the keys of two strings tell of their order
-pub record Tells (a b : Key) (xs ys : List Symbol) : Type 0 where
-  pub less : a.number < b.number → slice_cmp symbol_cmp xs ys ≡ Greater
-  pub same : a.number ≡ b.number → a.whole ≡ true → b.whole ≡ true → slice_cmp symbol_cmp xs ys ≡ Equal
 
 abbrev pub Fit : (ℕ → ℕ → ℕ → ℕ → Key) → Type 0
 Fit after = (size e p v : ℕ) (xs : List Symbol) → IsInner e p v → Spells e p v xs → Within size (after size e p v)

@@ -9,6 +9,7 @@ use Rattle.std.specs.Cmp.Lexicographic.{slice_cmp}
 use Rattle.pfx_symbols.specs.declared.keys.Key.{Key}
 use Rattle.pfx_symbols.specs.declared.kinds.Symbol.{Symbol}
 use Rattle.pfx_symbols.specs.Symbols.{symbol_cmp}
+use Rattle.pfx_symbols.specs.Laws.{Tells}
 use Rattle.pfx_symbols.specs.Strings.{Spells}
 use Rattle.pfx_symbols.specs.Ranks.{Parts, IsRank, substring}
 use Rattle.pfx_symbols.specs.Keys.{gap, gaps_key, keys, key_after_gap}
@@ -17,7 +18,7 @@ use Rattle.pfx_symbols.specs.Ranges.{HasGaps}
 use Rattle.pfx_symbols.proofs.Phases.{spelled}
 use Rattle.pfx_symbols.proofs.Rounds.{Head, head, gaps_differ, strings_total, number_greater, number_less, some_steps, first_plus}
 use Rattle.pfx_symbols.proofs.Splits.{Reaches, gap_is}
-use Rattle.pfx_symbols.proofs.KeyOrder.{IsWeight, Tells, Stops, Goes, front, rest_tells, gaps_fit, gaps_tell}
+use Rattle.pfx_symbols.proofs.KeyOrder.{IsWeight, Stops, Goes, front, rest_tells, gaps_fit, gaps_tell}
 
 -- a rank's substring, spelled from the next phase on
 record IsSpelled (r : Parts) : Type 0 where

@@ -3,7 +3,8 @@
 ghost use Rattle.std.specs.Prelude.{◌<◌, ◌≤◌, ◌^◌};
 
 use pfx_symbols::{
-    Class, Rank, Symbol, class, compare, compare_by_symbols, compare_in_rounds, symbol,
+    Class, Keyed, LastKey, Rank, Symbol, class, compare, compare_by_symbols, compare_in_rounds,
+    symbol,
 };
 use std::cmp::Ordering;
 
@@ -155,7 +156,25 @@ fn agree(slot: u64, a: (u32, u32), b: (u32, u32)) -> bool
 {
     let a = Rank::at_slot(slot, a.0, a.1, 3);
     let b = Rank::at_slot(slot, b.0, b.1, 4);
-    compare(&a, &b) == compare_by_symbols(&a, &b)
+    let order = compare_by_symbols(&a, &b);
+    compare(&a, &b) == order && agree_by_keys(a, b, order)
+}
+
+/// The order of two ranks by keys of few rounds, of many, of none, and of different numbers of rounds.
+fn agree_by_keys(a: Rank, b: Rank, order: Ordering) -> bool {
+    for (m, n) in [(0, 0), (1, 1), (3, 3), (24, 24), (3, 24)] {
+        let (mut of_a, mut of_b) = (LastKey::none(), LastKey::none());
+        let x = Keyed::new(a, 1, m, &mut of_a);
+        let y = Keyed::new(b, 2, n, &mut of_b);
+        if x.cmp(&y) != order || y.cmp(&x) != order.reverse() {
+            return false;
+        }
+        // Of equal substrings the lower number is greater, and that is the first one's.
+        if x.is_told_same(&y) && order != Ordering::Greater {
+            return false;
+        }
+    }
+    true
 }
 
 /// Both comparisons of two tasks at six slots.

@@ -5,14 +5,14 @@ use Rattle.pfx_choice.proofs.chooser.place_keyed.Goals as goal
 
 pub bounds-classes-from : goal.bounds-classes-from
 bounds-classes-from c =
-    let s = c.select_nth_unstable-middle in
+    let s = c.select_nth_unstable-pivot in
     let n = length c.args.classes.now in
     let here : s.result.1.now.id < n = All-head (λ q. q.id < n) s.result.1.now s.result.2.now (ids_after n c.args.ranks.now s.result.0.now s.result.2.now s.result.1.now s.ensures.permutation c.requires.ids) in
     omega (arith, here, c.from.ensures, c.id.ensures)
 
 pub mark_keyed-requires : goal.mark_keyed-requires
 mark_keyed-requires c = λ k d l.
-    (let s = c.select_nth_unstable-middle in
+    (let s = c.select_nth_unstable-pivot in
     let n = length c.args.classes.now in
     let long : length (set c.args.classes.now c.from.result 1) ≡ n = length-set c.args.classes.now c.from.result 1 in
     let here : (get_or s.result.2.now k d).id < n = All-tail (λ q. q.id < n) s.result.1.now s.result.2.now (ids_after n c.args.ranks.now s.result.0.now s.result.2.now s.result.1.now s.ensures.permutation c.requires.ids) k d l in
@@ -20,7 +20,7 @@ mark_keyed-requires c = λ k d l.
 
 pub returns-then-k-gt0 : goal.returns-then-k-gt0
 returns-then-k-gt0 c =
-    let s = c.select_nth_unstable-middle in
+    let s = c.select_nth_unstable-pivot in
     let classes = c.args.classes.now in
     let n = length classes in
     let y = c.from.result in

@@ -1,13 +1,12 @@
 use Rattle.std.specs.declared.cmp.Ordering.{Ordering}
-use Rattle.std.proofs.Common.{◌≡◌, ◌≢◌, ℕ, ◌-◌, ap, sym, subst, ◌∙◌}
+use Rattle.std.proofs.Common.{◌≡◌, ◌≢◌, ℕ, ◌-◌, ap, sym, ◌∙◌}
 use Rattle.std.specs.Cmp.Lexicographic.{slice_cmp}
 use Rattle.std.specs.Ordering.{ordering_then, nat_cmp}
 use Rattle.pfx_symbols.specs.declared.keys.Key.{Key}
 use Rattle.pfx_symbols.specs.Symbols.{symbol_cmp}
 use Rattle.pfx_symbols.specs.Ranks.{Parts, substring, tie_cmp, rank_cmp}
 use Rattle.pfx_symbols.specs.Keyed.{IsKeyed, next_of}
-use Rattle.pfx_symbols.specs.Keys.{gap, key_after_gap}
-use Rattle.pfx_symbols.proofs.KeyOrder.{Tells}
+use Rattle.pfx_symbols.specs.Keys.{gap}
 use Rattle.pfx_symbols.proofs.KeyedOrder.{told, as_rounds, gaps_tell_order, by_numbers, turned_less, decided}
 use Rattle.pfx_symbols.proofs.keyed.compare_keyed.Goals as goal
 

@@ -1,0 +1,5 @@
+use Rattle.pfx_symbols.proofs.KeyedOrder.{keys_tell}
+use Rattle.pfx_symbols.proofs.laws.keys_tell.Goals as goal
+
+pub returns : goal.returns
+returns c = keys_tell
