@@ -7,8 +7,8 @@ use Rattle.pfx_recovery.specs.Recovery.{Found, found, found_of}
 use Rattle.pfx_recovery.specs.Refusals.{Refusal}
 use Rattle.pfx_recovery.specs.Store.{Parts}
 use Rattle.pfx_store_file.specs.Files.{AreOf, file_in}
-use Rattle.pfx_store_file.specs.Fitting.{Fits}
 use Rattle.pfx_store_file.specs.Holding.{Holds}
+use Rattle.pfx_store_file.specs.Sizes.{HasSizes}
 use Rattle.pfx_store_file.specs.declared.places.Places.{Places}
 use Rattle.pfx_recover.specs.Looking.{IsKept}
 
@@ -35,12 +35,11 @@ module _ {H S : Type 0} (K : Codec H S) (h : H) where
     pub holds : (spelling : List ℕ) → Holds K h places parts state spelling disk
     pub between : IsMiddle parts middle
 
--- A store can go on with what was found: its checkpoint areas can hold the state, the file is as long as its parts, the places are those of such a
--- file, and no checkpoint is begun.
-pub record IsUsable {H S : Type 0} (K : Codec H S) (can_hold : H → S → Type 0) (h : H) (total : ℕ) (places : Places) (state : S) : Type 0 where
+-- A store can go on with what was found: its checkpoint areas can hold the state, the places are those of a file of its
+-- layout, and no checkpoint is begun.
+pub record IsUsable {H S : Type 0} (K : Codec H S) (can_hold : H → S → Type 0) (h : H) (places : Places) (state : S) : Type 0 where
   pub fits : can_hold h state
-  pub len : places.len ≡ total
-  pub sized : Fits (K.layout h) places
+  pub sized : HasSizes (K.layout h) places.sizes
   pub unbegun : places.begun ≡ false
 
 -- a state that a checkpoint area can hold, and whose last command has a number below 2^48

@@ -2,7 +2,7 @@
 ghost use Rattle.std.specs.Prelude.{◌≡◌, false, Err, IfOk, IfErr, MatchResult};
 ghost use Rattle.pfx_disk.specs.Disk.{IsHonest, HasFailed};
 ghost use Rattle.pfx_recovery.specs.Recovery.{recovered};
-ghost use Rattle.pfx_store_file.specs.Fitting.{Fits};
+ghost use Rattle.pfx_store_file.specs.Sizes.{HasSizes};
 ghost use Rattle.pfx_recover.specs.Answers.{IsRefusal};
 ghost use Rattle.pfx_recover.specs.Finding.{IsOpened};
 ghost use Rattle.pfx_recover.specs.Looking.{Looks};
@@ -46,7 +46,7 @@ pub fn open<F: Format, D: Disk>(alloc: Global, disk: D) -> Result<Opened<D, F>, 
     ensures whole { IfOk result (λ o. o.file.broken ≡ false) }
     // No checkpoint is begun, also if one is in progress.
     ensures unbegun { IfOk result (λ o. o.file.places.begun ≡ false) }
-    ensures sized { IfOk result (λ o. Fits (F.codec.layout o.header) o.file.places) }
+    ensures sized { IfOk result (λ o. HasSizes (F.codec.layout o.header) o.file.places.sizes) }
     ensures fits { IfOk result (λ o. F.fits o.header o.state) }
 {
     let mut disk = disk;

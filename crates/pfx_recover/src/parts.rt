@@ -5,7 +5,6 @@ ghost use Rattle.pfx_recovery.specs.Recovery.{area_taken, segment_begun, from_on
 ghost use Rattle.pfx_recover.specs.Answers.{Gives};
 ghost use Rattle.pfx_recover.specs.Choosing.{IsArea, IsSegment};
 ghost use Rattle.pfx_recover.specs.Finding.{IsFound, IsUsable};
-ghost use Rattle.pfx_recover.specs.Formats.{total_len};
 ghost use Rattle.pfx_recover.specs.Walking.{StandIn, AreInUse, Fill, frames_of};
 
 use crate::choosing::Choice;
@@ -39,16 +38,12 @@ fn places_of<F: Format>(
     gate: usize,
 ) -> Places
     requires { gate < segment_end (F.codec.layout file.now.header) second }
-    ensures len { result.len ≡ total_len file.now.sizes }
     ensures placed { AreInUse (F.codec.layout file.now.header) area.second area.other_open turned second
         segment_open gate result }
 {
     let sizes = file.sizes;
     Places {
-        head: sizes.head,
-        body: sizes.body,
-        segment_len: sizes.segment,
-        len: sizes.file_len(),
+        sizes,
         area: area.second,
         segment: second,
         turned,
@@ -74,7 +69,7 @@ pub(crate) fn read_single<F: Format>(
     requires last { walked.last < 2 ^ 48 }
     requires fits { F.fits file.now.header state }
     ensures device { ¬ IsErrOf result OpenFault.Device }
-    ensures usable { IfOk result (λ c. IsUsable F.codec F.fits file.now.header (total_len file.now.sizes) c.places c.state) }
+    ensures usable { IfOk result (λ c. IsUsable F.codec F.fits file.now.header c.places c.state) }
     ensures exact { (bytes : List ℕ)
         → IsArea F.codec file.now.header bytes area (area_taken F.codec file.now.header bytes)
         → (n : ℕ)
@@ -119,7 +114,7 @@ pub(crate) fn read_double<F: Format>(
     requires before { StandIn (F.codec.layout file.now.header) second before }
     requires stand { StandIn (F.codec.layout file.now.header) (not second) walked }
     ensures device { ¬ IsErrOf result OpenFault.Device }
-    ensures usable { IfOk result (λ c. IsUsable F.codec F.fits file.now.header (total_len file.now.sizes) c.places c.state) }
+    ensures usable { IfOk result (λ c. IsUsable F.codec F.fits file.now.header c.places c.state) }
     ensures exact { (bytes : List ℕ)
         → IsArea F.codec file.now.header bytes area (area_taken F.codec file.now.header bytes)
         → IsOpenAt (segment_at (F.codec.layout file.now.header) second) bytes

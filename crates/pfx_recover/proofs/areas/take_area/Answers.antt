@@ -16,7 +16,7 @@ returns-in_err-is_second-clause-exact g c bytes kept =
     let K = g.F.Format.codec in
     let file = c.args.file.now in
     let then = kept_after bytes _ _ c.read_gate.ensures.call.looks kept in
-    let long : 8 ≤ (K.layout file.header).body = omega (arith, file.sizes.number, file.sized.body) in
+    let long : 8 ≤ (K.layout file.header).body = omega (arith, file.number, file.sized.body) in
     let same = area_taken_by K file.header bytes g.F.Format.fits _ g.met.F.Format.bounds long _ _ _ _ _ _ _ _
     (c.area_at-low.ensures.at _ file.sized) (c.area_at-high.ensures.at _ file.sized) (c.in_ok-low_gate.ensures.gate bytes kept) (c.in_ok-high_gate.ensures.gate bytes then)
     (c.in_ok-low_gate.ensures.bytes bytes kept) (c.in_ok-high_gate.ensures.bytes bytes then) c.area_number.ensures c.area_number-2.ensures in
@@ -27,7 +27,7 @@ returns-clause-exact g c bytes kept =
     let K = g.F.Format.codec in
     let file = c.args.file.now in
     let then = kept_after bytes _ _ c.read_gate.ensures.call.looks kept in
-    let long : 8 ≤ (K.layout file.header).body = omega (arith, file.sizes.number, file.sized.body) in
+    let long : 8 ≤ (K.layout file.header).body = omega (arith, file.number, file.sized.body) in
     let low = c.area_at-low.ensures.at _ file.sized in
     let high = c.area_at-high.ensures.at _ file.sized in
     let low_open = c.in_ok-low_gate.ensures.gate bytes kept in
