@@ -1,5 +1,5 @@
 // Appending to a journal.
-ghost use Rattle.std.specs.Prelude.{◌≡◌, ◌≤◌, ◌<◌, ◌+◌, ◌*◌, ◌^◌, ◌++◌, ◌∷◌, [], length, map, take, slice_index, vec_capacity, Some, OnOk};
+ghost use Rattle.std.specs.Prelude.{◌≡◌, ◌≤◌, ◌<◌, ◌+◌, ◌*◌, ◌^◌, ◌++◌, ◌∷◌, [], length, map, take, slice_index, vec_capacity, Some, OnOk, false};
 ghost use Rattle.std.specs.Prelude.{IfOk, IsErrOf};
 ghost use Rattle.byteorder.specs.Endian.{little_number};
 ghost use Rattle.pfx_checkpoint.specs.Spelling.{state_bytes, state_len};
@@ -91,8 +91,10 @@ fn take_over<J: Job>(state: &mut State<J>, batch: &Batch<J>)
 }
 
 impl<D: Disk, J: Job> Journal<D, J> {
-    // Where a frame of n bytes has no room: ends the checkpoint in progress, and encodes the state for the next one.
+    // Where a frame of n bytes has no room, in a file that isn't broken: ends the checkpoint in progress, and encodes the state for the
+    // next one.
     fn make_room(&mut self, n: usize) -> Result<(), StoreFault>
+        requires whole { self.old.file.broken ≡ false }
         ensures call { IsCall D.view (stored self.old) (stored self.new) result (room_calls n self.old.file.places) }
         ensures state { self.new.state ≡ self.old.state }
         ensures frame { self.new.frame ≡ self.old.frame }
@@ -104,9 +106,6 @@ impl<D: Disk, J: Job> Journal<D, J> {
         // These calls of the disk, and the file after them.
         ensures acts { Makes D.view (stored self.old) (stored self.new) result J.kind (λ f. ending J.kind f n) (λ f. ended J.kind f n) (OnOk result) }
     {
-        if self.file.broken {
-            return Err(StoreFault::Broken);
-        }
         if self.file.has_room(n) {
             return Ok(());
         }
