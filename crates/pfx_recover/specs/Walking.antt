@@ -7,7 +7,7 @@ use Rattle.pfx_recovery.specs.Layout.{Layout, first_gate, segment_end}
 use Rattle.pfx_recovery.specs.Recovery.{walk}
 use Rattle.pfx_recovery.specs.Refusals as means
 use Rattle.pfx_segment.specs.Frames.{frame_len}
-use Rattle.pfx_store_file.specs.Fitting.{Fits}
+use Rattle.pfx_store_file.specs.Sizes.{HasSizes}
 use Rattle.pfx_store_file.specs.declared.places.Places.{Places}
 use Rattle.pfx_recover.specs.Answers.{Gives}
 use Rattle.pfx_recover.specs.Looking.{IsKept, OnlyReads}
@@ -67,7 +67,7 @@ pub record StandIn (L : Layout) (second : Bool) (walked : Walked) : Type 0 where
 -- These are the checkpoint area and the segment in use, how the gates of the others stand, and the next frame's gate; and no
 -- checkpoint is begun, nor anything of one done.
 pub record AreInUse (L : Layout) (in_area other_area is_turned second other_segment : Bool) (next : ℕ) (places : Places) : Type 0 where
-  pub fits : Fits L places
+  pub fits : HasSizes L places.sizes
   pub area : places.area ≡ in_area
   pub area_open : places.area_open ≡ other_area
   pub turned : places.turned ≡ is_turned

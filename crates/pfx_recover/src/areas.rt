@@ -1,10 +1,10 @@
 // The checkpoint area that is taken, and the state in it.
 ghost use Rattle.std.specs.Prelude.{◌≡◌, ◌≤◌, ◌<◌, ◌+◌, ◌^◌, ℕ, List, Ok, IfOk};
 ghost use Rattle.pfx_recovery.specs.Recovery.{area_taken};
+ghost use Rattle.pfx_store_file.specs.Sizes.{total_len};
 ghost use Rattle.pfx_recover.specs.Answers.{Gives, IsRead};
 ghost use Rattle.pfx_recover.specs.Choosing.{IsArea, area_state};
 ghost use Rattle.pfx_recover.specs.Finding.{IsHeldState};
-ghost use Rattle.pfx_recover.specs.Formats.{total_len};
 ghost use Rattle.pfx_recover.specs.Looking.{Reaches, ReadsKept};
 
 use crate::choosing::{Choice, Numbered, newer};

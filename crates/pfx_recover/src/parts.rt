@@ -5,7 +5,6 @@ ghost use Rattle.pfx_recovery.specs.Recovery.{area_taken, segment_begun, from_on
 ghost use Rattle.pfx_recover.specs.Answers.{Gives};
 ghost use Rattle.pfx_recover.specs.Choosing.{IsArea, IsSegment};
 ghost use Rattle.pfx_recover.specs.Finding.{IsFound, MakesContents};
-ghost use Rattle.pfx_recover.specs.Formats.{total_len};
 ghost use Rattle.pfx_recover.specs.Walking.{StandIn, AreInUse, Fill, frames_of};
 
 use crate::choosing::Choice;
@@ -39,16 +38,12 @@ fn places_of<F: Format>(
     gate: usize,
 ) -> Places
     requires { gate < segment_end (F.codec.layout file.now.header) second }
-    ensures len { result.len ≡ total_len file.now.sizes }
     ensures placed { AreInUse (F.codec.layout file.now.header) area.second area.other_open turned second
         segment_open gate result }
 {
     let sizes = file.sizes;
     Places {
-        head: sizes.head,
-        body: sizes.body,
-        segment_len: sizes.segment,
-        len: sizes.file_len(),
+        sizes,
         area: area.second,
         segment: second,
         turned,
@@ -72,7 +67,7 @@ pub(crate) fn read_single<F: Format>(
 ) -> Result<Contents<F>, OpenFault>
     requires stand { StandIn (F.codec.layout file.now.header) segment.second walked }
     requires fits { F.fits file.now.header state }
-    ensures { MakesContents F.codec F.fits file.now.header (total_len file.now.sizes) result (λ bytes.
+    ensures { MakesContents F.codec F.fits file.now.header result (λ bytes.
         IsArea F.codec file.now.header bytes area (area_taken F.codec file.now.header bytes)
         → (n : ℕ)
         → IsSegment F.codec file.now.header bytes segment (segment_begun F.codec file.now.header bytes n)
@@ -115,7 +110,7 @@ pub(crate) fn read_double<F: Format>(
     requires fits { F.fits file.now.header state }
     requires before { StandIn (F.codec.layout file.now.header) second before }
     requires stand { StandIn (F.codec.layout file.now.header) (not second) walked }
-    ensures { MakesContents F.codec F.fits file.now.header (total_len file.now.sizes) result (λ bytes.
+    ensures { MakesContents F.codec F.fits file.now.header result (λ bytes.
         IsArea F.codec file.now.header bytes area (area_taken F.codec file.now.header bytes)
         → IsOpenAt (segment_at (F.codec.layout file.now.header) second) bytes
         → (first next : List (List ℕ)) → Fill first (frames_of before) → Fill next (frames_of walked)

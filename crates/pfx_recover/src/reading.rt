@@ -2,10 +2,10 @@
 ghost use Rattle.std.specs.Prelude.{◌≡◌, ◌≤◌, ◌<◌, ◌+◌, ◌^◌, ℕ, List, length, IfOk, OnOk};
 ghost use Rattle.pfx_disk.specs.Disk.{IsHonest};
 ghost use Rattle.pfx_recovery.specs.Recovery.{area_taken, segment_begun, from_frames, from_state, from_area, found, on_ok};
+ghost use Rattle.pfx_store_file.specs.Sizes.{total_len};
 ghost use Rattle.pfx_recover.specs.Answers.{Gives, IsRead};
 ghost use Rattle.pfx_recover.specs.Choosing.{IsArea, IsSegment};
 ghost use Rattle.pfx_recover.specs.Finding.{IsFound, IsHeldState, IsUsable, ReadsContents};
-ghost use Rattle.pfx_recover.specs.Formats.{total_len};
 ghost use Rattle.pfx_recover.specs.Looking.{IsKept, OnlyReads, Reaches, ReadsKept};
 ghost use Rattle.pfx_recover.specs.Walking.{StandIn, Fill, frames_of};
 
@@ -33,7 +33,7 @@ fn read_segments<F: Format, D: Disk>(
 ) -> Result<Contents<F>, OpenFault>
     requires inside { Reaches (total_len file.now.sizes) (D.view disk.old) }
     requires state { IsHeldState F.codec F.fits file.now.header state }
-    ensures { ReadsContents F.codec F.fits file.now.header (total_len file.now.sizes) (D.view disk.old) (D.view disk.new) result (λ bytes.
+    ensures { ReadsContents F.codec F.fits file.now.header (D.view disk.old) (D.view disk.new) result (λ bytes.
         IsArea F.codec file.now.header bytes area (area_taken F.codec file.now.header bytes)
         → Gives (λ c. IsFound F.codec file.now.header bytes c.places c.state c.middle)
         (from_state F.codec file.now.header bytes area.second state) result) }
@@ -59,7 +59,7 @@ fn read_contents<F: Format, D: Disk>(
     file: &Outline<F>,
 ) -> Result<Contents<F>, OpenFault>
     requires inside { Reaches (total_len file.now.sizes) (D.view disk.old) }
-    ensures { ReadsContents F.codec F.fits file.now.header (total_len file.now.sizes) (D.view disk.old) (D.view disk.new) result (λ bytes.
+    ensures { ReadsContents F.codec F.fits file.now.header (D.view disk.old) (D.view disk.new) result (λ bytes.
         Gives (λ c. IsFound F.codec file.now.header bytes c.places c.state c.middle)
         (on_ok (area_taken F.codec file.now.header bytes) (from_area F.codec file.now.header bytes)) result) }
 {
@@ -89,8 +89,8 @@ pub(crate) fn read_file<F: Format, D: Disk>(
     disk: &mut D,
 ) -> Result<(Outline<F>, Contents<F>), OpenFault>
     ensures call { OnlyReads (D.view disk.old) (D.view disk.new) result }
-    ensures usable { IfOk result (λ r. IsUsable F.codec F.fits r.0.header (total_len r.0.sizes) r.1.places r.1.state) }
-    ensures inside { IfOk result (λ r. Reaches r.1.places.len (D.view disk.new)) }
+    ensures usable { IfOk result (λ r. IsUsable F.codec F.fits r.0.header r.1.places r.1.state) }
+    ensures inside { IfOk result (λ r. Reaches (total_len r.1.places.sizes) (D.view disk.new)) }
     ensures kept { IsHonest (D.view disk.old)
         → OnOk result (IsKept (D.view disk.old).contents (D.view disk.new)) }
     ensures exact { IsHonest (D.view disk.old) → Gives

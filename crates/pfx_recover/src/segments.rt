@@ -1,9 +1,9 @@
 // The segment that is read first.
 ghost use Rattle.std.specs.Prelude.{◌≡◌, ◌≤◌, ◌<◌, ◌+◌, ◌^◌, ℕ, List, Ok, IfOk};
 ghost use Rattle.pfx_recovery.specs.Recovery.{segment_begun};
+ghost use Rattle.pfx_store_file.specs.Sizes.{total_len};
 ghost use Rattle.pfx_recover.specs.Answers.{Gives};
 ghost use Rattle.pfx_recover.specs.Choosing.{IsSegment};
-ghost use Rattle.pfx_recover.specs.Formats.{total_len};
 ghost use Rattle.pfx_recover.specs.Looking.{Reaches, ReadsKept};
 
 use crate::choosing::{Choice, Numbered, beginning};

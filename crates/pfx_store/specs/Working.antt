@@ -15,7 +15,8 @@ use Rattle.pfx_recovery.specs.Store.{Replays}
 use Rattle.pfx_redo.specs.Applying.{applied}
 use Rattle.pfx_segment.specs.Segment.{Takes}
 use Rattle.pfx_store_file.specs.Calls.{Works}
-use Rattle.pfx_store_file.specs.Fitting.{HasRoom, IsTurnable, SameParts}
+use Rattle.pfx_store_file.specs.Fitting.{HasRoom, IsTurnable}
+use Rattle.pfx_store_file.specs.Sizes.{total_len}
 use Rattle.pfx_store_file.specs.Holding.{KeepsAll, Survives}
 use Rattle.pfx_store_file.specs.Tending.{IsTurned, StaysPut, append_calls, calls_left, calls_of, next_step, pieces, room_calls, steps_left}
 use Rattle.pfx_store_file.specs.declared.checkpoint.TheConstants.{PIECE}
@@ -58,7 +59,7 @@ module _ {D J T : Type 0} (view : D → View) (old new : PlainStore D J) (result
     pub honest : IsHonest (view old.file.disk) ↔ IsHonest (view new.file.disk)
     pub roomy : ¬ IsErrOf result NoRoom
     pub broken : IsErrOf result Broken → new ≡ old
-    pub parts : SameParts old.file.places new.file.places
+    pub parts : new.file.places.sizes ≡ old.file.places.sizes
 
   -- The calls of the disk, one after the other, for each file that the store may have: when it went well all of them, and the file
   -- after them; some of them up to one that failed, where the device did; and no stop in between left anything else.
@@ -82,14 +83,14 @@ pub record IsUnmade {D : Type 0} (view : D → View) (m segment : ℕ) (disk : D
 
 -- So many calls of the disk made the store, and no answer took more; an honest disk is one before as after.
 pub record IsMaking {D J : Type 0} (view : D → View) (calls : ℕ) (disk : D) (result : Result (PlainStore D J) (InitFault × D)) : Type 0 where
-  pub calls_made : IfOk result (λ store. (view store.file.disk).clock ≡ (view disk).clock + 6 + pieces (store.file.places.len - 1))
+  pub calls_made : IfOk result (λ store. (view store.file.disk).clock ≡ (view disk).clock + 6 + pieces (total_len store.file.places.sizes - 1))
   pub honest : MatchResult result (λ store. IsHonest (view disk) ↔ IsHonest (view store.file.disk)) (λ e. IsHonest (view disk) ↔ IsHonest (view e.1))
   pub takes : MatchResult result (λ store. Takes calls (view disk) (view store.file.disk) result) (λ e. Takes calls (view disk) (view e.1) result)
 
 -- the new store of a set, with segments of this length, within the limits; it isn't broken, and no checkpoint is in progress
 pub record IsNew {D J : Type 0} (set : FilledSet) (segment : ℕ) (store : PlainStore D J) : Type 0 where
   pub size : IsSegmentSize set.workers segment
-  pub segment_len : store.file.places.segment_len ≡ segment
+  pub segment_len : store.file.places.sizes.segment ≡ segment
   pub state : store.state ≡ empty set
   pub whole : store.file.broken ≡ false
   pub none_left : steps_left store.file.places ≡ 0
@@ -114,7 +115,7 @@ pub record Tends {D J : Type 0} (old new : PlainStore D J) (result : Result Tend
   pub step : IfOk result (λ tended. tended ≡ next_step old.file.places)
   pub stays : StaysPut old.file.places new.file.places
   pub nothing : old.file.places.turned ≡ false → (new.file ≡ old.file) × (new.spelled ≡ old.spelled)
-  pub piece : result ≡ Ok Piece → new.file.places.done ≡ min old.file.places.body (old.file.places.done + PIECE)
+  pub piece : result ≡ Ok Piece → new.file.places.done ≡ min old.file.places.sizes.body (old.file.places.done + PIECE)
   pub nearer : old.file.places.turned ≡ true → OnOk result (steps_left old.file.places ≡ 1 + steps_left new.file.places)
   pub fewer : OnOk result (calls_left old.file.places ≡ calls_of (next_step old.file.places) + calls_left new.file.places)
 

@@ -16,7 +16,7 @@ returns g c = record {
       let K = g.F.Format.codec in
       let file = c.args.file.now in
       let then = kept_after bytes _ _ c.read_gate.ensures.call.looks kept in
-      let long : 8 ≤ (K.layout file.header).body = omega (arith, file.sizes.number, file.sized.body) in
+      let long : 8 ≤ (K.layout file.header).body = omega (arith, file.number, file.sized.body) in
       let low = c.area_at-low.ensures.at _ file.sized in
       let high = c.area_at-high.ensures.at _ file.sized in
       let low_open = (c.in_ok-low_gate.ensures.head bytes kept).gate in
@@ -37,7 +37,7 @@ returns-in_err-is_second g c = record {
       let K = g.F.Format.codec in
       let file = c.args.file.now in
       let then = kept_after bytes _ _ c.read_gate.ensures.call.looks kept in
-      let long : 8 ≤ (K.layout file.header).body = omega (arith, file.sizes.number, file.sized.body) in
+      let long : 8 ≤ (K.layout file.header).body = omega (arith, file.number, file.sized.body) in
       let same = area_taken_by K file.header bytes g.F.Format.fits _ g.met.F.Format.bounds long _ _ _ _ _ _ _ _
       (c.area_at-low.ensures.at _ file.sized) (c.area_at-high.ensures.at _ file.sized) (c.in_ok-low_gate.ensures.head bytes kept).gate (c.in_ok-high_gate.ensures.head bytes then).gate
       (c.in_ok-low_gate.ensures.head bytes kept).behind (c.in_ok-high_gate.ensures.head bytes then).behind c.area_number.ensures c.area_number-2.ensures in

@@ -6,7 +6,7 @@ use Rattle.pfx_recover.specs.Finding.{IsFound}
 use Rattle.pfx_recover.specs.declared.parts.Contents.{Contents}
 use Rattle.pfx_recover.proofs.Giving.{gives_handed, gives_as, whole_is}
 use Rattle.pfx_recover.proofs.Looking.{kept_after, looks_of, synced}
-use Rattle.pfx_recover.proofs.Stages.{found_is, found_with, head_is, head_else}
+use Rattle.pfx_recover.proofs.Stages.{found_is, found_with, head_is, head_else, sized_len}
 use Rattle.pfx_recover.proofs.reading.read_file.Goals as goal
 
 pub returns-in_err-header-clause-exact : goal.returns-in_err-header-clause-exact
@@ -28,7 +28,7 @@ returns-then-len-file_len-clause-exact g c honest =
     let looks = looks_of (g.D.Disk.view c.sync.new.self) (g.D.Disk.view c.len.new.self) c.len.result c.len.ensures.time c.len.ensures.honest c.len.ensures.leaves in
     let long = c.in_ok-len.ensures.length kept.honest ∙ ap length kept.contents in
     let head = c.in_ok-header.ensures.exact bytes (kept_after bytes _ _ looks kept) long in
-    let other : length bytes ≢ file_len (K.layout h) = λ same. c.if-len-file_len.true (long ∙ same ∙ sym (c.file_len.ensures.layout (K.layout h) c.sizes-sizes.ensures)) in
+    let other : length bytes ≢ file_len (K.layout h) = λ same. c.if-len-file_len.true (long ∙ same ∙ sym (sized_len (K.layout h) c.sizes-sizes.result c.file_len.result c.sizes-sizes.ensures.sizes c.file_len.ensures)) in
     found_with K bytes h head ∙ head_else K h bytes other ∙ ap (λ (n : ℕ). Err (means.Damaged n means.Length)) (sym long)
 
 pub returns-in_err-contents-clause-exact : goal.returns-in_err-contents-clause-exact
@@ -41,7 +41,7 @@ returns-in_err-contents-clause-exact g c honest =
     let long = c.in_ok-len.ensures.length kept.honest ∙ ap length kept.contents in
     let then = kept_after bytes _ _ looks kept in
     let head = c.in_ok-header.ensures.exact bytes then long in
-    let whole : length bytes ≡ file_len (K.layout h) = sym long ∙ c.if-len-file_len.false ∙ c.file_len.ensures.layout (K.layout h) c.sizes-sizes.ensures in
+    let whole : length bytes ≡ file_len (K.layout h) = sym long ∙ c.if-len-file_len.false ∙ sized_len (K.layout h) c.sizes-sizes.result c.file_len.result c.sizes-sizes.ensures.sizes c.file_len.ensures in
     gives_handed (λ (r : Contents g.row.F.Denot g.row.F-Header.Denot g.row.F-State.Denot). IsFound K h bytes r.places r.state r.middle) (λ r. IsFound K r.0.header bytes r.1.places r.1.state r.1.middle) _ _ _ _ c.in_err-contents.field-0.0 c.from_residual-in_err-contents.result
     (whole_is _) (found_with K bytes h head ∙ head_is K h bytes whole)
     (c.in_err-contents.ensures.exact bytes (kept_after bytes _ _ c.read_header.ensures.call.looks then)) c.from_residual-in_err-contents.ensures.1
@@ -56,7 +56,7 @@ returns-clause-exact g c honest =
     let long = c.in_ok-len.ensures.length kept.honest ∙ ap length kept.contents in
     let then = kept_after bytes _ _ looks kept in
     let head = c.in_ok-header.ensures.exact bytes then long in
-    let whole : length bytes ≡ file_len (K.layout h) = sym long ∙ c.if-len-file_len.false ∙ c.file_len.ensures.layout (K.layout h) c.sizes-sizes.ensures in
+    let whole : length bytes ≡ file_len (K.layout h) = sym long ∙ c.if-len-file_len.false ∙ sized_len (K.layout h) c.sizes-sizes.result c.file_len.result c.sizes-sizes.ensures.sizes c.file_len.ensures in
     let contents = c.in_ok-contents.contents in
     gives_as (λ r. IsFound K h bytes r.places r.state r.middle) _ _ (Ok contents)
     (found_with K bytes h head ∙ head_is K h bytes whole)

@@ -39,7 +39,7 @@ returns-clause-commits g c K laws h p s spelling holds body t pending one =
     let view = g.D.Disk.view in
     let old = c.args.self.now in
     record {
-      holds = append_holds K laws h old.places p s spelling (view old.disk) holds c.args.frame.now body t pending one (omega arith) (view c.put_behind.new.disk) (c.put_behind.ensures.leaves holds.honest) (c.in_ok-put_behind.ensures.run.durable holds.honest) (c.in_ok-put_behind.ensures.written holds.honest) _ (record { head = holds.fits.head; body = holds.fits.body; segment = holds.fits.segment }) refl refl refl refl refl refl refl refl refl;
+      holds = append_holds K laws h old.places p s spelling (view old.disk) holds c.args.frame.now body t pending one (omega arith) (view c.put_behind.new.disk) (c.put_behind.ensures.leaves holds.honest) (c.in_ok-put_behind.ensures.run.durable holds.honest) (c.in_ok-put_behind.ensures.written holds.honest) _ holds.fits refl refl refl refl refl refl refl refl refl;
       keeps = λ start all run. append_keeps K laws h old.places p s spelling (view old.disk) holds c.args.frame.now body t pending one (omega arith) (view c.put_behind.new.disk) (c.put_behind.ensures.leaves holds.honest) start all run;
       acknowledged = λ start all run. append_acknowledged K laws h old.places p s spelling (view old.disk) holds c.args.frame.now body t pending one (omega arith) (view c.put_behind.new.disk) (c.put_behind.ensures.leaves holds.honest) (c.in_ok-put_behind.ensures.run.durable holds.honest) (c.in_ok-put_behind.ensures.written holds.honest) (g.met.D.Disk.only_now c.put_behind.new.disk) start all run;
     }
@@ -86,7 +86,7 @@ pub returns-clause-file : goal.returns-clause-file
 returns-clause-file g c K f are next long =
     record {
       are = record {
-        fits = record { head = are.are.fits.head; body = are.are.fits.body; segment = are.are.fits.segment };
+        fits = are.are.fits;
         area = are.are.area;
         segment = are.are.segment;
         turned = are.are.turned;

@@ -29,7 +29,7 @@ returns-clause-holds g c K laws h p s spelling holds code read long =
     let at_is : c.area_at-at.result ≡ area_at (K.layout h) (not p.area) = c.area_at-at.ensures.at (K.layout h) holds.fits ∙ ap (λ b. area_at (K.layout h) (not b)) holds.area in
     begin_holds K laws h old.places p s spelling (view old.disk) holds c.area_at-at.result at_is (view c.close.new.disk) (c.close.ensures.leaves holds.honest)
     (c.in_ok-close.ensures.run.durable holds.honest) (c.in_ok-close.ensures.closed holds.honest (begin_shut K laws h old.places p s spelling (view old.disk) holds c.area_at-at.result at_is)) code (sym holds.turned ∙ c.requires.turned) read long _
-    (record { head = holds.fits.head; body = holds.fits.body; segment = holds.fits.segment }) refl refl refl refl refl refl refl refl
+    holds.fits refl refl refl refl refl refl refl refl
 
 pub returns-in_err-close-clause-acts : goal.returns-in_err-close-clause-acts
 returns-in_err-close-clause-acts g c K f are honest =
@@ -59,7 +59,7 @@ pub returns-clause-file : goal.returns-clause-file
 returns-clause-file g c K f are =
     record {
       are = record {
-        fits = record { head = are.are.fits.head; body = are.are.fits.body; segment = are.are.fits.segment };
+        fits = are.are.fits;
         area = are.are.area;
         segment = are.are.segment;
         turned = are.are.turned;

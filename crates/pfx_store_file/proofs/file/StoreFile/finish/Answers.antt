@@ -32,7 +32,7 @@ returns-clause-keeps g c K laws h p s spelling holds =
     let whole : old.places.done ≡ (K.layout h).body = c.requires.done ∙ holds.fits.body in
     let leaves = c.open_gate.ensures.leaves holds.honest spelling (finish_inside K laws h old.places p s spelling (view old.disk) holds at at_is begun whole) (finish_stand K laws h old.places p s spelling (view old.disk) holds at at_is begun whole) in
     record {
-      holds = finish_holds K laws h old.places p s spelling (view old.disk) holds at at_is begun whole (view c.open_gate.new.disk) leaves (c.in_ok-open_gate.ensures.run.durable holds.honest) (c.in_ok-open_gate.ensures.opened holds.honest) _ (record { head = holds.fits.head; body = holds.fits.body; segment = holds.fits.segment }) refl refl refl refl refl refl refl refl;
+      holds = finish_holds K laws h old.places p s spelling (view old.disk) holds at at_is begun whole (view c.open_gate.new.disk) leaves (c.in_ok-open_gate.ensures.run.durable holds.honest) (c.in_ok-open_gate.ensures.opened holds.honest) _ holds.fits refl refl refl refl refl refl refl refl;
       keeps = λ start all run. finish_keeps K laws h old.places p s spelling (view old.disk) holds at at_is begun whole (view c.open_gate.new.disk) leaves start all run;
     }
 
@@ -64,7 +64,7 @@ pub returns-clause-file : goal.returns-clause-file
 returns-clause-file g c K f are =
     record {
       are = record {
-        fits = record { head = are.are.fits.head; body = are.are.fits.body; segment = are.are.fits.segment };
+        fits = are.are.fits;
         area = ap not are.are.area;
         segment = are.are.segment;
         turned = refl;
