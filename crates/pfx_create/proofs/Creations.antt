@@ -4,6 +4,7 @@ use Rattle.std.proofs.lemmas.List.{ext_get_or}
 use Rattle.std.proofs.lemmas.Bool.{cases_eq}
 use Rattle.pfx_disk.specs.declared.gates.TheConstants.{GATE_OPEN}
 use Rattle.pfx_disk.specs.Disk.{View, IsHonest, Leaves, Same, Torn, Written, Only}
+use Rattle.pfx_disk.specs.Gates.{IsClosed}
 use Rattle.pfx_disk.proofs.Steps.{leaves_as, leaves_then, leaves_from_synced}
 use Rattle.pfx_recovery.specs.Codec.{Codec}
 use Rattle.pfx_recovery.specs.Layout.{Layout}
@@ -18,6 +19,32 @@ use Rattle.pfx_create.proofs.NewBytes.{behind_first, long_unopened, some_layout}
 
 pub stays_then : (a b c : View) → a.clock ≤ b.clock → Leaves StaysClosed a b → Leaves StaysClosed b c → Leaves StaysClosed a c
 stays_then a b c later first second = leaves_then StaysClosed StaysClosed StaysClosed a b c later (λ x y is. is) (λ x y z first second closed. second (first closed)) first second
+
+-- the first byte, or a part of it
+pub first_begun : (a b : View) → Leaves (Torn 0 1) a b → Leaves Beginning a b
+first_begun a b first = leaves_as (Torn 0 1) Beginning a b (λ x y torn none. inl (omega (arith, torn.no_longer, ap length none))) first
+
+pub first_synced : (a b1 b2 : View) → a.clock ≤ b1.clock → Leaves (Torn 0 1) a b1 → Leaves Same b1 b2 → Leaves Beginning a b2
+first_synced a b1 b2 later first second =
+    leaves_then Beginning Same Beginning a b1 b2 later (λ x y is. is) (λ x y z step same none. subst IsUnmade (sym same) (step none)) (first_begun a b1 first) second
+
+closed_first : (old new : List ℕ) → old ≡ [] → Written 0 (0 ∷ []) old new → IsClosed 0 new
+closed_first old new none is = subst (λ l. IsClosed 0 l) (sym (is ∙ ap (λ (l : List ℕ). take 0 l ++ (0 ∷ []) ++ drop 1 l) none)) (record { inside = omega arith; closed = λ opened. omega (arith, opened) })
+
+-- and what is written behind it
+pub behind_begun : (a b1 b2 b3 : View) → IsHonest a → a.contents ≡ [] → a.clock ≤ b1.clock → b1.clock ≤ b2.clock → Leaves (Torn 0 1) a b1 → Written 0 (0 ∷ []) a.contents b1.contents
+    → Leaves Same b1 b2 → Only b1.contents b2 → Leaves StaysClosed b2 b3 → Leaves Beginning a b3
+behind_begun a b1 b2 b3 honest none later later1 first written second only third =
+    leaves_from_synced Beginning StaysClosed Beginning a b2 b3 honest (omega (arith, later, later1)) (λ x y is. is)
+    (λ z stays none_then. inr (stays (subst (λ l. IsClosed 0 l) (sym second.contents) (closed_first a.contents b1.contents none written))).closed)
+    (first_synced a b1 b2 later first second) (λ image is. only image is ∙ sym second.contents) third
+
+nothing : (xs : List ℕ) → length xs ≡ 0 → xs ≡ []
+nothing [] is = refl
+nothing (x ∷ xs) is = absurd (omega (arith, is))
+
+pub was_empty : (xs : List ℕ) (n : ℕ) → n ≡ length xs → n ≡ 0 → xs ≡ []
+was_empty xs n is none = nothing xs (sym is ∙ none)
 
 -- a new file begins with its header's open gate
 pub opens : (L : Layout) (head body : List ℕ) (segment : ℕ) → HasLengths L head body segment → get_or head 0 0 ≡ GATE_OPEN → get_or (new_file L head body number_one) 0 0 ≡ GATE_OPEN

@@ -1,19 +1,34 @@
 -- What the making of a new file leaves on a disk, and what a codec says of it.
-use Rattle.std.specs.Prelude.{◌≡◌, ◌≤◌, ◌<◌, ◌+◌, ◌⊎◌, ◌↔◌, ℕ, List, [], length, Result, Ok, Err}
-use Rattle.pfx_disk.specs.Disk.{View, HasFailed, IsHonest, Leaves, Only, Same}
+use Rattle.std.specs.Prelude.{◌≡◌, ◌≤◌, ◌<◌, ◌+◌, ◌⊎◌, ◌↔◌, ℕ, List, [], length, Result, Ok, Err, OnOk, IsErr}
+use Rattle.pfx_disk.specs.Disk.{View, HasFailed, IsHonest, Leaves, Only, Same, Ticks}
+use Rattle.pfx_disk.specs.declared.device.DeviceFailed.{DeviceFailed}
 use Rattle.pfx_recovery.specs.Codec.{Codec, Laws}
 use Rattle.pfx_recovery.specs.Layout.{Layout}
 use Rattle.pfx_recovery.specs.NewFile.{ArePartsOfNew, new_file}
 use Rattle.pfx_recovery.specs.Recovery.{recovered}
 use Rattle.pfx_recovery.specs.Refusals.{NotAStore}
 use Rattle.pfx_segment.specs.Segment.{Takes}
-use Rattle.pfx_create.specs.Creating.{Creating, HasLengths, IsUnmade, number_one}
+use Rattle.pfx_create.specs.Creating.{Creating, HasLengths, IsUnmade, number_one, unopened}
 
 -- It takes so many calls of the disk; if it answers that the device failed, the disk did; and an honest disk stays one.
 pub record IsCall {T E : Type 0} (calls : ℕ) (device : Type 0) (old new : View) (result : Result T E) : Type 0 where
   pub failed : device → HasFailed old new
   pub takes : Takes calls old new result
   pub honest : IsHonest old ↔ IsHonest new
+
+-- one call of a disk, and an honest one stays so
+pub record IsOneCall {T : Type 0} (old new : View) (result : Result T DeviceFailed) : Type 0 where
+  pub time : Ticks old new result
+  pub honest : IsHonest old ↔ IsHonest new
+
+-- Calls that write a new file with its first gate closed, so many: a stop at any moment of them leaves what was there in this relation
+-- to it, and once they succeeded all of the file stands there.
+pub record WritesUnopened {T E : Type 0} (calls : ℕ) (step : List ℕ → List ℕ → Type 0) (head body : List ℕ) (segment : ℕ) (old new : View)
+    (result : Result T E) : Type 0 where
+  pub call : IsCall calls (IsErr result) old new result
+  pub leaves : IsHonest old → Leaves step old new
+  pub written : IsHonest old → (L : Layout) → HasLengths L head body segment
+      → OnOk result (new.contents ≡ unopened (new_file L head body number_one))
 
 -- The disk wasn't empty: one call found bytes on it.
 pub record WasNotEmpty (old new : View) : Type 0 where

@@ -17,6 +17,17 @@ pub record IsInLimits (head body : List ℕ) (segment : ℕ) : Type 0 where
   pub room : 9 < segment
   pub short : len_of head body segment < 2 ^ 62
 
+-- a place behind the first byte of such a file
+pub record IsBehindFirst (head body : List ℕ) (segment at : ℕ) : Type 0 where
+  pub limits : IsInLimits head body segment
+  pub behind : 0 < at
+  pub inside : at < len_of head body segment
+
+-- a part of a new file of fewer than 2^62 bytes, with this end
+pub record IsPartTo (head body : List ℕ) (segment end : ℕ) : Type 0 where
+  pub short : len_of head body segment < 2 ^ 62
+  pub inside : end ≤ len_of head body segment
+
 -- A new file can be made with this header, this body of its first checkpoint area and such segments: they are in the limits, and the header begins
 -- with its open gate.
 pub record CanBeMade (head body : List ℕ) (segment : ℕ) : Type 0 where

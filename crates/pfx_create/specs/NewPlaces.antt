@@ -4,9 +4,9 @@ use Rattle.pfx_store_file.specs.declared.places.Places.{Places}
 
 -- the first checkpoint area and the first segment are in use, with no frame and no checkpoint in progress, and the other gates closed
 pub record AreNew (head_len body_len long : ℕ) (places : Places) : Type 0 where
-  pub head : places.head ≡ head_len
-  pub body : places.body ≡ body_len
-  pub segment_len : places.segment_len ≡ long
+  pub head : places.sizes.head ≡ head_len
+  pub body : places.sizes.body ≡ body_len
+  pub segment_len : places.sizes.segment ≡ long
   pub area : places.area ≡ false
   pub segment : places.segment ≡ false
   pub turned : places.turned ≡ false

@@ -1,8 +1,8 @@
 // The bytes of a new file.
-ghost use Rattle.std.specs.Prelude.{◌≡◌, ◌≤◌, ◌<◌, ◌+◌, ◌^◌, length, slice_index, EachIndex};
+ghost use Rattle.std.specs.Prelude.{◌≡◌, ◌<◌, ◌+◌, ◌^◌, length, slice_index, EachIndex};
 ghost use Rattle.pfx_recovery.specs.Layout.{Layout};
 ghost use Rattle.pfx_recovery.specs.NewFile.{new_file};
-ghost use Rattle.pfx_create.specs.Creating.{HasLengths, len_of, number_one};
+ghost use Rattle.pfx_create.specs.Creating.{HasLengths, IsPartTo, len_of, number_one};
 
 use pfx_disk::GATE_OPEN;
 
@@ -16,8 +16,7 @@ pub fn file_len(head: &[u8], body: &[u8], segment: usize) -> usize
 
 /// The byte at this place of the new file with this header, this body of its first checkpoint area, and segments of this length.
 pub fn byte_at(head: &[u8], body: &[u8], segment: usize, at: usize) -> u8
-    requires short { len_of head.now body.now segment < 2 ^ 62 }
-    requires inside { at < len_of head.now body.now segment }
+    requires { IsPartTo head.now body.now segment (at + 1) }
     ensures { (L : Layout) → HasLengths L head.now body.now segment
         → result ≡ slice_index (new_file L head.now body.now number_one) at }
 {
@@ -37,8 +36,7 @@ pub fn byte_at(head: &[u8], body: &[u8], segment: usize, at: usize) -> u8
 
 /// Fills the slice with the bytes of the new file from this place on.
 pub fn fill(head: &[u8], body: &[u8], segment: usize, at: usize, out: &mut [u8])
-    requires short { len_of head.now body.now segment < 2 ^ 62 }
-    requires inside { at + length out.old ≤ len_of head.now body.now segment }
+    requires { IsPartTo head.now body.now segment (at + length out.old) }
     ensures { (L : Layout) → HasLengths L head.now body.now segment → EachIndex out.new (λ k.
         slice_index out.new k ≡ slice_index (new_file L head.now body.now number_one) (at + k)) }
 {

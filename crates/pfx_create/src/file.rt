@@ -1,5 +1,5 @@
 // A new file as a store's.
-ghost use Rattle.std.specs.Prelude.{◌≡◌, ◌<◌, ◌+◌, ◌-◌, ◌*◌, ◌^◌, ℕ, List, length, false, IfOk, IfErr, MatchResult};
+ghost use Rattle.std.specs.Prelude.{◌≡◌, ◌+◌, ◌-◌, ℕ, List, length, false, IfOk, IfErr, MatchResult};
 ghost use Rattle.pfx_disk.specs.Disk.{IsHonest};
 ghost use Rattle.pfx_recovery.specs.Codec.{Codec};
 ghost use Rattle.pfx_recovery.specs.NewFile.{new_parts};
@@ -12,25 +12,20 @@ ghost use Rattle.pfx_create.specs.NewPlaces.{AreNew};
 use crate::creation::create;
 use crate::fault::CreateFault;
 use pfx_disk::Disk;
-use pfx_store_file::{Places, StoreFile};
+use pfx_store_file::{Places, Sizes, StoreFile};
 
-/// The places of a new file with a header and a checkpoint area's body of these lengths, and segments of this one, all in bytes.
-pub fn new_places(head: usize, body: usize, segment: usize) -> Places
-    requires room { 9 < segment }
-    requires short { head + 2 * (1 + body) + 2 * segment < 2 ^ 62 }
-    ensures { AreNew head body segment result }
+/// The places of a new file whose parts are so long.
+pub fn new_places(sizes: Sizes) -> Places
+    ensures { AreNew sizes.head sizes.body sizes.segment result }
 {
-    let segments = head + 2 * (1 + body);
+    let first = sizes.segment_at(false);
     Places {
-        head,
-        body,
-        segment_len: segment,
-        len: segments + 2 * segment,
+        sizes,
         area: false,
         segment: false,
         turned: false,
-        gate: segments + 9,
-        end: segments + segment,
+        gate: first + 9,
+        end: first + sizes.segment,
         area_open: false,
         segment_open: false,
         begun: false,
@@ -71,7 +66,12 @@ pub fn create_file<D: Disk, H, S>(
     let mut disk = disk;
     match create::<D, H, S>(&mut disk, head, body, segment) {
         Ok(()) => {
-            let places = new_places(head.len(), body.len(), segment);
+            let sizes = Sizes {
+                head: head.len(),
+                body: body.len(),
+                segment,
+            };
+            let places = new_places(sizes);
             Ok(StoreFile::new::<H, S>(disk, places))
         }
         Err(fault) => Err((fault, disk)),

@@ -1,11 +1,11 @@
 // Writing all of a new file but its first gate.
-ghost use Rattle.std.specs.Prelude.{◌≡◌, ◌<◌, ◌+◌, ◌-◌, ◌∷◌, ◌↔◌, [], length, take, OnOk, IsErr};
-ghost use Rattle.pfx_disk.specs.Disk.{IsHonest, Leaves, Ticks};
+ghost use Rattle.std.specs.Prelude.{◌≡◌, ◌+◌, ◌-◌, ◌∷◌, [], length, take, OnOk};
+ghost use Rattle.pfx_disk.specs.Disk.{IsHonest, Leaves};
 ghost use Rattle.pfx_recovery.specs.Layout.{Layout};
 ghost use Rattle.pfx_recovery.specs.NewFile.{new_file};
 ghost use Rattle.pfx_store_file.specs.Tending.{pieces};
-ghost use Rattle.pfx_create.specs.Attempts.{IsCall};
-ghost use Rattle.pfx_create.specs.Creating.{Beginning, HasLengths, IsInLimits, StaysClosed, len_of, number_one, unopened};
+ghost use Rattle.pfx_create.specs.Attempts.{IsOneCall, WritesUnopened};
+ghost use Rattle.pfx_create.specs.Creating.{Beginning, HasLengths, IsBehindFirst, IsInLimits, StaysClosed, len_of, number_one, unopened};
 
 use crate::bytes::{file_len, fill};
 use pfx_disk::{DeviceFailed, Disk};
@@ -19,12 +19,9 @@ fn write_piece<D: Disk>(
     segment: usize,
     at: usize,
 ) -> Result<(), DeviceFailed>
-    requires limits { IsInLimits head.now body.now segment }
-    requires behind { 0 < at }
-    requires inside { at < len_of head.now body.now segment }
+    requires place { IsBehindFirst head.now body.now segment at }
     requires end { IsHonest (D.view disk.old) → length (D.view disk.old).contents ≡ at }
-    ensures time { Ticks (D.view disk.old) (D.view disk.new) result }
-    ensures honest { IsHonest (D.view disk.old) ↔ IsHonest (D.view disk.new) }
+    ensures call { IsOneCall (D.view disk.old) (D.view disk.new) result }
     ensures leaves { IsHonest (D.view disk.old) → Leaves StaysClosed (D.view disk.old) (D.view disk.new) }
     ensures written { IsHonest (D.view disk.old) → (L : Layout) → HasLengths L head.now body.now segment
         → (D.view disk.old).contents ≡ take at (unopened (new_file L head.now body.now number_one))
@@ -47,10 +44,8 @@ fn write_pieces<D: Disk>(
 ) -> Result<(), DeviceFailed>
     requires limits { IsInLimits head.now body.now segment }
     requires first { IsHonest (D.view disk.old) → (D.view disk.old).contents ≡ 0 ∷ [] }
-    ensures call { IsCall (pieces (len_of head.now body.now segment - 1)) (IsErr result) (D.view disk.old) (D.view disk.new) result }
-    ensures leaves { IsHonest (D.view disk.old) → Leaves StaysClosed (D.view disk.old) (D.view disk.new) }
-    ensures written { IsHonest (D.view disk.old) → (L : Layout) → HasLengths L head.now body.now segment
-        → OnOk result ((D.view disk.new).contents ≡ unopened (new_file L head.now body.now number_one)) }
+    ensures { WritesUnopened (pieces (len_of head.now body.now segment - 1)) StaysClosed head.now body.now segment
+        (D.view disk.old) (D.view disk.new) result }
 {
     let count = (file_len(head, body, segment) - 1).div_ceil(PIECE);
     for i in 0..count {
@@ -69,11 +64,8 @@ pub fn write_unopened<D: Disk>(
 ) -> Result<(), DeviceFailed>
     requires limits { IsInLimits head.now body.now segment }
     requires empty { IsHonest (D.view disk.old) → (D.view disk.old).contents ≡ [] }
-    ensures call { IsCall (2 + pieces (len_of head.now body.now segment - 1)) (IsErr result) (D.view disk.old) (D.view disk.new) result }
-    // At every moment of the call, whatever it answers.
-    ensures leaves { IsHonest (D.view disk.old) → Leaves Beginning (D.view disk.old) (D.view disk.new) }
-    ensures written { IsHonest (D.view disk.old) → (L : Layout) → HasLengths L head.now body.now segment
-        → OnOk result ((D.view disk.new).contents ≡ unopened (new_file L head.now body.now number_one)) }
+    ensures { WritesUnopened (2 + pieces (len_of head.now body.now segment - 1)) Beginning head.now body.now segment
+        (D.view disk.old) (D.view disk.new) result }
 {
     disk.write_at(0, &[0])?;
     disk.sync()?;

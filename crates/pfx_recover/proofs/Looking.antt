@@ -1,9 +1,11 @@
 -- How runs of calls that only read go on.
 use Rattle.std.proofs.Common.{◌≡◌, inl, inr, ⊎_elim, ℕ, List, length, ◌∙◌, ap, sym, subst, arith, Result, Ok, Err}
 use Rattle.std.specs.Prelude.{IsErrAnd}
-use Rattle.pfx_disk.specs.Disk.{View, IsHonest, Leaves, Same, HasFailed, Ticks}
+use Rattle.pfx_disk.specs.Disk.{View, IsHonest, Leaves, Same, HasFailed, Only, Ticks}
 use Rattle.pfx_disk.specs.declared.device.DeviceFailed.{DeviceFailed}
 use Rattle.pfx_disk.proofs.Steps.{leaves_then, leaves_none}
+use Rattle.pfx_segment.specs.Reading.{Reads}
+use Rattle.pfx_segment.specs.declared.fault.ReadFault.{ReadFault}
 use Rattle.pfx_recovery.proofs.Answers.{err_same, faulty}
 use Rattle.pfx_recover.specs.Looking.{IsKept, Looks, OnlyReads, Reaches}
 use Rattle.pfx_recover.specs.declared.faults.OpenFault.{OpenFault}
@@ -50,6 +52,14 @@ looks_of a b result time honest leaves = record {
   later = time.later;
   no_fewer = time.no_fewer;
 }
+
+-- calls that read a frame
+pub looks_read : {T : Type 0} (calls : ℕ) (a b : View) (result : Result T ReadFault) → Reads calls a b result → Looks a b
+looks_read calls a b result reads = record { leaves = reads.leaves; honest = reads.honest.1; later = reads.later; no_fewer = reads.no_fewer }
+
+-- after a sync a disk keeps what a read gives
+pub synced : (a b : View) → Leaves Same a b → Only a.contents b → IsKept a.contents b
+synced a b left only = record { honest = left.honest; contents = left.contents; only = only }
 
 -- a fault of calls within, which is the call's
 pub reads_handed : {T U : Type 0} (a b : View) (e : OpenFault) (result : Result U OpenFault) → OnlyReads {T = T} a b (Err e) → IsErrAnd result (λ x. x ≡ e) → OnlyReads a b result

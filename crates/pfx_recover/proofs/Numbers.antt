@@ -1,6 +1,6 @@
 -- The bytes behind a gate, and what is chosen by them.
-use Rattle.std.proofs.Common.{◌≡◌, ℕ, ◌+◌, ◌≤◌, List, take, drop, ◌∙◌, ap, refl, sym, arith, Bool, true, false, not, cond}
-use Rattle.std.proofs.lemmas.List.{drop-take, drop-drop, take-take}
+use Rattle.std.proofs.Common.{◌≡◌, ℕ, ◌+◌, ◌≤◌, List, get_or, take, drop, ◌∙◌, ap, refl, sym, arith, Bool, true, false, not, cond}
+use Rattle.std.proofs.lemmas.List.{drop-take, drop-drop, get_or-take, get_or-drop, take-take}
 use Rattle.pfx_recovery.specs.Codec.{Codec}
 use Rattle.pfx_recovery.specs.Layout.{area_at, segment_at, is_open, first_at, body_at}
 use Rattle.pfx_recovery.specs.Recovery.{taken, begun, area_taken, segment_begun}
@@ -13,6 +13,18 @@ first_is at read contents bytes same is =
     ∙ take-take 8 8 (drop 1 (drop at contents)) (omega arith)
     ∙ ap (λ (l : List ℕ). take 8 l) (drop-drop 1 at contents)
     ∙ ap (λ (l : List ℕ). take 8 (drop (at + 1) l)) same
+
+-- the gate that was read with them
+pub gate_read : (at : ℕ) (read contents bytes : List ℕ) → contents ≡ bytes → read ≡ take 9 (drop at contents) → get_or read 0 0 ≡ get_or bytes at 0
+gate_read at read contents bytes same is =
+    ap (λ (l : List ℕ). get_or l 0 0) is
+    ∙ get_or-take 9 (drop at contents) 0 0 (omega arith)
+    ∙ get_or-drop at contents 0 0
+    ∙ ap (λ (k : ℕ). get_or contents k 0) (none at)
+    ∙ ap (λ (l : List ℕ). get_or l at 0) same
+  where
+    none : (n : ℕ) → n + 0 ≡ n
+    none n = omega arith
 
 -- of two, the one that wasn't chosen
 pub other_is : {A : Type 0} (f : Bool → A) (a b : A) (second : Bool) → a ≡ f false → b ≡ f true → cond second a b ≡ f (not second)

@@ -3,7 +3,7 @@ use Rattle.std.proofs.Common.{◌≡◌, ◌≢◌, ℕ, ◌+◌, List, length, 
 use Rattle.std.specs.declared.alloc.Global.{Global}
 use Rattle.pfx_segment.specs.Frames.{size}
 use Rattle.pfx_recovery.specs.Codec.{Codec}
-use Rattle.pfx_recovery.specs.Layout.{area_at, segment_at, first_gate, segment_end, is_open, IsOpenAt, file_len, body_at}
+use Rattle.pfx_recovery.specs.Layout.{Layout, area_at, segment_at, first_gate, segment_end, is_open, IsOpenAt, file_len, body_at}
 use Rattle.pfx_recovery.specs.Recovery.{Found, found_of, on_ok, on_some, walk, replay, area_taken, segment_begun, walk_segment, follows, is_passed, from_one, from_two, from_frames, from_segment, from_state, from_area, from_head, found, recovered}
 use Rattle.pfx_recovery.specs.Refusals as means
 use Rattle.pfx_recovery.specs.Store.{single, double}
@@ -11,7 +11,9 @@ use Rattle.pfx_recovery.proofs.Backs.{opened_at, shut_at}
 use Rattle.pfx_recovery.proofs.Runs.{same_true, other_false, not_not}
 use Rattle.pfx_recovery.proofs.Stages.{from_one_as, from_two_as}
 use Rattle.pfx_store_file.specs.Holding.{IsGate}
+use Rattle.pfx_store_file.specs.Sizes.{HasSizes, total_len}
 use Rattle.pfx_store_file.specs.declared.places.Places.{Places}
+use Rattle.pfx_store_file.specs.declared.sizes.Sizes.{Sizes}
 use Rattle.pfx_recover.specs.Answers.{Gives, IsRefusal, refusal_of}
 use Rattle.pfx_recover.specs.Choosing.{IsArea, IsSegment, area_state}
 use Rattle.pfx_recover.specs.Finding.{IsFound}
@@ -21,6 +23,10 @@ use Rattle.pfx_recover.specs.declared.faults.OpenFault.{OpenFault}
 use Rattle.pfx_recover.specs.declared.faults.OpenFault.TheVariants as fault
 use Rattle.pfx_recover.specs.declared.walked.Walked.{Walked}
 use Rattle.pfx_recover.proofs.Walking.{fill_size}
+
+-- the file's length by its sizes is that by the layout
+pub sized_len : (L : Layout) (sizes : Sizes) (n : ℕ) → HasSizes L sizes → n ≡ total_len sizes → n ≡ file_len L
+sized_len L sizes n has is = omega (arith, has.head, has.body, has.segment, is)
 
 module _ {H S : Type 0} (K : Codec H S) (h : H) (bytes : List ℕ) where
   pub gate_is : (is : Bool) (at : ℕ) → is ≡ is_open at bytes → IsGate is at bytes

@@ -1,5 +1,5 @@
 -- What an opened file is.
-use Rattle.std.specs.Prelude.{◌≡◌, ◌<◌, ◌^◌, ℕ, List, length, true, false, Option, Some, None, Result, Ok, Vec}
+use Rattle.std.specs.Prelude.{◌≡◌, ◌<◌, ◌^◌, ℕ, List, length, Bool, true, false, Option, Some, None, Result, Ok, Vec, IfOk, IsErrOf}
 use Rattle.std.specs.declared.alloc.Global.{Global}
 use Rattle.pfx_disk.specs.Disk.{View}
 use Rattle.pfx_recovery.specs.Codec.{Codec}
@@ -7,10 +7,13 @@ use Rattle.pfx_recovery.specs.Recovery.{Found, found, found_of}
 use Rattle.pfx_recovery.specs.Refusals.{Refusal}
 use Rattle.pfx_recovery.specs.Store.{Parts}
 use Rattle.pfx_store_file.specs.Files.{AreOf, file_in}
-use Rattle.pfx_store_file.specs.Fitting.{Fits}
 use Rattle.pfx_store_file.specs.Holding.{Holds}
+use Rattle.pfx_store_file.specs.Sizes.{HasSizes}
 use Rattle.pfx_store_file.specs.declared.places.Places.{Places}
-use Rattle.pfx_recover.specs.Looking.{IsKept}
+use Rattle.pfx_recover.specs.Looking.{IsKept, OnlyReads}
+use Rattle.pfx_recover.specs.declared.faults.OpenFault.{OpenFault}
+use Rattle.pfx_recover.specs.declared.faults.OpenFault.TheVariants.{Device}
+use Rattle.pfx_recover.specs.declared.parts.Contents.{Contents}
 
 module _ {H S : Type 0} (K : Codec H S) (h : H) where
   -- where two segments were read, the body of a checkpoint area that holds the state between them; else there is none
@@ -35,13 +38,36 @@ module _ {H S : Type 0} (K : Codec H S) (h : H) where
     pub holds : (spelling : List ℕ) → Holds K h places parts state spelling disk
     pub between : IsMiddle parts middle
 
--- A store can go on with what was found: its checkpoint areas can hold the state, the file is as long as its parts, the places are those of such a
--- file, and no checkpoint is begun.
-pub record IsUsable {H S : Type 0} (K : Codec H S) (can_hold : H → S → Type 0) (h : H) (total : ℕ) (places : Places) (state : S) : Type 0 where
+-- A store can go on with what was found: its checkpoint areas can hold the state, the places are those of a file of its
+-- layout, and no checkpoint is begun.
+pub record IsUsable {H S : Type 0} (K : Codec H S) (can_hold : H → S → Type 0) (h : H) (places : Places) (state : S) : Type 0 where
   pub fits : can_hold h state
-  pub len : places.len ≡ total
-  pub sized : Fits (K.layout h) places
+  pub sized : HasSizes (K.layout h) places.sizes
   pub unbegun : places.begun ≡ false
+
+-- A store can go on with the file that was opened: it isn't broken, no checkpoint is begun, also if one is in progress, the places are those
+-- of a file of this layout, and its checkpoint areas can hold the state.
+pub record CanGoOn {H S : Type 0} (K : Codec H S) (can_hold : H → S → Type 0) (h : H) (broken : Bool) (places : Places) (state : S) : Type 0 where
+  pub whole : broken ≡ false
+  pub unbegun : places.begun ≡ false
+  pub sized : HasSizes (K.layout h) places.sizes
+  pub fits : can_hold h state
+
+-- Calls that only read a file with this header from some stage on: a store can go on with what they find; and whatever bytes the disk keeps,
+-- this is so of what they answer.
+pub record ReadsContents {F H S : Type 0} (K : Codec H S) (can_hold : H → S → Type 0) (h : H) (old new : View)
+    (result : Result (Contents F H S) OpenFault) (answered : List ℕ → Type 0) : Type 0 where
+  pub call : OnlyReads old new result
+  pub usable : IfOk result (λ c. IsUsable K can_hold h c.places c.state)
+  pub exact : (bytes : List ℕ) → IsKept bytes old → answered bytes
+
+-- The contents of a file with this header, of what was read before: no call of the disk fails; a store can go on with them; and whatever bytes
+-- those are, this is so of what is answered.
+pub record MakesContents {F H S : Type 0} (K : Codec H S) (can_hold : H → S → Type 0) (h : H)
+    (result : Result (Contents F H S) OpenFault) (answered : List ℕ → Type 0) : Type 0 where
+  pub device : ¬ IsErrOf result Device
+  pub usable : IfOk result (λ c. IsUsable K can_hold h c.places c.state)
+  pub exact : (bytes : List ℕ) → answered bytes
 
 -- a state that a checkpoint area can hold, and whose last command has a number below 2^48
 pub record IsHeldState {H S : Type 0} (K : Codec H S) (can_hold : H → S → Type 0) (h : H) (state : S) : Type 0 where

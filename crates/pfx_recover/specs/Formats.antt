@@ -1,17 +1,6 @@
 -- What is known of a format beside the laws of its codec.
-use Rattle.std.specs.Prelude.{◌≡◌, ℕ, ◌+◌, ◌*◌, ◌<◌, ◌^◌, List, take, Some}
+use Rattle.std.specs.Prelude.{◌≡◌, ℕ, ◌<◌, ◌^◌, List, take, Some}
 use Rattle.pfx_recovery.specs.Codec.{Codec}
-use Rattle.pfx_recovery.specs.Layout.{Layout}
-use Rattle.pfx_recover.specs.declared.sizes.Sizes.{Sizes}
-
--- these are the lengths of the layout's parts
-pub record HasSizes (L : Layout) (sizes : Sizes) : Type 0 where
-  pub head : sizes.head ≡ L.head
-  pub body : sizes.body ≡ L.body
-  pub segment : sizes.segment ≡ L.segment
-
-abbrev pub total_len : Sizes → ℕ
-total_len sizes = sizes.head + 2 * (1 + sizes.body) + 2 * sizes.segment
 
 pub record Bounds {H S : Type 0} (K : Codec H S) (fits : H → S → Type 0) (most : ℕ) : Type 0 where
   -- so many bytes at the front are enough for each header

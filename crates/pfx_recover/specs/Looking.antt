@@ -1,9 +1,11 @@
 -- What calls that only read leave of a disk.
-use Rattle.std.specs.Prelude.{◌≡◌, ℕ, ◌≤◌, List, length, Result, IsErr, IsErrOf}
+use Rattle.std.specs.Prelude.{◌≡◌, ℕ, ◌<◌, ◌≤◌, List, length, take, drop, Result, IsErr, IsErrOf}
 use Rattle.pfx_disk.specs.Disk.{View, HasFailed, IsHonest, Leaves, Same, Only}
 use Rattle.pfx_disk.specs.declared.device.DeviceFailed.{DeviceFailed}
+use Rattle.pfx_recovery.specs.Layout.{is_open, first_at}
 use Rattle.pfx_recover.specs.declared.faults.OpenFault.{OpenFault}
 use Rattle.pfx_recover.specs.declared.faults.OpenFault.TheVariants.{Device}
+use Rattle.pfx_recover.specs.declared.gates.GateHead.{GateHead}
 
 -- An honest disk that holds these bytes, and of which a stop leaves just these.
 pub record IsKept (bytes : List ℕ) (disk : View) : Type 0 where
@@ -28,6 +30,26 @@ pub record OnlyReads {T : Type 0} (old new : View) (result : Result T OpenFault)
   pub looks : Looks old new
   pub device : IsErrOf result Device → HasFailed old new
 
+-- Calls that only read; and whatever bytes the disk keeps, this is so of what they answer.
+pub record ReadsKept {T : Type 0} (old new : View) (result : Result T OpenFault) (answered : List ℕ → Type 0) : Type 0 where
+  pub call : OnlyReads old new result
+  pub exact : (bytes : List ℕ) → IsKept bytes old → answered bytes
+
 -- so many bytes are there, if the disk is honest
 abbrev pub Reaches : ℕ → View → Type 0
 Reaches n disk = IsHonest disk → n ≤ length disk.contents
+
+-- from the first place up to the end there are some bytes, and the disk has them, if it is honest
+pub record IsStretch (first end : ℕ) (disk : View) : Type 0 where
+  pub order : first < end
+  pub inside : Reaches end disk
+
+-- these are so many bytes, and the ones that stand here, if the disk keeps any
+pub record AreHeld (at len : ℕ) (disk : View) (held : List ℕ) : Type 0 where
+  pub long : length held ≡ len
+  pub kept : (bytes : List ℕ) → IsKept bytes disk → held ≡ take len (drop at bytes)
+
+-- so the gate here stands in these bytes, and these eight follow on it
+pub record IsGateHead (at : ℕ) (bytes : List ℕ) (head : GateHead) : Type 0 where
+  pub gate : head.open ≡ is_open at bytes
+  pub behind : head.bytes ≡ first_at at bytes

@@ -1,12 +1,17 @@
 -- The frames of a segment, as they were read, and the places of a file that was read.
-use Rattle.std.specs.Prelude.{◌≡◌, ◌<◌, ◌≤◌, ◌+◌, ◌^◌, ℕ, List, Bool, false, All, length, take, drop, Some, Result, Ok}
+use Rattle.std.specs.Prelude.{◌≡◌, ◌<◌, ◌≤◌, ◌+◌, ◌^◌, ◌⊎◌, ℕ, List, Bool, false, All, length, take, drop, Some, None, Result, Ok, IfOk}
 use Rattle.std.specs.List.{concat}
 use Rattle.pfx_recovery.specs.Codec.{Codec}
+use Rattle.pfx_disk.specs.Disk.{View}
 use Rattle.pfx_recovery.specs.Layout.{Layout, first_gate, segment_end}
+use Rattle.pfx_recovery.specs.Recovery.{walk}
 use Rattle.pfx_recovery.specs.Refusals as means
 use Rattle.pfx_segment.specs.Frames.{frame_len}
-use Rattle.pfx_store_file.specs.Fitting.{Fits}
+use Rattle.pfx_store_file.specs.Sizes.{HasSizes}
 use Rattle.pfx_store_file.specs.declared.places.Places.{Places}
+use Rattle.pfx_recover.specs.Answers.{Gives}
+use Rattle.pfx_recover.specs.Looking.{IsKept, OnlyReads}
+use Rattle.pfx_recover.specs.declared.faults.OpenFault.{OpenFault}
 use Rattle.pfx_recover.specs.declared.walked.Walked.{Walked}
 
 -- these frames, each as long as its head says, fill the bytes, one behind the other
@@ -34,21 +39,35 @@ pub record IsHead {H S : Type 0} (K : Codec H S) (bytes : List ℕ) (at last len
   pub long : len ≡ frame_len at bytes
   pub after : K.after last (take len (drop at bytes)) ≡ Some next
 
+-- there is no such head: the frame doesn't end before the bytes do, or its head isn't right after this number
+abbrev pub IsNoHead : {H S : Type 0} → Codec H S → List ℕ → ℕ → ℕ → Type 0
+IsNoHead K bytes at last = (length bytes ≤ at + frame_len at bytes)
+    ⊎ ((at + frame_len at bytes < length bytes) × (K.after last (take (frame_len at bytes) (drop at bytes)) ≡ None))
+
 -- they begin here, their closed gate lies before the end, and the last command's number is below 2^48
 pub record IsWalked (first end : ℕ) (walked : Walked) : Type 0 where
   pub gate : walked.gate ≡ first + walked.len
   pub inside : walked.gate < end
   pub last : walked.last < 2 ^ 48
 
--- they stand in this segment, with the gate after them
+-- The frames from this gate on were read, after the command of this number: by calls that only read; and whatever bytes the disk keeps,
+-- they are the ones there, or refused for the same reason.
+pub record ReadsFrames {H S : Type 0} (K : Codec H S) (first end number : ℕ) (old new : View) (result : Result Walked OpenFault) : Type 0 where
+  pub call : OnlyReads old new result
+  pub walked : IfOk result (IsWalked first end)
+  pub exact : (bytes : List ℕ) → IsKept bytes old → (n : ℕ) → end ≤ n
+      → Gives (λ walked. IsWalk (frames_of walked) walked.last) (walk K (1 + n) first end number bytes) result
+
+-- they stand in this segment, with the gate after them, and the last command's number is below 2^48
 pub record StandIn (L : Layout) (second : Bool) (walked : Walked) : Type 0 where
   pub gate : walked.gate ≡ first_gate L second + walked.len
   pub inside : walked.gate < segment_end L second
+  pub last : walked.last < 2 ^ 48
 
 -- These are the checkpoint area and the segment in use, how the gates of the others stand, and the next frame's gate; and no
 -- checkpoint is begun, nor anything of one done.
 pub record AreInUse (L : Layout) (in_area other_area is_turned second other_segment : Bool) (next : ℕ) (places : Places) : Type 0 where
-  pub fits : Fits L places
+  pub fits : HasSizes L places.sizes
   pub area : places.area ≡ in_area
   pub area_open : places.area_open ≡ other_area
   pub turned : places.turned ≡ is_turned

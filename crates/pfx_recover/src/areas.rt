@@ -1,11 +1,11 @@
 // The checkpoint area that is taken, and the state in it.
 ghost use Rattle.std.specs.Prelude.{◌≡◌, ◌≤◌, ◌<◌, ◌+◌, ◌^◌, ℕ, List, Ok, IfOk};
 ghost use Rattle.pfx_recovery.specs.Recovery.{area_taken};
+ghost use Rattle.pfx_store_file.specs.Sizes.{total_len};
 ghost use Rattle.pfx_recover.specs.Answers.{Gives, IsRead};
 ghost use Rattle.pfx_recover.specs.Choosing.{IsArea, area_state};
 ghost use Rattle.pfx_recover.specs.Finding.{IsHeldState};
-ghost use Rattle.pfx_recover.specs.Formats.{total_len};
-ghost use Rattle.pfx_recover.specs.Looking.{IsKept, OnlyReads, Reaches};
+ghost use Rattle.pfx_recover.specs.Looking.{Reaches, ReadsKept};
 
 use crate::choosing::{Choice, Numbered, newer};
 use crate::faults::{OpenFault, Refusal};
@@ -22,10 +22,8 @@ pub(crate) fn take_area<F: Format, D: Disk>(
     file: &Outline<F>,
 ) -> Result<Choice, OpenFault>
     requires inside { Reaches (total_len file.now.sizes) (D.view disk.old) }
-    ensures call { OnlyReads (D.view disk.old) (D.view disk.new) result }
-    ensures exact { (bytes : List ℕ) → IsKept bytes (D.view disk.old)
-        → Gives (IsArea F.codec file.now.header bytes)
-        (area_taken F.codec file.now.header bytes) result }
+    ensures { ReadsKept (D.view disk.old) (D.view disk.new) result (λ bytes.
+        Gives (IsArea F.codec file.now.header bytes) (area_taken F.codec file.now.header bytes) result) }
 {
     let low = file.sizes.area_at(false);
     let high = file.sizes.area_at(true);
@@ -53,10 +51,9 @@ pub(crate) fn read_area<F: Format, D: Disk>(
     second: bool,
 ) -> Result<F::State, OpenFault>
     requires inside { Reaches (total_len file.now.sizes) (D.view disk.old) }
-    ensures call { OnlyReads (D.view disk.old) (D.view disk.new) result }
+    ensures reads { ReadsKept (D.view disk.old) (D.view disk.new) result (λ bytes.
+        Gives IsRead (area_state F.codec file.now.header bytes second) result) }
     ensures state { IfOk result (IsHeldState F.codec F.fits file.now.header) }
-    ensures exact { (bytes : List ℕ) → IsKept bytes (D.view disk.old)
-        → Gives IsRead (area_state F.codec file.now.header bytes second) result }
 {
     let at = file.sizes.area_at(second);
     let mut body = vec![in alloc; 0; file.sizes.body]?;

@@ -2,7 +2,7 @@
 ghost use Rattle.std.specs.Prelude.{◌≡◌, ◌≤◌, ◌<◌, ◌^◌, ℕ, length, Some, None, IfOk, IsTrue, IsFalse};
 
 use crate::faults::HeadFault;
-use crate::sizes::Sizes;
+use pfx_store_file::Sizes;
 use std::alloc::{AllocError, Global};
 
 /// How the headers, the states and the frames of a store's file are read. The type names the format, and no value of it
@@ -12,7 +12,8 @@ use std::alloc::{AllocError, Global};
 /// below 2^48: the last one that a state has seen, or that a frame has.
 pub trait Format {
     ghost use Rattle.pfx_recovery.specs.Codec.{Codec, Laws};
-    ghost use Rattle.pfx_recover.specs.Formats.{HasSizes, Bounds};
+    ghost use Rattle.pfx_store_file.specs.Sizes.{HasSizes};
+    ghost use Rattle.pfx_recover.specs.Formats.{Bounds};
     ghost use Rattle.pfx_recover.specs.Answers.{GivesHead};
 
     /// What stands at the front of a file.
@@ -36,9 +37,10 @@ pub trait Format {
     fn read_head(alloc: Global, bytes: &[u8]) -> Result<Self::Header, HeadFault>
         ensures { GivesHead (codec.read_head bytes.now) result };
 
-    /// How long the parts of a file with this header are.
+    /// How long the parts of a file with this header are. A checkpoint area's body begins with a number of eight bytes.
     fn sizes(header: &Self::Header) -> Sizes
-        ensures { HasSizes (codec.layout header.now) result };
+        ensures sizes { HasSizes (codec.layout header.now) result }
+        ensures number { 8 ≤ result.body };
 
     /// The number at the beginning of a checkpoint area's body, which isn't tested.
     fn area_number(bytes: &[u8; 8]) -> u64

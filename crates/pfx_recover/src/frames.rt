@@ -2,8 +2,8 @@
 ghost use Rattle.std.specs.Prelude.{◌≡◌, ◌≤◌, ◌<◌, ◌+◌, ◌*◌, ◌^◌, ℕ, List, length, take, drop, IfOk, IsErrOf};
 ghost use Rattle.pfx_recovery.specs.Recovery.{walk};
 ghost use Rattle.pfx_recover.specs.Answers.{Gives};
-ghost use Rattle.pfx_recover.specs.Looking.{IsKept, OnlyReads, Reaches};
-ghost use Rattle.pfx_recover.specs.Walking.{IsWalk, IsWalked, frames_of};
+ghost use Rattle.pfx_recover.specs.Looking.{IsStretch};
+ghost use Rattle.pfx_recover.specs.Walking.{IsWalk, ReadsFrames};
 
 use crate::faults::{OpenFault, Refusal};
 use crate::format::Format;
@@ -52,13 +52,9 @@ fn read_singly<F: Format, D: Disk>(
     end: usize,
     number: u64,
 ) -> Result<Walked, OpenFault>
-    requires order { first < end }
+    requires stretch { IsStretch first end (D.view disk.old) }
     requires number { number < 2 ^ 48 }
-    requires inside { Reaches end (D.view disk.old) }
-    ensures call { OnlyReads (D.view disk.old) (D.view disk.new) result }
-    ensures walked { IfOk result (IsWalked first end) }
-    ensures exact { (bytes : List ℕ) → IsKept bytes (D.view disk.old) → (n : ℕ) → end ≤ n
-        → Gives (λ walked. IsWalk (frames_of walked) walked.last) (walk F.codec (1 + n) first end number bytes) result }
+    ensures { ReadsFrames F.codec first end number (D.view disk.old) (D.view disk.new) result }
 {
     let mut gate = first;
     let mut last = number;
@@ -95,13 +91,9 @@ pub(crate) fn read_frames<F: Format, D: Disk>(
     end: usize,
     number: u64,
 ) -> Result<Walked, OpenFault>
-    requires order { first < end }
+    requires stretch { IsStretch first end (D.view disk.old) }
     requires number { number < 2 ^ 48 }
-    requires inside { Reaches end (D.view disk.old) }
-    ensures call { OnlyReads (D.view disk.old) (D.view disk.new) result }
-    ensures walked { IfOk result (IsWalked first end) }
-    ensures exact { (bytes : List ℕ) → IsKept bytes (D.view disk.old) → (n : ℕ) → end ≤ n
-        → Gives (λ walked. IsWalk (frames_of walked) walked.last) (walk F.codec (1 + n) first end number bytes) result }
+    ensures { ReadsFrames F.codec first end number (D.view disk.old) (D.view disk.new) result }
 {
     let Some(bytes) = hold(alloc, disk, first, end - first)? else {
         return read_singly::<F, D>(alloc, disk, first, end, number);

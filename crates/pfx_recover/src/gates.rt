@@ -1,7 +1,6 @@
 // The gates of checkpoint areas and segments, and the numbers after them.
 ghost use Rattle.std.specs.Prelude.{◌≡◌, ◌≤◌, ◌+◌, ℕ, List, IfOk};
-ghost use Rattle.pfx_recovery.specs.Layout.{is_open, first_at};
-ghost use Rattle.pfx_recover.specs.Looking.{IsKept, IsLook, Reaches};
+ghost use Rattle.pfx_recover.specs.Looking.{IsGateHead, IsKept, IsLook, Reaches};
 
 use pfx_disk::{DeviceFailed, Disk, GATE_OPEN};
 
@@ -16,10 +15,7 @@ pub(crate) struct GateHead {
 pub(crate) fn read_gate<D: Disk>(disk: &mut D, at: usize) -> Result<GateHead, DeviceFailed>
     requires inside { Reaches (at + 9) (D.view disk.old) }
     ensures call { IsLook (D.view disk.old) (D.view disk.new) result }
-    ensures gate { (bytes : List ℕ) → IsKept bytes (D.view disk.old)
-        → IfOk result (λ head. head.open ≡ is_open at bytes) }
-    ensures bytes { (bytes : List ℕ) → IsKept bytes (D.view disk.old)
-        → IfOk result (λ head. head.bytes ≡ first_at at bytes) }
+    ensures head { (bytes : List ℕ) → IsKept bytes (D.view disk.old) → IfOk result (IsGateHead at bytes) }
 {
     let mut read = [0; 9];
     disk.read(at, &mut read)?;

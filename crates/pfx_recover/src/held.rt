@@ -1,8 +1,7 @@
 // Bytes of a file that were read at once, and the frames in them.
-ghost use Rattle.std.specs.Prelude.{◌≡◌, ◌≤◌, ◌<◌, ◌+◌, ◌^◌, ◌⊎◌, ℕ, List, None, length, take, drop, IfOk, IfSome, IfNone};
-ghost use Rattle.pfx_segment.specs.Frames.{frame_len};
-ghost use Rattle.pfx_recover.specs.Looking.{IsKept, IsLook, Reaches};
-ghost use Rattle.pfx_recover.specs.Walking.{IsFrameLen, IsHead};
+ghost use Rattle.std.specs.Prelude.{◌≤◌, ◌<◌, ◌+◌, ◌^◌, length, IfOk, IfSome, MatchOption};
+ghost use Rattle.pfx_recover.specs.Looking.{AreHeld, IsLook, Reaches};
+ghost use Rattle.pfx_recover.specs.Walking.{IsFrameLen, IsHead, IsNoHead};
 
 use crate::format::Format;
 use pfx_disk::{DeviceFailed, Disk};
@@ -18,9 +17,7 @@ pub(crate) fn hold<D: Disk>(
 ) -> Result<Option<Vec<u8>>, DeviceFailed>
     requires inside { Reaches (at + len) (D.view disk.old) }
     ensures call { IsLook (D.view disk.old) (D.view disk.new) result }
-    ensures long { IfOk result (λ found. IfSome found (λ held. length held.items ≡ len)) }
-    ensures kept { (bytes : List ℕ) → IsKept bytes (D.view disk.old)
-        → IfOk result (λ found. IfSome found (λ held. held.items ≡ take len (drop at bytes))) }
+    ensures held { IfOk result (λ found. IfSome found (λ held. AreHeld at len (D.view disk.old) held.items)) }
 {
     let Ok(mut bytes) = vec![in alloc; 0; len] else {
         return Ok(None);
@@ -46,10 +43,8 @@ pub(crate) fn len_at(bytes: &[u8], at: usize) -> usize
 pub(crate) fn head_at<F: Format>(bytes: &[u8], at: usize, last: u64) -> Option<(usize, u64)>
     requires inside { at < length bytes.now }
     requires last { last < 2 ^ 48 }
-    ensures head { IfSome result (λ head. IsHead F.codec bytes.now at last head.0 head.1) }
-    ensures none { IfNone result ((length bytes.now ≤ at + frame_len at bytes.now)
-        ⊎ ((at + frame_len at bytes.now < length bytes.now)
-        × (F.codec.after last (take (frame_len at bytes.now) (drop at bytes.now)) ≡ None))) }
+    ensures { MatchOption result (IsNoHead F.codec bytes.now at last)
+        (λ head. IsHead F.codec bytes.now at last head.0 head.1) }
 {
     let left = bytes.len() - at;
     if left <= FRAME_HEAD {

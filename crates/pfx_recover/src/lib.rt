@@ -27,10 +27,8 @@ mod parts;
 mod reading;
 mod records;
 mod segments;
-mod sizes;
 mod walked;
 
 pub use faults::{HeadFault, OpenFault, Refusal};
 pub use format::Format;
 pub use opened::{Opened, open};
-pub use sizes::Sizes;

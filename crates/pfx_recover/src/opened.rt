@@ -1,10 +1,9 @@
 // Opening a store's file.
-ghost use Rattle.std.specs.Prelude.{◌≡◌, false, Err, IfOk, IfErr, MatchResult};
+ghost use Rattle.std.specs.Prelude.{◌≡◌, Err, IfOk, IfErr, MatchResult};
 ghost use Rattle.pfx_disk.specs.Disk.{IsHonest, HasFailed};
 ghost use Rattle.pfx_recovery.specs.Recovery.{recovered};
-ghost use Rattle.pfx_store_file.specs.Fitting.{Fits};
 ghost use Rattle.pfx_recover.specs.Answers.{IsRefusal};
-ghost use Rattle.pfx_recover.specs.Finding.{IsOpened};
+ghost use Rattle.pfx_recover.specs.Finding.{CanGoOn, IsOpened};
 ghost use Rattle.pfx_recover.specs.Looking.{Looks};
 
 use crate::faults::OpenFault;
@@ -30,8 +29,9 @@ pub struct Opened<D: Disk, F: Format> {
 
 /// Opens a store's file: a sync, and then reads alone. With a fault the disk comes back.
 ///
-/// `Refused` names the first test that the bytes don't pass. `Device` comes only if the disk failed, and `NoMemory` if
-/// an allocation failed.
+/// What comes is what is found in the disk's bytes. `Refused` names the first test that they don't pass, `Device` comes only if the
+/// disk failed, and `NoMemory` if an allocation failed. Nothing is written, and a store can go on with the file: none of its calls has
+/// failed, no checkpoint is begun, and a checkpoint area can hold the state.
 pub fn open<F: Format, D: Disk>(alloc: Global, disk: D) -> Result<Opened<D, F>, (OpenFault, D)>
     // What is found in the disk's bytes, and the store of it.
     ensures opened { IsHonest (D.view disk) → IfOk result (λ o. IsOpened F.codec o.header
@@ -43,11 +43,7 @@ pub fn open<F: Format, D: Disk>(alloc: Global, disk: D) -> Result<Opened<D, F>, 
     // Nothing is written.
     ensures looks { MatchResult result
         (λ o. Looks (D.view disk) (D.view o.file.disk)) (λ e. Looks (D.view disk) (D.view e.1)) }
-    ensures whole { IfOk result (λ o. o.file.broken ≡ false) }
-    // No checkpoint is begun, also if one is in progress.
-    ensures unbegun { IfOk result (λ o. o.file.places.begun ≡ false) }
-    ensures sized { IfOk result (λ o. Fits (F.codec.layout o.header) o.file.places) }
-    ensures fits { IfOk result (λ o. F.fits o.header o.state) }
+    ensures going { IfOk result (λ o. CanGoOn F.codec F.fits o.header o.file.broken o.file.places o.state) }
 {
     let mut disk = disk;
     match read_file::<F, D>(alloc, &mut disk) {

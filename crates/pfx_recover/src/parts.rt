@@ -1,11 +1,10 @@
 // The records of one segment or of two, if the heads of all frames are right.
-ghost use Rattle.std.specs.Prelude.{◌≡◌, ◌≤◌, ◌<◌, ◌+◌, ◌^◌, ℕ, List, not, IfOk, IsErrOf};
+ghost use Rattle.std.specs.Prelude.{◌≡◌, ◌≤◌, ◌<◌, ◌+◌, ◌^◌, ℕ, List, not};
 ghost use Rattle.pfx_recovery.specs.Layout.{segment_at, segment_end, IsOpenAt};
 ghost use Rattle.pfx_recovery.specs.Recovery.{area_taken, segment_begun, from_one, from_two};
 ghost use Rattle.pfx_recover.specs.Answers.{Gives};
 ghost use Rattle.pfx_recover.specs.Choosing.{IsArea, IsSegment};
-ghost use Rattle.pfx_recover.specs.Finding.{IsFound, IsUsable};
-ghost use Rattle.pfx_recover.specs.Formats.{total_len};
+ghost use Rattle.pfx_recover.specs.Finding.{IsFound, MakesContents};
 ghost use Rattle.pfx_recover.specs.Walking.{StandIn, AreInUse, Fill, frames_of};
 
 use crate::choosing::Choice;
@@ -39,16 +38,12 @@ fn places_of<F: Format>(
     gate: usize,
 ) -> Places
     requires { gate < segment_end (F.codec.layout file.now.header) second }
-    ensures len { result.len ≡ total_len file.now.sizes }
     ensures placed { AreInUse (F.codec.layout file.now.header) area.second area.other_open turned second
         segment_open gate result }
 {
     let sizes = file.sizes;
     Places {
-        head: sizes.head,
-        body: sizes.body,
-        segment_len: sizes.segment,
-        len: sizes.file_len(),
+        sizes,
         area: area.second,
         segment: second,
         turned,
@@ -71,17 +66,14 @@ pub(crate) fn read_single<F: Format>(
     walked: Walked,
 ) -> Result<Contents<F>, OpenFault>
     requires stand { StandIn (F.codec.layout file.now.header) segment.second walked }
-    requires last { walked.last < 2 ^ 48 }
     requires fits { F.fits file.now.header state }
-    ensures device { ¬ IsErrOf result OpenFault.Device }
-    ensures usable { IfOk result (λ c. IsUsable F.codec F.fits file.now.header (total_len file.now.sizes) c.places c.state) }
-    ensures exact { (bytes : List ℕ)
-        → IsArea F.codec file.now.header bytes area (area_taken F.codec file.now.header bytes)
+    ensures { MakesContents F.codec F.fits file.now.header result (λ bytes.
+        IsArea F.codec file.now.header bytes area (area_taken F.codec file.now.header bytes)
         → (n : ℕ)
         → IsSegment F.codec file.now.header bytes segment (segment_begun F.codec file.now.header bytes n)
         → (frames : List (List ℕ)) → Fill frames (frames_of walked)
         → Gives (λ c. IsFound F.codec file.now.header bytes c.places c.state c.middle)
-        (from_one F.codec file.now.header bytes area.second state segment.second frames walked.last) result }
+        (from_one F.codec file.now.header bytes area.second state segment.second frames walked.last) result) }
 {
     let first = file.sizes.segment_at(segment.second) + 9;
     let reached = replay_frames::<F>(alloc, first, state, walked.frames())?;
@@ -118,14 +110,12 @@ pub(crate) fn read_double<F: Format>(
     requires fits { F.fits file.now.header state }
     requires before { StandIn (F.codec.layout file.now.header) second before }
     requires stand { StandIn (F.codec.layout file.now.header) (not second) walked }
-    ensures device { ¬ IsErrOf result OpenFault.Device }
-    ensures usable { IfOk result (λ c. IsUsable F.codec F.fits file.now.header (total_len file.now.sizes) c.places c.state) }
-    ensures exact { (bytes : List ℕ)
-        → IsArea F.codec file.now.header bytes area (area_taken F.codec file.now.header bytes)
+    ensures { MakesContents F.codec F.fits file.now.header result (λ bytes.
+        IsArea F.codec file.now.header bytes area (area_taken F.codec file.now.header bytes)
         → IsOpenAt (segment_at (F.codec.layout file.now.header) second) bytes
         → (first next : List (List ℕ)) → Fill first (frames_of before) → Fill next (frames_of walked)
         → Gives (λ c. IsFound F.codec file.now.header bytes c.places c.state c.middle)
-        (from_two F.codec file.now.header bytes area.second state second first next) result }
+        (from_two F.codec file.now.header bytes area.second state second first next) result) }
 {
     let first = file.sizes.segment_at(second) + 9;
     let next = file.sizes.segment_at(!second) + 9;

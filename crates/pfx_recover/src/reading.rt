@@ -2,11 +2,11 @@
 ghost use Rattle.std.specs.Prelude.{◌≡◌, ◌≤◌, ◌<◌, ◌+◌, ◌^◌, ℕ, List, length, IfOk, OnOk};
 ghost use Rattle.pfx_disk.specs.Disk.{IsHonest};
 ghost use Rattle.pfx_recovery.specs.Recovery.{area_taken, segment_begun, from_frames, from_state, from_area, found, on_ok};
+ghost use Rattle.pfx_store_file.specs.Sizes.{total_len};
 ghost use Rattle.pfx_recover.specs.Answers.{Gives, IsRead};
 ghost use Rattle.pfx_recover.specs.Choosing.{IsArea, IsSegment};
-ghost use Rattle.pfx_recover.specs.Finding.{IsFound, IsHeldState, IsUsable};
-ghost use Rattle.pfx_recover.specs.Formats.{total_len};
-ghost use Rattle.pfx_recover.specs.Looking.{IsKept, OnlyReads, Reaches};
+ghost use Rattle.pfx_recover.specs.Finding.{IsFound, IsHeldState, IsUsable, ReadsContents};
+ghost use Rattle.pfx_recover.specs.Looking.{IsKept, OnlyReads, Reaches, ReadsKept};
 ghost use Rattle.pfx_recover.specs.Walking.{StandIn, Fill, frames_of};
 
 use crate::areas::{read_area, take_area};
@@ -22,40 +22,8 @@ use pfx_disk::Disk;
 use pfx_fault::Part;
 use std::alloc::Global;
 
-// The heads of the other segment, if it goes on after the first, and all records.
-fn read_on<F: Format, D: Disk>(
-    alloc: Global,
-    disk: &mut D,
-    file: &Outline<F>,
-    area: Choice,
-    segment: Choice,
-    state: F::State,
-    walked: Walked,
-) -> Result<Contents<F>, OpenFault>
-    requires inside { Reaches (total_len file.now.sizes) (D.view disk.old) }
-    requires fits { F.fits file.now.header state }
-    requires stand { StandIn (F.codec.layout file.now.header) segment.second walked }
-    requires last { walked.last < 2 ^ 48 }
-    ensures call { OnlyReads (D.view disk.old) (D.view disk.new) result }
-    ensures usable { IfOk result (λ c. IsUsable F.codec F.fits file.now.header (total_len file.now.sizes) c.places c.state) }
-    ensures exact { (bytes : List ℕ) → IsKept bytes (D.view disk.old)
-        → IsArea F.codec file.now.header bytes area (area_taken F.codec file.now.header bytes)
-        → (n : ℕ)
-        → IsSegment F.codec file.now.header bytes segment (segment_begun F.codec file.now.header bytes n)
-        → (frames : List (List ℕ)) → Fill frames (frames_of walked)
-        → Gives (λ c. IsFound F.codec file.now.header bytes c.places c.state c.middle)
-        (from_frames F.codec file.now.header bytes area.second state segment.second frames walked.last) result }
-{
-    if !segment.goes_on(walked.last) {
-        return read_single(alloc, file, area, segment, state, walked);
-    }
-    let at = file.sizes.segment_at(!segment.second);
-    let end = at + file.sizes.segment;
-    let next = read_frames::<F, D>(alloc, disk, at + 9, end, walked.last)?;
-    read_double(alloc, file, area, segment.second, state, walked, next)
-}
-
-// The segments, after the checkpoint area's state.
+// The segments, after the checkpoint area's state: the heads of the one that begins behind it, and those of the other one, if that
+// goes on after it; and then all records.
 fn read_segments<F: Format, D: Disk>(
     alloc: Global,
     disk: &mut D,
@@ -65,19 +33,23 @@ fn read_segments<F: Format, D: Disk>(
 ) -> Result<Contents<F>, OpenFault>
     requires inside { Reaches (total_len file.now.sizes) (D.view disk.old) }
     requires state { IsHeldState F.codec F.fits file.now.header state }
-    ensures call { OnlyReads (D.view disk.old) (D.view disk.new) result }
-    ensures usable { IfOk result (λ c. IsUsable F.codec F.fits file.now.header (total_len file.now.sizes) c.places c.state) }
-    ensures exact { (bytes : List ℕ) → IsKept bytes (D.view disk.old)
-        → IsArea F.codec file.now.header bytes area (area_taken F.codec file.now.header bytes)
+    ensures { ReadsContents F.codec F.fits file.now.header (D.view disk.old) (D.view disk.new) result (λ bytes.
+        IsArea F.codec file.now.header bytes area (area_taken F.codec file.now.header bytes)
         → Gives (λ c. IsFound F.codec file.now.header bytes c.places c.state c.middle)
-        (from_state F.codec file.now.header bytes area.second state) result }
+        (from_state F.codec file.now.header bytes area.second state) result) }
 {
     let number = F::number(&state);
     let segment = find_segment(disk, file, number + 1)?;
     let at = file.sizes.segment_at(segment.second);
     let end = at + file.sizes.segment;
     let walked = read_frames::<F, D>(alloc, disk, at + 9, end, number)?;
-    read_on(alloc, disk, file, area, segment, state, walked)
+    if !segment.goes_on(walked.last) {
+        return read_single(alloc, file, area, segment, state, walked);
+    }
+    let at = file.sizes.segment_at(!segment.second);
+    let end = at + file.sizes.segment;
+    let next = read_frames::<F, D>(alloc, disk, at + 9, end, walked.last)?;
+    read_double(alloc, file, area, segment.second, state, walked, next)
 }
 
 // The checkpoint area that is taken, and what follows on it.
@@ -87,11 +59,9 @@ fn read_contents<F: Format, D: Disk>(
     file: &Outline<F>,
 ) -> Result<Contents<F>, OpenFault>
     requires inside { Reaches (total_len file.now.sizes) (D.view disk.old) }
-    ensures call { OnlyReads (D.view disk.old) (D.view disk.new) result }
-    ensures usable { IfOk result (λ c. IsUsable F.codec F.fits file.now.header (total_len file.now.sizes) c.places c.state) }
-    ensures exact { (bytes : List ℕ) → IsKept bytes (D.view disk.old)
-        → Gives (λ c. IsFound F.codec file.now.header bytes c.places c.state c.middle)
-        (on_ok (area_taken F.codec file.now.header bytes) (from_area F.codec file.now.header bytes)) result }
+    ensures { ReadsContents F.codec F.fits file.now.header (D.view disk.old) (D.view disk.new) result (λ bytes.
+        Gives (λ c. IsFound F.codec file.now.header bytes c.places c.state c.middle)
+        (on_ok (area_taken F.codec file.now.header bytes) (from_area F.codec file.now.header bytes)) result) }
 {
     let area = take_area(disk, file)?;
     let state = read_area(alloc, disk, file, area.second)?;
@@ -105,27 +75,29 @@ fn read_header<F: Format, D: Disk>(
     len: usize,
 ) -> Result<F::Header, OpenFault>
     requires inside { Reaches len (D.view disk.old) }
-    ensures call { OnlyReads (D.view disk.old) (D.view disk.new) result }
-    ensures exact { (bytes : List ℕ) → IsKept bytes (D.view disk.old) → len ≡ length bytes
-        → Gives IsRead (F.codec.read_head bytes) result }
+    ensures { ReadsKept (D.view disk.old) (D.view disk.new) result (λ bytes.
+        len ≡ length bytes → Gives IsRead (F.codec.read_head bytes) result) }
 {
     let mut front = vec![in alloc; 0; len.min(F::HEAD_MOST)]?;
     disk.read(0, &mut front)?;
     Ok(F::read_head(alloc, &front)?)
 }
 
-// What a synced disk holds.
-fn read_synced<F: Format, D: Disk>(
+/// What a disk holds. It is synced first, so that a stop leaves what is read.
+pub(crate) fn read_file<F: Format, D: Disk>(
     alloc: Global,
     disk: &mut D,
 ) -> Result<(Outline<F>, Contents<F>), OpenFault>
     ensures call { OnlyReads (D.view disk.old) (D.view disk.new) result }
-    ensures usable { IfOk result (λ r. IsUsable F.codec F.fits r.0.header (total_len r.0.sizes) r.1.places r.1.state) }
-    ensures inside { IfOk result (λ r. Reaches r.1.places.len (D.view disk.new)) }
-    ensures exact { (bytes : List ℕ) → IsKept bytes (D.view disk.old)
-        → Gives (λ r. IsFound F.codec r.0.header bytes r.1.places r.1.state r.1.middle)
-        (found F.codec bytes) result }
+    ensures usable { IfOk result (λ r. IsUsable F.codec F.fits r.0.header r.1.places r.1.state) }
+    ensures inside { IfOk result (λ r. Reaches (total_len r.1.places.sizes) (D.view disk.new)) }
+    ensures kept { IsHonest (D.view disk.old)
+        → OnOk result (IsKept (D.view disk.old).contents (D.view disk.new)) }
+    ensures exact { IsHonest (D.view disk.old) → Gives
+        (λ r. IsFound F.codec r.0.header (D.view disk.old).contents r.1.places r.1.state r.1.middle)
+        (found F.codec (D.view disk.old).contents) result }
 {
+    disk.sync()?;
     let len = disk.len()?;
     let header = read_header::<F, D>(alloc, disk, len)?;
     let sizes = F::sizes(&header);
@@ -138,22 +110,4 @@ fn read_synced<F: Format, D: Disk>(
     let file = Outline { header, sizes };
     let contents = read_contents(alloc, disk, &file)?;
     Ok((file, contents))
-}
-
-/// What a disk holds. It is synced first, so that a stop leaves what is read.
-pub(crate) fn read_file<F: Format, D: Disk>(
-    alloc: Global,
-    disk: &mut D,
-) -> Result<(Outline<F>, Contents<F>), OpenFault>
-    ensures call { OnlyReads (D.view disk.old) (D.view disk.new) result }
-    ensures usable { IfOk result (λ r. IsUsable F.codec F.fits r.0.header (total_len r.0.sizes) r.1.places r.1.state) }
-    ensures inside { IfOk result (λ r. Reaches r.1.places.len (D.view disk.new)) }
-    ensures kept { IsHonest (D.view disk.old)
-        → OnOk result (IsKept (D.view disk.old).contents (D.view disk.new)) }
-    ensures exact { IsHonest (D.view disk.old) → Gives
-        (λ r. IsFound F.codec r.0.header (D.view disk.old).contents r.1.places r.1.state r.1.middle)
-        (found F.codec (D.view disk.old).contents) result }
-{
-    disk.sync()?;
-    read_synced(alloc, disk)
 }

@@ -1,10 +1,10 @@
 // The segment that is read first.
 ghost use Rattle.std.specs.Prelude.{◌≡◌, ◌≤◌, ◌<◌, ◌+◌, ◌^◌, ℕ, List, Ok, IfOk};
 ghost use Rattle.pfx_recovery.specs.Recovery.{segment_begun};
+ghost use Rattle.pfx_store_file.specs.Sizes.{total_len};
 ghost use Rattle.pfx_recover.specs.Answers.{Gives};
 ghost use Rattle.pfx_recover.specs.Choosing.{IsSegment};
-ghost use Rattle.pfx_recover.specs.Formats.{total_len};
-ghost use Rattle.pfx_recover.specs.Looking.{IsKept, OnlyReads, Reaches};
+ghost use Rattle.pfx_recover.specs.Looking.{Reaches, ReadsKept};
 
 use crate::choosing::{Choice, Numbered, beginning};
 use crate::faults::OpenFault;
@@ -20,10 +20,8 @@ pub(crate) fn find_segment<F: Format, D: Disk>(
     number: u64,
 ) -> Result<Choice, OpenFault>
     requires inside { Reaches (total_len file.now.sizes) (D.view disk.old) }
-    ensures call { OnlyReads (D.view disk.old) (D.view disk.new) result }
-    ensures exact { (bytes : List ℕ) → IsKept bytes (D.view disk.old)
-        → Gives (IsSegment F.codec file.now.header bytes)
-        (segment_begun F.codec file.now.header bytes number) result }
+    ensures { ReadsKept (D.view disk.old) (D.view disk.new) result (λ bytes.
+        Gives (IsSegment F.codec file.now.header bytes) (segment_begun F.codec file.now.header bytes number) result) }
 {
     let low = file.sizes.segment_at(false);
     let high = file.sizes.segment_at(true);

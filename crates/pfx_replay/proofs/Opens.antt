@@ -5,7 +5,7 @@ use Rattle.std.proofs.Common.{subst, arith}
 use Rattle.pfx_disk.specs.Disk.{View}
 use Rattle.pfx_recovery.specs.Codec.{Codec}
 use Rattle.pfx_recovery.specs.Store.{IsStore}
-use Rattle.pfx_store_file.specs.Fitting.{Fits}
+use Rattle.pfx_store_file.specs.Sizes.{HasSizes, total_len}
 use Rattle.pfx_store_file.specs.declared.places.Places.{Places}
 use Rattle.pfx_recover.specs.Finding.{IsOpened}
 
@@ -13,5 +13,5 @@ module _ {H S : Type 0} (K : Codec H S) (h : H) (bytes : List ℕ) (places : Pla
   pub store_is : IsStore K h opened.parts state bytes
   store_is = ((opened.holds []).images bytes (subst (λ l. disk.now l) opened.kept.contents opened.kept.honest.here)).store
 
-  pub len_is : Fits (K.layout h) places → places.len ≡ length bytes
-  len_is fits = omega (arith, store_is.long, fits.head, fits.body, fits.segment, places.whole)
+  pub len_is : HasSizes (K.layout h) places.sizes → total_len places.sizes ≡ length bytes
+  len_is fits = omega (arith, store_is.long, fits.head, fits.body, fits.segment)

@@ -52,7 +52,7 @@ pub fn replay<J: Job, D: Disk>(alloc: Global, disk: D) -> Result<(Verdict, D), (
     };
     let places = file.places;
     let mut disk = file.into_disk();
-    let image = match read_image(alloc, &mut disk, places.len) {
+    let image = match read_image(alloc, &mut disk, places.sizes.file_len()) {
         Ok(image) => image,
         Err(fault) => return Err((fault, disk)),
     };

@@ -1,26 +1,24 @@
 // Bytes behind a gate, and gates that are closed and opened.
 ghost use Rattle.std.specs.Prelude.{◌≡◌, ◌≢◌, ◌<◌, ◌+◌, ◌^◌, ◌∷◌, ◌++◌, ℕ, List, length, slice_index, OnOk, false};
-ghost use Rattle.pfx_disk.specs.Disk.{IsHonest, Leaves, Only, Written};
-ghost use Rattle.pfx_segment.specs.Acts.{MakesActs, put_acts, close_acts, open_acts};
-ghost use Rattle.pfx_segment.specs.Segment.{Appended, IsRun, StandAt};
+ghost use Rattle.pfx_disk.specs.Disk.{IsHonest, Leaves, Written};
+ghost use Rattle.pfx_segment.specs.Acts.{IsRunOf, put_acts, close_acts, open_acts};
+ghost use Rattle.pfx_segment.specs.Segment.{Appended, StandAt};
 ghost use Rattle.pfx_segment.specs.Turning.{Closing, Prepared};
 
 use pfx_disk::{DeviceFailed, Disk, GATE_OPEN};
 
 /// Puts bytes behind a closed gate, and opens it, by four calls: the bytes and a sync, the gate and a sync.
 ///
-/// The bytes end before the disk does, if it is honest, and below 2^63. It is a run of four calls, and these four. At
-/// every moment, whatever it answers, the gate is as it was, or the bytes stand behind it, and nothing else changes.
-/// After success a stop leaves what a read gives, and that is the bytes behind an open gate.
+/// The bytes end before the disk does, if it is honest, and below 2^63. It is a run of four calls, and these four; after
+/// success a stop leaves what a read gives. At every moment, whatever it answers, the gate is as it was, or the bytes stand
+/// behind it, and nothing else changes. After success they are there behind an open gate.
 pub fn put_behind<D: Disk>(disk: &mut D, gate: usize, bytes: &[u8]) -> Result<(), DeviceFailed>
     requires inside { IsHonest (D.view disk.old) → gate + length bytes.now < length (D.view disk.old).contents }
     requires fits { gate + length bytes.now < 2 ^ 63 }
-    ensures call { IsRun 4 (D.view disk.old) (D.view disk.new) result }
-    ensures acts { MakesActs (put_acts gate bytes.now) (D.view disk.old) (D.view disk.new) result }
+    ensures run { IsRunOf 4 (put_acts gate bytes.now) (D.view disk.old) (D.view disk.new) result }
     // At every moment of the call, whatever it answers.
     ensures leaves { IsHonest (D.view disk.old)
         → Leaves (Appended gate bytes.now) (D.view disk.old) (D.view disk.new) }
-    ensures durable { IsHonest (D.view disk.old) → OnOk result (Only (D.view disk.new).contents (D.view disk.new)) }
     ensures written { IsHonest (D.view disk.old) → OnOk result (
         Written gate (GATE_OPEN ∷ bytes.now) (D.view disk.old).contents (D.view disk.new).contents) }
 {
@@ -34,17 +32,15 @@ pub fn put_behind<D: Disk>(disk: &mut D, gate: usize, bytes: &[u8]) -> Result<()
 /// Closes a gate that stands open, or reads one that stands closed, and syncs: two calls.
 ///
 /// A closed gate isn't written closed again, since a stop within that write could leave it open. The gate lies before
-/// the end, if the disk is honest. It is a run of two calls, and these two. At every moment only the gate changes, and
-/// nothing if it was said to be closed. After success a stop leaves what a read gives, and there the gate is closed, if
-/// one that was said to be closed was so.
+/// the end, if the disk is honest. It is a run of two calls, and these two; after success a stop leaves what a read gives.
+/// At every moment only the gate changes, and nothing if it was said to be closed. After success the gate is closed, if one
+/// that was said to be closed was so.
 pub fn close<D: Disk>(disk: &mut D, gate: usize, is_open: bool) -> Result<(), DeviceFailed>
     requires inside { IsHonest (D.view disk.old) → gate < length (D.view disk.old).contents }
-    ensures call { IsRun 2 (D.view disk.old) (D.view disk.new) result }
-    ensures acts { MakesActs (close_acts gate is_open) (D.view disk.old) (D.view disk.new) result }
+    ensures run { IsRunOf 2 (close_acts gate is_open) (D.view disk.old) (D.view disk.new) result }
     // At every moment of the call, whatever it answers.
     ensures leaves { IsHonest (D.view disk.old)
         → Leaves (Closing gate is_open) (D.view disk.old) (D.view disk.new) }
-    ensures durable { IsHonest (D.view disk.old) → OnOk result (Only (D.view disk.new).contents (D.view disk.new)) }
     ensures closed { IsHonest (D.view disk.old)
         → (is_open ≡ false → slice_index (D.view disk.old).contents gate ≢ GATE_OPEN)
         → OnOk result (slice_index (D.view disk.new).contents gate ≢ GATE_OPEN) }
@@ -62,10 +58,10 @@ pub fn close<D: Disk>(disk: &mut D, gate: usize, is_open: bool) -> Result<(), De
 
 /// Closes the gate, if it is open, and then puts bytes behind it and opens it: six calls, by `close` and `put_behind`.
 ///
-/// The bytes end before the disk does, if it is honest, and below 2^63. It is a run of six calls, and these six. At every
-/// moment, whatever it answers, all is as before, or the gate is closed, or it is open and the bytes stand behind it, if
-/// a gate that was said to be open or closed was so. After success a stop leaves what a read gives, and that has the
-/// bytes behind the open gate.
+/// The bytes end before the disk does, if it is honest, and below 2^63. It is a run of six calls, and these six; after
+/// success a stop leaves what a read gives. At every moment, whatever it answers, all is as before, or the gate is closed,
+/// or it is open and the bytes stand behind it, if a gate that was said to be open or closed was so. After success the
+/// bytes stand behind the open gate.
 pub fn prepare<D: Disk>(
     disk: &mut D,
     gate: usize,
@@ -74,13 +70,11 @@ pub fn prepare<D: Disk>(
 ) -> Result<(), DeviceFailed>
     requires inside { IsHonest (D.view disk.old) → gate + length bytes.now < length (D.view disk.old).contents }
     requires fits { gate + length bytes.now < 2 ^ 63 }
-    ensures call { IsRun 6 (D.view disk.old) (D.view disk.new) result }
-    ensures acts { MakesActs (close_acts gate is_open ++ put_acts gate bytes.now) (D.view disk.old) (D.view disk.new) result }
+    ensures run { IsRunOf 6 (close_acts gate is_open ++ put_acts gate bytes.now) (D.view disk.old) (D.view disk.new) result }
     // At every moment of the call, whatever it answers.
     ensures leaves { IsHonest (D.view disk.old)
         → (is_open ≡ false → slice_index (D.view disk.old).contents gate ≢ GATE_OPEN)
         → Leaves (Prepared gate is_open bytes.now) (D.view disk.old) (D.view disk.new) }
-    ensures durable { IsHonest (D.view disk.old) → OnOk result (Only (D.view disk.new).contents (D.view disk.new)) }
     ensures stands { IsHonest (D.view disk.old)
         → OnOk result (StandAt gate (GATE_OPEN ∷ bytes.now) (D.view disk.new).contents) }
 {
@@ -91,20 +85,18 @@ pub fn prepare<D: Disk>(
 
 /// Opens the gate before bytes that were written behind it, by three calls: a sync, the gate and a sync.
 ///
-/// The gate lies before the end, if the disk is honest, and below 2^63. It is a run of three calls, and these three. At
-/// every moment, whatever it answers, the gate is as it was, or the bytes stand behind it, and nothing else changes.
-/// After success a stop leaves what a read gives, and there the gate is open.
+/// The gate lies before the end, if the disk is honest, and below 2^63. It is a run of three calls, and these three; after
+/// success a stop leaves what a read gives. At every moment, whatever it answers, the gate is as it was, or the bytes stand
+/// behind it, and nothing else changes. After success the gate is open.
 pub fn open_gate<D: Disk>(disk: &mut D, gate: usize) -> Result<(), DeviceFailed>
     requires inside { IsHonest (D.view disk.old) → gate < length (D.view disk.old).contents }
     requires fits { gate < 2 ^ 63 }
-    ensures call { IsRun 3 (D.view disk.old) (D.view disk.new) result }
-    ensures acts { MakesActs (open_acts gate) (D.view disk.old) (D.view disk.new) result }
+    ensures run { IsRunOf 3 (open_acts gate) (D.view disk.old) (D.view disk.new) result }
     // At every moment of the call, whatever it answers, and of any bytes that stand behind the gate as it begins.
     ensures leaves { IsHonest (D.view disk.old) → (bytes : List ℕ)
         → gate + length bytes < length (D.view disk.old).contents
         → StandAt (gate + 1) bytes (D.view disk.old).contents
         → Leaves (Appended gate bytes) (D.view disk.old) (D.view disk.new) }
-    ensures durable { IsHonest (D.view disk.old) → OnOk result (Only (D.view disk.new).contents (D.view disk.new)) }
     ensures opened { IsHonest (D.view disk.old)
         → OnOk result (slice_index (D.view disk.new).contents gate ≡ GATE_OPEN) }
 {

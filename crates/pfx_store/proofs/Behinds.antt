@@ -1,6 +1,6 @@
 -- What stands behind the gate of a spelled frame.
 use Rattle.std.specs.Prelude.{◌≡◌, ℕ, ◌+◌, ◌*◌, ◌-◌, ◌<◌, ◌≤◌, ◌^◌, List, [], ◌∷◌, ◌++◌, length, take, drop, Bool, true, false, Option, Some, None, IsTrue, IsFalse, refl}
-use Rattle.std.proofs.Common.{sym, ◌∙◌, ap, arith, length-append, length-take}
+use Rattle.std.proofs.Common.{sym, ◌∙◌, ap, arith, length-append}
 use Rattle.std.proofs.lemmas.List.{length-drop, take_all}
 use Rattle.std.proofs.lemmas.Option.{none-some}
 use Rattle.byteorder.specs.Endian.{little_number}
@@ -52,11 +52,12 @@ pub taken_by : {A : Type 0} (b : Bool) (o : Option A) (new t : A) → (IsTrue b 
 taken_by true o new t taken wrong right = taken refl
 taken_by false o new t taken wrong right = absurd (none-some t (sym (wrong refl) ∙ right))
 
-pub some_behind : {J : Type 0} (K : Kind J) (L : Laws K) (batch : PlainBatch J) (workers : ℕ) (frame : List ℕ) → IsTrue (batch_fits workers batch) → frame ≡ batch_bytes K batch ++ 0 ∷ [] → 0 < length (take (length frame - 1) (drop 1 frame))
-some_behind K L batch workers frame fits is =
-    let long = (head_there K L workers batch fits).long in
-    let all : length frame ≡ length (batch_bytes K batch) + 1 = ap length is ∙ length-append (batch_bytes K batch) (0 ∷ []) in
-    omega (arith, long, all, length-take (length frame - 1) (drop 1 frame), length-drop 1 frame)
+-- what stands behind the gate of a frame, with a closed gate behind it, is as long as the frame, and is some bytes
+pub behind_len : (frame bytes : List ℕ) → IsBehind frame bytes → length bytes ≡ length frame
+behind_len frame bytes is = omega (arith, ap length is.1, ap length is.2.split, length-append is.0 (0 ∷ []))
+
+pub behind_some : (frame bytes : List ℕ) → IsBehind frame bytes → 0 < length bytes
+behind_some frame bytes is = omega (arith, ap length is.2.split, length-append is.0 (0 ∷ []))
 
 -- what is written behind the gate is as long as the frame
 pub behind_long : {J : Type 0} (K : Kind J) (L : Laws K) (batch : PlainBatch J) → length (behind_of (batch_bytes K batch)) ≡ length (batch_bytes K batch)

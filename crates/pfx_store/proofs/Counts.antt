@@ -49,8 +49,8 @@ append_by true left n most = omega arith
 append_by false left n most = omega (arith, most)
 
 -- no append takes more calls than this
-pub append_most : (n : ℕ) (places : Places) → append_calls n places ≤ 15 + pieces places.body
-append_most n places = append_by (nat_lt (places.gate + n) places.end) (calls_left places) (pieces places.body) (left_bound places.turned places.begun places.body places.done)
+pub append_most : (n : ℕ) (places : Places) → append_calls n places ≤ 15 + pieces places.sizes.body
+append_most n places = append_by (nat_lt (places.gate + n) places.end) (calls_left places) (pieces places.sizes.body) (left_bound places.turned places.begun places.sizes.body places.done)
 
 -- a frame of n bytes behind room that was made for it
 module _ (n a b : ℕ) (old mid new : Places) (is_a : a ≡ n) (is_b : b ≡ n) (there : HasRoom a old → mid ≡ old) (full : HasRoom a mid → HasRoom a old) (taken : TakesFrame b mid new) where

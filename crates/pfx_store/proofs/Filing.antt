@@ -164,7 +164,7 @@ module _ {J : Type 0} (K : Kind J) (f : FileOf J) (places : Places) (body : List
     pub turn_within : HasKeptTo (turn_acts (format K) f start) old new → HasKeptTo (turning K f s) old new
     turn_within within = subst (λ b. HasKeptTo (turn_acts (format K) f b) old new) starts within
 
--- if the bytes of a slot are read as a state, they are that state's
+-- if the bytes of a checkpoint area are read as a state, they are that state's
 module _ {J : Type 0} (K : Kind J) (h : Header) (p : Parts (Plain J)) (s : Plain J) (body image : List ℕ) where
   pub body_same : IsStore (format K) h p s image → read_state K h.set body ≡ Some p.middle → body ≡ state_bytes K p.middle
   body_same store read = sym (only_states K h.set body p.middle (read_filled image h store.head) read).2

@@ -3,7 +3,7 @@ pub mod Behinds
 mod Counts
 mod Made
 mod Marking
-pub mod Slots
+pub mod Areas
 mod Standings
 pub mod Filing
 mod Replies

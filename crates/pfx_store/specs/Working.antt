@@ -1,13 +1,16 @@
 -- What the calls of a store do.
-use Rattle.std.specs.Prelude.{◌≡◌, ◌↔◌, ◌<◌, ◌+◌, ◌-◌, ◌++◌, ℕ, List, [], ◌∷◌, length, min, true, false, Bool, Result, Ok, Some, OnOk, OnErr, IfOk, IfErr}
-use Rattle.std.specs.Prelude.{IsErrOf, IsTrue, MatchResult}
+use Rattle.std.specs.Prelude.{◌≡◌, ◌↔◌, ◌<◌, ◌+◌, ◌-◌, ◌++◌, ℕ, List, [], ◌∷◌, length, min, take, slice_index, true, false, Bool, Result, Ok, Some}
+use Rattle.std.specs.Prelude.{OnOk, OnErr, IfOk, IfErr, IsErrOf, IsTrue, MatchResult}
+use Rattle.byteorder.specs.Endian.{little_number}
 use Rattle.pfx_disk.specs.CallsMade.{HasMade, HasBrokenOff, HasKeptTo}
-use Rattle.pfx_disk.specs.Disk.{View, HasFailed, IsHonest, Only}
+use Rattle.pfx_disk.specs.Disk.{View, HasFailed, IsHonest, Leaves, Only, Same}
 use Rattle.pfx_disk.specs.Stop.{Act, Sync}
+use Rattle.pfx_create.specs.Attempts.{IsNoneOrMade}
 use Rattle.pfx_format.specs.Format.{format}
 use Rattle.pfx_header.specs.Headers.{Header, IsSegmentSize}
 use Rattle.pfx_jobs.specs.Kind.{Kind}
 use Rattle.pfx_machine.specs.Plain.{Plain, empty}
+use Rattle.pfx_record.specs.Numbers.{number_bytes}
 use Rattle.pfx_record.specs.Records.{Plain as Recorded}
 use Rattle.pfx_recover.specs.declared.faults.OpenFault.{OpenFault}
 use Rattle.pfx_recovery.specs.Recovery.{Found, found, recovered}
@@ -15,7 +18,8 @@ use Rattle.pfx_recovery.specs.Store.{Replays}
 use Rattle.pfx_redo.specs.Applying.{applied}
 use Rattle.pfx_segment.specs.Segment.{Takes}
 use Rattle.pfx_store_file.specs.Calls.{Works}
-use Rattle.pfx_store_file.specs.Fitting.{HasRoom, IsTurnable, SameParts}
+use Rattle.pfx_store_file.specs.Fitting.{HasRoom, IsTurnable}
+use Rattle.pfx_store_file.specs.Sizes.{total_len}
 use Rattle.pfx_store_file.specs.Holding.{KeepsAll, Survives}
 use Rattle.pfx_store_file.specs.Tending.{IsTurned, StaysPut, append_calls, calls_left, calls_of, next_step, pieces, room_calls, steps_left}
 use Rattle.pfx_store_file.specs.declared.checkpoint.TheConstants.{PIECE}
@@ -26,7 +30,7 @@ use Rattle.pfx_store_file.specs.declared.faults.StoreFault.TheVariants.{Broken, 
 use Rattle.pfx_store.specs.declared.making.InitFault.{InitFault}
 use Rattle.pfx_store.specs.declared.making.InitFault.TheVariants as init
 use Rattle.pfx_store.specs.Files.{FileOf, HasFile, recovered_file}
-use Rattle.pfx_store.specs.Making.{IsBeforeAnyCall, IsSizeFault}
+use Rattle.pfx_store.specs.Making.{IsBeforeAnyCall, IsSizeFault, making_calls}
 use Rattle.pfx_store.specs.Marks.{Covers}
 use Rattle.pfx_store.specs.Standing.{IsReady, Stands}
 use Rattle.pfx_store.specs.Stores.{PlainStore}
@@ -58,7 +62,7 @@ module _ {D J T : Type 0} (view : D → View) (old new : PlainStore D J) (result
     pub honest : IsHonest (view old.file.disk) ↔ IsHonest (view new.file.disk)
     pub roomy : ¬ IsErrOf result NoRoom
     pub broken : IsErrOf result Broken → new ≡ old
-    pub parts : SameParts old.file.places new.file.places
+    pub parts : new.file.places.sizes ≡ old.file.places.sizes
 
   -- The calls of the disk, one after the other, for each file that the store may have: when it went well all of them, and the file
   -- after them; some of them up to one that failed, where the device did; and no stop in between left anything else.
@@ -80,19 +84,40 @@ pub record IsUnmade {D : Type 0} (view : D → View) (m segment : ℕ) (disk : D
   pub one_call : e.0 ≡ init.NotEmpty → (view e.1).clock ≡ (view disk).clock + 1
   pub unasked : IsBeforeAnyCall e.0 → e.1 ≡ disk
 
+-- The nine bytes behind the gate of a segment whose first command comes behind this number: the next number, and a closed gate.
+pub record BeginsBehind (last : ℕ) (start : List ℕ) : Type 0 where
+  pub long : length start ≡ 9
+  pub number : little_number 8 (take 8 start) ≡ last + 1
+  pub closed : slice_index start 8 ≡ 0
+  pub bytes : start ≡ number_bytes 8 (last + 1) ++ 0 ∷ []
+
 -- So many calls of the disk made the store, and no answer took more; an honest disk is one before as after.
 pub record IsMaking {D J : Type 0} (view : D → View) (calls : ℕ) (disk : D) (result : Result (PlainStore D J) (InitFault × D)) : Type 0 where
-  pub calls_made : IfOk result (λ store. (view store.file.disk).clock ≡ (view disk).clock + 6 + pieces (store.file.places.len - 1))
+  pub calls_made : IfOk result (λ store. (view store.file.disk).clock ≡ (view disk).clock + 6 + pieces (total_len store.file.places.sizes - 1))
   pub honest : MatchResult result (λ store. IsHonest (view disk) ↔ IsHonest (view store.file.disk)) (λ e. IsHonest (view disk) ↔ IsHonest (view e.1))
   pub takes : MatchResult result (λ store. Takes calls (view disk) (view store.file.disk) result) (λ e. Takes calls (view disk) (view e.1) result)
 
 -- the new store of a set, with segments of this length, within the limits; it isn't broken, and no checkpoint is in progress
 pub record IsNew {D J : Type 0} (set : FilledSet) (segment : ℕ) (store : PlainStore D J) : Type 0 where
   pub size : IsSegmentSize set.workers segment
-  pub segment_len : store.file.places.segment_len ≡ segment
+  pub segment_len : store.file.places.sizes.segment ≡ segment
   pub state : store.state ≡ empty set
   pub whole : store.file.broken ≡ false
   pub none_left : steps_left store.file.places ≡ 0
+
+-- What comes of making a store of a set, with segments of this length: what each fault means; it is made on an empty disk alone, and one
+-- that holds bytes is left as it was; how many calls it takes; the new store, which stands for its state; and that each image since the disk
+-- was empty is no store's, or the empty state's.
+pub record MakesStore {D J : Type 0} (view : D → View) (K : Kind J) (set : FilledSet) (segment : ℕ) (disk : D)
+    (result : Result (PlainStore D J) (InitFault × D)) : Type 0 where
+  pub unmade : IfErr result (λ e. IsUnmade view set.workers segment disk e)
+  pub vacant : IsHonest (view disk) → MatchResult result (λ _. (view disk).contents ≡ [])
+      (λ e. 0 < length (view disk).contents → Leaves Same (view disk) (view e.1))
+  pub calls : IsMaking view (making_calls set segment) disk result
+  pub made : IfOk result (λ store. IsNew set segment store)
+  pub stands : IsHonest (view disk) → IfOk result (λ store. Stands K store.file.places store.state store.spelled (view store.file.disk))
+  pub recovers : IsHonest (view disk) → MatchResult result
+      (λ store. IsNoneOrMade (format K) (empty set) (view disk) (view store.file.disk)) (λ e. IsNoneOrMade (format K) (empty set) (view disk) (view e.1))
 
 -- From now on each image is recovered to the state: a mark stands for it.
 pub record IsDurable {J : Type 0} (K : Kind J) (broken : Bool) (s : Plain J) (disk : View) : Type 0 where
@@ -114,7 +139,7 @@ pub record Tends {D J : Type 0} (old new : PlainStore D J) (result : Result Tend
   pub step : IfOk result (λ tended. tended ≡ next_step old.file.places)
   pub stays : StaysPut old.file.places new.file.places
   pub nothing : old.file.places.turned ≡ false → (new.file ≡ old.file) × (new.spelled ≡ old.spelled)
-  pub piece : result ≡ Ok Piece → new.file.places.done ≡ min old.file.places.body (old.file.places.done + PIECE)
+  pub piece : result ≡ Ok Piece → new.file.places.done ≡ min old.file.places.sizes.body (old.file.places.done + PIECE)
   pub nearer : old.file.places.turned ≡ true → OnOk result (steps_left old.file.places ≡ 1 + steps_left new.file.places)
   pub fewer : OnOk result (calls_left old.file.places ≡ calls_of (next_step old.file.places) + calls_left new.file.places)
 
@@ -124,9 +149,10 @@ pub record Turns {D J : Type 0} (old new : PlainStore D J) (result : Result Bool
   pub refused : result ≡ Ok false → (new.file ≡ old.file) × (new.spelled ≡ old.spelled)
   pub turned : result ≡ Ok true → IsTurned new.file.places
 
--- If a frame of n bytes had room nothing is done. Else the checkpoint in progress was ended, and the file is ready for a turn; what is
--- left of the append's calls is those after it.
+-- The state stays. If a frame of n bytes had room nothing is done. Else the checkpoint in progress was ended, and the file is ready for a
+-- turn; what is left of the append's calls is those after it.
 pub record MakesRoom {D J T : Type 0} (K : Kind J) (n : ℕ) (old new : PlainStore D J) (result : Result T StoreFault) : Type 0 where
+  pub state : new.state ≡ old.state
   pub there : HasRoom n old.file.places → new.file.places ≡ old.file.places
   pub same : HasRoom n old.file.places → new.spelled ≡ old.spelled
   pub full : HasRoom n new.file.places → HasRoom n old.file.places
@@ -148,3 +174,11 @@ pub record StandsOn {D J T : Type 0} (view : D → View) (K : Kind J) (old new :
   pub keeps : Stands K old.file.places old.state old.spelled (view old.file.disk)
       → (start : Plain J) → (all : List (List ℕ)) → Replays (format K) start all old.state
       → KeepsAll (format K) start all all (view old.file.disk) (view new.file.disk)
+
+-- A store that stands for its state goes on so after the frame once the call succeeded; and at every moment of it what survived before
+-- survives, with the frame or without.
+pub record StandsAfter {D J T : Type 0} (view : D → View) (K : Kind J) (frame : List ℕ) (old new : PlainStore D J) (result : Result T StoreFault) : Type 0 where
+  pub goes_on : Stands K old.file.places old.state old.spelled (view old.file.disk)
+      → OnOk result (Stands K new.file.places new.state new.spelled (view new.file.disk))
+  pub commits : Stands K old.file.places old.state old.spelled (view old.file.disk)
+      → Commits K old.state frame result (view old.file.disk) (view new.file.disk)

@@ -18,8 +18,8 @@ pub(crate) struct Journal<D: Disk, J: Job> {
     pub spelled: Vec<u8>,
     /// Room for the longest frame.
     pub frame: Vec<u8>,
-    ghost long: { length spelled.items ≡ file.places.body },
-    ghost body: { file.places.body ≡ state_len state.ledger.set },
-    ghost fits: { 41 + 2096 * state.ledger.set.workers ≤ file.places.segment_len },
+    ghost long: { length spelled.items ≡ file.places.sizes.body },
+    ghost body: { file.places.sizes.body ≡ state_len state.ledger.set },
+    ghost fits: { 41 + 2096 * state.ledger.set.workers ≤ file.places.sizes.segment },
     ghost room: { 32 + 2096 * state.ledger.set.workers ≤ vec_capacity frame },
 }

@@ -1,12 +1,12 @@
 // What the header of a store's file says.
-ghost use Rattle.std.specs.Prelude.{◌≡◌, ◌≤◌, ◌+◌, Ok, Err, IfOk, IfErr, IsErrOf};
-ghost use Rattle.pfx_disk.specs.Disk.{IsHonest, HasFailed};
+ghost use Rattle.std.specs.Prelude.{◌≡◌, ◌≤◌, ◌+◌, Ok, Err, IfOk, IfErr};
+ghost use Rattle.pfx_disk.specs.Disk.{IsHonest};
 ghost use Rattle.pfx_format.specs.Format.{format};
 ghost use Rattle.pfx_header.specs.Headers.{Header, read_header};
 ghost use Rattle.pfx_header.specs.declared.sizes.TheConstants.{HEADER_MOST};
 ghost use Rattle.pfx_machine.specs.Plain.{Plain};
 ghost use Rattle.pfx_recover.specs.Answers.{Gives, IsRead, IsRefusal};
-ghost use Rattle.pfx_recover.specs.Looking.{Looks};
+ghost use Rattle.pfx_recover.specs.Looking.{OnlyReads};
 ghost use Rattle.pfx_recovery.specs.Recovery.{Found, found, recovered};
 
 use crate::format::{FileFormat, FileHeader};
@@ -16,19 +16,6 @@ use pfx_header::HEADER_MOST;
 use pfx_jobs::job::Job;
 use pfx_recover::{Format, OpenFault};
 use std::alloc::Global;
-
-// The header at the front of a disk, by a call for its length and a read.
-fn header_on<D: Disk, J: Job>(alloc: Global, disk: &mut D) -> Result<FileHeader, OpenFault>
-    ensures header { IsHonest (D.view disk.old) → Gives IsRead ((format J.kind).read_head (D.view disk.old).contents) result }
-    ensures device { IsErrOf result OpenFault.Device → HasFailed (D.view disk.old) (D.view disk.new) }
-    ensures looks { Looks (D.view disk.old) (D.view disk.new) }
-    ensures calls { (D.view disk.new).clock ≤ (D.view disk.old).clock + 2 }
-{
-    let len = disk.len()?;
-    let mut front = vec![in alloc; 0; len.min(HEADER_MOST)]?;
-    disk.read(0, &mut front)?;
-    Ok(FileFormat::<J>::read_head(alloc, &front)?)
-}
 
 impl<D: Disk, J: Job> Store<D, J> {
     /// The header of the store's file on a disk: its task set, and how many bytes a segment has. It is the one that `open`
@@ -45,10 +32,12 @@ impl<D: Disk, J: Job> Store<D, J> {
             → found (format J.kind) (D.view disk.old).contents ≡ Ok f → f.head ≡ header) }
         ensures refused { IsHonest (D.view disk.old) → IfErr result (λ e. IsRefusal e (λ refusal.
             recovered (format J.kind) (D.view disk.old).contents ≡ Err refusal)) }
-        ensures device { IsErrOf result OpenFault.Device → HasFailed (D.view disk.old) (D.view disk.new) }
-        ensures looks { Looks (D.view disk.old) (D.view disk.new) }
+        ensures reads { OnlyReads (D.view disk.old) (D.view disk.new) result }
         ensures calls { (D.view disk.new).clock ≤ (D.view disk.old).clock + 2 }
     {
-        header_on::<D, J>(alloc, disk)
+        let len = disk.len()?;
+        let mut front = vec![in alloc; 0; len.min(HEADER_MOST)]?;
+        disk.read(0, &mut front)?;
+        Ok(FileFormat::<J>::read_head(alloc, &front)?)
     }
 }

@@ -1,14 +1,13 @@
 // Making a store.
-ghost use Rattle.std.specs.Prelude.{◌≡◌, ◌<◌, ◌⊎◌, [], length, vec_capacity, IfOk, IfErr, MatchResult};
+ghost use Rattle.std.specs.Prelude.{◌≡◌, ◌<◌, [], length, vec_capacity, IfOk, IfErr, MatchResult};
 ghost use Rattle.pfx_checkpoint.specs.Spelling.{state_bytes};
 ghost use Rattle.pfx_disk.specs.Disk.{IsHonest, Leaves, Same};
 ghost use Rattle.pfx_create.specs.Attempts.{IsNoneOrMade};
 ghost use Rattle.pfx_format.specs.Format.{format};
 ghost use Rattle.pfx_header.specs.Headers.{IsSegmentSize, header_bytes};
 ghost use Rattle.pfx_machine.specs.Plain.{empty};
-ghost use Rattle.pfx_store.specs.Standing.{Stands};
-ghost use Rattle.pfx_store.specs.Stores.{as_store, stored};
-ghost use Rattle.pfx_store.specs.Working.{IsDurable, IsMaking, IsNew, IsUnmade};
+ghost use Rattle.pfx_store.specs.Stores.{as_store};
+ghost use Rattle.pfx_store.specs.Working.{IsDurable, IsMaking, IsNew, IsUnmade, MakesStore};
 ghost use Rattle.pfx_store.specs.Making.{IsPrepared, making_calls};
 
 use crate::format::FileHeader;
@@ -74,17 +73,7 @@ fn placed<D: Disk, J: Job>(
     segment: u32,
 ) -> Result<Journal<D, J>, (InitFault, D)>
     requires { IsPrepared J.kind set.now segment state head.now spelled.items (vec_capacity frame) }
-    ensures fault { IfErr result (λ e. (e.0 ≡ InitFault.Device) ⊎ (e.0 ≡ InitFault.NotEmpty)) }
-    ensures unmade { IfErr result (λ e. IsUnmade D.view set.now.workers segment disk e) }
-    ensures vacant { IsHonest (D.view disk) → MatchResult result (λ _. (D.view disk).contents ≡ [])
-        (λ e. 0 < length (D.view disk).contents → Leaves Same (D.view disk) (D.view e.1)) }
-    ensures calls { IsMaking D.view (making_calls set.now segment) disk (as_store result) }
-    ensures made { IfOk result (λ store. IsNew set.now segment (stored store)) }
-    ensures stands { IsHonest (D.view disk) → IfOk result (λ store.
-        Stands J.kind store.file.places store.state store.spelled.items (D.view store.file.disk)) }
-    ensures recovers { IsHonest (D.view disk) → MatchResult result
-        (λ store. IsNoneOrMade (format J.kind) (empty set.now) (D.view disk) (D.view store.file.disk))
-        (λ e. IsNoneOrMade (format J.kind) (empty set.now) (D.view disk) (D.view e.1)) }
+    ensures { MakesStore D.view J.kind set.now segment disk (as_store result) }
 {
     let _number = state.number();
     match create_file::<D, FileHeader, State<J>>(disk, head, &spelled, segment as usize) {
@@ -107,17 +96,7 @@ fn made<D: Disk, J: Job>(
     segment: u32,
 ) -> Result<Journal<D, J>, (InitFault, D)>
     requires { IsSegmentSize set.now.workers segment }
-    ensures fault { IfErr result (λ e. (e.0 ≡ InitFault.Device) ⊎ ((e.0 ≡ InitFault.NotEmpty) ⊎ (e.0 ≡ InitFault.NoMemory))) }
-    ensures unmade { IfErr result (λ e. IsUnmade D.view set.now.workers segment disk e) }
-    ensures vacant { IsHonest (D.view disk) → MatchResult result (λ _. (D.view disk).contents ≡ [])
-        (λ e. 0 < length (D.view disk).contents → Leaves Same (D.view disk) (D.view e.1)) }
-    ensures calls { IsMaking D.view (making_calls set.now segment) disk (as_store result) }
-    ensures made { IfOk result (λ store. IsNew set.now segment (stored store)) }
-    ensures stands { IsHonest (D.view disk) → IfOk result (λ store.
-        Stands J.kind store.file.places store.state store.spelled.items (D.view store.file.disk)) }
-    ensures recovers { IsHonest (D.view disk) → MatchResult result
-        (λ store. IsNoneOrMade (format J.kind) (empty set.now) (D.view disk) (D.view store.file.disk))
-        (λ e. IsNoneOrMade (format J.kind) (empty set.now) (D.view disk) (D.view e.1)) }
+    ensures { MakesStore D.view J.kind set.now segment disk (as_store result) }
 {
     set.is_of_its_tasks();
     let Ok(state) = State::new(alloc, set) else {

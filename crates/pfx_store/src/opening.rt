@@ -9,7 +9,7 @@ ghost use Rattle.pfx_recover.specs.Answers.{IsRefusal};
 ghost use Rattle.pfx_recover.specs.Finding.{IsOpened};
 ghost use Rattle.pfx_recover.specs.Looking.{Looks};
 ghost use Rattle.pfx_recovery.specs.Recovery.{Found, found, recovered};
-ghost use Rattle.pfx_store_file.specs.Fitting.{Fits};
+ghost use Rattle.pfx_store_file.specs.Sizes.{HasSizes};
 ghost use Rattle.pfx_store_file.specs.Tending.{pieces, steps_left};
 ghost use Rattle.pfx_store.specs.Stores.{stored};
 ghost use Rattle.pfx_store.specs.Working.{Finds, IsDurable, Opens};
@@ -51,7 +51,7 @@ fn furnished<D: Disk, J: Job>(
     state: State<J>,
     middle: Option<Vec<u8>>,
 ) -> Result<Journal<D, J>, (OpenFault, D)>
-    requires sized { Fits (layout header.now) file.places }
+    requires sized { HasSizes (layout header.now) file.places.sizes }
     requires set { state.ledger.set ≡ header.now.set }
     ensures file { IfOk result (λ store. store.file ≡ file) }
     ensures state { IfOk result (λ store. store.state ≡ state) }
@@ -92,7 +92,7 @@ impl<D: Disk, J: Job> Store<D, J> {
         // If two segments were read a checkpoint is in progress, with all its steps to come; else there is none.
         ensures left { IsHonest (D.view disk) → IfOk result (λ store. (f : Found Header (Plain J))
             → found (format J.kind) (D.view disk).contents ≡ Ok f
-            → steps_left store.file.places ≡ (if f.parts.turned then 2 + pieces store.file.places.body else 0)) }
+            → steps_left store.file.places ≡ (if f.parts.turned then 2 + pieces store.file.places.sizes.body else 0)) }
 
         // From the return on each image is recovered to the state.
         ensures durable { IsHonest (D.view disk) → IfOk result (λ store.

@@ -1,18 +1,16 @@
 // Appending to a journal.
-ghost use Rattle.std.specs.Prelude.{◌≡◌, ◌≤◌, ◌<◌, ◌+◌, ◌*◌, ◌^◌, ◌++◌, ◌∷◌, [], length, map, take, slice_index, vec_capacity, Some, OnOk};
-ghost use Rattle.std.specs.Prelude.{IfOk, IsErrOf};
-ghost use Rattle.byteorder.specs.Endian.{little_number};
+ghost use Rattle.std.specs.Prelude.{◌≡◌, ◌≤◌, ◌<◌, ◌+◌, ◌*◌, ◌^◌, ◌++◌, ◌∷◌, [], length, map, vec_capacity, Some, OnOk, false};
+ghost use Rattle.std.specs.Prelude.{IfOk};
 ghost use Rattle.pfx_checkpoint.specs.Spelling.{state_bytes, state_len};
 ghost use Rattle.pfx_redo.specs.Applying.{applied};
 ghost use Rattle.pfx_machine.specs.Plain.{Plain, IsState};
-ghost use Rattle.pfx_record.specs.Batches.{batch_bytes, batch_of};
-ghost use Rattle.pfx_record.specs.Numbers.{number_bytes};
+ghost use Rattle.pfx_record.specs.Batches.{batch_bytes, batch_most, batch_of};
 ghost use Rattle.pfx_record.specs.Records.{plain};
 ghost use Rattle.pfx_store_file.specs.Tending.{TakesFrame, append_calls, room_calls};
 ghost use Rattle.pfx_store.specs.Files.{appending, appended, ending, ended};
-ghost use Rattle.pfx_store.specs.Standing.{IsBehind, Stands};
+ghost use Rattle.pfx_store.specs.Standing.{IsBehind};
 ghost use Rattle.pfx_store.specs.Stores.{stored};
-ghost use Rattle.pfx_store.specs.Working.{Commits, IsCall, IsNext, Makes, MakesRoom, MovesBy, StandsOn};
+ghost use Rattle.pfx_store.specs.Working.{BeginsBehind, IsCall, IsNext, Makes, MakesRoom, MovesBy, StandsAfter, StandsOn};
 
 use crate::format::FileHeader;
 use crate::journal::Journal;
@@ -37,10 +35,7 @@ pub struct Mark {
 // The bytes behind the gate of a segment whose first command comes behind this number.
 pub(crate) fn start_behind(number: u64) -> [u8; 9]
     requires { number < 2 ^ 48 }
-    ensures long { length result ≡ 9 }
-    ensures number { little_number 8 (take 8 result) ≡ number + 1 }
-    ensures closed { slice_index result 8 ≡ 0 }
-    ensures bytes { result ≡ number_bytes 8 (number + 1) ++ 0 ∷ [] }
+    ensures { BeginsBehind number result }
 {
     let mut start = [0; 9];
     LittleEndian::write_u64(&mut start[..8], number + 1);
@@ -60,11 +55,10 @@ pub(crate) fn encode<J: Job>(state: &State<J>, spelled: &mut Vec<u8>)
 
 // Encodes a frame, with the closed gate of the next one behind it.
 fn encode_frame<J: Job>(batch: &Batch<J>, frame: &mut Vec<u8>)
-    requires { 32 + 2096 * batch.now.workers ≤ vec_capacity frame.old }
+    requires { length (batch_bytes J.kind (batch_of batch.now.first batch.now.records.items)) < vec_capacity frame.old }
     ensures items { frame.new.items ≡ batch_bytes J.kind (batch_of batch.now.first batch.now.records.items) ++ 0 ∷ [] }
     ensures room { vec_capacity frame.old ≤ vec_capacity frame.new }
 {
-    let _len = batch_len(batch);
     frame.clear();
     write_batch(batch, frame);
     frame.push_reserved(0);
@@ -72,12 +66,10 @@ fn encode_frame<J: Job>(batch: &Batch<J>, frame: &mut Vec<u8>)
 
 // What stands behind a frame's gate: the rest of its encoding, and the closed gate of the next one.
 fn behind_gate<'a, J: Job>(batch: &Batch<J>, frame: &'a [u8]) -> &'a [u8]
-    requires { frame.now ≡ batch_bytes J.kind (batch_of batch.now.first batch.now.records.items) ++ 0 ∷ [] }
-    ensures pending { IsBehind (batch_bytes J.kind (batch_of batch.now.first batch.now.records.items)) result.now }
-    ensures len { length result.now ≡ length (batch_bytes J.kind (batch_of batch.now.first batch.now.records.items)) }
-    ensures some { 0 < length result.now }
+    requires spelled { frame.now ≡ batch_bytes J.kind (batch_of batch.now.first batch.now.records.items) ++ 0 ∷ [] }
+    requires short { length (batch_bytes J.kind (batch_of batch.now.first batch.now.records.items)) ≤ batch_most batch.now.workers }
+    ensures { IsBehind (batch_bytes J.kind (batch_of batch.now.first batch.now.records.items)) result.now }
 {
-    let _len = batch_len(batch);
     &frame[1..]
 }
 
@@ -91,10 +83,11 @@ fn take_over<J: Job>(state: &mut State<J>, batch: &Batch<J>)
 }
 
 impl<D: Disk, J: Job> Journal<D, J> {
-    // Where a frame of n bytes has no room: ends the checkpoint in progress, and encodes the state for the next one.
+    // Where a frame of n bytes has no room, in a file that isn't broken: ends the checkpoint in progress, and encodes the state for the
+    // next one.
     fn make_room(&mut self, n: usize) -> Result<(), StoreFault>
+        requires whole { self.old.file.broken ≡ false }
         ensures call { IsCall D.view (stored self.old) (stored self.new) result (room_calls n self.old.file.places) }
-        ensures state { self.new.state ≡ self.old.state }
         ensures frame { self.new.frame ≡ self.old.frame }
         ensures room { MakesRoom J.kind n (stored self.old) (stored self.new) result }
 
@@ -104,9 +97,6 @@ impl<D: Disk, J: Job> Journal<D, J> {
         // These calls of the disk, and the file after them.
         ensures acts { Makes D.view (stored self.old) (stored self.new) result J.kind (λ f. ending J.kind f n) (λ f. ended J.kind f n) (OnOk result) }
     {
-        if self.file.broken {
-            return Err(StoreFault::Broken);
-        }
         if self.file.has_room(n) {
             return Ok(());
         }
@@ -121,7 +111,6 @@ impl<D: Disk, J: Job> Journal<D, J> {
         requires next { IsNext J.kind self.old.state batch.now.workers batch.now.first (map plain batch.now.records.items) }
         ensures call { let n = length (batch_bytes J.kind (batch_of batch.now.first batch.now.records.items)) in
             IsCall D.view (stored self.old) (stored self.new) result (append_calls n self.old.file.places) }
-        ensures untouched { IsErrOf result StoreFault.Broken → self.new ≡ self.old }
         ensures state { MovesBy J.kind (map plain batch.now.records.items) result self.old.state self.new.state }
         ensures place { let n = length (batch_bytes J.kind (batch_of batch.now.first batch.now.records.items)) in
             OnOk result (TakesFrame n self.old.file.places self.new.file.places) }
@@ -130,11 +119,8 @@ impl<D: Disk, J: Job> Journal<D, J> {
 
         // The store goes on after the batch. At every moment what survived before survives, with the batch or without; from the
         // return on each image has the batch.
-        ensures stands { Stands J.kind self.old.file.places self.old.state self.old.spelled.items (D.view self.old.file.disk)
-            → OnOk result (Stands J.kind self.new.file.places self.new.state self.new.spelled.items (D.view self.new.file.disk)) }
-        ensures commits { Stands J.kind self.old.file.places self.old.state self.old.spelled.items (D.view self.old.file.disk)
-            → Commits J.kind self.old.state (batch_bytes J.kind (batch_of batch.now.first batch.now.records.items)) result
-            (D.view self.old.file.disk) (D.view self.new.file.disk) }
+        ensures stands { StandsAfter D.view J.kind (batch_bytes J.kind (batch_of batch.now.first batch.now.records.items))
+            (stored self.old) (stored self.new) result }
 
         // These calls of the disk, and the file after them.
         ensures acts { let frame = batch_bytes J.kind (batch_of batch.now.first batch.now.records.items) in

@@ -1,5 +1,5 @@
 // Turning a store to its other segment, and the checkpoint in progress.
-ghost use Rattle.std.specs.Prelude.{◌≡◌, true, Ok, OnOk, IsErrOf};
+ghost use Rattle.std.specs.Prelude.{◌≡◌, true, Ok, OnOk};
 ghost use Rattle.pfx_format.specs.Format.{format};
 ghost use Rattle.pfx_store_file.specs.Acts.{tended_file, turned_file};
 ghost use Rattle.pfx_store_file.specs.Tending.{next_step, calls_of, turn_calls};
@@ -19,7 +19,6 @@ impl<D: Disk, J: Job> Journal<D, J> {
     // Takes one step of the checkpoint in progress, as a store does.
     pub(crate) fn tend(&mut self) -> Result<Tended, StoreFault>
         ensures call { IsCall D.view (stored self.old) (stored self.new) result (calls_of (next_step self.old.file.places)) }
-        ensures untouched { IsErrOf result StoreFault.Broken → self.new ≡ self.old }
         ensures state { self.new.state ≡ self.old.state }
         ensures tends { Tends (stored self.old) (stored self.new) result }
 
@@ -39,7 +38,6 @@ impl<D: Disk, J: Job> Journal<D, J> {
     // Turns to the other segment, as a store does.
     pub(crate) fn turn(&mut self) -> Result<bool, StoreFault>
         ensures call { IsCall D.view (stored self.old) (stored self.new) result (turn_calls self.old.file.places) }
-        ensures untouched { IsErrOf result StoreFault.Broken → self.new ≡ self.old }
         ensures state { self.new.state ≡ self.old.state }
         ensures turns { Turns (stored self.old) (stored self.new) result }
 

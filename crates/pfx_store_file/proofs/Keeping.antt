@@ -18,8 +18,9 @@ use Rattle.pfx_recovery.proofs.Regions.{area_inside, segment_inside, area_of_seg
 use Rattle.pfx_recovery.proofs.Runs.{not_not, replays_one}
 use Rattle.pfx_recovery.proofs.Stands.{found_stands}
 use Rattle.pfx_recovery.proofs.Steps.{append_step, turn_step, turn_whole, close_step, piece_step, open_step, open_whole}
-use Rattle.pfx_store_file.specs.Fitting.{Fits, HasRoom, SameParts}
+use Rattle.pfx_store_file.specs.Fitting.{HasRoom}
 use Rattle.pfx_store_file.specs.Holding.{ArePlaces, IsGate, IsPending, IsKnown, IsBegun, Holds, Survives, KeepsAll}
+use Rattle.pfx_store_file.specs.Sizes.{HasSizes}
 use Rattle.pfx_store_file.specs.Tending.{settled, settled_unless, made_room}
 use Rattle.pfx_store_file.specs.declared.places.Places.{Places}
 
@@ -104,14 +105,14 @@ module _ {H S : Type 0} (K : Codec H S) (laws : Laws K) (h : H) where
     here = holds.images old.contents holds.honest.here
 
     -- the next frame's gate lies behind the first one's if there are frames
-    pub has_frames : places.end + 9 < places.gate + places.segment_len → 0 < length p.frames
+    pub has_frames : places.end + 9 < places.gate + places.sizes.segment → 0 < length p.frames
     has_frames behind = some p.frames (omega (arith, behind, holds.gate, holds.end, holds.fits.segment))
       where
         some : (frames : List (List ℕ)) → 0 < size frames → 0 < length frames
         some [] more = absurd (omega (arith, more))
         some (frame ∷ frames) more = omega arith
 
-    pub frames_behind : 0 < length p.frames → places.end + 9 < places.gate + places.segment_len
+    pub frames_behind : 0 < length p.frames → places.end + 9 < places.gate + places.sizes.segment
     frames_behind some = omega (arith, holds.gate, holds.end, holds.fits.segment, filled (segment_at (K.layout h) p.segment + 9) (segment_end (K.layout h) p.segment) p.frames old.contents here.store.current.are some)
       where
         filled : (gate end : ℕ) (frames : List (List ℕ)) (x : List ℕ) → AreFrames gate end frames x → 0 < length frames → 0 < size frames
@@ -183,7 +184,7 @@ module _ {H S : Type 0} (K : Codec H S) (laws : Laws K) (h : H) where
           stand = λ i below. area_agrees (area_at (K.layout h) (not p.area) + 1 + i) (omega arith) (omega (arith, below, length-take places.done spelling, b.long)) ∙ b.stand i below;
         }
 
-        pub append_holds : (then : Places) → Fits (K.layout h) then → then.area ≡ places.area → then.segment ≡ places.segment → then.turned ≡ places.turned → then.gate ≡ places.gate + length bytes → then.end ≡ places.end
+        pub append_holds : (then : Places) → HasSizes (K.layout h) then.sizes → then.area ≡ places.area → then.segment ≡ places.segment → then.turned ≡ places.turned → then.gate ≡ places.gate + length bytes → then.end ≡ places.end
             → then.area_open ≡ places.area_open → then.segment_open ≡ places.segment_open → then.begun ≡ places.begun → then.done ≡ places.done → Holds K h then (with_frame p (GATE_OPEN ∷ body)) t spelling new
         append_holds then fitting area segment turned gate end area_open segment_open begun done = record {
           honest = leaves.honest;
@@ -232,7 +233,7 @@ module _ {H S : Type 0} (K : Codec H S) (laws : Laws K) (h : H) where
       begin_keeps new leaves start all run = keeps_same old new holds.honest (Closing at places.area_open) leaves s start all run (λ x y now step. recovers K laws h y p s (closed x y now step))
 
       pub begin_holds : (new : View) → Leaves (Closing at places.area_open) old new → Only new.contents new → get_or new.contents at 0 ≢ GATE_OPEN → (code : List ℕ) → p.turned ≡ true → K.read_state h code ≡ Some p.middle → length code ≡ (K.layout h).body
-          → (then : Places) → Fits (K.layout h) then → then.area ≡ places.area → then.segment ≡ places.segment → then.turned ≡ places.turned → then.gate ≡ places.gate → then.end ≡ places.end
+          → (then : Places) → HasSizes (K.layout h) then.sizes → then.area ≡ places.area → then.segment ≡ places.segment → then.turned ≡ places.turned → then.gate ≡ places.gate → then.end ≡ places.end
           → then.area_open ≡ false → then.segment_open ≡ places.segment_open → then.done ≡ 0 → Holds K h then p s code new
       begin_holds new leaves only shut code turned read long then fitting area segment turned_is gate end area_open segment_open done = record {
         honest = leaves.honest;
@@ -288,7 +289,7 @@ module _ {H S : Type 0} (K : Codec H S) (laws : Laws K) (h : H) where
             inside = omega (arith, here.store.long, area_inside (K.layout h) (not p.area))
 
         pub piece_holds : (new : View) → Leaves (Torn (at + 1 + places.done) (length piece)) old new → Written (at + 1 + places.done) piece old.contents new.contents
-            → (then : Places) → Fits (K.layout h) then → then.area ≡ places.area → then.segment ≡ places.segment → then.turned ≡ places.turned → then.gate ≡ places.gate → then.end ≡ places.end
+            → (then : Places) → HasSizes (K.layout h) then.sizes → then.area ≡ places.area → then.segment ≡ places.segment → then.turned ≡ places.turned → then.gate ≡ places.gate → then.end ≡ places.end
             → then.area_open ≡ places.area_open → then.segment_open ≡ places.segment_open → then.done ≡ places.done + n → Holds K h then p s spelling new
         piece_holds new leaves written then fitting area segment turned gate end area_open segment_open done = record {
           honest = leaves.honest;
@@ -358,7 +359,7 @@ module _ {H S : Type 0} (K : Codec H S) (laws : Laws K) (h : H) where
               segment_of_area (K.layout h) (area_at (K.layout h) (not p.area)) (1 + length spelling) old.contents new.contents here.store.long a_here.torn (not p.area) (not p.segment) (omega (arith, b.long))
               (segment_at (K.layout h) (not p.segment)) (omega arith) (omega (arith, (K.layout h).room)) ∙ two.0.gate
 
-          pub finish_holds : (then : Places) → Fits (K.layout h) then → then.area ≡ not places.area → then.segment ≡ places.segment → then.turned ≡ false → then.gate ≡ places.gate → then.end ≡ places.end
+          pub finish_holds : (then : Places) → HasSizes (K.layout h) then.sizes → then.area ≡ not places.area → then.segment ≡ places.segment → then.turned ≡ false → then.gate ≡ places.gate → then.end ≡ places.end
               → then.area_open ≡ true → then.segment_open ≡ true → then.begun ≡ false → Holds K h then (finished p) s spelling new
           finish_holds then fitting area segment turned gate end area_open segment_open begun = record {
             honest = leaves.honest;
@@ -390,7 +391,7 @@ module _ {H S : Type 0} (K : Codec H S) (laws : Laws K) (h : H) where
           (turn_step K laws h p s places.segment_open bytes x y alone some nine spelled shut (known_open places.segment_open (segment_at (K.layout h) (not p.segment)) x ((holds.images x now).segment_gate alone)) (prepared_here x y step) (store_of x now)))
 
       pub turn_holds : (next : List ℕ) (new : View) → Leaves (Prepared at places.segment_open bytes) old new → Only new.contents new → StandAt at (GATE_OPEN ∷ bytes) new.contents
-          → (then : Places) → Fits (K.layout h) then → then.area ≡ places.area → then.segment ≡ not places.segment → then.turned ≡ true → then.gate ≡ at + 9 → then.end ≡ at + places.segment_len
+          → (then : Places) → HasSizes (K.layout h) then.sizes → then.area ≡ places.area → then.segment ≡ not places.segment → then.turned ≡ true → then.gate ≡ at + 9 → then.end ≡ at + places.sizes.segment
           → then.area_open ≡ places.area_open → then.begun ≡ false → Holds K h then (turned_at p s) s next new
       turn_holds next new leaves only stand then fitting area segment turned gate end area_open begun = record {
         honest = leaves.honest;
@@ -434,6 +435,3 @@ module _ {H S : Type 0} (K : Codec H S) (laws : Laws K) (h : H) where
 -- one call after another
 pub keeps_then : {H S : Type 0} (K : Codec H S) (start : S) (all more most : List (List ℕ)) (a b c : View) → a.clock ≤ b.clock → KeepsAll K start all more a b → KeepsAll K start more most b c → KeepsAll K start all most a c
 keeps_then K start all more most a b c later one two k n le before image is = two k n (omega (arith, le, later)) (λ i. one k n le before i) image is
-
-pub parts_then : (a b c : Places) → SameParts a b → SameParts b c → SameParts a c
-parts_then a b c one two = record { head = two.head ∙ one.head; body = two.body ∙ one.body; segment_len = two.segment_len ∙ one.segment_len; len = two.len ∙ one.len }

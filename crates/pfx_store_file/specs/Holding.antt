@@ -8,7 +8,7 @@ use Rattle.pfx_recovery.specs.Codec.{Codec}
 use Rattle.pfx_recovery.specs.Layout.{area_at, segment_at, segment_end, IsOpenAt, IsClosedAt}
 use Rattle.pfx_recovery.specs.Recovery.{recovered}
 use Rattle.pfx_recovery.specs.Store.{Parts, Replays, IsStore, next_gate}
-use Rattle.pfx_store_file.specs.Fitting.{Fits}
+use Rattle.pfx_store_file.specs.Sizes.{HasSizes}
 use Rattle.pfx_store_file.specs.declared.places.Places.{Places}
 
 -- the gate at this place stands so: open, or closed
@@ -61,7 +61,7 @@ module _ {H S : Type 0} (K : Codec H S) where
 
     -- the places are those of the store's parts
     pub record ArePlaces (p : Parts S) (places : Places) : Type 0 where
-      pub fits : Fits (K.layout h) places
+      pub fits : HasSizes (K.layout h) places.sizes
       pub area : places.area ≡ p.area
       pub segment : places.segment ≡ p.segment
       pub turned : places.turned ≡ p.turned
@@ -72,7 +72,7 @@ module _ {H S : Type 0} (K : Codec H S) where
     -- store's.
     pub record Holds (places : Places) (p : Parts S) (s : S) (spelling : List ℕ) (disk : View) : Type 0 where
       pub honest : IsHonest disk
-      pub fits : Fits (K.layout h) places
+      pub fits : HasSizes (K.layout h) places.sizes
       pub area : places.area ≡ p.area
       pub segment : places.segment ≡ p.segment
       pub turned : places.turned ≡ p.turned

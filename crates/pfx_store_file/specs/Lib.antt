@@ -3,5 +3,6 @@ pub mod Files
 pub mod Calls
 pub mod Fitting
 pub mod Holding
+pub mod Sizes
 pub mod Tending
 pub mod Working

@@ -9,7 +9,7 @@ use Rattle.pfx_store_file.specs.declared.checkpoint.Tended.TheVariants.{Nothing,
 
 -- the step that comes next
 abbrev pub next_step : Places → Tended
-next_step places = if places.turned then (if places.begun then (if nat_lt places.done places.body then Piece else Finished) else Closed) else Nothing
+next_step places = if places.turned then (if places.begun then (if nat_lt places.done places.sizes.body then Piece else Finished) else Closed) else Nothing
 
 -- how many calls of the disk a step takes
 abbrev pub calls_of : Tended → ℕ
@@ -24,11 +24,11 @@ pieces n = (n + (PIECE - 1)) / PIECE
 
 -- how many steps are to come until the checkpoint in progress has ended: the first, the pieces and the last
 abbrev pub steps_left : Places → ℕ
-steps_left places = if places.turned then (if places.begun then 1 + pieces (places.body - places.done) else 2 + pieces places.body) else 0
+steps_left places = if places.turned then (if places.begun then 1 + pieces (places.sizes.body - places.done) else 2 + pieces places.sizes.body) else 0
 
 -- how many calls of the disk they take
 abbrev pub calls_left : Places → ℕ
-calls_left places = if places.turned then (if places.begun then 3 + pieces (places.body - places.done) else 5 + pieces places.body) else 0
+calls_left places = if places.turned then (if places.begun then 3 + pieces (places.sizes.body - places.done) else 5 + pieces places.sizes.body) else 0
 
 -- how many it takes to make room for a frame of n bytes: none if it fits, else those of the steps to come
 abbrev pub room_calls : ℕ → Places → ℕ
@@ -40,7 +40,7 @@ append_calls n places = if nat_lt (places.gate + n) places.end then 4 else 10 + 
 
 -- how many a turn takes: none if it isn't lawful
 abbrev pub turn_calls : Places → ℕ
-turn_calls places = if places.turned then 0 else (if nat_lt (places.end + 9) (places.gate + places.segment_len) then 6 else 0)
+turn_calls places = if places.turned then 0 else (if nat_lt (places.end + 9) (places.gate + places.sizes.segment) then 6 else 0)
 
 -- after a turn: the segment that frames go to has none, and the checkpoint in progress has all its steps to come
 pub record IsTurned (places : Places) : Type 0 where
@@ -70,7 +70,7 @@ pub record MovesOn (n : ℕ) (old new : Places) : Type 0 where
 pub record IsTurnedBefore (n : ℕ) (places : Places) : Type 0 where
   pub turned : places.turned ≡ true
   pub begun : places.begun ≡ false
-  pub gate : places.end + 9 + n ≡ places.gate + places.segment_len
+  pub gate : places.end + 9 + n ≡ places.gate + places.sizes.segment
 
 -- how a frame of n bytes moves the places, whether it fits or not
 pub record TakesFrame (n : ℕ) (old new : Places) : Type 0 where

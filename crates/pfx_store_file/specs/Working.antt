@@ -8,7 +8,6 @@ use Rattle.pfx_recovery.specs.Codec.{Codec}
 use Rattle.pfx_recovery.specs.Store.{Parts, Replays}
 use Rattle.pfx_segment.specs.Segment.{Takes}
 use Rattle.pfx_store_file.specs.Calls.{Works}
-use Rattle.pfx_store_file.specs.Fitting.{SameParts}
 use Rattle.pfx_store_file.specs.Holding.{Holds, KeepsAll, Survives}
 use Rattle.pfx_store_file.specs.Tending.{StaysPut, calls_left, calls_of, next_step, steps_left}
 use Rattle.pfx_store_file.specs.declared.checkpoint.TheConstants.{PIECE}
@@ -22,8 +21,8 @@ use Rattle.pfx_store_file.specs.declared.places.Places.{Places}
 -- n bytes more of the checkpoint in progress may be written: it was begun, they aren't none, and the spelling has them
 pub record IsPiece (n : ℕ) (spelling : List ℕ) (places : Places) : Type 0 where
   pub some : 0 < n
-  pub fits : places.done + n ≤ places.body
-  pub long : length spelling ≡ places.body
+  pub fits : places.done + n ≤ places.sizes.body
+  pub long : length spelling ≡ places.sizes.body
   pub begun : places.begun ≡ true
 
 -- the places are so once the call succeeded, and as they were after a fault
@@ -47,7 +46,7 @@ module _ {D T : Type 0} {g : Ghosts D} (old new : StoreFile D g) (result : Resul
     pub honest : IsHonest (g.view old.disk) ↔ IsHonest (g.view new.disk)
     pub roomy : ¬ IsErrOf result NoRoom
     pub broken : IsErrOf result Broken → new ≡ old
-    pub parts : SameParts old.places new.places
+    pub parts : new.places.sizes ≡ old.places.sizes
 
   -- An append of n bytes, which takes four calls of the disk. It is such a call, but for a lack of room: that is the answer exactly if the
   -- file isn't broken and has no room for them, and then nothing was done.
@@ -58,7 +57,7 @@ module _ {D T : Type 0} {g : Ghosts D} (old new : StoreFile D g) (result : Resul
     pub no_room : IsErrOf result NoRoom ↔ (old.broken ≡ false) × (old.places.end ≤ old.places.gate + n)
     pub refused : IsErrOf result NoRoom → new ≡ old
     pub broken : IsErrOf result Broken → new ≡ old
-    pub parts : SameParts old.places new.places
+    pub parts : new.places.sizes ≡ old.places.sizes
 
   -- These calls of the disk, one after the other: all of them once it succeeded; some of them up to one that failed, if the device did;
   -- and no stop in between left anything else.
@@ -96,6 +95,6 @@ pub record Tends {D : Type 0} {g : Ghosts D} (old new : StoreFile D g) (result :
   pub stays : StaysPut old.places new.places
   pub same : OnErr result (new.places ≡ old.places)
   pub nothing : old.places.turned ≡ false → new ≡ old
-  pub piece : result ≡ Ok Piece → new.places.done ≡ min old.places.body (old.places.done + PIECE)
+  pub piece : result ≡ Ok Piece → new.places.done ≡ min old.places.sizes.body (old.places.done + PIECE)
   pub nearer : old.places.turned ≡ true → OnOk result (steps_left old.places ≡ 1 + steps_left new.places)
   pub fewer : OnOk result (calls_left old.places ≡ calls_of (next_step old.places) + calls_left new.places)

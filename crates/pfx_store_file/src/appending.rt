@@ -73,9 +73,9 @@ impl<D: Disk> StoreFile<D> {
         start: &[u8],
         frame: &[u8],
     ) -> Result<(), StoreFault>
-        requires frame { (0 < length frame.now) × (length frame.now + 9 < self.old.places.segment_len) }
+        requires frame { (0 < length frame.now) × (length frame.now + 9 < self.old.places.sizes.segment) }
         requires nine { length start.now ≡ 9 }
-        requires long { length spelling.now ≡ self.old.places.body }
+        requires long { length spelling.now ≡ self.old.places.sizes.body }
         ensures call { IsCall self.old self.new result (append_calls (length frame.now) self.old.places) }
         ensures place { OnOk result (TakesFrame (length frame.now) self.old.places self.new.places) }
         // The store goes on with the frame.

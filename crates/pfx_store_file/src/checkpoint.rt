@@ -13,7 +13,6 @@ ghost use Rattle.pfx_store_file.specs.Working.{Ends, IsCall, IsPiece, IsStep, Ke
 
 use crate::faults::StoreFault;
 use crate::file::StoreFile;
-use crate::places::Places;
 use pfx_disk::Disk;
 use pfx_segment::{close, open_gate};
 
@@ -54,7 +53,7 @@ impl<D: Disk> StoreFile<D> {
         ensures file { (K : Codec H S) → (f : File H S) → AreOf K f self.old.places
             → OnOk result (AreOf K (closed_file K f) self.new.places) }
     {
-        let at = self.places.area_at(!self.places.area);
+        let at = self.places.sizes.area_at(!self.places.area);
         self.broken = true;
         close(&mut self.disk, at, self.places.area_open)?;
         self.places.area_open = false;
@@ -79,7 +78,7 @@ impl<D: Disk> StoreFile<D> {
         ensures file { (K : Codec H S) → (f : File H S) → AreOf K f self.old.places
             → OnOk result (AreOf K (record f { done = f.done + n }) self.new.places) }
     {
-        let at = self.places.area_at(!self.places.area);
+        let at = self.places.sizes.area_at(!self.places.area);
         let done = self.places.done;
         self.broken = true;
         self.disk
@@ -92,7 +91,7 @@ impl<D: Disk> StoreFile<D> {
     // The last step: three calls.
     fn finish<H, S>(&mut self) -> Result<(), StoreFault>
         requires whole { self.old.broken ≡ false }
-        requires done { self.old.places.done ≡ self.old.places.body }
+        requires done { self.old.places.done ≡ self.old.places.sizes.body }
         requires begun { self.old.places.begun ≡ true }
         ensures call { IsCall self.old self.new result 3 }
         ensures step { IsStep result self.old.places self.new.places (self.new.places.turned ≡ false) }
@@ -104,25 +103,14 @@ impl<D: Disk> StoreFile<D> {
         ensures file { (K : Codec H S) → (f : File H S) → AreOf K f self.old.places
             → OnOk result (AreOf K (finished_file K f) self.new.places) }
     {
-        let at = self.places.area_at(!self.places.area);
+        let at = self.places.sizes.area_at(!self.places.area);
         self.broken = true;
         open_gate(&mut self.disk, at)?;
-        let old = self.places;
-        self.places = Places {
-            head: old.head,
-            body: old.body,
-            segment_len: old.segment_len,
-            len: old.len,
-            area: !old.area,
-            segment: old.segment,
-            turned: false,
-            gate: old.gate,
-            end: old.end,
-            area_open: true,
-            segment_open: true,
-            begun: false,
-            done: old.done,
-        };
+        self.places.area = !self.places.area;
+        self.places.turned = false;
+        self.places.begun = false;
+        self.places.area_open = true;
+        self.places.segment_open = true;
         self.broken = false;
         Ok(())
     }
@@ -135,7 +123,7 @@ impl<D: Disk> StoreFile<D> {
     /// by the last step; at every moment what survived before survives. The calls of the disk are those of that step, and
     /// the places are those of the file after it.
     pub fn tend<H, S>(&mut self, spelling: &[u8]) -> Result<Tended, StoreFault>
-        requires long { length spelling.now ≡ self.old.places.body }
+        requires long { length spelling.now ≡ self.old.places.sizes.body }
         ensures call { IsCall self.old self.new result (calls_of (next_step self.old.places)) }
         ensures tends { Tends self.old self.new result }
         // The store goes on, and its checkpoint has ended with the last step.
@@ -158,8 +146,8 @@ impl<D: Disk> StoreFile<D> {
             self.begin::<H, S>()?;
             return Ok(Tended::Closed);
         }
-        if self.places.done < self.places.body {
-            let left = self.places.body - self.places.done;
+        if self.places.done < self.places.sizes.body {
+            let left = self.places.sizes.body - self.places.done;
             self.write_piece::<H, S>(spelling, if left < PIECE { left } else { PIECE })?;
             return Ok(Tended::Piece);
         }
@@ -174,7 +162,7 @@ impl<D: Disk> StoreFile<D> {
     /// success the store holds so; at every moment what survived before survives. The calls of the disk are those of all
     /// these steps, and the places are those of the file after them.
     pub fn end_checkpoint<H, S>(&mut self, spelling: &[u8]) -> Result<(), StoreFault>
-        requires long { length spelling.now ≡ self.old.places.body }
+        requires long { length spelling.now ≡ self.old.places.sizes.body }
         ensures call { IsCall self.old self.new result (calls_left self.old.places) }
         ensures ends { Ends self.old self.new result }
         // The store goes on, with no checkpoint in progress.

@@ -6,6 +6,7 @@ ghost use Rattle.pfx_recovery.specs.Layout.{area_at, segment_at};
 ghost use Rattle.pfx_recovery.specs.Recovery.{found, found_of};
 ghost use Rattle.pfx_recovery.specs.Store.{Parts};
 ghost use Rattle.pfx_store_file.specs.Holding.{ArePlaces, Holds, IsGate};
+ghost use Rattle.pfx_store_file.specs.Sizes.{total_len};
 
 use crate::places::Places;
 use pfx_disk::Disk;
@@ -19,13 +20,13 @@ pub struct StoreFile<D: Disk> {
     pub places: Places,
     /// Whether a call of the disk has failed: then nothing is known of the gates, and no call is made any more.
     pub broken: bool,
-    ghost inside: { IsHonest (D.view disk) → places.len ≤ length (D.view disk).contents },
+    ghost inside: { IsHonest (D.view disk) → total_len places.sizes ≤ length (D.view disk).contents },
 }
 
 impl<D: Disk> StoreFile<D> {
     /// A store's file with these places on this disk.
     pub fn new<H, S>(disk: D, places: Places) -> StoreFile<D>
-        requires inside { IsHonest (D.view disk) → places.len ≤ length (D.view disk).contents }
+        requires inside { IsHonest (D.view disk) → total_len places.sizes ≤ length (D.view disk).contents }
         ensures disk { result.disk ≡ disk }
         ensures places { result.places ≡ places }
         ensures whole { result.broken ≡ false }

@@ -22,9 +22,11 @@ mod faults;
 mod file;
 pub mod laws;
 mod places;
+mod sizes;
 mod turning;
 
 pub use checkpoint::{PIECE, Tended};
 pub use faults::StoreFault;
 pub use file::StoreFile;
 pub use places::Places;
+pub use sizes::Sizes;

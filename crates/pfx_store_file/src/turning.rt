@@ -12,7 +12,6 @@ ghost use Rattle.pfx_store_file.specs.Working.{IsCall, Keeps, Makes, MovesTo};
 
 use crate::faults::StoreFault;
 use crate::file::StoreFile;
-use crate::places::Places;
 use pfx_disk::Disk;
 use pfx_segment::prepare;
 
@@ -24,7 +23,7 @@ impl<D: Disk> StoreFile<D> {
             → Holds K h self.now.places p s spelling (D.view self.now.disk)
             → IsTrue result ↔ (p.turned ≡ false) × (0 < length p.frames) }
     {
-        !self.places.turned && self.places.end + 9 < self.places.gate + self.places.segment_len
+        !self.places.turned && self.places.end + 9 < self.places.gate + self.places.sizes.segment
     }
 
     /// Goes on in the other segment, by six calls of the disk: that segment's gate is closed, if it stands open, or else
@@ -52,25 +51,16 @@ impl<D: Disk> StoreFile<D> {
         if self.broken {
             return Err(StoreFault::Broken);
         }
-        let at = self.places.segment_at(!self.places.segment);
+        let at = self.places.sizes.segment_at(!self.places.segment);
         self.broken = true;
         prepare(&mut self.disk, at, self.places.segment_open, start)?;
-        let old = self.places;
-        self.places = Places {
-            head: old.head,
-            body: old.body,
-            segment_len: old.segment_len,
-            len: old.len,
-            area: old.area,
-            segment: !old.segment,
-            turned: true,
-            gate: at + 9,
-            end: at + old.segment_len,
-            area_open: old.area_open,
-            segment_open: old.segment_open,
-            begun: false,
-            done: old.done,
-        };
+        let mut places = self.places;
+        places.segment = !places.segment;
+        places.turned = true;
+        places.begun = false;
+        places.gate = at + 9;
+        places.end = at + places.sizes.segment;
+        self.places = places;
         self.broken = false;
         Ok(())
     }

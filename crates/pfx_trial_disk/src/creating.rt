@@ -1,12 +1,12 @@
 //! A new store of two workers and three tasks of weight 2/3, with segments of 8,192 bytes, as its file is written down byte
-//! by byte: a header of 41 bytes, slots of 428, and 17,281 bytes in all.
+//! by byte: a header of 41 bytes, checkpoint areas of 428, and 17,281 bytes in all.
 
 use crate::check::{check, check_pair};
 use crate::held::{held, is_held};
 use pfx_create::laws::a_new_file_can_be_made;
 use pfx_create::{CreateFault, create, create_file, new_places};
 use pfx_disk::{Disk, Fate, FaultDisk, GATE_OPEN, MemoryDisk};
-use pfx_store_file::{PIECE, Places, StoreFile};
+use pfx_store_file::{PIECE, Places, Sizes, StoreFile};
 use std::alloc::Global;
 
 /// The gate, the letters PFXSTORE, version 1, two workers, three tasks, the segment's length, and the tasks.
@@ -219,12 +219,12 @@ const FRAME: [u8; 22] = [
 ];
 
 fn have_lengths(places: &Places) -> bool {
-    places.head == 41
-        && places.body == 427
-        && places.segment_len == 8192
+    places.sizes.head == 41
+        && places.sizes.body == 427
+        && places.sizes.segment == 8192
         && places.gate == 906
         && places.end == 9089
-        && places.len == LEN
+        && places.sizes.file_len() == LEN
 }
 
 fn are_at_the_start(places: &Places) -> bool {
@@ -258,6 +258,11 @@ fn a_new_file_takes_a_frame(rt: HostRuntime) {
     check(&rt, have_lengths(&file.places), "lengths");
     check(&rt, are_at_the_start(&file.places), "the start");
     check(&rt, !file.broken, "broken");
-    check(&rt, new_places(41, 427, 8192).gate == 906, "the gate");
+    let sizes = Sizes {
+        head: 41,
+        body: 427,
+        segment: 8192,
+    };
+    check(&rt, new_places(sizes).gate == 906, "the gate");
     check(&rt, takes_frame(alloc, file) == Some(true), "the frame");
 }

@@ -1,4 +1,4 @@
-//! Small files: a header of two bytes, slots of a gate and eight bytes, of which the first two are a number and a sum,
+//! Small files: a header of two bytes, checkpoint areas of a gate and eight bytes, of which the first two are a number and a sum,
 //! segments of 42 bytes, and frames of 16 bytes, whose one record is a byte that is added to the sum.
 ghost use Rattle.std.specs.Prelude.{◌≡◌, ◌+◌, ◌<◌, length};
 
@@ -102,7 +102,7 @@ fn a_new_file_has_no_frame(rt: HostRuntime) {
     check(&rt, opened.header == 32, "header");
     check(&rt, is_in(&opened.file, false, false, false), "in use");
     check(&rt, ends_at(&opened.file, 29, 62), "gate and end");
-    check(&rt, opened.file.places.len == LEN, "length");
+    check(&rt, opened.file.places.sizes.file_len() == LEN, "length");
     check(&rt, stand_open(&opened.file, false, false), "other gates");
     check(&rt, opened.middle.is_none(), "middle");
     check(&rt, !opened.file.broken, "broken");
@@ -125,7 +125,7 @@ fn a_closed_gate_ends_the_frames(rt: HostRuntime) {
 // Both areas and both segments are open: the area with the greater number is taken, and the segment of lower numbers is
 // passed over.
 #[test]
-fn the_newer_slot_is_taken(rt: HostRuntime) {
+fn the_newer_area_is_taken(rt: HostRuntime) {
     let mut bytes = two_segments();
     bytes[11] = GATE_OPEN;
     bytes[12] = 2;
@@ -217,7 +217,7 @@ fn a_file_of_another_length_is_refused(rt: HostRuntime) {
 
 /// Whether the checkpoint's next step is this one.
 fn takes_step(file: &mut StoreFile<MemoryDisk>, middle: &[u8], step: Tended) -> bool {
-    middle.len() == file.places.body && file.tend::<u8, Tally>(middle) == Ok(step)
+    middle.len() == file.places.sizes.body && file.tend::<u8, Tally>(middle) == Ok(step)
 }
 
 /// Whether the file opens at the same state, with the checkpoint ended.

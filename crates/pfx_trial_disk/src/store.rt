@@ -1,41 +1,33 @@
-//! Small files of the codec of `pfx_recovery`'s worked rows: a header of two bytes, slots of a gate, a number and a sum,
+//! Small files of the codec of `pfx_recovery`'s worked rows: a header of two bytes, checkpoint areas of a gate, a number and a sum,
 //! segments of 42 bytes, and frames of 16 bytes, whose one record is a byte that is added to the sum.
 ghost use Rattle.std.specs.Prelude.{◌≡◌, IfSome};
+ghost use Rattle.pfx_store_file.specs.Sizes.{total_len};
 
 use crate::check::{check, check_at, check_pair};
 use crate::held::{has_failed_at, held};
+use pfx_create::new_places;
 use pfx_disk::{Disk, Fate, FaultDisk, GATE_OPEN, MemoryDisk};
 use pfx_store_file::laws::{calls_compose, store_is_recovered};
-use pfx_store_file::{Places, StoreFault, StoreFile, Tended};
+use pfx_store_file::{Places, Sizes, StoreFault, StoreFile, Tended};
 use std::alloc::Global;
 
 const LEN: usize = 92;
 
-const SLOTS: [usize; 2] = [2, 5];
+const AREAS: [usize; 2] = [2, 5];
 
 const SEGMENTS: [usize; 2] = [8, 50];
 
 /// The places of a new file.
 fn places() -> Places
-    ensures len { result.len ≡ 92 }
-    ensures body { result.body ≡ 2 }
-    ensures segment { result.segment_len ≡ 42 }
+    ensures len { total_len result.sizes ≡ 92 }
+    ensures body { result.sizes.body ≡ 2 }
+    ensures segment { result.sizes.segment ≡ 42 }
 {
-    Places {
+    new_places(Sizes {
         head: 2,
         body: 2,
-        segment_len: 42,
-        len: LEN,
-        area: false,
-        segment: false,
-        turned: false,
-        gate: 17,
-        end: 50,
-        area_open: false,
-        segment_open: false,
-        begun: false,
-        done: 0,
-    }
+        segment: 42,
+    })
 }
 
 /// The bytes of a new file: the first area and the first segment are open, and all else is 0.
@@ -93,9 +85,9 @@ fn plain_segment(image: &[u8], segment: usize, state: (u8, u8)) -> (u8, u8) {
 fn plain(image: &[u8]) -> (u8, u8) {
     let mut state = (0, 0);
     let mut found = false;
-    for slot in SLOTS {
-        let here = (byte(image, slot + 1), byte(image, slot + 2));
-        if is_open(image, slot) && (!found || here.0 > state.0) {
+    for area in AREAS {
+        let here = (byte(image, area + 1), byte(image, area + 2));
+        if is_open(image, area) && (!found || here.0 > state.0) {
             state = here;
             found = true;
         }
@@ -107,8 +99,8 @@ fn plain(image: &[u8]) -> (u8, u8) {
 }
 
 fn file_in_memory(alloc: Global) -> Option<StoreFile<MemoryDisk>>
-    ensures body { IfSome result (λ file. file.places.body ≡ 2) }
-    ensures segment { IfSome result (λ file. file.places.segment_len ≡ 42) }
+    ensures body { IfSome result (λ file. file.places.sizes.body ≡ 2) }
+    ensures segment { IfSome result (λ file. file.places.sizes.segment ≡ 42) }
 {
     let disk = MemoryDisk::new(alloc, &new_bytes(), LEN, 200, 400).ok()?;
     Some(StoreFile::new::<u8, (u8, u8)>(disk, places()))
@@ -172,8 +164,8 @@ fn a_frame_that_does_not_fit_makes_no_call(rt: HostRuntime) {
 
 /// Two frames fill the first segment; the third turns, and the checkpoint at number 2 takes three steps.
 fn run<D: Disk>(file: &mut StoreFile<D>, clocks: &mut [u64; 6]) -> Result<(), StoreFault>
-    requires body { file.old.places.body ≡ 2 }
-    requires segment { file.old.places.segment_len ≡ 42 }
+    requires body { file.old.places.sizes.body ≡ 2 }
+    requires segment { file.old.places.sizes.segment ≡ 42 }
 {
     clocks[0] = file.disk.clock();
     file.append::<u8, (u8, u8)>(&frame(1, 5))?;
@@ -203,7 +195,7 @@ fn turned(alloc: Global) -> Option<StoreFile<MemoryDisk>> {
 
 /// Whether the checkpoint's next step is this one, and so many calls are made then.
 fn takes_step(file: &mut StoreFile<MemoryDisk>, step: Tended, calls: u64) -> bool {
-    file.places.body == 2
+    file.places.sizes.body == 2
         && file.tend::<u8, (u8, u8)>(&[1, 5]) == Ok(step)
         && file.disk.clock() == calls
 }
@@ -332,7 +324,7 @@ fn a_failed_call_breaks_the_file(rt: HostRuntime) {
 fn ended(alloc: Global) -> Option<MemoryDisk> {
     let mut file = file_in_memory(alloc)?;
     store_is_recovered::<MemoryDisk, u8, (u8, u8)>(&file);
-    if file.places.body != 2 {
+    if file.places.sizes.body != 2 {
         return None;
     }
     file.end_checkpoint::<u8, (u8, u8)>(&[0, 0]).ok()?;

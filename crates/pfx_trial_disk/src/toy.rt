@@ -2,7 +2,8 @@
 ghost use Rattle.std.specs.Prelude.{◌≡◌, ◌<◌, ℕ, slice_index};
 ghost use Rattle.pfx_recover.specs.ToyCodec.{small_codec, is_small, small};
 
-use pfx_recover::{Format, HeadFault, Refusal, Sizes};
+use pfx_recover::{Format, HeadFault, Refusal};
+use pfx_store_file::Sizes;
 use std::alloc::{AllocError, Global};
 use std::marker::Model;
 

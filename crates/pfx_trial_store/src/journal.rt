@@ -14,7 +14,7 @@ use std::alloc::Global;
 
 const LEN: usize = 17_281;
 
-/// The header, and where it ends the first slot's gate.
+/// The header, and where it ends the first checkpoint area's gate.
 const HEAD: [u8; 42] = [
     0xc3, 0x50, 0x46, 0x58, 0x53, 0x54, 0x4f, 0x52, 0x45, 1, 2, 3, 0, 0, 0x20, 0, 0, 2, 0, 0, 0, 3,
     0, 0, 0, 2, 0, 0, 0, 3, 0, 0, 0, 2, 0, 0, 0, 3, 0, 0, 0, 0xc3,
@@ -301,7 +301,7 @@ fn an_appended_frame_is_its_bytes(rt: HostRuntime) {
     }
 }
 
-/// The byte of the slot with the state after one slot of tasks 0 and 1: its gate, the number, the slot, and a row of 137
+/// The byte of the checkpoint area with the state after one slot of tasks 0 and 1: its gate, the number, the slot, and a row of 137
 /// bytes for each task, which begins with what the task got.
 fn byte_of_checkpoint(i: usize) -> u8 {
     match i {

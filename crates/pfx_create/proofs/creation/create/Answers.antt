@@ -1,7 +1,7 @@
 use Rattle.std.proofs.Common.{sym, ◌∙◌, arith}
 use Rattle.pfx_recovery.specs.NewFile.{new_file}
 use Rattle.pfx_create.specs.Creating.{number_one}
-use Rattle.pfx_create.proofs.Creations.{opens, looked_at, begun, synced, opened, ended, attempted, lengths, none_or_made, whole_is_recovered, gate_opened}
+use Rattle.pfx_create.proofs.Creations.{opens, looked_at, begun, synced, opened, ended, attempted, lengths, none_or_made, was_empty, whole_is_recovered, gate_opened}
 use Rattle.pfx_create.proofs.creation.create.Goals as goal
 
 pub returns-in_err-write_unopened-clause-attempts : goal.returns-in_err-write_unopened-clause-attempts
@@ -134,3 +134,17 @@ returns-clause-acknowledged g c K h s made honest image is =
     (c.in_ok-sync-2.ensures.durable l3.honest image (g.met.D.Disk.only_now c.sync-2.new.self image is)
     ∙ gate_opened file (g.D.Disk.view c.sync.new.self).contents (g.D.Disk.view c.write_at.new.self).contents (opens (K.layout h) c.args.head.now c.args.body.now c.args.segment has c.requires.gate)
     (l2.contents ∙ c.in_ok-write_unopened.ensures.written l0.honest (K.layout h) has) (c.in_ok-write_at.ensures.written l2.honest))
+
+pub returns-clause-made : goal.returns-clause-made
+returns-clause-made g c honest =
+    let l0 = c.len.ensures.leaves honest in
+    let l1 = c.write_unopened.ensures.leaves l0.honest in
+    let l2 = c.sync.ensures.leaves l1.honest in
+    let l3 = c.write_at.ensures.leaves l2.honest in
+    let l4 = c.sync-2.ensures.leaves l3.honest in
+    record {
+      empty = was_empty _ _ (c.in_ok-len.ensures.length honest) c.if-branch-ne0.false;
+      written = λ L has. l4.contents ∙ gate_opened (new_file L c.args.head.now c.args.body.now number_one) (g.D.Disk.view c.sync.new.self).contents (g.D.Disk.view c.write_at.new.self).contents
+          (opens L c.args.head.now c.args.body.now c.args.segment has c.requires.gate) (l2.contents ∙ c.in_ok-write_unopened.ensures.written l0.honest L has) (c.in_ok-write_at.ensures.written l2.honest);
+      durable = λ image is. c.in_ok-sync-2.ensures.durable l3.honest image is ∙ sym l4.contents;
+    }

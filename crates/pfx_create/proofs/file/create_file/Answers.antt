@@ -1,6 +1,7 @@
-use Rattle.std.proofs.Common.{◌≡◌, ◌∙◌, ap, subst, sym, length, arith}
+use Rattle.std.proofs.Common.{◌≡◌, ◌∙◌, ap, subst, sym, length, arith, refl}
 use Rattle.pfx_recovery.specs.NewFile.{new_parts}
 use Rattle.pfx_recovery.specs.Recovery.{found}
+use Rattle.pfx_store_file.specs.Sizes.{total_len}
 use Rattle.pfx_create.specs.Attempts.{IsNoneOrMade}
 use Rattle.pfx_create.proofs.NewBytes.{some_layout}
 use Rattle.pfx_create.proofs.Creations.{lengths, whole_is_found}
@@ -12,8 +13,8 @@ new-requires g c = record {
   inside = λ now.
       let places = c.new_places-places.result in
       let some = some_layout c.args.head.now c.args.body.now c.args.segment c.requires.limits.room in
-      let long : places.len ≡ length (g.D.Disk.view c.create.new.disk).contents = as_long some.0 c.args.head.now c.args.body.now c.args.segment places.len places.head places.body places.segment_len (g.D.Disk.view c.create.new.disk).contents some.1
-      c.new_places-places.ensures.head c.new_places-places.ensures.body c.new_places-places.ensures.segment_len places.whole
+      let long : total_len places.sizes ≡ length (g.D.Disk.view c.create.new.disk).contents = as_long some.0 c.args.head.now c.args.body.now c.args.segment (total_len places.sizes) places.sizes.head places.sizes.body places.sizes.segment (g.D.Disk.view c.create.new.disk).contents some.1
+      c.new_places-places.ensures.head c.new_places-places.ensures.body c.new_places-places.ensures.segment_len refl
       ((c.in-Ok.ensures.made (c.create.ensures.attempts.honest.1 now)).written some.0 some.1) in
       omega (arith, long);
 }

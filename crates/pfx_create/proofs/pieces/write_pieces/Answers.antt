@@ -13,11 +13,19 @@ write_piece-requires-clause-end g c now =
     let inside : 1 + c.loop-i.i * 4096 < len_of c.args.head.now c.args.body.now c.args.segment = search rules in
     long_so_far some.0 c.args.head.now c.args.body.now c.args.segment (1 + c.loop-i.i * 4096) (g.D.Disk.view c.loop-i.disk).contents some.1 inside (inv.written (inv.honest now) some.0 some.1)
 
-pub returns-in_err-write_piece-clause-leaves : goal.returns-in_err-write_piece-clause-leaves
-returns-in_err-write_piece-clause-leaves g c honest =
-    let view = g.D.Disk.view in
-    let so_far = c.loop-i.invariant.leaves honest in
-    stays_then (view c.args.disk.now) (view c.loop-i.disk) (view c.write_piece.new.disk) (omega (arith, c.loop-i.invariant.clock)) so_far (c.write_piece.ensures.leaves so_far.honest)
+pub returns-in_err-write_piece : goal.returns-in_err-write_piece
+returns-in_err-write_piece g c = record {
+  call = record {
+    failed = search rules;
+    takes = record { ok = search rules; later = search rules; at_most = search rules; no_fewer = search rules };
+    honest = search rules;
+  };
+  leaves = λ honest.
+      let view = g.D.Disk.view in
+      let so_far = c.loop-i.invariant.leaves honest in
+      stays_then (view c.args.disk.now) (view c.loop-i.disk) (view c.write_piece.new.disk) (omega (arith, c.loop-i.invariant.clock)) so_far (c.write_piece.ensures.leaves so_far.honest);
+  written = search rules;
+}
 
 pub loop-i-preserved : goal.loop-i-preserved
 loop-i-preserved g c =
@@ -32,7 +40,15 @@ loop-i-preserved g c =
           (c.in_ok-write_piece.ensures.written (inv.leaves honest).honest L has (inv.written honest L has));
     }
 
-pub returns-clause-written : goal.returns-clause-written
-returns-clause-written g c honest L has =
-    let past : len_of c.args.head.now c.args.body.now c.args.segment ≤ 1 + c.loop-i.i * 4096 = search rules in
-    c.loop-i.invariant.written honest L has ∙ whole_at_last L c.args.head.now c.args.body.now c.args.segment (1 + c.loop-i.i * 4096) has past
+pub returns : goal.returns
+returns g c = record {
+  call = record {
+    failed = search rules;
+    takes = record { ok = search rules; later = search rules; at_most = search rules; no_fewer = search rules };
+    honest = search rules;
+  };
+  leaves = search rules;
+  written = λ honest L has.
+      let past : len_of c.args.head.now c.args.body.now c.args.segment ≤ 1 + c.loop-i.i * 4096 = search rules in
+      c.loop-i.invariant.written honest L has ∙ whole_at_last L c.args.head.now c.args.body.now c.args.segment (1 + c.loop-i.i * 4096) has past;
+}

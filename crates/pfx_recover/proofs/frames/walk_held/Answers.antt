@@ -7,12 +7,12 @@ returns-then-bytes-at-clause-exact g c image is n long =
 
 pub returns-in_default-clause-exact : goal.returns-in_default-clause-exact
 returns-in_default-clause-exact g c image is n long =
-    let wrong = rw c.in_default.is at c.head_at.ensures.none in
+    let wrong = rw c.in_default.is at c.head_at.ensures in
     held_wrong c.args.first c.args.bytes.now image is g.F.Format.codec c.args.number c.walk.at c.walk.last (c.walk.invariant.walks image is) c.walk.invariant.order c.if-bytes-at.false wrong n long
 
 pub walk-preserved : goal.walk-preserved
 walk-preserved g c =
-    let of = c.in-Some.ensures.head in
+    let of = c.in-Some.ensures in
     record {
       order = of.fits;
       last = g.met.F.Format.bounds.after _ _ _ of.after;

@@ -26,7 +26,7 @@ returns-in-None g c =
     let behind = map plain c.deref-in-None.result.now in
     IfOk-weaker c.judge_trail.result _ _ (λ found given p t is area segment turned.
     let same = base_is K L h image p t is c.args.area c.args.segment c.args.turned area segment turned c.area_at-at.result c.sizes-sizes.result.body base
-    (c.area_at-at.ensures.at (layout h) c.sizes-sizes.ensures) c.sizes-sizes.ensures.body read in
+    (c.area_at-at.ensures.at (layout h) c.sizes-sizes.ensures.sizes) c.sizes-sizes.ensures.sizes.body read in
     let all = found_by K L h image p t is c.args.area c.args.segment c.args.turned area segment turned (λ before frames. map plain c.in-Some-2.behind.items ≡ records_in K h.set.workers (before ++ frames)) records in
     verdict_none K L h image p t is c.args.area c.args.segment c.args.turned area segment turned found base behind same (ap (λ l. map plain l) c.deref-in-None.ensures.value ∙ all)
     (way p area segment (ap (λ (s : Plain _). s.number) (sym same) ∙ sym c.number.ensures.number))
@@ -63,7 +63,7 @@ returns g c =
     ∙ ap (λ k. records_in K k frames) (c.workers.ensures ∙ ap (λ (s : _). s.workers) c.set.ensures.set) in
     IfOk-weaker c.judge_trail-in-Some-3.result _ _ (λ found given p t is area segment turned.
     let same = base_is K L h image p t is c.args.area c.args.segment c.args.turned area segment turned c.area_at-at.result c.sizes-sizes.result.body base
-    (c.area_at-at.ensures.at (layout h) c.sizes-sizes.ensures) c.sizes-sizes.ensures.body read in
+    (c.area_at-at.ensures.at (layout h) c.sizes-sizes.ensures.sizes) c.sizes-sizes.ensures.sizes.body read in
     let all = found_by K L h image p t is c.args.area c.args.segment c.args.turned area segment turned (λ before frames. map plain c.in-Some-2.behind.items ≡ records_in K h.set.workers (before ++ frames)) records in
     verdict_some K L h image p t is c.args.area c.args.segment c.args.turned area segment turned found start base frames before behind same led (ap (λ l. map plain l) c.deref-in-Some-3-3.ensures.value ∙ all)
     (way p area segment (ap (λ (s : Plain _). s.number) (sym same) ∙ sym c.number.ensures.number)) given) c.judge_trail-in-Some-3.ensures

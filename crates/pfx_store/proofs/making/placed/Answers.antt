@@ -9,7 +9,7 @@ use Rattle.pfx_store.specs.Standing.{Stands}
 use Rattle.std.proofs.lemmas.Bool.{true≢false}
 use Rattle.pfx_store.proofs.Counts.{takes_told}
 use Rattle.pfx_store.proofs.Made.{file_short, gate_of, made_calls, made_of, new_stands, unmade_refused}
-use Rattle.pfx_store.proofs.Slots.{state_long}
+use Rattle.pfx_store.proofs.Areas.{state_long}
 use Rattle.pfx_store.proofs.making.placed.Goals as goal
 
 pub create_file-requires : goal.create_file-requires
@@ -37,96 +37,99 @@ invariant_of-result g c =
       room = omega (arith, room, workers);
     }
 
-pub returns-in-Ok-clause-stands : goal.returns-in-Ok-clause-stands
-returns-in-Ok-clause-stands g c honest =
-    let K = g.J.Job.kind in
-    let set = c.args.set.now in
-    let h : Header = record { set = set; segment = c.args.segment } in
-    let state : IsState (empty set) = subst IsState c.requires.empty c.number-number.ensures.state in
-    let made = made_of K g.met.J.Job.laws h c.args.head.now c.deref.result.now c.args.segment c.requires.header state c.requires.head (c.deref.ensures.value ∙ c.requires.spelled) refl in
-    subst (λ (s : Plain g.row.J.Denot). Stands K c.in-Ok.file.places s c.args.spelled.items (g.D.Disk.view c.in-Ok.file.disk)) (sym c.requires.empty)
-    (new_stands K h c.in-Ok.file.places (empty set) c.args.spelled.items (g.D.Disk.view c.in-Ok.file.disk) (c.in-Ok.ensures.holds (format K) h (empty set) made honest) refl)
-
-pub returns-in-Ok-clause-recovers : goal.returns-in-Ok-clause-recovers
-returns-in-Ok-clause-recovers g c honest =
-    let K = g.J.Job.kind in
-    let set = c.args.set.now in
-    let h : Header = record { set = set; segment = c.args.segment } in
-    let state : IsState (empty set) = subst IsState c.requires.empty c.number-number.ensures.state in
-    let made = made_of K g.met.J.Job.laws h c.args.head.now c.deref.result.now c.args.segment c.requires.header state c.requires.head (c.deref.ensures.value ∙ c.requires.spelled) refl in
-    c.in-Ok.ensures.recovers (format K) h (empty set) made (unmade_refused K) honest
-
-pub returns-in-Err-Device-default-clause-recovers :
-    goal.returns-in-Err-Device-default-clause-recovers
-returns-in-Err-Device-default-clause-recovers g c honest =
-    let K = g.J.Job.kind in
-    let set = c.args.set.now in
-    let h : Header = record { set = set; segment = c.args.segment } in
-    let state : IsState (empty set) = subst IsState c.requires.empty c.number-number.ensures.state in
-    let made = made_of K g.met.J.Job.laws h c.args.head.now c.deref.result.now c.args.segment c.requires.header state c.requires.head (c.deref.ensures.value ∙ c.requires.spelled) refl in
-    c.in-Err-Device-default.ensures.recovers (format K) h (empty set) made (unmade_refused K) honest
-
-pub returns-clause-recovers : goal.returns-clause-recovers
-returns-clause-recovers g c honest =
-    let K = g.J.Job.kind in
-    let set = c.args.set.now in
-    let h : Header = record { set = set; segment = c.args.segment } in
-    let state : IsState (empty set) = subst IsState c.requires.empty c.number-number.ensures.state in
-    let made = made_of K g.met.J.Job.laws h c.args.head.now c.deref.result.now c.args.segment c.requires.header state c.requires.head (c.deref.ensures.value ∙ c.requires.spelled) refl in
-    c.in-Err-NotEmpty-default.ensures.recovers (format K) h (empty set) made (unmade_refused K) honest
-
-pub returns-in-Ok-clause-calls : goal.returns-in-Ok-clause-calls
-returns-in-Ok-clause-calls g c =
-    let h : Header = record { set = c.args.set.now; segment = c.args.segment } in
-    let state : IsState (empty c.args.set.now) = subst IsState c.requires.empty c.number-number.ensures.state in
-    let head = ap length c.requires.head ∙ header_long h c.requires.header in
-    let body = ap length (c.deref.ensures.value ∙ c.requires.spelled) ∙ state_long g.J.Job.kind g.met.J.Job.laws (empty c.args.set.now) state in
-    record {
-      calls_made = search rules;
-      takes = takes_told _ _ _ _ _ _ (made_calls h (length c.args.head.now) (length c.deref.result.now) c.args.segment c.requires.header head body refl) (λ _. refl) c.in-Ok.ensures.call.takes;
-      honest = c.in-Ok.ensures.call.honest;
-    }
-
-pub returns-in-Err-Device-default-clause-calls : goal.returns-in-Err-Device-default-clause-calls
-returns-in-Err-Device-default-clause-calls g c =
-    let h : Header = record { set = c.args.set.now; segment = c.args.segment } in
-    let state : IsState (empty c.args.set.now) = subst IsState c.requires.empty c.number-number.ensures.state in
-    let head = ap length c.requires.head ∙ header_long h c.requires.header in
-    let body = ap length (c.deref.ensures.value ∙ c.requires.spelled) ∙ state_long g.J.Job.kind g.met.J.Job.laws (empty c.args.set.now) state in
-    record {
-      calls_made = search rules;
-      takes = takes_told _ _ _ _ _ _ (made_calls h (length c.args.head.now) (length c.deref.result.now) c.args.segment c.requires.header head body refl) (λ is. absurd (true≢false (sym is))) c.in-Err-Device-default.ensures.call.takes;
-      honest = c.in-Err-Device-default.ensures.call.honest;
-    }
-
-pub returns-clause-calls : goal.returns-clause-calls
-returns-clause-calls g c =
-    let h : Header = record { set = c.args.set.now; segment = c.args.segment } in
-    let state : IsState (empty c.args.set.now) = subst IsState c.requires.empty c.number-number.ensures.state in
-    let head = ap length c.requires.head ∙ header_long h c.requires.header in
-    let body = ap length (c.deref.ensures.value ∙ c.requires.spelled) ∙ state_long g.J.Job.kind g.met.J.Job.laws (empty c.args.set.now) state in
-    record {
-      calls_made = search rules;
-      takes = takes_told _ _ _ _ _ _ (made_calls h (length c.args.head.now) (length c.deref.result.now) c.args.segment c.requires.header head body refl) (λ is. absurd (true≢false (sym is))) c.in-Err-NotEmpty-default.ensures.call.takes;
-      honest = c.in-Err-NotEmpty-default.ensures.call.honest;
-    }
-
-pub returns-in-Err-Device-default-clause-unmade : goal.returns-in-Err-Device-default-clause-unmade
-returns-in-Err-Device-default-clause-unmade g c = record {
-  size = c.requires.header.segment;
-  device = λ is. c.in-Err-Device-default.ensures.call.failed c.in-Err-Device-default.field-0-0-is;
-  not_empty = λ honest is. search rules;
-  one_call = λ is. search rules;
-  unasked = λ never. search rules;
+pub returns-in-Ok : goal.returns-in-Ok
+returns-in-Ok g c = record {
+  unmade = search rules;
+  vacant = λ honest. (c.in-Ok.ensures.made honest).empty;
+  calls =
+      let h : Header = record { set = c.args.set.now; segment = c.args.segment } in
+      let state : IsState (empty c.args.set.now) = subst IsState c.requires.empty c.number-number.ensures.state in
+      let head = ap length c.requires.head ∙ header_long h c.requires.header in
+      let body = ap length (c.deref.ensures.value ∙ c.requires.spelled) ∙ state_long g.J.Job.kind g.met.J.Job.laws (empty c.args.set.now) state in
+      record {
+        calls_made = search rules;
+        takes = takes_told _ _ _ _ _ _ (made_calls h (length c.args.head.now) (length c.deref.result.now) c.args.segment c.requires.header head body refl) (λ _. refl) c.in-Ok.ensures.call.takes;
+        honest = c.in-Ok.ensures.call.honest;
+      };
+  made = record { size = search rules; segment_len = search rules; state = search rules; whole = search rules; none_left = search rules };
+  stands = λ honest.
+      let K = g.J.Job.kind in
+      let set = c.args.set.now in
+      let h : Header = record { set = set; segment = c.args.segment } in
+      let state : IsState (empty set) = subst IsState c.requires.empty c.number-number.ensures.state in
+      let made = made_of K g.met.J.Job.laws h c.args.head.now c.deref.result.now c.args.segment c.requires.header state c.requires.head (c.deref.ensures.value ∙ c.requires.spelled) refl in
+      subst (λ (s : Plain g.row.J.Denot). Stands K c.in-Ok.file.places s c.args.spelled.items (g.D.Disk.view c.in-Ok.file.disk)) (sym c.requires.empty)
+      (new_stands K h c.in-Ok.file.places (empty set) c.args.spelled.items (g.D.Disk.view c.in-Ok.file.disk) (c.in-Ok.ensures.holds (format K) h (empty set) made honest) refl);
+  recovers = λ honest.
+      let K = g.J.Job.kind in
+      let set = c.args.set.now in
+      let h : Header = record { set = set; segment = c.args.segment } in
+      let state : IsState (empty set) = subst IsState c.requires.empty c.number-number.ensures.state in
+      let made = made_of K g.met.J.Job.laws h c.args.head.now c.deref.result.now c.args.segment c.requires.header state c.requires.head (c.deref.ensures.value ∙ c.requires.spelled) refl in
+      c.in-Ok.ensures.recovers (format K) h (empty set) made (unmade_refused K) honest;
 }
 
-pub returns-clause-unmade : goal.returns-clause-unmade
-returns-clause-unmade g c =
-    let was = c.in-Err-NotEmpty-default.ensures.not_empty c.in-Err-NotEmpty-default.field-0-0-is in
-    record {
-      size = c.requires.header.segment;
-      device = λ is. search rules;
-      not_empty = λ honest is. was.some honest;
-      one_call = λ is. was.one_call;
-      unasked = λ never. search rules;
-    }
+pub returns-in-Err-Device-default : goal.returns-in-Err-Device-default
+returns-in-Err-Device-default g c = record {
+  unmade =
+      record {
+        size = c.requires.header.segment;
+        device = λ is. c.in-Err-Device-default.ensures.call.failed c.in-Err-Device-default.field-0-0-is;
+        not_empty = λ honest is. search rules;
+        one_call = λ is. search rules;
+        unasked = λ never. search rules;
+      };
+  vacant = λ honest some. c.in-Err-Device-default.ensures.attempts.untouched honest some;
+  calls =
+      let h : Header = record { set = c.args.set.now; segment = c.args.segment } in
+      let state : IsState (empty c.args.set.now) = subst IsState c.requires.empty c.number-number.ensures.state in
+      let head = ap length c.requires.head ∙ header_long h c.requires.header in
+      let body = ap length (c.deref.ensures.value ∙ c.requires.spelled) ∙ state_long g.J.Job.kind g.met.J.Job.laws (empty c.args.set.now) state in
+      record {
+        calls_made = search rules;
+        takes = takes_told _ _ _ _ _ _ (made_calls h (length c.args.head.now) (length c.deref.result.now) c.args.segment c.requires.header head body refl) (λ is. absurd (true≢false (sym is))) c.in-Err-Device-default.ensures.call.takes;
+        honest = c.in-Err-Device-default.ensures.call.honest;
+      };
+  made = search rules;
+  stands = search rules;
+  recovers = λ honest.
+      let K = g.J.Job.kind in
+      let set = c.args.set.now in
+      let h : Header = record { set = set; segment = c.args.segment } in
+      let state : IsState (empty set) = subst IsState c.requires.empty c.number-number.ensures.state in
+      let made = made_of K g.met.J.Job.laws h c.args.head.now c.deref.result.now c.args.segment c.requires.header state c.requires.head (c.deref.ensures.value ∙ c.requires.spelled) refl in
+      c.in-Err-Device-default.ensures.recovers (format K) h (empty set) made (unmade_refused K) honest;
+}
+
+pub returns : goal.returns
+returns g c = record {
+  unmade =
+      let was = c.in-Err-NotEmpty-default.ensures.not_empty c.in-Err-NotEmpty-default.field-0-0-is in
+      record {
+        size = c.requires.header.segment;
+        device = λ is. search rules;
+        not_empty = λ honest is. was.some honest;
+        one_call = λ is. was.one_call;
+        unasked = λ never. search rules;
+      };
+  vacant = λ honest some. c.in-Err-NotEmpty-default.ensures.attempts.untouched honest some;
+  calls =
+      let h : Header = record { set = c.args.set.now; segment = c.args.segment } in
+      let state : IsState (empty c.args.set.now) = subst IsState c.requires.empty c.number-number.ensures.state in
+      let head = ap length c.requires.head ∙ header_long h c.requires.header in
+      let body = ap length (c.deref.ensures.value ∙ c.requires.spelled) ∙ state_long g.J.Job.kind g.met.J.Job.laws (empty c.args.set.now) state in
+      record {
+        calls_made = search rules;
+        takes = takes_told _ _ _ _ _ _ (made_calls h (length c.args.head.now) (length c.deref.result.now) c.args.segment c.requires.header head body refl) (λ is. absurd (true≢false (sym is))) c.in-Err-NotEmpty-default.ensures.call.takes;
+        honest = c.in-Err-NotEmpty-default.ensures.call.honest;
+      };
+  made = search rules;
+  stands = search rules;
+  recovers = λ honest.
+      let K = g.J.Job.kind in
+      let set = c.args.set.now in
+      let h : Header = record { set = set; segment = c.args.segment } in
+      let state : IsState (empty set) = subst IsState c.requires.empty c.number-number.ensures.state in
+      let made = made_of K g.met.J.Job.laws h c.args.head.now c.deref.result.now c.args.segment c.requires.header state c.requires.head (c.deref.ensures.value ∙ c.requires.spelled) refl in
+      c.in-Err-NotEmpty-default.ensures.recovers (format K) h (empty set) made (unmade_refused K) honest;
+}

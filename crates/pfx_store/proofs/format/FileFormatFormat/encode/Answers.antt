@@ -1,4 +1,4 @@
-use Rattle.pfx_store.proofs.Slots.{spelled_read}
+use Rattle.pfx_store.proofs.Areas.{spelled_read}
 use Rattle.pfx_store.proofs.format.FileFormatFormat.encode.Goals as goal
 
 pub returns-clause-read : goal.returns-clause-read

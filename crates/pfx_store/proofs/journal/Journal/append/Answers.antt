@@ -21,97 +21,116 @@ use Rattle.pfx_store_file.specs.Fitting.{HasRoom}
 use Rattle.pfx_store_file.specs.declared.faults.StoreFault.TheVariants.{Device}
 use Rattle.pfx_store_file.proofs.Calling.{fault_back}
 use Rattle.pfx_store.specs.Files.{HasFile, start_of, behind_of, ended, appended}
-use Rattle.pfx_store.proofs.Behinds.{behind_long}
+use Rattle.pfx_store.proofs.Behinds.{behind_len, behind_long}
 use Rattle.pfx_store.proofs.Filing.{behind_same, room_broken, room_within, append_made, append_broken, append_within, append_file}
 use Rattle.pfx_store.proofs.journal.Journal.append.Goals as goal
 
-pub returns-then-self-clause-commits : goal.returns-then-self-clause-commits
-returns-then-self-clause-commits g c stands =
-    record {
-      keeps = λ start all replays. keeps_more g.J.Job.kind start all _ (g.D.Disk.view c.args.self.now.file.disk) (g.D.Disk.view c.args.self.now.file.disk) (keeps_still g.J.Job.kind start all (g.D.Disk.view c.args.self.now.file.disk));
-      acknowledged = search rules;
-    }
+pub returns-then-self-clause-stands : goal.returns-then-self-clause-stands
+returns-then-self-clause-stands g c = record {
+  goes_on = search rules;
+  commits = λ stands.
+      record {
+        keeps = λ start all replays. keeps_more g.J.Job.kind start all _ (g.D.Disk.view c.args.self.now.file.disk) (g.D.Disk.view c.args.self.now.file.disk) (keeps_still g.J.Job.kind start all (g.D.Disk.view c.args.self.now.file.disk));
+        acknowledged = search rules;
+      };
+}
 
-pub returns-in_err-make_room-clause-commits : goal.returns-in_err-make_room-clause-commits
-returns-in_err-make_room-clause-commits g c stands =
-    record {
-      keeps = λ start all replays. keeps_more g.J.Job.kind start all _ (g.D.Disk.view c.args.self.now.file.disk) (g.D.Disk.view c.make_room.new.self.file.disk) (c.make_room.ensures.stands.keeps stands start all replays);
-      acknowledged = search rules;
-    }
+pub returns-in_err-make_room-clause-stands : goal.returns-in_err-make_room-clause-stands
+returns-in_err-make_room-clause-stands g c = record {
+  goes_on = search rules;
+  commits = λ stands.
+      record {
+        keeps = λ start all replays. keeps_more g.J.Job.kind start all _ (g.D.Disk.view c.args.self.now.file.disk) (g.D.Disk.view c.make_room.new.self.file.disk) (c.make_room.ensures.stands.keeps stands start all replays);
+        acknowledged = search rules;
+      };
+}
 
-pub returns-in_err-append_or_turn-clause-commits : goal.returns-in_err-append_or_turn-clause-commits
-returns-in_err-append_or_turn-clause-commits g c stands =
-    let K = g.J.Job.kind in
-    let L = g.met.J.Job.laws in
-    let V = g.D.Disk.view in
-    let b : PlainBatch g.row.J.Denot = batch_of c.args.batch.now.first c.args.batch.now.records.items in
-    let mid = c.make_room.new.self in
-    let same : mid.state ≡ c.args.self.now.state = c.make_room.ensures.state in
-    let standing : Stands K mid.file.places mid.state c.deref.result.now (V mid.file.disk) = subst (λ (l : List ℕ). Stands K mid.file.places mid.state l (V mid.file.disk)) (sym c.deref.ensures.value) (c.in_ok-make_room.ensures.stands.goes_on stands) in
-    let body = c.behind_gate.ensures.pending.0 in
-    let opens : batch_bytes K b ≡ GATE_OPEN ∷ body = c.behind_gate.ensures.pending.1 in
-    let begins : IsStart (format K) (mid.state.number + 1) c.start_behind-start.result = record { long = c.start_behind-start.ensures.long; number = c.start_behind-start.ensures.number ∙ ap (λ n. n + 1) c.number.ensures.number; closed = c.start_behind-start.ensures.closed } in
-    let right : applied K mid.state b.records ≡ Some c.requires.next.right.0 = subst (λ (s : Plain g.row.J.Denot). applied K s b.records ≡ Some c.requires.next.right.0) (sym same) c.requires.next.right.1 in
-    let leads : state_after K mid.state (GATE_OPEN ∷ body) ≡ Some c.requires.next.right.0 = subst (λ (f : List ℕ). state_after K mid.state f ≡ Some c.requires.next.right.0) opens (batch_leads K L mid.state c.requires.next.right.0 c.args.batch.now.workers b c.args.batch.now.fits (c.requires.next.workers ∙ ap (λ (s : Plain g.row.J.Denot). s.ledger.set.workers) (sym same)) (c.requires.next.first ∙ ap (λ (s : Plain g.row.J.Denot). s.number + 1) (sym same)) right) in
-    record {
-      keeps = λ start all replays.
-          let there : Replays (format K) start all mid.state = subst (λ (s : Plain g.row.J.Denot). Replays (format K) start all s) (sym same) replays in
-          keeps_appended K start all (batch_bytes K b) (GATE_OPEN ∷ body) (V c.args.self.now.file.disk) (V mid.file.disk) (V c.append_or_turn.new.self.disk) c.make_room.ensures.call.takes.later (c.make_room.ensures.stands.keeps stands start all replays) opens
-          ((c.append_or_turn.ensures.commits (format K) (format_laws K L) standing.header standing.parts mid.state standing.holds standing.middle begins body c.requires.next.right.0 c.behind_gate.ensures.pending.2 leads).keeps start all there);
-      acknowledged = λ start all replays. none_on_fault _ _ c.from_residual-in_err-append_or_turn.result c.from_residual-in_err-append_or_turn.ensures.1;
-    }
+pub returns-in_err-append_or_turn-clause-stands : goal.returns-in_err-append_or_turn-clause-stands
+returns-in_err-append_or_turn-clause-stands g c = record {
+  goes_on = search rules;
+  commits = λ stands.
+      let K = g.J.Job.kind in
+      let L = g.met.J.Job.laws in
+      let V = g.D.Disk.view in
+      let b : PlainBatch g.row.J.Denot = batch_of c.args.batch.now.first c.args.batch.now.records.items in
+      let mid = c.make_room.new.self in
+      let same : mid.state ≡ c.args.self.now.state = c.make_room.ensures.room.state in
+      let standing : Stands K mid.file.places mid.state c.deref.result.now (V mid.file.disk) = subst (λ (l : List ℕ). Stands K mid.file.places mid.state l (V mid.file.disk)) (sym c.deref.ensures.value) (c.in_ok-make_room.ensures.stands.goes_on stands) in
+      let body = c.behind_gate.ensures.0 in
+      let opens : batch_bytes K b ≡ GATE_OPEN ∷ body = c.behind_gate.ensures.1 in
+      let begins : IsStart (format K) (mid.state.number + 1) c.start_behind-start.result = record { long = c.start_behind-start.ensures.long; number = c.start_behind-start.ensures.number ∙ ap (λ n. n + 1) c.number.ensures.number; closed = c.start_behind-start.ensures.closed } in
+      let right : applied K mid.state b.records ≡ Some c.requires.next.right.0 = subst (λ (s : Plain g.row.J.Denot). applied K s b.records ≡ Some c.requires.next.right.0) (sym same) c.requires.next.right.1 in
+      let leads : state_after K mid.state (GATE_OPEN ∷ body) ≡ Some c.requires.next.right.0 = subst (λ (f : List ℕ). state_after K mid.state f ≡ Some c.requires.next.right.0) opens (batch_leads K L mid.state c.requires.next.right.0 c.args.batch.now.workers b c.args.batch.now.fits (c.requires.next.workers ∙ ap (λ (s : Plain g.row.J.Denot). s.ledger.set.workers) (sym same)) (c.requires.next.first ∙ ap (λ (s : Plain g.row.J.Denot). s.number + 1) (sym same)) right) in
+      record {
+        keeps = λ start all replays.
+            let there : Replays (format K) start all mid.state = subst (λ (s : Plain g.row.J.Denot). Replays (format K) start all s) (sym same) replays in
+            keeps_appended K start all (batch_bytes K b) (GATE_OPEN ∷ body) (V c.args.self.now.file.disk) (V mid.file.disk) (V c.append_or_turn.new.self.disk) c.make_room.ensures.call.takes.later (c.make_room.ensures.stands.keeps stands start all replays) opens
+            ((c.append_or_turn.ensures.commits (format K) (format_laws K L) standing.header standing.parts mid.state standing.holds standing.middle begins body c.requires.next.right.0 c.behind_gate.ensures.2 leads).keeps start all there);
+        acknowledged = λ start all replays. none_on_fault _ _ c.from_residual-in_err-append_or_turn.result c.from_residual-in_err-append_or_turn.ensures.1;
+      };
+}
 
 pub returns-clause-stands : goal.returns-clause-stands
-returns-clause-stands g c stands =
-    let K = g.J.Job.kind in
-    let L = g.met.J.Job.laws in
-    let V = g.D.Disk.view in
-    let b : PlainBatch g.row.J.Denot = batch_of c.args.batch.now.first c.args.batch.now.records.items in
-    let mid = c.make_room.new.self in
-    let same : mid.state ≡ c.args.self.now.state = c.make_room.ensures.state in
-    let standing : Stands K mid.file.places mid.state c.deref.result.now (V mid.file.disk) = subst (λ (l : List ℕ). Stands K mid.file.places mid.state l (V mid.file.disk)) (sym c.deref.ensures.value) (c.in_ok-make_room.ensures.stands.goes_on stands) in
-    let body = c.behind_gate.ensures.pending.0 in
-    let opens : batch_bytes K b ≡ GATE_OPEN ∷ body = c.behind_gate.ensures.pending.1 in
-    let begins : IsStart (format K) (mid.state.number + 1) c.start_behind-start.result = record { long = c.start_behind-start.ensures.long; number = c.start_behind-start.ensures.number ∙ ap (λ n. n + 1) c.number.ensures.number; closed = c.start_behind-start.ensures.closed } in
-    let right : applied K mid.state b.records ≡ Some c.take_over.new.state = c.take_over.ensures.taken in
-    let leads : state_after K mid.state (GATE_OPEN ∷ body) ≡ Some c.take_over.new.state = subst (λ (f : List ℕ). state_after K mid.state f ≡ Some c.take_over.new.state) opens (batch_leads K L mid.state c.take_over.new.state c.args.batch.now.workers b c.args.batch.now.fits (c.requires.next.workers ∙ ap (λ (s : Plain g.row.J.Denot). s.ledger.set.workers) (sym same)) (c.requires.next.first ∙ ap (λ (s : Plain g.row.J.Denot). s.number + 1) (sym same)) right) in
-    let n = length c.behind_gate.result.now in
-    let ready : IsReady K n mid.file.places mid.state c.deref.result.now = rw (c.deref.ensures.value, c.behind_gate.ensures.len, ← c.batch_len-len.ensures.value) c.in_ok-make_room.ensures.room.ready in
-    subst (λ (l : List ℕ). Stands K c.append_or_turn.new.self.places c.take_over.new.state l (V c.append_or_turn.new.self.disk)) c.deref.ensures.value
-    (stands_behind K L n mid.file.places c.append_or_turn.new.self.places mid.state c.take_over.new.state c.deref.result.now (GATE_OPEN ∷ body) (V mid.file.disk) (V c.append_or_turn.new.self.disk) standing c.number.ensures.state c.take_over.ensures.set ready
-    ((c.in_ok-append_or_turn.ensures.commits (format K) (format_laws K L) standing.header standing.parts mid.state standing.holds standing.middle begins body c.take_over.new.state c.behind_gate.ensures.pending.2 leads).holds))
-
-pub returns-clause-commits : goal.returns-clause-commits
-returns-clause-commits g c stands =
-    let K = g.J.Job.kind in
-    let L = g.met.J.Job.laws in
-    let V = g.D.Disk.view in
-    let b : PlainBatch g.row.J.Denot = batch_of c.args.batch.now.first c.args.batch.now.records.items in
-    let mid = c.make_room.new.self in
-    let same : mid.state ≡ c.args.self.now.state = c.make_room.ensures.state in
-    let standing : Stands K mid.file.places mid.state c.deref.result.now (V mid.file.disk) = subst (λ (l : List ℕ). Stands K mid.file.places mid.state l (V mid.file.disk)) (sym c.deref.ensures.value) (c.in_ok-make_room.ensures.stands.goes_on stands) in
-    let body = c.behind_gate.ensures.pending.0 in
-    let opens : batch_bytes K b ≡ GATE_OPEN ∷ body = c.behind_gate.ensures.pending.1 in
-    let begins : IsStart (format K) (mid.state.number + 1) c.start_behind-start.result = record { long = c.start_behind-start.ensures.long; number = c.start_behind-start.ensures.number ∙ ap (λ n. n + 1) c.number.ensures.number; closed = c.start_behind-start.ensures.closed } in
-    let right : applied K mid.state b.records ≡ Some c.requires.next.right.0 = subst (λ (s : Plain g.row.J.Denot). applied K s b.records ≡ Some c.requires.next.right.0) (sym same) c.requires.next.right.1 in
-    let leads : state_after K mid.state (GATE_OPEN ∷ body) ≡ Some c.requires.next.right.0 = subst (λ (f : List ℕ). state_after K mid.state f ≡ Some c.requires.next.right.0) opens (batch_leads K L mid.state c.requires.next.right.0 c.args.batch.now.workers b c.args.batch.now.fits (c.requires.next.workers ∙ ap (λ (s : Plain g.row.J.Denot). s.ledger.set.workers) (sym same)) (c.requires.next.first ∙ ap (λ (s : Plain g.row.J.Denot). s.number + 1) (sym same)) right) in
-    record {
-      keeps = λ start all replays.
-          let there : Replays (format K) start all mid.state = subst (λ (s : Plain g.row.J.Denot). Replays (format K) start all s) (sym same) replays in
-          keeps_appended K start all (batch_bytes K b) (GATE_OPEN ∷ body) (V c.args.self.now.file.disk) (V mid.file.disk) (V c.append_or_turn.new.self.disk) c.make_room.ensures.call.takes.later (c.make_room.ensures.stands.keeps stands start all replays) opens
-          ((c.append_or_turn.ensures.commits (format K) (format_laws K L) standing.header standing.parts mid.state standing.holds standing.middle begins body c.requires.next.right.0 c.behind_gate.ensures.pending.2 leads).keeps start all there);
-      acknowledged = λ start all replays.
-          let there : Replays (format K) start all mid.state = subst (λ (s : Plain g.row.J.Denot). Replays (format K) start all s) (sym same) replays in
-          subst (λ (f : List ℕ). (image : List ℕ) → (V c.append_or_turn.new.self.disk).since (V c.append_or_turn.new.self.disk).clock image → Survives (format K) start (all ++ f ∷ []) (length all + 1) image) (sym opens)
-          ((c.in_ok-append_or_turn.ensures.commits (format K) (format_laws K L) standing.header standing.parts mid.state standing.holds standing.middle begins body c.requires.next.right.0 c.behind_gate.ensures.pending.2 leads).acknowledged start all there);
-    }
+returns-clause-stands g c = record {
+  goes_on = λ stands.
+      let K = g.J.Job.kind in
+      let L = g.met.J.Job.laws in
+      let V = g.D.Disk.view in
+      let b : PlainBatch g.row.J.Denot = batch_of c.args.batch.now.first c.args.batch.now.records.items in
+      let mid = c.make_room.new.self in
+      let same : mid.state ≡ c.args.self.now.state = c.make_room.ensures.room.state in
+      let standing : Stands K mid.file.places mid.state c.deref.result.now (V mid.file.disk) = subst (λ (l : List ℕ). Stands K mid.file.places mid.state l (V mid.file.disk)) (sym c.deref.ensures.value) (c.in_ok-make_room.ensures.stands.goes_on stands) in
+      let body = c.behind_gate.ensures.0 in
+      let opens : batch_bytes K b ≡ GATE_OPEN ∷ body = c.behind_gate.ensures.1 in
+      let begins : IsStart (format K) (mid.state.number + 1) c.start_behind-start.result = record { long = c.start_behind-start.ensures.long; number = c.start_behind-start.ensures.number ∙ ap (λ n. n + 1) c.number.ensures.number; closed = c.start_behind-start.ensures.closed } in
+      let right : applied K mid.state b.records ≡ Some c.take_over.new.state = c.take_over.ensures.taken in
+      let leads : state_after K mid.state (GATE_OPEN ∷ body) ≡ Some c.take_over.new.state = subst (λ (f : List ℕ). state_after K mid.state f ≡ Some c.take_over.new.state) opens (batch_leads K L mid.state c.take_over.new.state c.args.batch.now.workers b c.args.batch.now.fits (c.requires.next.workers ∙ ap (λ (s : Plain g.row.J.Denot). s.ledger.set.workers) (sym same)) (c.requires.next.first ∙ ap (λ (s : Plain g.row.J.Denot). s.number + 1) (sym same)) right) in
+      let n = length c.behind_gate.result.now in
+      let ready : IsReady K n mid.file.places mid.state c.deref.result.now = rw (c.deref.ensures.value, (behind_len _ _ c.behind_gate.ensures), ← c.batch_len-len.ensures.value) c.in_ok-make_room.ensures.room.ready in
+      subst (λ (l : List ℕ). Stands K c.append_or_turn.new.self.places c.take_over.new.state l (V c.append_or_turn.new.self.disk)) c.deref.ensures.value
+      (stands_behind K L n mid.file.places c.append_or_turn.new.self.places mid.state c.take_over.new.state c.deref.result.now (GATE_OPEN ∷ body) (V mid.file.disk) (V c.append_or_turn.new.self.disk) standing c.number.ensures.state c.take_over.ensures.set ready
+      ((c.in_ok-append_or_turn.ensures.commits (format K) (format_laws K L) standing.header standing.parts mid.state standing.holds standing.middle begins body c.take_over.new.state c.behind_gate.ensures.2 leads).holds));
+  commits = λ stands.
+      let K = g.J.Job.kind in
+      let L = g.met.J.Job.laws in
+      let V = g.D.Disk.view in
+      let b : PlainBatch g.row.J.Denot = batch_of c.args.batch.now.first c.args.batch.now.records.items in
+      let mid = c.make_room.new.self in
+      let same : mid.state ≡ c.args.self.now.state = c.make_room.ensures.room.state in
+      let standing : Stands K mid.file.places mid.state c.deref.result.now (V mid.file.disk) = subst (λ (l : List ℕ). Stands K mid.file.places mid.state l (V mid.file.disk)) (sym c.deref.ensures.value) (c.in_ok-make_room.ensures.stands.goes_on stands) in
+      let body = c.behind_gate.ensures.0 in
+      let opens : batch_bytes K b ≡ GATE_OPEN ∷ body = c.behind_gate.ensures.1 in
+      let begins : IsStart (format K) (mid.state.number + 1) c.start_behind-start.result = record { long = c.start_behind-start.ensures.long; number = c.start_behind-start.ensures.number ∙ ap (λ n. n + 1) c.number.ensures.number; closed = c.start_behind-start.ensures.closed } in
+      let right : applied K mid.state b.records ≡ Some c.requires.next.right.0 = subst (λ (s : Plain g.row.J.Denot). applied K s b.records ≡ Some c.requires.next.right.0) (sym same) c.requires.next.right.1 in
+      let leads : state_after K mid.state (GATE_OPEN ∷ body) ≡ Some c.requires.next.right.0 = subst (λ (f : List ℕ). state_after K mid.state f ≡ Some c.requires.next.right.0) opens (batch_leads K L mid.state c.requires.next.right.0 c.args.batch.now.workers b c.args.batch.now.fits (c.requires.next.workers ∙ ap (λ (s : Plain g.row.J.Denot). s.ledger.set.workers) (sym same)) (c.requires.next.first ∙ ap (λ (s : Plain g.row.J.Denot). s.number + 1) (sym same)) right) in
+      record {
+        keeps = λ start all replays.
+            let there : Replays (format K) start all mid.state = subst (λ (s : Plain g.row.J.Denot). Replays (format K) start all s) (sym same) replays in
+            keeps_appended K start all (batch_bytes K b) (GATE_OPEN ∷ body) (V c.args.self.now.file.disk) (V mid.file.disk) (V c.append_or_turn.new.self.disk) c.make_room.ensures.call.takes.later (c.make_room.ensures.stands.keeps stands start all replays) opens
+            ((c.append_or_turn.ensures.commits (format K) (format_laws K L) standing.header standing.parts mid.state standing.holds standing.middle begins body c.requires.next.right.0 c.behind_gate.ensures.2 leads).keeps start all there);
+        acknowledged = λ start all replays.
+            let there : Replays (format K) start all mid.state = subst (λ (s : Plain g.row.J.Denot). Replays (format K) start all s) (sym same) replays in
+            subst (λ (f : List ℕ). (image : List ℕ) → (V c.append_or_turn.new.self.disk).since (V c.append_or_turn.new.self.disk).clock image → Survives (format K) start (all ++ f ∷ []) (length all + 1) image) (sym opens)
+            ((c.in_ok-append_or_turn.ensures.commits (format K) (format_laws K L) standing.header standing.parts mid.state standing.holds standing.middle begins body c.requires.next.right.0 c.behind_gate.ensures.2 leads).acknowledged start all there);
+      };
+}
 
 pub returns-in_err-append_or_turn-clause-call : goal.returns-in_err-append_or_turn-clause-call
 returns-in_err-append_or_turn-clause-call g c =
+    let n = length (batch_bytes g.J.Job.kind (batch_of c.args.batch.now.first c.args.batch.now.records.items)) in
+    let before = c.args.self.now.file.places in
+    let between = c.make_room.new.self.file.places in
+    let left : room_calls n before + append_calls n between ≡ append_calls n before = subst (λ m. room_calls m before + append_calls m between ≡ append_calls m before) c.batch_len-len.ensures.value c.in_ok-make_room.ensures.room.left in
+    let sum : room_calls c.batch_len-len.result before + append_calls (length c.behind_gate.result.now) between ≡ append_calls n before = ap₂ (λ a b. room_calls a before + append_calls b between) c.batch_len-len.ensures.value (behind_len _ _ c.behind_gate.ensures) ∙ left in
     record {
       works = works_behind (g.D.Disk.view c.args.self.now.file.disk) (g.D.Disk.view c.make_room.new.self.file.disk) (g.D.Disk.view c.append_or_turn.new.self.disk) c.args.self.now.file.broken c.make_room.new.self.file.broken c.append_or_turn.new.self.broken
           c.append_or_turn.result c.from_residual-in_err-append_or_turn.result _ c.if-self.false (c.in_ok-make_room.ensures.call.works.whole refl) c.make_room.ensures.call.takes.no_fewer c.in_err-append_or_turn.was c.from_residual-in_err-append_or_turn.ensures.1 c.append_or_turn.ensures.call.works;
-      takes = search rules;
+      takes = record {
+        ok = search rules;
+        later = omega (arith, c.make_room.ensures.call.takes.later, c.append_or_turn.ensures.call.takes.later);
+        at_most = omega (arith, c.make_room.ensures.call.takes.at_most, c.append_or_turn.ensures.call.takes.at_most, sum);
+        no_fewer = omega (arith, c.make_room.ensures.call.takes.no_fewer, c.append_or_turn.ensures.call.takes.no_fewer);
+      };
       honest = search rules;
       roomy = search rules;
       broken = search rules;
@@ -124,7 +143,7 @@ returns-clause-call g c =
     let before = c.args.self.now.file.places in
     let between = c.make_room.new.self.file.places in
     let left : room_calls n before + append_calls n between ≡ append_calls n before = subst (λ m. room_calls m before + append_calls m between ≡ append_calls m before) c.batch_len-len.ensures.value c.in_ok-make_room.ensures.room.left in
-    let sum : room_calls c.batch_len-len.result before + append_calls (length c.behind_gate.result.now) between ≡ append_calls n before = ap₂ (λ a b. room_calls a before + append_calls b between) c.batch_len-len.ensures.value c.behind_gate.ensures.len ∙ left in
+    let sum : room_calls c.batch_len-len.result before + append_calls (length c.behind_gate.result.now) between ≡ append_calls n before = ap₂ (λ a b. room_calls a before + append_calls b between) c.batch_len-len.ensures.value (behind_len _ _ c.behind_gate.ensures) ∙ left in
     record {
       works = search rules;
       takes = takes_both (room_calls c.batch_len-len.result before) (append_calls (length c.behind_gate.result.now) between) (append_calls n before) (g.D.Disk.view c.args.self.now.file.disk) (g.D.Disk.view c.make_room.new.self.file.disk) (g.D.Disk.view c.append_or_turn.new.self.disk) _
@@ -138,7 +157,7 @@ returns-clause-call g c =
 pub returns-clause-place : goal.returns-clause-place
 returns-clause-place g c =
     takes_frame (length (batch_bytes g.J.Job.kind (batch_of c.args.batch.now.first c.args.batch.now.records.items))) c.batch_len-len.result (length c.behind_gate.result.now)
-    c.args.self.now.file.places c.make_room.new.self.file.places c.append_or_turn.new.self.places c.batch_len-len.ensures.value c.behind_gate.ensures.len
+    c.args.self.now.file.places c.make_room.new.self.file.places c.append_or_turn.new.self.places c.batch_len-len.ensures.value (behind_len _ _ c.behind_gate.ensures)
     c.make_room.ensures.room.there c.make_room.ensures.room.full c.in_ok-append_or_turn.ensures.place
 
 pub returns-in_err-make_room-clause-acts : goal.returns-in_err-make_room-clause-acts
@@ -175,11 +194,11 @@ returns-in_err-append_or_turn-clause-acts g c =
     let a = V old.file.disk in
     let b = V c.make_room.new.self.file.disk in
     let mid = c.make_room.new.self in
-    let same : mid.state ≡ s = c.make_room.ensures.state in
+    let same : mid.state ≡ s = c.make_room.ensures.room.state in
     let start = c.start_behind-start.result in
     let starts : start ≡ start_of s = c.start_behind-start.ensures.bytes ∙ ap (λ k. number_bytes 8 (k + 1) ++ 0 ∷ []) (c.number.ensures.number ∙ ap (λ (t : Plain g.row.J.Denot). t.number) same) in
     let bytes = c.behind_gate.result.now in
-    let behind : bytes ≡ behind_of frame = sym (behind_same frame bytes c.behind_gate.ensures.pending) in
+    let behind : bytes ≡ behind_of frame = sym (behind_same frame bytes c.behind_gate.ensures) in
     let other = c.deref.result.now in
     let e = V c.append_or_turn.new.self.disk in
     record {
@@ -211,11 +230,11 @@ returns-clause-acts g c =
     let a = V old.file.disk in
     let b = V c.make_room.new.self.file.disk in
     let mid = c.make_room.new.self in
-    let same : mid.state ≡ s = c.make_room.ensures.state in
+    let same : mid.state ≡ s = c.make_room.ensures.room.state in
     let start = c.start_behind-start.result in
     let starts : start ≡ start_of s = c.start_behind-start.ensures.bytes ∙ ap (λ k. number_bytes 8 (k + 1) ++ 0 ∷ []) (c.number.ensures.number ∙ ap (λ (t : Plain g.row.J.Denot). t.number) same) in
     let bytes = c.behind_gate.result.now in
-    let behind : bytes ≡ behind_of frame = sym (behind_same frame bytes c.behind_gate.ensures.pending) in
+    let behind : bytes ≡ behind_of frame = sym (behind_same frame bytes c.behind_gate.ensures) in
     let other = c.deref.result.now in
     let e = V c.append_or_turn.new.self.disk in
     let full : ¬ HasRoom n old.file.places → other ≡ state_bytes K s = λ none. ⊎_elim (λ room. absurd (none (c.make_room.ensures.room.full room))) (λ is. c.deref.ensures.value ∙ is.1 ∙ ap (state_bytes K) same) c.in_ok-make_room.ensures.room.ready in
@@ -237,5 +256,5 @@ returns-clause-acts g c =
           let honest_then = c.make_room.ensures.call.honest.0 honest in
           subst (λ (l : List ℕ). HasFile K (appended K f s frame) c.append_or_turn.new.self.places l) c.deref.ensures.value
           (append_file K f old.file.places old.spelled.items has s frame n long other start bytes starts behind c.append_or_turn.new.self.places (λ room. c.deref.ensures.value ∙ c.make_room.ensures.room.same room) full
-          (c.in_ok-append_or_turn.ensures.file (format K) (ended K f n) s there.are honest_then frame (sym c.behind_gate.ensures.len)));
+          (c.in_ok-append_or_turn.ensures.file (format K) (ended K f n) s there.are honest_then frame (sym (behind_len _ _ c.behind_gate.ensures))));
     }

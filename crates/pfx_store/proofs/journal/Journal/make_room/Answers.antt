@@ -95,6 +95,7 @@ returns-clause-acts g c =
 
 pub returns-clause-room : goal.returns-clause-room
 returns-clause-room g c = record {
+  state = search rules;
   there = search rules;
   same = λ room. absurd (false≢true (sym c.if-has_room.false ∙ c.has_room.ensures.1 room));
   full = search rules;

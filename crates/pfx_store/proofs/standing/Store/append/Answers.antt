@@ -13,7 +13,7 @@ use Rattle.pfx_store.proofs.standing.Store.append.Goals as goal
 
 pub invariant_of-self : goal.invariant_of-self
 invariant_of-self g c =
-    holds_after _ _ c.self.inside.journal.file.broken c.append.new.self.file.broken _ _ c.append.result c.append.ensures.call.works c.append.ensures.call.roomy (λ is. ap (λ j. j.file.broken) (c.append.ensures.call.broken is)) c.append.ensures.call.honest.1 c.append.ensures.stands c.self.invariant
+    holds_after _ _ c.self.inside.journal.file.broken c.append.new.self.file.broken _ _ c.append.result c.append.ensures.call.works c.append.ensures.call.roomy (λ is. ap (λ j. j.file.broken) (c.append.ensures.call.broken is)) c.append.ensures.call.honest.1 c.append.ensures.stands.goes_on c.self.invariant
 
 pub returns-clause-marks : goal.returns-clause-marks
 returns-clause-marks g c = rw (← c.self.view_is) (λ honest start all marks covers.
@@ -26,11 +26,11 @@ returns-clause-marks g c = rw (← c.self.view_is) (λ honest start all marks co
     let workers : c.args.batch.now.workers ≡ j.state.ledger.set.workers = subst (λ (v : PlainStore g.row.D.Denot g.row.J.Denot). c.args.batch.now.workers ≡ v.state.ledger.set.workers) (sym c.self.view_is) c.requires.next.workers in
     let first : c.args.batch.now.first ≡ j.state.number + 1 = subst (λ (v : PlainStore g.row.D.Denot g.row.J.Denot). c.args.batch.now.first ≡ v.state.number + 1) (sym c.self.view_is) c.requires.next.first in
     let led : OnOk c.append.result (state_after K j.state (batch_bytes K b) ≡ Some t) = on_ok_then c.append.result (batch_leads K L j.state t c.args.batch.now.workers b c.args.batch.now.fits workers first) c.append.ensures.state.moved in
-    let keeps = by_broken j.file.broken (λ whole. (c.append.ensures.commits (c.self.invariant whole honest)).keeps start all (covers.leads whole))
+    let keeps = by_broken j.file.broken (λ whole. (c.append.ensures.stands.commits (c.self.invariant whole honest)).keeps start all (covers.leads whole))
     (λ broken. subst (λ i. KeepsAll (format K) start all (all ++ batch_bytes K b ∷ []) a (g.D.Disk.view i.file.disk)) (sym (c.append.ensures.call.broken (c.append.ensures.call.works.broken.1 broken))) (keeps_more K start all (batch_bytes K b) a a (keeps_still K start all a))) in
     covers_appended K start all L (batch_bytes K b) marks a (g.D.Disk.view c.append.new.self.file.disk) j.file.broken c.append.new.self.file.broken j.state t c.append.ensures.call.takes.later keeps covers
     c.append.result c.append.ensures.call.works c.append.ensures.call.roomy (λ is. ap (λ i. i.file.broken) (c.append.ensures.call.broken is)) led c.append.ensures.mark
-    (λ whole. (c.append.ensures.commits (c.self.invariant whole honest)).acknowledged start all (covers.leads whole))))
+    (λ whole. (c.append.ensures.stands.commits (c.self.invariant whole honest)).acknowledged start all (covers.leads whole))))
 
 pub returns-clause-call : goal.returns-clause-call
 returns-clause-call g c = rw (← c.self.view_is) c.append.ensures.call
@@ -45,11 +45,11 @@ returns-clause-commits g c = rw (← c.self.view_is) (λ honest.
     let b : PlainBatch g.row.J.Denot = batch_of c.args.batch.now.first c.args.batch.now.records.items in
     let a : View = g.D.Disk.view j.file.disk in
     record {
-      keeps = λ start all replays. by_broken j.file.broken (λ whole. (c.append.ensures.commits (c.self.invariant whole honest)).keeps start all replays)
+      keeps = λ start all replays. by_broken j.file.broken (λ whole. (c.append.ensures.stands.commits (c.self.invariant whole honest)).keeps start all replays)
           (λ broken. subst (λ i. KeepsAll (format K) start all (all ++ batch_bytes K b ∷ []) a (g.D.Disk.view i.file.disk)) (sym (c.append.ensures.call.broken (c.append.ensures.call.works.broken.1 broken))) (keeps_more K start all (batch_bytes K b) a a (keeps_still K start all a)));
       acknowledged = λ start all replays.
           on_ok_when _ _ _ j.file.broken c.append.new.self.file.broken c.append.result c.append.ensures.call.works
-          (λ whole. (c.append.ensures.commits (c.self.invariant whole honest)).acknowledged start all replays);
+          (λ whole. (c.append.ensures.stands.commits (c.self.invariant whole honest)).acknowledged start all replays);
     }))
 
 pub returns-clause-acts : goal.returns-clause-acts

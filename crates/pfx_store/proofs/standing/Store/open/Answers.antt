@@ -18,7 +18,7 @@ returns-in-Ok-furnished-clause-found g c = λ honest. (c.in-Ok-furnished.ensures
 pub returns-in-Ok-furnished-clause-left : goal.returns-in-Ok-furnished-clause-left
 returns-in-Ok-furnished-clause-left g c = λ honest f is.
     left_by c.in-Ok-furnished.journal.file.places.turned c.in-Ok-furnished.journal.file.places.begun f.parts.turned _ _
-    (ap (λ i. i.places.begun) c.in-Ok-furnished.ensures.file ∙ c.in-Ok.ensures.unbegun)
+    (ap (λ i. i.places.begun) c.in-Ok-furnished.ensures.file ∙ c.in-Ok.ensures.going.unbegun)
     ((c.in-Ok-furnished.ensures.found (g.D.Disk.view c.args.disk).contents (c.in-Ok.ensures.opened honest)).turned f is)
 
 pub returns-in-Ok-furnished-clause-durable : goal.returns-in-Ok-furnished-clause-durable
@@ -70,3 +70,15 @@ returns-clause-acts g c = λ honest.
       only = tt;
       file = tt;
     })
+
+pub furnished-requires-clause-sized : goal.furnished-requires-clause-sized
+furnished-requires-clause-sized g c = c.in-Ok.ensures.going.sized
+
+pub furnished-requires-clause-set : goal.furnished-requires-clause-set
+furnished-requires-clause-set g c = c.in-Ok.ensures.going.fits
+
+pub returns-in-Ok-furnished-clause-fresh : goal.returns-in-Ok-furnished-clause-fresh
+returns-in-Ok-furnished-clause-fresh g c = (
+  ap (λ i. i.broken) c.in-Ok-furnished.ensures.file ∙ c.in-Ok.ensures.going.whole,
+  ap (λ i. i.places.begun) c.in-Ok-furnished.ensures.file ∙ c.in-Ok.ensures.going.unbegun,
+)

@@ -39,9 +39,9 @@ returns-clause-commits g c K laws h p s spelling holds body t pending one =
     let view = g.D.Disk.view in
     let old = c.args.self.now in
     record {
-      holds = append_holds K laws h old.places p s spelling (view old.disk) holds c.args.frame.now body t pending one (omega arith) (view c.put_behind.new.disk) (c.put_behind.ensures.leaves holds.honest) (c.in_ok-put_behind.ensures.durable holds.honest) (c.in_ok-put_behind.ensures.written holds.honest) _ (record { head = holds.fits.head; body = holds.fits.body; segment = holds.fits.segment }) refl refl refl refl refl refl refl refl refl;
+      holds = append_holds K laws h old.places p s spelling (view old.disk) holds c.args.frame.now body t pending one (omega arith) (view c.put_behind.new.disk) (c.put_behind.ensures.leaves holds.honest) (c.in_ok-put_behind.ensures.run.durable holds.honest) (c.in_ok-put_behind.ensures.written holds.honest) _ holds.fits refl refl refl refl refl refl refl refl refl;
       keeps = λ start all run. append_keeps K laws h old.places p s spelling (view old.disk) holds c.args.frame.now body t pending one (omega arith) (view c.put_behind.new.disk) (c.put_behind.ensures.leaves holds.honest) start all run;
-      acknowledged = λ start all run. append_acknowledged K laws h old.places p s spelling (view old.disk) holds c.args.frame.now body t pending one (omega arith) (view c.put_behind.new.disk) (c.put_behind.ensures.leaves holds.honest) (c.in_ok-put_behind.ensures.durable holds.honest) (c.in_ok-put_behind.ensures.written holds.honest) (g.met.D.Disk.only_now c.put_behind.new.disk) start all run;
+      acknowledged = λ start all run. append_acknowledged K laws h old.places p s spelling (view old.disk) holds c.args.frame.now body t pending one (omega arith) (view c.put_behind.new.disk) (c.put_behind.ensures.leaves holds.honest) (c.in_ok-put_behind.ensures.run.durable holds.honest) (c.in_ok-put_behind.ensures.written holds.honest) (g.met.D.Disk.only_now c.put_behind.new.disk) start all run;
     }
 
 pub returns-then-self-clause-acts : goal.returns-then-self-clause-acts
@@ -67,8 +67,8 @@ returns-in_err-put_behind-clause-acts g c K f are honest =
     let b = view c.put_behind.new.disk in
     record {
       made = search rules;
-      broken_off = λ is. subst (λ (k : ℕ). HasBrokenOff (put_acts k c.args.frame.now) a b) are.are.gate (c.in_err-put_behind.ensures.acts.broken_off honest refl);
-      between = subst (λ (k : ℕ). HasKeptTo (put_acts k c.args.frame.now) a b) are.are.gate (c.put_behind.ensures.acts.between honest);
+      broken_off = λ is. subst (λ (k : ℕ). HasBrokenOff (put_acts k c.args.frame.now) a b) are.are.gate (c.in_err-put_behind.ensures.run.makes.broken_off honest refl);
+      between = subst (λ (k : ℕ). HasKeptTo (put_acts k c.args.frame.now) a b) are.are.gate (c.put_behind.ensures.run.makes.between honest);
     }
 
 pub returns-clause-acts : goal.returns-clause-acts
@@ -77,16 +77,16 @@ returns-clause-acts g c K f are honest =
     let a = view c.args.self.now.disk in
     let b = view c.put_behind.new.disk in
     record {
-      made = subst (λ (k : ℕ). HasMade (put_acts k c.args.frame.now) a b) are.are.gate (c.in_ok-put_behind.ensures.acts.made honest);
+      made = subst (λ (k : ℕ). HasMade (put_acts k c.args.frame.now) a b) are.are.gate (c.in_ok-put_behind.ensures.run.makes.made honest);
       broken_off = search rules;
-      between = subst (λ (k : ℕ). HasKeptTo (put_acts k c.args.frame.now) a b) are.are.gate (c.put_behind.ensures.acts.between honest);
+      between = subst (λ (k : ℕ). HasKeptTo (put_acts k c.args.frame.now) a b) are.are.gate (c.put_behind.ensures.run.makes.between honest);
     }
 
 pub returns-clause-file : goal.returns-clause-file
 returns-clause-file g c K f are next long =
     record {
       are = record {
-        fits = record { head = are.are.fits.head; body = are.are.fits.body; segment = are.are.fits.segment };
+        fits = are.are.fits;
         area = are.are.area;
         segment = are.are.segment;
         turned = are.are.turned;
@@ -101,9 +101,9 @@ returns-clause-file g c K f are next long =
 
 pub returns-in_err-put_behind-clause-call : goal.returns-in_err-put_behind-clause-call
 returns-in_err-put_behind-clause-call g c = record {
-  works = works_failed _ _ c.args.self.now.broken c.from_residual.result c.if-self.false (c.in_err-put_behind.ensures.call.failed refl) c.from_residual.ensures.1;
+  works = works_failed _ _ c.args.self.now.broken c.from_residual.result c.if-self.false (c.in_err-put_behind.ensures.run.call.failed refl) c.from_residual.ensures.1;
   takes = search rules;
-  honest = c.put_behind.ensures.call.honest;
+  honest = c.put_behind.ensures.run.call.honest;
   no_room = search rules;
   refused = search rules;
   broken = search rules;

@@ -1,5 +1,5 @@
 use Rattle.std.proofs.Common.{rules}
-use Rattle.std.proofs.Common.{◌∙◌, ◌≤◌, ◌++◌, ◌∷◌, [], sym, subst, length, arith}
+use Rattle.std.proofs.Common.{◌∙◌, ◌≤◌, ap, ◌++◌, ◌∷◌, [], sym, subst, length, arith}
 use Rattle.std.proofs.lemmas.Bool.{false≢true}
 use Rattle.pfx_disk.specs.declared.gates.TheConstants.{GATE_OPEN}
 use Rattle.pfx_recovery.specs.Store.{with_frame, turned_at}
@@ -15,6 +15,7 @@ use Rattle.pfx_disk.proofs.CallsMade.{made_then, broken_first, broken_then, with
 use Rattle.pfx_store_file.specs.Acts.{end_acts, ended_file, turn_acts, turned_file, gate_of}
 use Rattle.pfx_store_file.specs.Files.{AreOf}
 use Rattle.pfx_store_file.specs.declared.faults.StoreFault.TheVariants.{Device}
+use Rattle.pfx_store_file.specs.declared.sizes.Sizes.{Sizes}
 use Rattle.pfx_store_file.proofs.Rooms.{there_acts, full_acts, there_file, full_file}
 use Rattle.pfx_store_file.proofs.file.StoreFile.append_or_turn.Goals as goal
 
@@ -310,6 +311,6 @@ returns-clause-place g c =
       full = λ _. record {
         turned = moved.turned ∙ turned.turned;
         begun = moved.begun ∙ turned.begun;
-        gate = omega (arith, moved.gate, moved.end, parts.segment_len, turned.empty);
+        gate = omega (arith, moved.gate, moved.end, ap (λ (z : Sizes). z.segment) parts, turned.empty);
       };
     }

@@ -28,8 +28,8 @@ returns-clause-holds g c K laws h p s spelling holds code read long =
     let old = c.args.self.now in
     let at_is : c.area_at-at.result ≡ area_at (K.layout h) (not p.area) = c.area_at-at.ensures.at (K.layout h) holds.fits ∙ ap (λ b. area_at (K.layout h) (not b)) holds.area in
     begin_holds K laws h old.places p s spelling (view old.disk) holds c.area_at-at.result at_is (view c.close.new.disk) (c.close.ensures.leaves holds.honest)
-    (c.in_ok-close.ensures.durable holds.honest) (c.in_ok-close.ensures.closed holds.honest (begin_shut K laws h old.places p s spelling (view old.disk) holds c.area_at-at.result at_is)) code (sym holds.turned ∙ c.requires.turned) read long _
-    (record { head = holds.fits.head; body = holds.fits.body; segment = holds.fits.segment }) refl refl refl refl refl refl refl refl
+    (c.in_ok-close.ensures.run.durable holds.honest) (c.in_ok-close.ensures.closed holds.honest (begin_shut K laws h old.places p s spelling (view old.disk) holds c.area_at-at.result at_is)) code (sym holds.turned ∙ c.requires.turned) read long _
+    holds.fits refl refl refl refl refl refl refl refl
 
 pub returns-in_err-close-clause-acts : goal.returns-in_err-close-clause-acts
 returns-in_err-close-clause-acts g c K f are honest =
@@ -39,8 +39,8 @@ returns-in_err-close-clause-acts g c K f are honest =
     let at_is : c.area_at-at.result ≡ area_of K f = c.area_at-at.ensures.at (K.layout f.head) are.are.fits ∙ ap (λ b. area_at (K.layout f.head) (not b)) are.are.area in
     record {
       made = search rules;
-      broken_off = λ is. subst (λ (k : ℕ). HasBrokenOff (close_acts k f.area_open) a b) at_is (subst (λ (o : Bool). HasBrokenOff (close_acts c.area_at-at.result o) a b) are.area_open (c.in_err-close.ensures.acts.broken_off honest refl));
-      between = subst (λ (k : ℕ). HasKeptTo (close_acts k f.area_open) a b) at_is (subst (λ (o : Bool). HasKeptTo (close_acts c.area_at-at.result o) a b) are.area_open (c.close.ensures.acts.between honest));
+      broken_off = λ is. subst (λ (k : ℕ). HasBrokenOff (close_acts k f.area_open) a b) at_is (subst (λ (o : Bool). HasBrokenOff (close_acts c.area_at-at.result o) a b) are.area_open (c.in_err-close.ensures.run.makes.broken_off honest refl));
+      between = subst (λ (k : ℕ). HasKeptTo (close_acts k f.area_open) a b) at_is (subst (λ (o : Bool). HasKeptTo (close_acts c.area_at-at.result o) a b) are.area_open (c.close.ensures.run.makes.between honest));
     }
 
 pub returns-clause-acts : goal.returns-clause-acts
@@ -50,16 +50,16 @@ returns-clause-acts g c K f are honest =
     let b = view c.close.new.disk in
     let at_is : c.area_at-at.result ≡ area_of K f = c.area_at-at.ensures.at (K.layout f.head) are.are.fits ∙ ap (λ b. area_at (K.layout f.head) (not b)) are.are.area in
     record {
-      made = subst (λ (k : ℕ). HasMade (close_acts k f.area_open) a b) at_is (subst (λ (o : Bool). HasMade (close_acts c.area_at-at.result o) a b) are.area_open (c.in_ok-close.ensures.acts.made honest));
+      made = subst (λ (k : ℕ). HasMade (close_acts k f.area_open) a b) at_is (subst (λ (o : Bool). HasMade (close_acts c.area_at-at.result o) a b) are.area_open (c.in_ok-close.ensures.run.makes.made honest));
       broken_off = search rules;
-      between = subst (λ (k : ℕ). HasKeptTo (close_acts k f.area_open) a b) at_is (subst (λ (o : Bool). HasKeptTo (close_acts c.area_at-at.result o) a b) are.area_open (c.close.ensures.acts.between honest));
+      between = subst (λ (k : ℕ). HasKeptTo (close_acts k f.area_open) a b) at_is (subst (λ (o : Bool). HasKeptTo (close_acts c.area_at-at.result o) a b) are.area_open (c.close.ensures.run.makes.between honest));
     }
 
 pub returns-clause-file : goal.returns-clause-file
 returns-clause-file g c K f are =
     record {
       are = record {
-        fits = record { head = are.are.fits.head; body = are.are.fits.body; segment = are.are.fits.segment };
+        fits = are.are.fits;
         area = are.are.area;
         segment = are.are.segment;
         turned = are.are.turned;

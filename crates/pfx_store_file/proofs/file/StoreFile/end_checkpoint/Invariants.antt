@@ -3,7 +3,6 @@ use Rattle.pfx_disk.specs.Disk.{IsHonest}
 use Rattle.pfx_recovery.specs.Codec.{Codec, Laws}
 use Rattle.pfx_recovery.specs.Store.{Parts, Replays}
 use Rattle.pfx_store_file.specs.Calls.{GoesOn}
-use Rattle.pfx_store_file.specs.Fitting.{SameParts}
 use Rattle.pfx_store_file.specs.Holding.{Holds, KeepsAll}
 use Rattle.pfx_store_file.specs.Tending.{StaysPut, calls_left, steps_left, settled_unless}
 use Rattle.pfx_store_file.specs.Files.{File, AreOf}
@@ -16,12 +15,12 @@ invariant-steps g l =
     let now = g.D.Disk.view l.self.disk in
     record {
       whole : l.self.broken ≡ false;
-      long : length l.spelling ≡ l.self.places.body;
+      long : length l.spelling ≡ l.self.places.sizes.body;
       goes : GoesOn old now;
       spent : now.clock + calls_left l.self.places ≡ old.clock + calls_left l.fn.self.places;
       worked : now.failures ≡ old.failures;
       honest : IsHonest old ↔ IsHonest now;
-      parts : SameParts l.fn.self.places l.self.places;
+      parts : l.self.places.sizes ≡ l.fn.self.places.sizes;
       stays : StaysPut l.fn.self.places l.self.places;
       holds : (K : Codec g.row.H.Denot g.row.S.Denot) → Laws K → (h : g.row.H.Denot) → (p : Parts g.row.S.Denot) → (s : g.row.S.Denot) → Holds K h l.fn.self.places p s l.spelling old → (p.turned ≡ true → K.read_state h l.spelling ≡ Some p.middle)
           → Holds K h l.self.places (settled_unless l.self.places.turned p) s l.spelling now;

@@ -32,7 +32,7 @@ returns-clause-keeps g c K laws h p s spelling holds =
     let whole : old.places.done ≡ (K.layout h).body = c.requires.done ∙ holds.fits.body in
     let leaves = c.open_gate.ensures.leaves holds.honest spelling (finish_inside K laws h old.places p s spelling (view old.disk) holds at at_is begun whole) (finish_stand K laws h old.places p s spelling (view old.disk) holds at at_is begun whole) in
     record {
-      holds = finish_holds K laws h old.places p s spelling (view old.disk) holds at at_is begun whole (view c.open_gate.new.disk) leaves (c.in_ok-open_gate.ensures.durable holds.honest) (c.in_ok-open_gate.ensures.opened holds.honest) _ (record { head = holds.fits.head; body = holds.fits.body; segment = holds.fits.segment }) refl refl refl refl refl refl refl refl;
+      holds = finish_holds K laws h old.places p s spelling (view old.disk) holds at at_is begun whole (view c.open_gate.new.disk) leaves (c.in_ok-open_gate.ensures.run.durable holds.honest) (c.in_ok-open_gate.ensures.opened holds.honest) _ holds.fits refl refl refl refl refl refl refl refl;
       keeps = λ start all run. finish_keeps K laws h old.places p s spelling (view old.disk) holds at at_is begun whole (view c.open_gate.new.disk) leaves start all run;
     }
 
@@ -44,8 +44,8 @@ returns-in_err-open_gate-clause-acts g c K f are honest =
     let at_is : c.area_at-at.result ≡ area_of K f = c.area_at-at.ensures.at (K.layout f.head) are.are.fits ∙ ap (λ b. area_at (K.layout f.head) (not b)) are.are.area in
     record {
       made = search rules;
-      broken_off = λ is. subst (λ (k : ℕ). HasBrokenOff (open_acts k) a b) at_is (c.in_err-open_gate.ensures.acts.broken_off honest refl);
-      between = subst (λ (k : ℕ). HasKeptTo (open_acts k) a b) at_is (c.open_gate.ensures.acts.between honest);
+      broken_off = λ is. subst (λ (k : ℕ). HasBrokenOff (open_acts k) a b) at_is (c.in_err-open_gate.ensures.run.makes.broken_off honest refl);
+      between = subst (λ (k : ℕ). HasKeptTo (open_acts k) a b) at_is (c.open_gate.ensures.run.makes.between honest);
     }
 
 pub returns-clause-acts : goal.returns-clause-acts
@@ -55,16 +55,16 @@ returns-clause-acts g c K f are honest =
     let b = view c.open_gate.new.disk in
     let at_is : c.area_at-at.result ≡ area_of K f = c.area_at-at.ensures.at (K.layout f.head) are.are.fits ∙ ap (λ b. area_at (K.layout f.head) (not b)) are.are.area in
     record {
-      made = subst (λ (k : ℕ). HasMade (open_acts k) a b) at_is (c.in_ok-open_gate.ensures.acts.made honest);
+      made = subst (λ (k : ℕ). HasMade (open_acts k) a b) at_is (c.in_ok-open_gate.ensures.run.makes.made honest);
       broken_off = search rules;
-      between = subst (λ (k : ℕ). HasKeptTo (open_acts k) a b) at_is (c.open_gate.ensures.acts.between honest);
+      between = subst (λ (k : ℕ). HasKeptTo (open_acts k) a b) at_is (c.open_gate.ensures.run.makes.between honest);
     }
 
 pub returns-clause-file : goal.returns-clause-file
 returns-clause-file g c K f are =
     record {
       are = record {
-        fits = record { head = are.are.fits.head; body = are.are.fits.body; segment = are.are.fits.segment };
+        fits = are.are.fits;
         area = ap not are.are.area;
         segment = are.are.segment;
         turned = refl;

@@ -37,7 +37,7 @@ returns-clause-keeps g c K laws h p s spelling holds begins next =
     let some = has_frames K laws h old.places p s spelling (view old.disk) holds c.requires.lawful.1 in
     let leaves = c.prepare.ensures.leaves holds.honest (turn_known K laws h old.places p s spelling (view old.disk) holds at at_is c.requires.lawful.0 c.args.start.now begins.long begins.number begins.closed some) in
     record {
-      holds = turn_holds K laws h old.places p s spelling (view old.disk) holds at at_is c.requires.lawful.0 c.args.start.now begins.long begins.number begins.closed some next (view c.prepare.new.disk) leaves (c.in_ok-prepare.ensures.durable holds.honest) (c.in_ok-prepare.ensures.stands holds.honest) _ (record { head = holds.fits.head; body = holds.fits.body; segment = holds.fits.segment }) refl refl refl refl refl refl refl;
+      holds = turn_holds K laws h old.places p s spelling (view old.disk) holds at at_is c.requires.lawful.0 c.args.start.now begins.long begins.number begins.closed some next (view c.prepare.new.disk) leaves (c.in_ok-prepare.ensures.run.durable holds.honest) (c.in_ok-prepare.ensures.stands holds.honest) _ holds.fits refl refl refl refl refl refl refl;
       keeps = λ start all run. turn_keeps K laws h old.places p s spelling (view old.disk) holds at at_is c.requires.lawful.0 c.args.start.now begins.long begins.number begins.closed some (view c.prepare.new.disk) leaves start all run;
     }
 
@@ -57,8 +57,8 @@ returns-in_err-prepare-clause-acts g c K f are honest =
     let at_is : c.segment_at-at.result ≡ segment_of K f = c.segment_at-at.ensures.at (K.layout f.head) are.are.fits ∙ ap (λ b. segment_at (K.layout f.head) (not b)) are.are.segment in
     record {
       made = search rules;
-      broken_off = λ is. subst (λ (k : ℕ). HasBrokenOff (close_acts k f.segment_open ++ put_acts k c.args.start.now) a b) at_is (subst (λ (o : Bool). HasBrokenOff (close_acts c.segment_at-at.result o ++ put_acts c.segment_at-at.result c.args.start.now) a b) are.segment_open (c.in_err-prepare.ensures.acts.broken_off honest refl));
-      between = subst (λ (k : ℕ). HasKeptTo (close_acts k f.segment_open ++ put_acts k c.args.start.now) a b) at_is (subst (λ (o : Bool). HasKeptTo (close_acts c.segment_at-at.result o ++ put_acts c.segment_at-at.result c.args.start.now) a b) are.segment_open (c.prepare.ensures.acts.between honest));
+      broken_off = λ is. subst (λ (k : ℕ). HasBrokenOff (close_acts k f.segment_open ++ put_acts k c.args.start.now) a b) at_is (subst (λ (o : Bool). HasBrokenOff (close_acts c.segment_at-at.result o ++ put_acts c.segment_at-at.result c.args.start.now) a b) are.segment_open (c.in_err-prepare.ensures.run.makes.broken_off honest refl));
+      between = subst (λ (k : ℕ). HasKeptTo (close_acts k f.segment_open ++ put_acts k c.args.start.now) a b) at_is (subst (λ (o : Bool). HasKeptTo (close_acts c.segment_at-at.result o ++ put_acts c.segment_at-at.result c.args.start.now) a b) are.segment_open (c.prepare.ensures.run.makes.between honest));
     }
 
 pub returns-clause-acts : goal.returns-clause-acts
@@ -68,9 +68,9 @@ returns-clause-acts g c K f are honest =
     let b = view c.prepare.new.disk in
     let at_is : c.segment_at-at.result ≡ segment_of K f = c.segment_at-at.ensures.at (K.layout f.head) are.are.fits ∙ ap (λ b. segment_at (K.layout f.head) (not b)) are.are.segment in
     record {
-      made = subst (λ (k : ℕ). HasMade (close_acts k f.segment_open ++ put_acts k c.args.start.now) a b) at_is (subst (λ (o : Bool). HasMade (close_acts c.segment_at-at.result o ++ put_acts c.segment_at-at.result c.args.start.now) a b) are.segment_open (c.in_ok-prepare.ensures.acts.made honest));
+      made = subst (λ (k : ℕ). HasMade (close_acts k f.segment_open ++ put_acts k c.args.start.now) a b) at_is (subst (λ (o : Bool). HasMade (close_acts c.segment_at-at.result o ++ put_acts c.segment_at-at.result c.args.start.now) a b) are.segment_open (c.in_ok-prepare.ensures.run.makes.made honest));
       broken_off = search rules;
-      between = subst (λ (k : ℕ). HasKeptTo (close_acts k f.segment_open ++ put_acts k c.args.start.now) a b) at_is (subst (λ (o : Bool). HasKeptTo (close_acts c.segment_at-at.result o ++ put_acts c.segment_at-at.result c.args.start.now) a b) are.segment_open (c.prepare.ensures.acts.between honest));
+      between = subst (λ (k : ℕ). HasKeptTo (close_acts k f.segment_open ++ put_acts k c.args.start.now) a b) at_is (subst (λ (o : Bool). HasKeptTo (close_acts c.segment_at-at.result o ++ put_acts c.segment_at-at.result c.args.start.now) a b) are.segment_open (c.prepare.ensures.run.makes.between honest));
     }
 
 pub returns-clause-file : goal.returns-clause-file
@@ -78,7 +78,7 @@ returns-clause-file g c K f are s =
     let at_is : c.segment_at-at.result ≡ segment_of K f = c.segment_at-at.ensures.at (K.layout f.head) are.are.fits ∙ ap (λ b. segment_at (K.layout f.head) (not b)) are.are.segment in
     record {
       are = record {
-        fits = record { head = are.are.fits.head; body = are.are.fits.body; segment = are.are.fits.segment };
+        fits = are.are.fits;
         area = are.are.area;
         segment = ap not are.are.segment;
         turned = refl;

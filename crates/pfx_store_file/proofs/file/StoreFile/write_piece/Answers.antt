@@ -37,7 +37,7 @@ returns-clause-keeps g c K laws h p s holds =
     let piece = take (old.places.done + c.args.n - old.places.done) (drop old.places.done spelling) in
     let fits : old.places.done + c.args.n ≤ (K.layout h).body = omega (arith, c.requires.piece.fits, holds.fits.body) in
     record {
-      holds = piece_holds K laws h old.places p s spelling (view old.disk) holds c.area_at-at.result at_is piece c.args.n c.requires.piece.some fits (holds.begun c.requires.piece.begun) (same_piece old.places.done c.args.n spelling) (view c.write_at.new.self) (c.write_at.ensures.leaves holds.honest) (c.in_ok-write_at.ensures.written holds.honest) _ (record { head = holds.fits.head; body = holds.fits.body; segment = holds.fits.segment }) refl refl refl refl refl refl refl refl;
+      holds = piece_holds K laws h old.places p s spelling (view old.disk) holds c.area_at-at.result at_is piece c.args.n c.requires.piece.some fits (holds.begun c.requires.piece.begun) (same_piece old.places.done c.args.n spelling) (view c.write_at.new.self) (c.write_at.ensures.leaves holds.honest) (c.in_ok-write_at.ensures.written holds.honest) _ holds.fits refl refl refl refl refl refl refl refl;
       keeps = λ start all run. piece_keeps K laws h old.places p s spelling (view old.disk) holds c.area_at-at.result at_is piece c.args.n c.requires.piece.some fits (holds.begun c.requires.piece.begun) (same_piece old.places.done c.args.n spelling) (view c.write_at.new.self) (c.write_at.ensures.leaves holds.honest) start all run;
     }
 
@@ -83,7 +83,7 @@ pub returns-clause-file : goal.returns-clause-file
 returns-clause-file g c K f are =
     record {
       are = record {
-        fits = record { head = are.are.fits.head; body = are.are.fits.body; segment = are.are.fits.segment };
+        fits = are.are.fits;
         area = are.are.area;
         segment = are.are.segment;
         turned = are.are.turned;

@@ -1,4 +1,4 @@
--- The bodies of slots.
+-- The bodies of checkpoint areas.
 use Rattle.std.specs.Prelude.{◌≡◌, ◌≢◌, ℕ, List, length, Option, Some, None, refl}
 use Rattle.std.proofs.Common.{sym, ◌∙◌, ap}
 use Rattle.pfx_checkpoint.specs.Found.{read_state}

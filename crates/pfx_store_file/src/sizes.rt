@@ -1,29 +1,26 @@
-// How long the parts of a file are, and where they lie.
+// How long the parts of a store's file are, and where they lie.
 ghost use Rattle.std.specs.Prelude.{◌≡◌, ◌≤◌, ◌<◌, ◌+◌, ◌*◌, ◌^◌};
 
-/// How long the parts of a file are, in bytes. Of the two checkpoint areas and of the two segments `true` names the second.
+/// How long the parts of a store's file are, in bytes. Of the two checkpoint areas and of the two segments `true` names the second.
 #[derive(Clone, Copy)]
 pub struct Sizes {
     /// The header.
     pub head: usize,
-    /// A checkpoint area behind its gate. It begins with a number of eight bytes.
+    /// A checkpoint area behind its gate.
     pub body: usize,
     /// A segment. It begins with a gate, a number of eight bytes and the gate of a frame.
     pub segment: usize,
-    ghost number: { 8 ≤ body },
     ghost room: { 9 < segment },
     ghost short: { head + 2 * (1 + body) + 2 * segment < 2 ^ 62 },
 }
 
 impl Sizes {
-    ghost use Rattle.pfx_recovery.specs.Layout.{Layout, area_at, segment_at, file_len};
-    ghost use Rattle.pfx_recover.specs.Formats.{HasSizes, total_len};
+    ghost use Rattle.pfx_recovery.specs.Layout.{Layout, area_at, segment_at};
+    ghost use Rattle.pfx_store_file.specs.Sizes.{HasSizes, total_len};
 
     /// The file's length.
     pub fn file_len(&self) -> usize
-        ensures len { result ≡ total_len self.now }
-        ensures layout { (L : Layout) → HasSizes L self.now → result ≡ file_len L }
-        ensures bound { result < 2 ^ 62 }
+        ensures { result ≡ total_len self.now }
     {
         self.head + 2 * (1 + self.body) + 2 * self.segment
     }
