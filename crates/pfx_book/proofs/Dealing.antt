@@ -14,7 +14,7 @@ use Rattle.pfx_machine.specs.Steps.{state_step, happening_in, jobs_step}
 use Rattle.pfx_machine.specs.Slots.{Deal, deals_in, written_back}
 use Rattle.pfx_machine.specs.declared.command.Command.{Command}
 use Rattle.pfx_machine.specs.declared.command.Command.TheVariants.{Slot}
-use Rattle.pfx_machine.specs.declared.faults.MachineFault.TheVariants as fault
+use Rattle.pfx_machine.specs.Faults.{no_memory}
 use Rattle.pfx_machine.specs.declared.plain.Happening.TheVariants.{Ran as ran}
 use Rattle.pfx_machine.proofs.Dealt.{written-dealt}
 use Rattle.pfx_machine.proofs.Keeping.{chosen_rises}
@@ -38,7 +38,7 @@ use Rattle.pfx_book.proofs.Merges.{some_is}
 
 module _ {J : Type 0} where
   -- what isn't for want of memory is the session's refusal
-  pub other_of : (K : Kind J) (full : Bool) (s : Plain J) (why : BookFault) → StaysUnopened K full s why → why ≢ Machine fault.NoMemory → refused_at full K s Slot ≡ Some why
+  pub other_of : (K : Kind J) (full : Bool) (s : Plain J) (why : BookFault) → StaysUnopened K full s why → why ≢ Machine no_memory → refused_at full K s Slot ≡ Some why
   other_of K full s why (inl same) other = absurd (other same)
   other_of K full s why (inr refused) other = refused
 

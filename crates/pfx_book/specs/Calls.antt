@@ -7,7 +7,7 @@ use Rattle.pfx_crew.specs.declared.gathering.GatherFault.TheVariants.{Stranger}
 use Rattle.pfx_fault.specs.declared.parts.Cause.{Cause}
 use Rattle.pfx_jobs.specs.Kind.{Kind}
 use Rattle.pfx_machine.specs.declared.command.Command.{Command}
-use Rattle.pfx_machine.specs.declared.faults.MachineFault.TheVariants.{NoMemory}
+use Rattle.pfx_machine.specs.Faults.{no_memory}
 use Rattle.pfx_machine.specs.Plain.{Plain}
 use Rattle.pfx_machine.specs.Outcome.{outcome}
 use Rattle.pfx_machine.specs.Refusals.{reply}
@@ -41,7 +41,7 @@ module _ {J : Type 0} where
   -- pass have it as an entry
   abbrev pub Refuses : Kind J → Command J → Register J → Register J → ℕ × List (Note J) → ℕ × List (Note J) → BookFault → Type 0
   Refuses K c old new pass later fault =
-      ((fault ≡ Machine NoMemory) × (new ≡ old) × (later ≡ pass))
+      ((fault ≡ Machine no_memory) × (new ≡ old) × (later ≡ pass))
       ⊎ ((refused_by K old.session c ≡ Some fault)
       × (new ≡ entered pass.0 (Refused old.session.state.number c fault) old.session old) × (later ≡ noted (Refused old.session.state.number c fault) pass))
 

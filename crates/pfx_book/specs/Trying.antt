@@ -8,7 +8,7 @@ use Rattle.pfx_machine.specs.declared.command.Command.{Command}
 use Rattle.pfx_machine.specs.declared.command.Command.TheVariants.{Slot}
 use Rattle.pfx_record.specs.Records.{plain}
 use Rattle.pfx_redo.specs.Recording.{record_of}
-use Rattle.pfx_machine.specs.declared.faults.MachineFault.TheVariants as fault
+use Rattle.pfx_machine.specs.Faults.{no_memory}
 use Rattle.pfx_slot.specs.Dealt.{Dealt, AllBack}
 use Rattle.pfx_book.specs.Notes.{refused_at}
 use Rattle.pfx_book.specs.declared.faults.BookFault.{BookFault}
@@ -24,7 +24,7 @@ Tries K full s c t NoMemory = t ≡ s
 
 -- why no slot was opened: an allocation failed, or the session refuses one
 abbrev pub StaysUnopened : {J : Type 0} → Kind J → Bool → Plain J → BookFault → Type 0
-StaysUnopened K full s why = (why ≡ Machine fault.NoMemory) ⊎ (refused_at full K s Slot ≡ Some why)
+StaysUnopened K full s why = (why ≡ Machine no_memory) ⊎ (refused_at full K s Slot ≡ Some why)
 
 -- a slot is open, and all its results are back
 abbrev pub IsReady : {J : Type 0} → Option (Dealt J) → Type 0

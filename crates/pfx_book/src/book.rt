@@ -15,6 +15,7 @@ use crate::name::Named;
 use crate::note::Note;
 use crate::room::make_room;
 use crate::trying::{Tried, try_command};
+use pfx_choice::ChoiceFault;
 use pfx_fault::Cause;
 use pfx_jobs::job::Job;
 use pfx_machine::{Board, Command, MachineFault, Reply, State};
@@ -251,7 +252,7 @@ impl<J: Job, B: Named<J>> Book<J, B> {
 
     /// Accepts a Submit or a Withdraw, if the book takes commands and it may be asked, and carries it out; or refuses it, with an
     /// entry for the pass in both cases: `SessionFull` if 1,048,576 commands were accepted, else as the machine refuses it.
-    /// `Machine(NoMemory)` has no entry.
+    /// `Machine(NoRow(NoMemory))` has no entry.
     pub fn ask(
         &mut self,
         pass: &mut Pass<J, B>,
@@ -273,14 +274,16 @@ impl<J: Job, B: Named<J>> Book<J, B> {
             ..
         } = self;
         if !make_room(history, 1) {
-            return Err(BookFault::Machine(MachineFault::NoMemory));
+            return Err(BookFault::Machine(MachineFault::NoRow(ChoiceFault::NoMemory)));
         }
         let Some(line) = line_of(*alloc, pass.number, &command) else {
-            return Err(BookFault::Machine(MachineFault::NoMemory));
+            return Err(BookFault::Machine(MachineFault::NoRow(ChoiceFault::NoMemory)));
         };
         let is_full = state.number() - *began >= 1 << 20;
         match try_command(*alloc, state, command, is_full) {
-            Tried::NoMemory => return Err(BookFault::Machine(MachineFault::NoMemory)),
+            Tried::NoMemory => return Err(BookFault::Machine(MachineFault::NoRow(
+                ChoiceFault::NoMemory,
+            ))),
             Tried::Refused(copy, fault) => {
                 history.push_reserved(refused_line(line, &copy, pass.number));
                 keeper.note(&mut pass.token, &Note::Refused(state.number(), copy, fault));

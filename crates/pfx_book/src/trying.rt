@@ -1,5 +1,6 @@
 //! Commands tried on the state.
 ghost use Rattle.std.specs.Prelude.{◌≡◌, ◌≢◌, ◌↔◌, map, IfOk, IfErr, OnOk, None, IsTrue, IsFalse};
+ghost use Rattle.pfx_machine.specs.Faults.{no_memory};
 ghost use Rattle.pfx_machine.specs.Slots.{deal};
 ghost use Rattle.pfx_slot.specs.Dealt.{StandsAt};
 ghost use Rattle.pfx_book.specs.Notes.{refused_at};
@@ -7,6 +8,7 @@ ghost use Rattle.pfx_book.specs.Trying.{Tries, StaysUnopened, IsReady};
 
 use crate::copies::copy_command;
 use crate::faults::BookFault;
+use pfx_choice::ChoiceFault;
 use pfx_jobs::job::Job;
 use pfx_jobs::quantum::Quantum;
 use pfx_machine::{Command, MachineFault, Reply, State};
@@ -24,19 +26,15 @@ pub enum Tried<J> {
     NoMemory,
 }
 
-/// Whether an allocation failed.
-fn is_memory(fault: MachineFault) -> bool
-    ensures { IsTrue result ↔ (fault ≡ MachineFault.NoMemory) }
-{
-    matches!(fault, MachineFault::NoMemory)
-}
-
 /// Whether this is the refusal of a growth of memory.
 pub fn is_no_memory(fault: BookFault) -> bool
-    ensures yes { IsTrue result → fault ≡ BookFault.Machine MachineFault.NoMemory }
-    ensures no { IsFalse result → fault ≢ BookFault.Machine MachineFault.NoMemory }
+    ensures yes { IsTrue result → fault ≡ BookFault.Machine no_memory }
+    ensures no { IsFalse result → fault ≢ BookFault.Machine no_memory }
 {
-    matches!(fault, BookFault::Machine(MachineFault::NoMemory))
+    matches!(
+        fault,
+        BookFault::Machine(MachineFault::NoRow(ChoiceFault::NoMemory))
+    )
 }
 
 /// Tries a command on the state of a session that is full or not.
@@ -55,7 +53,7 @@ pub fn try_command<J: Job>(
     match run_recorded(alloc, state, command) {
         Ok(Recorded { reply, entry }) => Tried::Done(copy, reply, entry),
         Err(fault) => {
-            if is_memory(fault) {
+            if fault.is_memory() {
                 return Tried::NoMemory;
             }
             Tried::Refused(copy, BookFault::Machine(fault))

@@ -5,10 +5,11 @@ ghost use Rattle.pfx_columns.specs.Ledgers.{IsLedger, ledger_at};
 ghost use Rattle.pfx_c.specs.Faults.{IsNamed};
 ghost use Rattle.pfx_c.specs.Checks.{LedgerFails, CheckFails, IsLedgerOf, IsGiven};
 
-use crate::faults::{fault_of_ledger, name_task, number_of};
+use crate::faults::{name_task, number_of};
 use crate::weights::{PfxWeight, set_of};
 use pfx_columns::Columns;
 use pfx_fault::Fault;
+use pfx_refusals::ledger_fault;
 use pfx_weights::TaskSet;
 use std::alloc::Global;
 
@@ -28,7 +29,7 @@ pub fn ledger_of(alloc: Global, set: &TaskSet, slot: u64, allocs: &[u64]) -> Res
     }
     match Columns::from_allocations(alloc, set, slot, allocs) {
         Ok(columns) => Ok(columns),
-        Err(fault) => Err(fault_of_ledger(fault)),
+        Err(fault) => Err(ledger_fault(fault)),
     }
 }
 

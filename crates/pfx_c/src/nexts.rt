@@ -5,11 +5,12 @@ ghost use Rattle.pfx_c.specs.Faults.{IsRefused};
 ghost use Rattle.pfx_c.specs.Nexts.{IsNext, NextFails};
 
 use crate::checks::given_ledger;
-use crate::faults::{fault_of_choice, number_of};
+use crate::faults::number_of;
 use crate::places::put_row;
 use crate::weights::PfxWeight;
 use pfx_choice::choose;
 use pfx_fault::Fault;
+use pfx_refusals::choice_fault;
 use std::alloc::Global;
 
 /// Puts PF's row at the ledger into the first places of `row`, one task for each worker, rising.
@@ -35,7 +36,7 @@ fn put_next(
             put_row(&chosen, 0, row);
             Ok(())
         }
-        Err(fault) => Err(fault_of_choice(fault)),
+        Err(fault) => Err(choice_fault(fault)),
     }
 }
 

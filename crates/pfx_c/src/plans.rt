@@ -5,12 +5,13 @@ ghost use Rattle.pfx_c.specs.Checks.{IsLedgerOf};
 ghost use Rattle.pfx_c.specs.Plans.{IsPlanned, EndsEarly, PlanFails, IsWhole, IsCut, kept};
 
 use crate::checks::given_ledger;
-use crate::faults::{fault_of_choice, number_of};
+use crate::faults::number_of;
 use crate::places::put_row;
 use crate::weights::PfxWeight;
 use pfx_choice::{ChoiceFault, Chooser, give};
 use pfx_columns::Columns;
 use pfx_fault::Fault;
+use pfx_refusals::choice_fault;
 use pfx_weights::Row;
 use std::alloc::Global;
 
@@ -108,6 +109,6 @@ pub extern "C" fn pfx_plan(
     *made = number;
     match end {
         Ok(()) => 0,
-        Err(fault) => number_of(fault_of_choice(fault)),
+        Err(fault) => number_of(choice_fault(fault)),
     }
 }

@@ -4,8 +4,8 @@ ghost use Rattle.std.specs.Prelude.{◌≡◌, IfOk, IfErr};
 ghost use Rattle.pfx_weights.specs.Sets.{Accepts};
 ghost use Rattle.pfx_c.specs.Weights.{pairs_of, SetFails};
 
-use crate::faults::fault_of_set;
 use pfx_fault::Fault;
+use pfx_refusals::set_fault;
 use pfx_weights::{SetFault, TaskSet};
 use std::alloc::{AllocError, Global};
 
@@ -36,13 +36,13 @@ pub fn set_of(alloc: Global, workers: u32, weights: &[PfxWeight]) -> Result<Task
 {
     // So that what is copied is bounded whatever a caller passes.
     if weights.len() > MOST {
-        return Err(fault_of_set(SetFault::TooManyTasks));
+        return Err(set_fault(SetFault::TooManyTasks));
     }
     let Ok(pairs) = pairs_of(alloc, weights) else {
-        return Err(fault_of_set(SetFault::NoMemory));
+        return Err(set_fault(SetFault::NoMemory));
     };
     match TaskSet::new(alloc, workers, &pairs) {
         Ok(set) => Ok(set),
-        Err(fault) => Err(fault_of_set(fault)),
+        Err(fault) => Err(set_fault(fault)),
     }
 }

@@ -11,7 +11,7 @@ use Rattle.pfx_weights.proofs.Refusals.{one_by, none_by}
 use Rattle.pfx_header.specs.Headers.{IsSegmentSize, least_segment, longest_segment}
 use Rattle.pfx_fault.specs.declared.refusals.Fault.{Fault}
 use Rattle.pfx_fault.specs.declared.refusals.Fault.TheVariants as fault
-use Rattle.pfx_program.specs.Faults.{fault_of_set}
+use Rattle.pfx_refusals.specs.Faults.{fault_of_set}
 use Rattle.pfx_check.specs.Faults.{Tried, AreFaults, AreAllFaults, IsTaken, IsRefusedBy, segment_faults, tried_of, told, mended, upto}
 use Rattle.pfx_check.specs.Laws.{IsFirst}
 use Rattle.pfx_check.proofs.Going.{length-upto}

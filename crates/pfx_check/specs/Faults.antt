@@ -8,7 +8,7 @@ use Rattle.pfx_fault.specs.declared.refusals.Fault.{Fault}
 use Rattle.pfx_fault.specs.declared.refusals.Fault.TheVariants as fault
 use Rattle.pfx_fault.specs.Line.{fault_text}
 use Rattle.pfx_header.specs.Headers.{least_segment, longest_segment}
-use Rattle.pfx_program.specs.Faults.{fault_of_set}
+use Rattle.pfx_refusals.specs.Faults.{fault_of_set}
 
 -- a set that is tried: its workers and tasks, and the number that each of these has in the set file
 pub record Tried : Type 0 where

@@ -3,7 +3,7 @@ use Rattle.std.specs.Prelude.{◌≡◌, ◌⊎◌, ℕ, List, ◌∷◌}
 use Rattle.pfx_weights.specs.Sets.{FilledSet, Accepts, Refuses}
 use Rattle.pfx_weights.specs.declared.faults.SetFault.{SetFault}
 use Rattle.pfx_fault.specs.declared.refusals.Fault.{Fault}
-use Rattle.pfx_program.specs.Faults.{fault_of_set}
+use Rattle.pfx_refusals.specs.Faults.{fault_of_set}
 use Rattle.pfx_check.specs.Faults.{segment_faults}
 
 -- f is why the set is refused; or the set is accepted, and f and what comes after it are its segment's faults

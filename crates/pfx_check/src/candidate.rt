@@ -5,7 +5,7 @@ ghost use Rattle.pfx_weights.specs.Sets.{IsTaskCount, IsWorkerCount};
 ghost use Rattle.pfx_check.specs.Faults.{IsTaken, IsRefusedBy, tried_of, told, mended, others};
 
 use pfx_fault::Fault;
-use pfx_program::set_fault;
+use pfx_refusals::set_fault;
 use pfx_weights::{SetFault, TaskSet};
 use std::alloc::{AllocError, Global};
 use std::marker::Model;

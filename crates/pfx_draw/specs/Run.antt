@@ -7,7 +7,7 @@ use Rattle.pfx_choice.specs.declared.faults.ChoiceFault.{ChoiceFault}
 use Rattle.pfx_fault.specs.declared.refusals.Fault.{Fault}
 use Rattle.pfx_fault.specs.declared.refusals.Fault.TheVariants as fault
 use Rattle.pfx_set_file.specs.SetFile.{SetFile}
-use Rattle.pfx_program.specs.Faults.{fault_of_choice}
+use Rattle.pfx_refusals.specs.Faults.{fault_of_choice}
 use Rattle.pfx_draw.specs.Drawing.{IsDrawing, IsTooLarge}
 use Rattle.pfx_draw.specs.Start.{Starts, HasNoStart}
 

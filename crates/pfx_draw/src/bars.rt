@@ -1,7 +1,7 @@
 //! Bars along a lane.
 
 ghost use Rattle.std.specs.Prelude.{◌≡◌, ◌++◌, ◌≤◌, ◌<◌, OnOk, length};
-ghost use Rattle.pfx_draw.specs.Bars.{has, had, begins, ends, bar_begin, bar_end, bar_piece, bars_path, run_track, cell_track};
+ghost use Rattle.pfx_draw.specs.Bars.{has, had, begins, ends, bar_piece, bars_path, run_track, cell_track};
 ghost use Rattle.pfx_draw.specs.Sizes.{IsDrawable};
 
 use crate::sizes::{Sizes, x_at};
@@ -45,48 +45,6 @@ fn ends(track: Track, marks: &[u64], mark: u64, i: usize) -> bool
     has(marks, mark, i) && (track.apart || !has(marks, mark, i + 1))
 }
 
-fn put_begin(
-    alloc: Global,
-    text: &mut Vec<u8>,
-    s: Sizes,
-    track: Track,
-    marks: &[u64],
-    mark: u64,
-    i: usize,
-) -> Result<(), AllocError>
-    requires drawable { IsDrawable s }
-    requires gap { track.gap ≤ 1 }
-    requires number { length marks.now ≤ 1440 }
-    requires within { i < length marks.now }
-    ensures { OnOk result (text.new.items ≡ text.old.items ++ bar_begin s track marks.now mark i) }
-{
-    if begins(track, marks, mark, i) {
-        put_move(alloc, text, x_at(s, i as u64) + track.gap, track.y)?;
-    }
-    Ok(())
-}
-
-fn put_end(
-    alloc: Global,
-    text: &mut Vec<u8>,
-    s: Sizes,
-    track: Track,
-    marks: &[u64],
-    mark: u64,
-    i: usize,
-) -> Result<(), AllocError>
-    requires drawable { IsDrawable s }
-    requires number { length marks.now ≤ 1440 }
-    requires within { i < length marks.now }
-    ensures { OnOk result (text.new.items ≡ text.old.items ++ bar_end s track marks.now mark i) }
-{
-    if ends(track, marks, mark, i) {
-        let end = x_at(s, i as u64 + 1);
-        put_across(alloc, text, end.saturating_sub(track.gap))?;
-    }
-    Ok(())
-}
-
 // What the `i`-th slot adds.
 fn put_piece(
     alloc: Global,
@@ -103,8 +61,14 @@ fn put_piece(
     requires within { i < length marks.now }
     ensures { OnOk result (text.new.items ≡ text.old.items ++ bar_piece s track marks.now mark i) }
 {
-    put_begin(alloc, text, s, track, marks, mark, i)?;
-    put_end(alloc, text, s, track, marks, mark, i)
+    if begins(track, marks, mark, i) {
+        put_move(alloc, text, x_at(s, i as u64) + track.gap, track.y)?;
+    }
+    if ends(track, marks, mark, i) {
+        let end = x_at(s, i as u64 + 1);
+        put_across(alloc, text, end.saturating_sub(track.gap))?;
+    }
+    Ok(())
 }
 
 /// Puts the path of the bars of all slots that have a mark.

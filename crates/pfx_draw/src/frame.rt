@@ -1,8 +1,6 @@
 //! What stands round the lanes.
 
 ghost use Rattle.std.specs.Prelude.{◌≡◌, ◌++◌, ◌≤◌, ◌<◌, ◌/◌, ◌*◌, OnOk, IfOk};
-ghost use Rattle.std.specs.List.{list_all};
-ghost use Rattle.pfx_set_file.specs.SetFile.{is_name_byte, is_name};
 ghost use Rattle.pfx_draw.specs.Frame.{named, counted, title, opening, spoken, heading, level_key, key, head, upright, grid_piece, number_piece, ticks};
 ghost use Rattle.pfx_draw.specs.Frame.{grid_lines, numbers, grid, hyper_slot, hyper_piece, hyper_count, hyper_lines, dashes, foot};
 ghost use Rattle.pfx_draw.specs.Sizes.{IsDrawable};
@@ -10,29 +8,8 @@ ghost use Rattle.pfx_draw.specs.Sizes.{IsDrawable};
 use crate::phrases::{Phrase, put_phrase, put_phrase_number};
 use crate::sizes::{Sizes, height, lanes_end, width, x_at};
 use crate::text::{put_bytes, put_down, put_move, put_number};
+use pfx_set_file::is_name;
 use std::alloc::{AllocError, Global};
-
-fn is_name_byte(b: u8) -> bool
-    ensures { result ≡ is_name_byte b }
-{
-    b.is_ascii_alphanumeric() || b == b'_' || b == b'-'
-}
-
-fn are_name_bytes(bytes: &[u8]) -> bool
-    ensures { result ≡ list_all is_name_byte bytes.now }
-{
-    bytes.iter().all(|b| is_name_byte(*b))
-}
-
-// Whether a text is a name as tasks have them.
-fn is_name(name: &str) -> bool
-    ensures { result ≡ is_name name.now }
-{
-    if name.is_empty() || name.len() > 32 {
-        return false;
-    }
-    are_name_bytes(name.as_bytes())
-}
 
 fn put_named(text: &mut Vec<u8>, name: &str) -> Result<(), AllocError>
     ensures { OnOk result (text.new.items ≡ text.old.items ++ named name.now) }

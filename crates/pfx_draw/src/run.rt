@@ -6,7 +6,7 @@ ghost use Rattle.pfx_draw.specs.Run.{Pictures, PictureFails};
 use crate::drawing::{DrawFault, draw};
 use crate::start::read_start;
 use pfx_fault::Fault;
-use pfx_program::choice_fault;
+use pfx_refusals::choice_fault;
 use std::alloc::Global;
 use std::io::Read;
 

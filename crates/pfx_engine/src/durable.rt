@@ -16,7 +16,7 @@ ghost use Rattle.pfx_engine.specs.KeepingLaws.{keeps_none, keeps_more, keeps_few
 ghost use Rattle.pfx_engine.specs.Stepping.{command_calls, frame_len};
 
 use crate::keeping::commit;
-use crate::windows::{Window, is_memory, run_slots};
+use crate::windows::{Window, run_slots};
 use pfx_disk::Disk;
 use pfx_fault::{Cause, Fault};
 use pfx_kinds::any::AnyJob;
@@ -130,7 +130,7 @@ impl<D: Disk> DurableEngine<D> {
             return Err(CallFault::Failed(Fault::NoMemory));
         };
         match run_recorded(alloc, &mut self.state, command) {
-            Err(fault) if is_memory(fault) => Err(CallFault::Failed(Fault::NoMemory)),
+            Err(fault) if fault.is_memory() => Err(CallFault::Failed(Fault::NoMemory)),
             Err(fault) => Err(CallFault::Refused(fault)),
             Ok(Recorded { reply, entry }) => {
                 records.push_reserved(entry);

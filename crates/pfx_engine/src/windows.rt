@@ -1,6 +1,6 @@
 //! Running several Slots before any of them is kept.
 
-ghost use Rattle.std.specs.Prelude.{◌≡◌, ◌↔◌, ◌<◌, IsTrue, map, IfOk, IfErr, OnErr};
+ghost use Rattle.std.specs.Prelude.{◌≡◌, ◌<◌, map, IfOk, IfErr, OnErr};
 ghost use Rattle.pfx_machine.specs.declared.command.Command.{Command};
 ghost use Rattle.pfx_record.specs.Records.{plain};
 ghost use Rattle.pfx_engine.specs.Failing.{Fails, NotAccepted};
@@ -8,7 +8,7 @@ ghost use Rattle.pfx_engine.specs.Surviving.{AreRun};
 
 use pfx_fault::Fault;
 use pfx_kinds::any::AnyJob;
-use pfx_machine::{Command, MachineFault, Reply, State};
+use pfx_machine::{Command, Reply, State};
 use pfx_program::CallFault;
 use pfx_record::Record;
 use pfx_redo::{Recorded, run_recorded};
@@ -21,13 +21,6 @@ pub(crate) struct Window {
     pub(crate) said: Vec<(u64, Reply)>,
     /// Their records.
     pub(crate) records: Vec<Record<AnyJob>>,
-}
-
-// Whether an allocation failed.
-pub(crate) fn is_memory(fault: MachineFault) -> bool
-    ensures { IsTrue result ↔ (fault ≡ MachineFault.NoMemory) }
-{
-    matches!(fault, MachineFault::NoMemory)
 }
 
 /// Runs Slots on the state, at least one and at most `count`, up to the first that is refused. If that is the first of
@@ -59,7 +52,7 @@ pub(crate) fn run_slots(
                 records.push_reserved(entry);
             }
             Err(_) if !said.is_empty() => return Ok(Window { said, records }),
-            Err(fault) if is_memory(fault) => return Err(CallFault::Failed(Fault::NoMemory)),
+            Err(fault) if fault.is_memory() => return Err(CallFault::Failed(Fault::NoMemory)),
             Err(fault) => return Err(CallFault::Refused(fault)),
         }
     }

@@ -18,7 +18,7 @@ use Rattle.pfx_machine.specs.declared.command.Command.TheVariants.{Submit, Slot,
 use Rattle.pfx_machine.specs.declared.command.Reply.{Reply}
 use Rattle.pfx_machine.specs.declared.command.Reply.TheVariants.{Submitted, Withdrawn}
 use Rattle.pfx_machine.specs.declared.faults.MachineFault.{MachineFault}
-use Rattle.pfx_machine.specs.declared.faults.MachineFault.TheVariants.{NumberLimit, SlotLimit, TaskBusy}
+use Rattle.pfx_machine.specs.declared.faults.MachineFault.TheVariants.{NumberLimit, NoRow, TaskBusy}
 use Rattle.pfx_machine.proofs.Compose.{outcome-none}
 use Rattle.pfx_machine.proofs.Keeping.{below_limit, slot_row}
 use Rattle.pfx_machine.proofs.Snoc.{outcome-snoc}
@@ -56,7 +56,7 @@ pub outcome_goes_on : {J : Type 0} (K : Kind J) (L : Laws K) (B : Plain J) (H : 
 outcome_goes_on K L B H h all = behind_goes_on K L B [] H (first_goes_on K B h) all
 
 -- the limits alone refuse a Slot
-limit_alone : (b : Bool) (row : List ℕ) → slot_fault (if b then Ok row else Err of_choice.SlotLimit) ≡ (if b then None else Some SlotLimit)
+limit_alone : (b : Bool) (row : List ℕ) → slot_fault (if b then Ok row else Err of_choice.SlotLimit) ≡ (if b then None else Some (NoRow of_choice.SlotLimit))
 limit_alone true row = refl
 limit_alone false row = refl
 
@@ -78,7 +78,7 @@ endless_behind K L B H ledger endless all =
 
 -- no answer tells of the lack of a row
 
-limit_had : (b d : Bool) (said : Reply) → HadARow (answer_by said (if b then (if d then None else Some SlotLimit) else Some NumberLimit))
+limit_had : (b d : Bool) (said : Reply) → HadARow (answer_by said (if b then (if d then None else Some (NoRow of_choice.SlotLimit)) else Some NumberLimit))
 limit_had true true said = tt
 limit_had true false said = tt
 limit_had false d said = tt

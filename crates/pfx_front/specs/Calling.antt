@@ -1,7 +1,7 @@
 -- What a client knows whose call was refused.
 use Rattle.std.specs.Prelude.{◌≡◌, ◌⊎◌, ◌<◌, ℕ, List, Some}
 use Rattle.pfx_machine.specs.declared.command.Command.{Command}
-use Rattle.pfx_machine.specs.declared.faults.MachineFault.TheVariants.{NoMemory}
+use Rattle.pfx_machine.specs.Faults.{no_memory}
 use Rattle.pfx_book.specs.declared.faults.BookFault.TheVariants.{Machine}
 use Rattle.pfx_book.specs.declared.note.Note.{Note}
 use Rattle.pfx_book.specs.declared.note.Note.TheVariants as note
@@ -18,10 +18,10 @@ module _ {J : Type 0} where
 
   -- a command has no reply: for want of memory, with nothing noted; as the book refuses it, which is noted; or for good
   abbrev pub HasNoReply : Command J → ℕ × List (Note J) → ℕ × List (Note J) → CallFault → Type 0
-  HasNoReply c old new (Refused fault) = ((fault ≡ Machine NoMemory) × (new ≡ old)) ⊎ ((n : ℕ) × (new ≡ noted (note.Refused n c fault) old))
+  HasNoReply c old new (Refused fault) = ((fault ≡ Machine no_memory) × (new ≡ old)) ⊎ ((n : ℕ) × (new ≡ noted (note.Refused n c fault) old))
   HasNoReply c old new (StoreFailed marked cause) = IsLost old new (StoreFailed marked cause)
 
   -- a number has no receipt: for want of memory, with nothing noted; or for good, if it is beyond the last mark
   abbrev pub HasNoReceipt : ℕ → ℕ × List (Note J) → ℕ × List (Note J) → CallFault → Type 0
-  HasNoReceipt number old new (Refused fault) = (fault ≡ Machine NoMemory) × (new ≡ old)
+  HasNoReceipt number old new (Refused fault) = (fault ≡ Machine no_memory) × (new ≡ old)
   HasNoReceipt number old new (StoreFailed marked cause) = (marked < number) × IsLost old new (StoreFailed marked cause)

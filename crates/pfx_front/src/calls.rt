@@ -18,6 +18,7 @@ use pfx_board::receipt::Receipt;
 use pfx_book::book::{Book, Pass};
 use pfx_book::closing;
 use pfx_book::faults::BookFault;
+use pfx_choice::ChoiceFault;
 use pfx_crew::desk::Desk;
 use pfx_jobs::job::Job;
 use pfx_jobs::quantum::{Done, Quantum};
@@ -73,7 +74,9 @@ fn receipt_of<J: Job, B: Since<J>>(
 {
     match book.receipt(pass, number) {
         Ok(receipt) => Ok(receipt),
-        Err(_) => Err(CallFault::Refused(BookFault::Machine(MachineFault::NoMemory))),
+        Err(_) => Err(CallFault::Refused(BookFault::Machine(MachineFault::NoRow(
+            ChoiceFault::NoMemory,
+        )))),
     }
 }
 
@@ -360,7 +363,7 @@ where
     ///
     /// It waits for the lock, while a slot is open, and while 64 accepted commands aren't durable. A Slot's quanta are run
     /// meanwhile, by the workers or, if there are none or their desk is closed, by this thread. `Refused` says why there is no
-    /// such command now, and is noted, but for `Machine(NoMemory)`: then nothing has changed. `StoreFailed` says that nothing is
+    /// such command now, and is noted, but for `Machine(NoRow(NoMemory))`: then nothing has changed. `StoreFailed` says that nothing is
     /// accepted any more; the first time, the pass notes why.
     pub fn call<R: Wait>(
         &self,
@@ -388,7 +391,7 @@ where
     /// the receipt shows that command's state, or a later one.
     ///
     /// `StoreFailed` says that it isn't known to be durable, and won't become so; a number up to the last mark has its receipt
-    /// also then. `Refused(Machine(NoMemory))` changes nothing, and the call may be made again.
+    /// also then. `Refused(Machine(NoRow(NoMemory)))` changes nothing, and the call may be made again.
     pub fn settled<R: Wait>(
         &self,
         rt: &R,

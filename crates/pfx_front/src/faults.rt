@@ -6,7 +6,7 @@ use thiserror::Error;
 /// Why a command has no reply, or a number no receipt.
 #[derive(Clone, Copy, Debug, PartialEq, Eq, Error)]
 pub enum CallFault {
-    /// The command is refused. Of a receipt it is `Machine(NoMemory)`.
+    /// The command is refused. Of a receipt it is `Machine(NoRow(NoMemory))`.
     #[error("{0}")]
     Refused(BookFault),
     /// The flusher has given up, so nothing more is accepted, and nothing becomes durable.

@@ -12,6 +12,7 @@ use crate::stores::{JobDesk, SEGMENT, TASKS, submit, thirds};
 use pfx_board::reader::{Reader, StatusFault};
 use pfx_book::book::Pass;
 use pfx_book::faults::BookFault;
+use pfx_choice::ChoiceFault;
 use pfx_crew::channel::ChannelDesk;
 use pfx_crew::desk::Desk;
 use pfx_disk::{Disk, FileDisk};
@@ -77,7 +78,7 @@ fn say_board<R: Print>(rt: &R, board: &Board) {
 /// Says why a call is refused: whether the store has failed.
 fn refuse<R: Print>(rt: &R, call: &str, fault: CallFault) -> bool {
     match fault {
-        CallFault::Refused(BookFault::Machine(MachineFault::NoMemory)) => {
+        CallFault::Refused(BookFault::Machine(MachineFault::NoRow(ChoiceFault::NoMemory))) => {
             say(rt, call, "90");
             false
         }

@@ -7,6 +7,7 @@ use Rattle.pfx_book.specs.declared.faults.BookFault.{BookFault}
 use Rattle.pfx_book.specs.declared.faults.BookFault.TheVariants as book
 use Rattle.pfx_book.specs.declared.note.Note.{Note}
 use Rattle.pfx_book.specs.declared.note.Note.TheVariants as note
+use Rattle.pfx_choice.specs.declared.faults.ChoiceFault.TheVariants as choicefault
 use Rattle.pfx_fault.specs.declared.refusals.Fault.{Fault}
 use Rattle.pfx_fault.specs.declared.refusals.Fault.TheVariants as fault
 use Rattle.pfx_front.specs.Calling.{HasNoReply}
@@ -20,7 +21,7 @@ use Rattle.pfx_machine.specs.Runs.{answer}
 use Rattle.pfx_machine.specs.declared.command.Command.{Command}
 use Rattle.pfx_machine.specs.declared.command.Reply.{Reply}
 use Rattle.pfx_machine.specs.declared.faults.MachineFault.{MachineFault}
-use Rattle.pfx_machine.specs.declared.faults.MachineFault.TheVariants as machine
+use Rattle.pfx_machine.specs.declared.faults.MachineFault.TheVariants.{NoRow}
 use Rattle.pfx_program.specs.Promises.{IsEngineFault}
 use Rattle.pfx_front_engine.specs.Asking.{IsAnswered, IsFrontFault, IsReason, IsUnanswered, why_machine, why_of}
 use Rattle.pfx_front_engine.proofs.Notes.{alone_more, answered, greatest_same_answers, known_last, refused, stays_as, stays_with, tagged}
@@ -33,7 +34,7 @@ engine_fault s (fault.BadScript at) h = absurd h
 engine_fault s other h = h
 
 machine_reason : (s : Plain AnyJob) (c : Command AnyJob) (f : MachineFault) → answer any_kind s c ≡ Err f → IsReason s c (why_machine f)
-machine_reason s c machine.NoMemory h = tt
+machine_reason s c (NoRow choicefault.NoMemory) h = tt
 machine_reason s c other h = h
 
 module _ (B : Plain AnyJob) (c : Command AnyJob) (was is : ℕ × List (Note AnyJob)) where

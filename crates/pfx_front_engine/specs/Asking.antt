@@ -1,5 +1,6 @@
 -- What comes of a command of a front's only client.
 use Rattle.std.specs.Prelude.{◌≡◌, ◌<◌, ◌≤◌, ℕ, ◌+◌, ◌++◌, List, [], ◌∷◌, length, Ok, Err, ⊤}
+use Rattle.pfx_choice.specs.declared.faults.ChoiceFault.TheVariants.{NoMemory}
 use Rattle.pfx_book.specs.Notes.{alone, greatest}
 use Rattle.pfx_book.specs.declared.faults.BookFault.TheVariants as book
 use Rattle.pfx_book.specs.declared.note.Note.{Note}
@@ -16,7 +17,7 @@ use Rattle.pfx_machine.specs.Runs.{answer}
 use Rattle.pfx_machine.specs.declared.command.Command.{Command}
 use Rattle.pfx_machine.specs.declared.command.Reply.{Reply}
 use Rattle.pfx_machine.specs.declared.faults.MachineFault.{MachineFault}
-use Rattle.pfx_machine.specs.declared.faults.MachineFault.TheVariants as machine
+use Rattle.pfx_machine.specs.declared.faults.MachineFault.TheVariants.{NoRow}
 use Rattle.pfx_program.specs.Promises.{AreAnswered, slots_for}
 use Rattle.pfx_program.specs.declared.engine.CallFault.{CallFault}
 use Rattle.pfx_program.specs.declared.engine.CallFault.TheVariants as callfault
@@ -24,7 +25,7 @@ use Rattle.pfx_front_engine.specs.Keeping.{KeepsBy}
 
 -- what the machine's refusal is to a run: for want of memory the run ends
 abbrev pub why_machine : MachineFault → CallFault
-why_machine machine.NoMemory = callfault.Failed fault.NoMemory
+why_machine (NoRow NoMemory) = callfault.Failed fault.NoMemory
 why_machine other = callfault.Refused other
 
 -- what a front's refusal is to a run

@@ -9,6 +9,7 @@ ghost use Rattle.pfx_front_engine.specs.Keeping.{IsSettled, KeepsBy};
 use crate::client::Client;
 use pfx_book::book::Pass;
 use pfx_book::faults::BookFault;
+use pfx_choice::ChoiceFault;
 use pfx_crew::desk::Desk;
 use pfx_fault::{Cause, Fault};
 use pfx_front::calls::Front;
@@ -26,7 +27,7 @@ fn why_machine(fault: MachineFault) -> CallFault
     ensures { result ≡ why_machine fault }
 {
     match fault {
-        MachineFault::NoMemory => CallFault::Failed(Fault::NoMemory),
+        MachineFault::NoRow(ChoiceFault::NoMemory) => CallFault::Failed(Fault::NoMemory),
         fault => CallFault::Refused(fault),
     }
 }

@@ -1,11 +1,10 @@
 -- What a job is at its start: of the kind's name, the goal and the data, in this order.
-use Rattle.std.specs.Prelude.{ℕ, ◌+◌, ◌-◌, ◌^◌, Bool, ◌&&◌, ◌||◌, nat_lt, nat_eq, cond, List, [], ◌∷◌, ◌++◌, length, take, drop, replicate, slice_index}
-use Rattle.std.specs.Prelude.{position, codes, Option, Some, None, Result, Ok, Err}
+use Rattle.std.specs.Prelude.{ℕ, ◌+◌, ◌-◌, ◌^◌, Bool, ◌&&◌, ◌||◌, nat_lt, nat_le, nat_eq, cond, if◌then◌else◌, List, [], ◌∷◌, ◌++◌}
+use Rattle.std.specs.Prelude.{length, take, drop, replicate, slice_index, position, codes, Option, Some, None, Result, Ok, Err}
 use Rattle.std.specs.Option.{option_map, option_and_then}
 use Rattle.std.specs.List.{list_all}
-use Rattle.std.specs.Char.{is_ascii_digit}
 use Rattle.std.specs.Str.{bytes_eq}
-use Rattle.std.specs.Str.Parse.{digits_value}
+use Rattle.pfx_decimal.specs.Numerals.{number_in}
 use Rattle.pfx_kinds.specs.Cells.{packed}
 use Rattle.pfx_kinds.specs.Counts.{CountFields}
 use Rattle.pfx_kinds.specs.Rules.{RuleFields}
@@ -24,10 +23,9 @@ abbrev pub or_bad_data : {A : Type 0} → Option A → Result A StartFault
 or_bad_data None = Err BadData
 or_bad_data (Some a) = Ok a
 
--- the value of 1 to n decimal digits, if it is at most m
+-- the number that 1 to n decimal digits write, if it is at most m
 abbrev pub decimal_within : ℕ → ℕ → List ℕ → Option ℕ
-decimal_within n m text = cond (nat_lt 0 (length text) && nat_lt (length text) (n + 1) && list_all is_ascii_digit text && nat_lt (digits_value 10 text) (m + 1))
-    (Some (digits_value 10 text)) None
+decimal_within n m text = option_and_then (λ number. if nat_le number m then Some number else None) (number_in n text)
 
 -- the parts before and after the first colon
 abbrev pub is_colon : ℕ → Bool

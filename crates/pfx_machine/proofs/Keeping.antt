@@ -14,7 +14,6 @@ use Rattle.pfx_choice.proofs.Choosing.{row_fair}
 use Rattle.pfx_choice.proofs.PfFunction.{pf_function}
 use Rattle.pfx_choice.proofs.Planning.{pf_full}
 use Rattle.pfx_jobs.specs.Kind.{Kind, Laws}
-use Rattle.pfx_machine.specs.Faults.{machine_fault}
 use Rattle.pfx_machine.specs.Plain.{Plain, IsState}
 use Rattle.pfx_machine.specs.Happenings.{Happening, given, taken, ran, row_or_none}
 use Rattle.pfx_machine.specs.Outcome.{outcome}
@@ -24,7 +23,7 @@ use Rattle.pfx_machine.specs.Steps.{jobs_step, ledger_step, state_step, happenin
 use Rattle.pfx_machine.specs.declared.command.Command.{Command}
 use Rattle.pfx_machine.specs.declared.command.Command.TheVariants.{Submit, Slot, Withdraw}
 use Rattle.pfx_machine.specs.declared.faults.MachineFault.{MachineFault}
-use Rattle.pfx_machine.specs.declared.faults.MachineFault.TheVariants.{NumberLimit}
+use Rattle.pfx_machine.specs.declared.faults.MachineFault.TheVariants.{NumberLimit, NoRow}
 use Rattle.pfx_machine.proofs.Compose.{outcome-none}
 use Rattle.pfx_machine.proofs.Snoc.{outcome-snoc}
 
@@ -48,7 +47,7 @@ below_limit n o h = elim (cases_lt (n + 1) (2 ^ 48)) [
 
 pub slot_row : (r : Result (List ℕ) ChoiceFault) → slot_fault r ≡ None → r ≡ Ok (row_or_none r)
 slot_row (Ok row) h = refl
-slot_row (Err fault) h = absurd (none-some (machine_fault fault) (sym h))
+slot_row (Err fault) h = absurd (none-some (NoRow fault) (sym h))
 
 step_ledger : {J : Type 0} (K : Kind J) (s : Plain J) (c : Command J) → IsState s → command_fault K s c ≡ None → IsLedger (ledger_step s.ledger (happening_in s c))
 step_ledger K s (Submit task job) h accepted = h.ledger

@@ -1,11 +1,8 @@
--- Why a Slot is refused if no row is chosen.
-use Rattle.pfx_choice.specs.declared.faults.ChoiceFault.{ChoiceFault}
-use Rattle.pfx_choice.specs.declared.faults.ChoiceFault.TheVariants as of_choice
+-- The refusal that says nothing of the state.
+use Rattle.pfx_choice.specs.declared.faults.ChoiceFault.TheVariants.{NoMemory}
 use Rattle.pfx_machine.specs.declared.faults.MachineFault.{MachineFault}
-use Rattle.pfx_machine.specs.declared.faults.MachineFault.TheVariants.{SlotLimit, TooManyUrgent, TooFewEligible, NoMemory}
+use Rattle.pfx_machine.specs.declared.faults.MachineFault.TheVariants.{NoRow}
 
-abbrev pub machine_fault : ChoiceFault → MachineFault
-machine_fault of_choice.SlotLimit = SlotLimit
-machine_fault (of_choice.TooManyUrgent u m) = TooManyUrgent u m
-machine_fault (of_choice.TooFewEligible c m) = TooFewEligible c m
-machine_fault of_choice.NoMemory = NoMemory
+-- an allocation failed, which only a Slot needs
+abbrev pub no_memory : MachineFault
+no_memory = NoRow NoMemory

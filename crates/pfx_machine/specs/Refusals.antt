@@ -4,14 +4,14 @@ use Rattle.pfx_jobs.specs.Kind.{Kind}
 use Rattle.pfx_choice.specs.PfRows.{chosen}
 use Rattle.pfx_choice.specs.declared.faults.ChoiceFault.{ChoiceFault}
 use Rattle.pfx_machine.specs.Plain.{Plain}
-use Rattle.pfx_machine.specs.Faults.{machine_fault}
+use Rattle.pfx_machine.specs.Faults.{no_memory}
 use Rattle.pfx_machine.specs.Happenings.{row_or_none}
 use Rattle.pfx_machine.specs.declared.command.Command.{Command}
 use Rattle.pfx_machine.specs.declared.command.Command.TheVariants.{Submit, Slot, Withdraw}
 use Rattle.pfx_machine.specs.declared.command.Reply.{Reply}
 use Rattle.pfx_machine.specs.declared.command.Reply.TheVariants.{Submitted, Ran, Withdrawn}
 use Rattle.pfx_machine.specs.declared.faults.MachineFault.{MachineFault}
-use Rattle.pfx_machine.specs.declared.faults.MachineFault.TheVariants.{NumberLimit, NoSuchTask, TaskBusy, NoJob, NoMemory}
+use Rattle.pfx_machine.specs.declared.faults.MachineFault.TheVariants.{NumberLimit, NoSuchTask, TaskBusy, NoJob, NoRow}
 
 -- why a task can't be given a job, by its place in the list of jobs: there is none if the list is too short
 abbrev pub submit_fault : {J : Type 0} → Kind J → ℕ → Option (Option J) → Option MachineFault
@@ -28,7 +28,7 @@ withdraw_fault task (Some (Some s)) = None
 -- why no slot can be run
 abbrev pub slot_fault : Result (List ℕ) ChoiceFault → Option MachineFault
 slot_fault (Ok row) = None
-slot_fault (Err fault) = Some (machine_fault fault)
+slot_fault (Err fault) = Some (NoRow fault)
 
 abbrev pub command_fault : {J : Type 0} → Kind J → Plain J → Command J → Option MachineFault
 command_fault K s (Submit task job) = submit_fault K task (slice_get s.jobs task)
@@ -47,4 +47,4 @@ reply s Slot = Ran s.ledger.slot (row_or_none (chosen s.ledger))
 
 -- an answered fault is the refusal, unless an allocation failed, which only a Slot takes
 abbrev pub IsFaultOf : {J : Type 0} → Kind J → Plain J → Command J → MachineFault → Type 0
-IsFaultOf K s c fault = (fault ≡ NoMemory → c ≡ Slot) × (fault ≢ NoMemory → refusal K s c ≡ Some fault)
+IsFaultOf K s c fault = (fault ≡ no_memory → c ≡ Slot) × (fault ≢ no_memory → refusal K s c ≡ Some fault)

@@ -1,7 +1,7 @@
 //! Why a command is refused.
 
 ghost use Rattle.std.specs.Prelude.{◌≡◌, ◌↔◌, IsTrue};
-ghost use Rattle.pfx_machine.specs.Faults.{machine_fault};
+ghost use Rattle.pfx_machine.specs.Faults.{no_memory};
 
 use pfx_choice::ChoiceFault;
 use thiserror::Error;
@@ -21,28 +21,16 @@ pub enum MachineFault {
     /// The task has no job.
     #[error("task {task} has no job")]
     NoJob { task: u16 },
-    /// The slot is 2^40 - 1, the last one.
-    #[error("the slot is the last one")]
-    SlotLimit,
-    /// More tasks are urgent than there are workers.
-    #[error("{urgent} tasks are urgent for {m} workers")]
-    TooManyUrgent { urgent: u32, m: u32 },
-    /// Fewer tasks are urgent or contending than there are workers.
-    #[error("{eligible} tasks are eligible for {m} workers")]
-    TooFewEligible { eligible: u32, m: u32 },
-    /// An allocation failed. Only a Slot is refused so.
-    #[error("out of memory")]
-    NoMemory,
+    /// A Slot has no row, or an allocation failed before it was run. Only a Slot is refused so.
+    #[error("{0}")]
+    NoRow(ChoiceFault),
 }
 
-/// Why a Slot is refused if no row is chosen.
-pub fn fault_of_choice(fault: ChoiceFault) -> MachineFault
-    ensures { result ≡ machine_fault fault }
-{
-    match fault {
-        ChoiceFault::SlotLimit => MachineFault::SlotLimit,
-        ChoiceFault::TooManyUrgent { urgent, m } => MachineFault::TooManyUrgent { urgent, m },
-        ChoiceFault::TooFewEligible { eligible, m } => MachineFault::TooFewEligible { eligible, m },
-        ChoiceFault::NoMemory => MachineFault::NoMemory,
+impl MachineFault {
+    /// Whether an allocation failed, and nothing is said of the state.
+    pub fn is_memory(self) -> bool
+        ensures { IsTrue result ↔ (self ≡ no_memory) }
+    {
+        matches!(self, MachineFault::NoRow(ChoiceFault::NoMemory))
     }
 }

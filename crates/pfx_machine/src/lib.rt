@@ -27,7 +27,7 @@ mod state;
 pub use board::{Board, JobStatus, TaskLine};
 pub use command::{Command, Reply};
 pub use faults::MachineFault;
-pub use jobs::{has_job, is_busy, is_free};
+pub use jobs::{copy_jobs, has_job, is_busy, is_free};
 pub use plain::{Happening, plain_job, plain_slots};
 pub use runs::{Answer, run};
 pub use slot::run_all;

@@ -8,6 +8,7 @@ ghost use Rattle.pfx_machine.specs.Runs.{accepted, answer, answers, with_accepte
 ghost use Rattle.pfx_machine.specs.declared.command.Command.{Command};
 
 use crate::{Command, MachineFault, Reply, State};
+use pfx_choice::ChoiceFault;
 use pfx_jobs::job::Job;
 use std::alloc::{AllocError, Global};
 
@@ -47,7 +48,7 @@ fn answer_one<J: Job>(state: &mut State<J>, command: Command<J>) -> Result<Answe
 {
     match state.apply(command) {
         Ok(reply) => Ok(Ok(reply)),
-        Err(MachineFault::NoMemory) => Err(AllocError),
+        Err(MachineFault::NoRow(ChoiceFault::NoMemory)) => Err(AllocError),
         Err(fault) => Ok(Err(fault)),
     }
 }

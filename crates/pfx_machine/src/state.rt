@@ -13,11 +13,10 @@ ghost use Rattle.pfx_machine.specs.Refusals.{submit_fault, withdraw_fault, refus
 ghost use Rattle.pfx_machine.specs.Slots.{deal, deals_in};
 ghost use Rattle.pfx_machine.specs.declared.command.Command.{Command};
 
-use crate::faults::fault_of_choice;
-use crate::jobs::{has_job, is_free};
+use crate::jobs::{copy_jobs, has_job, is_free};
 use crate::slot::{deal_all, serve_all, write_back};
 use crate::{Command, MachineFault, Reply};
-use pfx_choice::{Chooser, give};
+use pfx_choice::{ChoiceFault, Chooser, give};
 use pfx_columns::Columns;
 use pfx_jobs::job::Job;
 use pfx_jobs::quantum::{Done, Quantum};
@@ -73,25 +72,6 @@ fn fault_of_withdraw<J: Job>(jobs: &[Option<J>], task: u16) -> Option<MachineFau
         return None;
     }
     Some(MachineFault::NoJob { task })
-}
-
-fn copy_one<J: Job>(place: &Option<J>) -> Option<J>
-    ensures { result ≡ place.now }
-{
-    match place {
-        Some(job) => Some(job.copy_of()),
-        None => None,
-    }
-}
-
-fn copy_jobs<J: Job>(alloc: Global, jobs: &[Option<J>]) -> Result<Vec<Option<J>>, AllocError>
-    ensures { IfOk result (λ copies. copies.items ≡ jobs.now) }
-{
-    let mut copies = Vec::with_capacity(alloc, jobs.len())?;
-    for place in jobs {
-        copies.push(copy_one(place))?;
-    }
-    Ok(copies)
 }
 
 fn no_jobs<J: Job>(alloc: Global, number: usize) -> Result<Vec<Option<J>>, AllocError>
@@ -256,7 +236,7 @@ impl<J: Job> State<J> {
                 Ok(Reply::Withdrawn { task })
             }
             Command::Slot => match self.chooser.choose(&self.ledger) {
-                Err(fault) => Err(fault_of_choice(fault)),
+                Err(fault) => Err(MachineFault::NoRow(fault)),
                 Ok(row) => Ok(self.run_row(row)),
             },
         }
@@ -280,8 +260,8 @@ impl<J: Job> State<J> {
     ///
     /// If the state is the outcome of commands from some start, it is afterwards the outcome of these and this one. A
     /// command is refused by the first of these that holds, and then nothing changes: NumberLimit; for a Submit
-    /// NoSuchTask, TaskBusy; for a Withdraw NoSuchTask, NoJob; for a Slot SlotLimit, TooManyUrgent, TooFewEligible.
-    /// NoMemory comes only for a Slot, and only if an allocation failed.
+    /// NoSuchTask, TaskBusy; for a Withdraw NoSuchTask, NoJob; for a Slot, as NoRow, SlotLimit, TooManyUrgent,
+    /// TooFewEligible. NoRow(NoMemory) comes only for a Slot, and only if an allocation failed.
     pub fn apply(&mut self, command: Command<J>) -> Result<Reply, MachineFault>
         ensures exact { MatchResult result (λ _. refusal J.kind self.old command ≡ None) (λ fault. IsFaultOf J.kind self.old command fault) }
         ensures reply { IfOk result (λ said. said ≡ reply self.old command) }
@@ -304,7 +284,7 @@ impl<J: Job> State<J> {
             return Err(MachineFault::NumberLimit);
         }
         match self.chooser.choose(&self.ledger) {
-            Err(fault) => Err(fault_of_choice(fault)),
+            Err(fault) => Err(MachineFault::NoRow(fault)),
             Ok(row) => match deal_all(
                 alloc,
                 self.number + 1,
@@ -312,7 +292,7 @@ impl<J: Job> State<J> {
                 &row,
                 &self.jobs,
             ) {
-                Err(_) => Err(MachineFault::NoMemory),
+                Err(_) => Err(MachineFault::NoRow(ChoiceFault::NoMemory)),
                 Ok(quanta) => Ok((row, quanta)),
             },
         }

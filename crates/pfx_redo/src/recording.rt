@@ -9,6 +9,7 @@ ghost use Rattle.pfx_machine.specs.declared.command.Command.{Command};
 ghost use Rattle.pfx_record.specs.Records.{plain};
 ghost use Rattle.pfx_redo.specs.Recording.{after_in, record_of};
 
+use pfx_choice::ChoiceFault;
 use pfx_jobs::job::Job;
 use pfx_jobs::quantum::Done;
 use pfx_machine::{Command, MachineFault, Reply, State, run_all};
@@ -68,10 +69,10 @@ fn run_slot<J: Job>(alloc: Global, state: &mut State<J>) -> Result<Recorded<J>, 
 {
     let (row, quanta) = state.open_slot(alloc)?;
     let Ok(dones) = run_all(alloc, quanta) else {
-        return Err(MachineFault::NoMemory);
+        return Err(MachineFault::NoRow(ChoiceFault::NoMemory));
     };
     let Ok(places) = places_of(alloc, &row, &dones) else {
-        return Err(MachineFault::NoMemory);
+        return Err(MachineFault::NoRow(ChoiceFault::NoMemory));
     };
     Ok(Recorded {
         reply: state.seal(row, dones),
@@ -80,7 +81,7 @@ fn run_slot<J: Job>(alloc: Global, state: &mut State<J>) -> Result<Recorded<J>, 
 }
 
 /// Runs a whole command on the state, as `State::apply` does, and records it: the record is right at the state before.
-/// `NoMemory` comes only for a Slot, if an allocation failed.
+/// `NoRow(NoMemory)` comes only for a Slot, if an allocation failed.
 pub fn run_recorded<J: Job>(
     alloc: Global,
     state: &mut State<J>,

@@ -12,29 +12,8 @@ use crate::jobs::PlainState;
 use crate::ledger::holds;
 use crate::numbers::PlainLedger;
 use pfx_jobs::job::Job;
-use pfx_machine::State;
+use pfx_machine::{State, copy_jobs};
 use std::alloc::{AllocError, Global};
-
-// A copy of a task's job, if it has one.
-fn copy_one<J: Job>(place: &Option<J>) -> Option<J>
-    ensures { result ≡ place.now }
-{
-    match place {
-        Some(job) => Some(job.copy_of()),
-        None => None,
-    }
-}
-
-// A copy of all tasks' jobs.
-fn copy_jobs<J: Job>(alloc: Global, jobs: &[Option<J>]) -> Result<Vec<Option<J>>, AllocError>
-    ensures { IfOk result (λ copies. copies.items ≡ jobs.now) }
-{
-    let mut copies = Vec::with_capacity(alloc, jobs.len())?;
-    for place in jobs {
-        copies.push(copy_one(place))?;
-    }
-    Ok(copies)
-}
 
 // Steps a job that runs, unless there is none or it is done.
 fn step_one<J: Job>(place: &mut Option<J>, runs: bool)

@@ -21,5 +21,6 @@ mod members;
 mod reading;
 mod set;
 
+pub use members::is_name;
 pub use reading::read_set;
 pub use set::{NamedTask, SetText};

@@ -63,7 +63,8 @@ fn are_in_names(bytes: &[u8]) -> bool
     bytes.iter().all(|b| is_in_names(*b))
 }
 
-fn is_a_name(name: &str) -> bool
+/// Whether a text is a name as tasks have them: 1 to 32 letters, digits, underscores and hyphens, all of them ASCII.
+pub fn is_name(name: &str) -> bool
     ensures { result ≡ is_name name.now }
 {
     if name.is_empty() || name.len() > 32 {
@@ -83,7 +84,7 @@ pub(crate) fn name_under(alloc: Global, table: &Table) -> Result<String, Fault>
     let Some(name) = value.as_str() else {
         return Err(Fault::BadSet);
     };
-    if !is_a_name(name) {
+    if !is_name(name) {
         return Err(Fault::BadSet);
     }
     match String::from_str(alloc, name) {

@@ -10,6 +10,7 @@ ghost use Rattle.pfx_redo.specs.Recording.{record_of};
 ghost use Rattle.pfx_slot.specs.Dealt.{AllBack, StandsAt};
 
 use crate::slot::{Ended, OpenSlot};
+use pfx_choice::ChoiceFault;
 use pfx_jobs::job::Job;
 use pfx_jobs::quantum::Quantum;
 use pfx_machine::{Command, MachineFault, State};
@@ -18,7 +19,7 @@ use pfx_redo::Recorded;
 use std::alloc::Global;
 
 /// Opens the state's next slot, with all the memory that its end needs, and gives the quanta that are to be run. The state
-/// stays as it is. It is refused as a Slot is; `NoMemory` comes only if an allocation failed.
+/// stays as it is. It is refused as a Slot is; `NoRow(NoMemory)` comes only if an allocation failed.
 pub fn open_on<J: Job>(
     alloc: Global,
     state: &mut State<J>,
@@ -32,7 +33,7 @@ pub fn open_on<J: Job>(
     let (row, quanta) = state.open_slot(alloc)?;
     match OpenSlot::of(alloc, row, quanta) {
         Ok((slot, dealt)) => Ok((slot, dealt)),
-        Err(_) => Err(MachineFault::NoMemory),
+        Err(_) => Err(MachineFault::NoRow(ChoiceFault::NoMemory)),
     }
 }
 

@@ -13,6 +13,7 @@ use pfx_book::closing::Receipt;
 use pfx_book::faults::BookFault;
 use pfx_book::name::Named;
 use pfx_book::note::Note;
+use pfx_choice::ChoiceFault;
 use pfx_jobs::quantum::Quantum;
 use pfx_kinds::any::AnyJob;
 use pfx_machine::{MachineFault, State};
@@ -27,7 +28,7 @@ fn submit_again<B: Named<AnyJob>>(
     task: u16,
 ) -> Option<Answer> {
     let answer = submit(book, pass, task);
-    if is_refused(&answer, MachineFault::NoMemory) {
+    if is_refused(&answer, MachineFault::NoRow(ChoiceFault::NoMemory)) {
         return submit(book, pass, task);
     }
     answer
@@ -40,7 +41,7 @@ fn withdraw_again<B: Named<AnyJob>>(
     task: u16,
 ) -> Option<Answer> {
     let answer = withdraw(book, pass, task);
-    if is_refused(&answer, MachineFault::NoMemory) {
+    if is_refused(&answer, MachineFault::NoRow(ChoiceFault::NoMemory)) {
         return withdraw(book, pass, task);
     }
     answer
@@ -52,7 +53,7 @@ fn open_again<B: Named<AnyJob>>(
     pass: &mut Pass<AnyJob, B>,
 ) -> Option<Result<Vec<Quantum<AnyJob>>, BookFault>> {
     let answer = open(book, pass);
-    if is_unopened(&answer, MachineFault::NoMemory) && !book.is_open() {
+    if is_unopened(&answer, MachineFault::NoRow(ChoiceFault::NoMemory)) && !book.is_open() {
         return open(book, pass);
     }
     answer

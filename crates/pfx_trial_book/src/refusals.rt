@@ -10,6 +10,7 @@ use pfx_book::book::{Book, Pass};
 use pfx_book::faults::BookFault;
 use pfx_book::name::Named;
 use pfx_book::note::Note;
+use pfx_choice::ChoiceFault;
 use pfx_crew::gathering::GatherFault;
 use pfx_jobs::job::Job;
 use pfx_jobs::quantum::Quantum;
@@ -131,8 +132,10 @@ fn limit<B: Named<AnyJob>>(
 {
     let (mut book, _flusher) = begin::<B>(alloc, tokens, state)?;
     let mut pass = book.pass()?;
-    let last = is_unopened(&open(&mut book, &mut pass), MachineFault::SlotLimit)
-        && is_withdrawn(&withdraw(&mut book, &mut pass, 0), (1 << 48) - 1, 0);
+    let last = is_unopened(
+        &open(&mut book, &mut pass),
+        MachineFault::NoRow(ChoiceFault::SlotLimit),
+    ) && is_withdrawn(&withdraw(&mut book, &mut pass, 0), (1 << 48) - 1, 0);
     let fault = MachineFault::NumberLimit;
     let behind = is_unopened(&open(&mut book, &mut pass), fault)
         && is_refused(&submit(&mut book, &mut pass, 0), fault)
@@ -190,8 +193,8 @@ fn a_book_ends_at_the_limits(rt: HostRuntime) {
 #[test]
 fn a_ledger_that_cannot_go_on_opens_no_slot(rt: HostRuntime) {
     let alloc = rt.alloc();
-    let fault = MachineFault::TooManyUrgent { urgent: 2, m: 1 };
+    let fault = MachineFault::NoRow(ChoiceFault::TooManyUrgent { urgent: 2, m: 1 });
     assert!(rt; is_stuck(alloc, urgent(alloc), fault) == Some(true));
-    let fault = MachineFault::TooFewEligible { eligible: 2, m: 3 };
+    let fault = MachineFault::NoRow(ChoiceFault::TooFewEligible { eligible: 2, m: 3 });
     assert!(rt; is_stuck(alloc, idle(alloc), fault) == Some(true));
 }

@@ -1,28 +1,20 @@
 //! Two clients in threads of their own, and two workers: what was answered is in the store.
-ghost use Rattle.std.specs.Prelude.{◌≡◌};
-ghost use Rattle.pfx_disk.specs.Memory.{memory_view};
-ghost use Rattle.pfx_kinds.specs.AnyKind.{any_kind};
-ghost use Rattle.pfx_front.specs.Starting.{Begins};
 
-use crate::stores::{JobDesk, desk, is_settled, memory, submit, thirds};
-use pfx_board::reader::Reader;
+use crate::fronts::{Served, end, is_kept};
+use crate::sessions::{Session, in_memory};
+use crate::stores::{is_settled, submit};
 use pfx_book::book::Pass;
 use pfx_crew::desk::Desk;
-use pfx_disk::{Disk, MemoryDisk};
+use pfx_disk::Disk;
 use pfx_front::calls::Front;
-use pfx_front::closing::Given;
-use pfx_front::name::{Names, Since};
-use pfx_front::start::Crew;
+use pfx_front::name::Since;
 use pfx_jobs::quantum::{Done, Quantum};
 use pfx_kinds::any::AnyJob;
 use pfx_machine::Command;
-use pfx_store::Store;
 use std::alloc::Global;
-use std::marker::Brand;
 use std::sync::Wait;
 use std::thread;
 use std::thread::Threads;
-use std::time::Clock;
 
 /// How many slots each client runs.
 const SLOTS: u32 = 40;
@@ -49,82 +41,32 @@ where
     (pass, answered)
 }
 
-/// The number of the store that a front leaves with these passes.
-fn left<
-    B: Since<AnyJob>,
-    K: Desk<Quantum<AnyJob>, Done<AnyJob>> + Drop,
+/// Two clients at once. Whether both were answered, and all is in the store.
+pub fn are_served<
+    B: Since<AnyJob> + Send + Sync,
+    K: Desk<Quantum<AnyJob>, Done<AnyJob>> + Drop + Send + Sync,
     D: Disk + Drop,
-    R: Threads + Wait + Drop,
->(
-    rt: &R,
-    alloc: Global,
-    front: Front<AnyJob, B, K>,
-    crew: Crew<AnyJob, B, D, K, R>,
-    readers: Vec<Reader<AnyJob, B>>,
-    one: Pass<AnyJob, B>,
-    other: Pass<AnyJob, B>,
-) -> Option<u64>
+    R: Threads + Wait + Drop + Sync,
+>(rt: &R, alloc: Global, served: Served<B, D, K, R>) -> Option<bool>
 where
-    K::Seat: Drop,
+    K::Seat: Drop + Send,
 {
+    let one = served.0.pass(rt)?;
+    let other = served.0.pass(rt)?;
+    let shared = &served.0;
+    let ((one, first), (other, second)) = thread::join(
+        rt,
+        move || client(rt, shared, one, 0),
+        move || client(rt, shared, other, 1),
+    );
     let mut passes = Vec::new(alloc);
     passes.push(other).ok()?;
     passes.push(one).ok()?;
-    let closed = front.close(rt, crew, Given { passes, readers }).ok()?;
-    Some(closed.store.state().number())
-}
-
-/// Two clients at once. Whether both were answered, and all is in the store.
-fn serve<
-    B: Since<AnyJob> + Send + Sync + 'static,
-    K: Desk<Quantum<AnyJob>, Done<AnyJob>> + Drop + Send + Sync + 'static,
-    D: Disk + Drop + Send + 'static,
-    R: Threads + Wait + Clock + Copy + Drop + Send + Sync + 'static,
->(rt: R, alloc: Global, names: Names<AnyJob>, store: Store<D, AnyJob>, desk: K) -> Option<bool>
-where
-    K::Seat: Drop + Send + 'static,
-    requires named { (names.tokens.table.shared.table_id ≡ B.table) × (names.list.seen.book ≡ B.book) × (B.origin ≡ B.start) }
-    requires begins { Begins any_kind B.start B.failures B.clock store.file.broken store.state (D.view store.file.disk) }
-{
-    let started = Front::<AnyJob, B, K>::start::<D, R>(rt, alloc, names, store, desk, 2, 1);
-    let (front, crew, readers) = started.ok()?;
-    let one = front.pass(&rt)?;
-    let other = front.pass(&rt)?;
-    let shared = &front;
-    let there = &rt;
-    let ((one, first), (other, second)) = thread::join(
-        &rt,
-        move || client(there, shared, one, 0),
-        move || client(there, shared, other, 1),
-    );
-    let number = left(&rt, alloc, front, crew, readers, one, other)?;
-    Some(first && second && number == 2 + 2 * u64::from(SLOTS))
-}
-
-/// The same by a name of its own.
-fn serve_named<R: Threads + Wait + Clock + Copy + Drop + Send + Sync + 'static>(
-    rt: R,
-    alloc: Global,
-    names: Names<AnyJob>,
-    store: Store<MemoryDisk, AnyJob>,
-    desk: JobDesk,
-) -> Option<bool>
-    requires { Begins any_kind store.state (memory_view store.file.disk).failures
-        (memory_view store.file.disk).clock store.file.broken store.state (memory_view store.file.disk) }
-{
-    serve::<Brand, JobDesk, MemoryDisk, R>(rt, alloc, names, store, desk)
-}
-
-/// Whether two clients are served.
-fn are_served<R: Threads + Wait + Clock + Copy + Drop + Send + Sync + 'static>(
-    rt: R,
-    alloc: Global,
-) -> Option<bool> {
-    let store = thirds(alloc, memory(alloc)?)?;
-    serve_named(rt, alloc, Names::new(alloc).ok()?, store, desk(alloc)?)
+    let closed = end(rt, served, passes)?;
+    Some(first && second && is_kept(&closed, 2 + 2 * u64::from(SLOTS)))
 }
 
 #[test]
 fn two_clients_are_served_by_two_workers(rt: HostRuntime) {
-    assert!(rt; are_served(rt, rt.alloc()) == Some(true));
+    assert!(rt; in_memory(rt, rt.alloc(), Session::Clients) == Some(true));
 }

@@ -62,6 +62,26 @@ where
     front.close(rt, crew, Given { passes, readers }).ok()
 }
 
+/// Ends a front whose only pass is this one.
+pub fn end_alone<
+    B: Since<AnyJob>,
+    K: Desk<Quantum<AnyJob>, Done<AnyJob>> + Drop,
+    D: Disk + Drop,
+    R: Threads + Wait + Drop,
+>(
+    rt: &R,
+    alloc: Global,
+    served: Served<B, D, K, R>,
+    pass: Pass<AnyJob, B>,
+) -> Option<Closed<AnyJob, B, D>>
+where
+    K::Seat: Drop,
+{
+    let mut passes = Vec::new(alloc);
+    passes.push(pass).ok()?;
+    end(rt, served, passes)
+}
+
 /// So many passes, or as many as there are.
 pub fn admit<B: Since<AnyJob>, K: Desk<Quantum<AnyJob>, Done<AnyJob>> + Drop, R: Wait>(
     rt: &R,

@@ -1,25 +1,17 @@
 //! A flusher that is held in its first sync. Calls are answered meanwhile, and receipts come once it goes on.
-ghost use Rattle.std.specs.Prelude.{◌≡◌};
-ghost use Rattle.pfx_disk.specs.Held.{held_view};
-ghost use Rattle.pfx_disk.specs.Memory.{memory_view};
-ghost use Rattle.pfx_kinds.specs.AnyKind.{any_kind};
-ghost use Rattle.pfx_front.specs.Starting.{Begins};
 
-use crate::stores::{
-    JobDesk, desk, have_looked, is_number, is_shown, is_told_and_shown, memory, thirds,
-};
+use crate::fronts::{Served, end_alone};
+use crate::sessions::{Session, is_right};
+use crate::stores::{SEGMENT, desk, have_looked, is_number, is_shown, is_told_and_shown, memory};
 use pfx_book::book::Pass;
 use pfx_crew::desk::Desk;
-use pfx_disk::{Disk, Gate, GateDisk, MemoryDisk};
+use pfx_disk::{Disk, Gate, GateDisk};
 use pfx_front::calls::Front;
-use pfx_front::closing::Given;
-use pfx_front::name::{Names, Since};
+use pfx_front::name::Since;
 use pfx_jobs::quantum::{Done, Quantum};
 use pfx_kinds::any::AnyJob;
 use pfx_machine::Command;
-use pfx_store::Store;
 use std::alloc::Global;
-use std::marker::Brand;
 use std::sync::Wait;
 use std::thread::Threads;
 use std::time::Clock;
@@ -45,72 +37,43 @@ where
 }
 
 /// Whether the calls are answered before the release, while the board shows none of them, and settled and shown after it.
-fn serve<
-    B: Since<AnyJob> + Send + Sync + 'static,
-    K: Desk<Quantum<AnyJob>, Done<AnyJob>> + Drop + Send + Sync + 'static,
-    D: Disk + Drop + Send + 'static,
-    R: Threads + Wait + Clock + Copy + Drop + Send + Sync + 'static,
->(
-    rt: R,
-    alloc: Global,
-    names: Names<AnyJob>,
-    store: Store<D, AnyJob>,
-    desk: K,
-    gate: Gate,
-) -> Option<bool>
+pub fn is_answered<
+    B: Since<AnyJob>,
+    K: Desk<Quantum<AnyJob>, Done<AnyJob>> + Drop,
+    D: Disk + Drop,
+    R: Threads + Wait + Drop,
+>(rt: &R, alloc: Global, served: Served<B, D, K, R>, gate: Gate) -> Option<bool>
 where
-    K::Seat: Drop + Send + 'static,
-    requires named { (names.tokens.table.shared.table_id ≡ B.table) × (names.list.seen.book ≡ B.book) × (B.origin ≡ B.start) }
-    requires begins { Begins any_kind B.start B.failures B.clock store.file.broken store.state (D.view store.file.disk) }
+    K::Seat: Drop,
 {
-    let started = Front::<AnyJob, B, K>::start::<D, R>(rt, alloc, names, store, desk, 0, 1);
-    let (front, crew, mut readers) = started.ok()?;
-    let mut pass = front.pass(&rt)?;
+    let (front, crew, mut readers) = served;
+    let mut pass = front.pass(rt)?;
     let reader = readers.get_mut(0)?;
-    let answered = slots_are_answered(&rt, &front, &mut pass) && is_shown(alloc, reader, 0, 0);
+    let answered = slots_are_answered(rt, &front, &mut pass) && is_shown(alloc, reader, 0, 0);
     gate.release();
-    let settled = is_told_and_shown(&rt, alloc, &front, &mut pass, reader, 0);
-    let mut passes = Vec::new(alloc);
-    passes.push(pass).ok()?;
-    let closed = front.close(&rt, crew, Given { passes, readers }).ok()?;
+    let settled = is_told_and_shown(rt, alloc, &front, &mut pass, reader, 0);
+    let closed = end_alone(rt, alloc, (front, crew, readers), pass)?;
     let seen = have_looked(&closed.looked, 1);
     Some(answered && settled && seen && closed.store.state().number() == 16)
 }
 
-/// The same by a name of its own.
-fn serve_named<R: Threads + Wait + Clock + Copy + Drop + Send + Sync + 'static>(
-    rt: R,
-    alloc: Global,
-    names: Names<AnyJob>,
-    store: Store<GateDisk<MemoryDisk, R>, AnyJob>,
-    desk: JobDesk,
-    gate: Gate,
-) -> Option<bool>
-    requires { Begins any_kind store.state (held_view memory_view store.file.disk).failures
-        (held_view memory_view store.file.disk).clock store.file.broken store.state
-        (held_view memory_view store.file.disk) }
-{
-    serve::<Brand, JobDesk, GateDisk<MemoryDisk, R>, R>(rt, alloc, names, store, desk, gate)
-}
-
 /// Whether calls are answered while the flusher is held.
-fn is_answered<R: Threads + Wait + Clock + Copy + Drop + Send + Sync + 'static>(
+fn is_held<R: Threads + Wait + Clock + Copy + Drop + Send + Sync + 'static>(
     rt: R,
     alloc: Global,
 ) -> Option<bool> {
     let (disk, gate) = GateDisk::new(rt, alloc, memory(alloc)?, FIRST_SYNC).ok()?;
-    let store = thirds(alloc, disk)?;
-    serve_named(
+    is_right(
         rt,
         alloc,
-        Names::new(alloc).ok()?,
-        store,
+        disk,
+        SEGMENT,
         desk(alloc)?,
-        gate,
+        Session::Held { gate },
     )
 }
 
 #[test]
 fn calls_are_answered_while_the_flusher_is_held(rt: HostRuntime) {
-    assert!(rt; is_answered(rt, rt.alloc()) == Some(true));
+    assert!(rt; is_held(rt, rt.alloc()) == Some(true));
 }

@@ -1,27 +1,20 @@
 //! A device that fails in the first append: clients are told, and the store has what it had.
-ghost use Rattle.std.specs.Prelude.{◌≡◌};
-ghost use Rattle.pfx_disk.specs.Fault.{fault_view};
-ghost use Rattle.pfx_disk.specs.Memory.{memory_view};
-ghost use Rattle.pfx_kinds.specs.AnyKind.{any_kind};
-ghost use Rattle.pfx_front.specs.Starting.{Begins};
 
-use crate::stores::{
-    JobDesk, desk, have_looked, is_number, is_refused, memory, settle_last, thirds,
-};
+use crate::fronts::{Served, end_alone};
+use crate::sessions::{Session, is_right};
+use crate::stores::{SEGMENT, desk, have_looked, is_number, is_refused, memory, settle_last};
 use pfx_book::book::Pass;
 use pfx_crew::desk::Desk;
-use pfx_disk::{Disk, FaultDisk, MemoryDisk};
+use pfx_disk::{Disk, FaultDisk};
 use pfx_fault::Cause;
 use pfx_front::calls::Front;
-use pfx_front::closing::{Closed, Given};
+use pfx_front::closing::Closed;
 use pfx_front::faults::CallFault;
-use pfx_front::name::{Names, Since};
+use pfx_front::name::Since;
 use pfx_jobs::quantum::{Done, Quantum};
 use pfx_kinds::any::AnyJob;
 use pfx_machine::Command;
-use pfx_store::Store;
 use std::alloc::Global;
-use std::marker::Brand;
 use std::sync::Wait;
 use std::thread::Threads;
 use std::time::Clock;
@@ -58,52 +51,31 @@ fn has_nothing<B: Since<AnyJob>, D: Disk + Drop>(closed: &Closed<AnyJob, B, D>) 
 }
 
 /// Whether the client is told, and the store has nothing.
-fn serve<
-    B: Since<AnyJob> + Send + Sync + 'static,
-    K: Desk<Quantum<AnyJob>, Done<AnyJob>> + Drop + Send + Sync + 'static,
-    D: Disk + Drop + Send + 'static,
-    R: Threads + Wait + Clock + Copy + Drop + Send + Sync + 'static,
->(rt: R, alloc: Global, names: Names<AnyJob>, store: Store<D, AnyJob>, desk: K) -> Option<bool>
+pub fn is_lost<
+    B: Since<AnyJob>,
+    K: Desk<Quantum<AnyJob>, Done<AnyJob>> + Drop,
+    D: Disk + Drop,
+    R: Threads + Wait + Drop,
+>(rt: &R, alloc: Global, served: Served<B, D, K, R>) -> Option<bool>
 where
-    K::Seat: Drop + Send + 'static,
-    requires named { (names.tokens.table.shared.table_id ≡ B.table) × (names.list.seen.book ≡ B.book) × (B.origin ≡ B.start) }
-    requires begins { Begins any_kind B.start B.failures B.clock store.file.broken store.state (D.view store.file.disk) }
+    K::Seat: Drop,
 {
-    let started = Front::<AnyJob, B, K>::start::<D, R>(rt, alloc, names, store, desk, 0, 1);
-    let (front, crew, readers) = started.ok()?;
-    let mut pass = front.pass(&rt)?;
-    let told = is_told(&rt, &front, &mut pass);
-    let mut passes = Vec::new(alloc);
-    passes.push(pass).ok()?;
-    let closed = front.close(&rt, crew, Given { passes, readers }).ok()?;
+    let mut pass = served.0.pass(rt)?;
+    let told = is_told(rt, &served.0, &mut pass);
+    let closed = end_alone(rt, alloc, served, pass)?;
     Some(told && have_looked(&closed.looked, 1) && has_nothing(&closed))
 }
 
-/// The same by a name of its own.
-fn serve_named<R: Threads + Wait + Clock + Copy + Drop + Send + Sync + 'static>(
-    rt: R,
-    alloc: Global,
-    names: Names<AnyJob>,
-    store: Store<FaultDisk<MemoryDisk>, AnyJob>,
-    desk: JobDesk,
-) -> Option<bool>
-    requires { Begins any_kind store.state (fault_view memory_view store.file.disk).failures
-        (fault_view memory_view store.file.disk).clock store.file.broken store.state
-        (fault_view memory_view store.file.disk) }
-{
-    serve::<Brand, JobDesk, FaultDisk<MemoryDisk>, R>(rt, alloc, names, store, desk)
-}
-
 /// Whether a client of a store whose device fails is told.
-fn is_lost<R: Threads + Wait + Clock + Copy + Drop + Send + Sync + 'static>(
+fn is_failed<R: Threads + Wait + Clock + Copy + Drop + Send + Sync + 'static>(
     rt: R,
     alloc: Global,
 ) -> Option<bool> {
-    let store = thirds(alloc, FaultDisk::new(memory(alloc)?, FIRST_SYNC))?;
-    serve_named(rt, alloc, Names::new(alloc).ok()?, store, desk(alloc)?)
+    let disk = FaultDisk::new(memory(alloc)?, FIRST_SYNC);
+    is_right(rt, alloc, disk, SEGMENT, desk(alloc)?, Session::Lost)
 }
 
 #[test]
 fn a_client_is_told_that_the_device_failed(rt: HostRuntime) {
-    assert!(rt; is_lost(rt, rt.alloc()) == Some(true));
+    assert!(rt; is_failed(rt, rt.alloc()) == Some(true));
 }

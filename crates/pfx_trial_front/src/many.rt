@@ -1,26 +1,20 @@
 //! Sixteen clients in threads of their own, and two workers: all is settled, and in the store.
-ghost use Rattle.std.specs.Prelude.{◌≡◌};
-ghost use Rattle.pfx_disk.specs.Memory.{memory_view};
-ghost use Rattle.pfx_kinds.specs.AnyKind.{any_kind};
-ghost use Rattle.pfx_front.specs.Starting.{Begins};
 
-use crate::fronts::{admit, begin, end, is_kept};
-use crate::stores::{JobDesk, desk, is_settled, memory, submit, thirds};
+use crate::fronts::{Served, admit, end, is_kept};
+use crate::sessions::{Session, in_memory};
+use crate::stores::{is_settled, submit};
 use pfx_book::book::Pass;
 use pfx_crew::desk::Desk;
-use pfx_disk::{Disk, MemoryDisk};
+use pfx_disk::Disk;
 use pfx_front::calls::Front;
-use pfx_front::name::{Names, Since};
+use pfx_front::name::Since;
 use pfx_jobs::quantum::{Done, Quantum};
 use pfx_kinds::any::AnyJob;
 use pfx_machine::Command;
-use pfx_store::Store;
 use std::alloc::Global;
-use std::marker::Brand;
 use std::sync::Wait;
 use std::thread;
 use std::thread::Threads;
-use std::time::Clock;
 
 /// How many clients there are.
 const CLIENTS: u64 = 16;
@@ -93,51 +87,25 @@ where
     Some(given)
 }
 
-/// Whether all that the clients ask is settled and kept.
-fn serve<
-    B: Since<AnyJob> + Send + Sync + 'static,
-    K: Desk<Quantum<AnyJob>, Done<AnyJob>> + Drop + Send + Sync + 'static,
-    D: Disk + Drop + Send + 'static,
-    R: Threads + Wait + Clock + Copy + Drop + Send + Sync + 'static,
->(rt: R, alloc: Global, names: Names<AnyJob>, store: Store<D, AnyJob>, desk: K) -> Option<bool>
+/// Whether all that sixteen clients ask is settled and kept.
+pub fn are_served<
+    B: Since<AnyJob> + Send + Sync,
+    K: Desk<Quantum<AnyJob>, Done<AnyJob>> + Drop + Send + Sync,
+    D: Disk + Drop,
+    R: Threads + Wait + Drop + Sync,
+>(rt: &R, alloc: Global, served: Served<B, D, K, R>) -> Option<bool>
 where
-    K::Seat: Drop + Send + 'static,
-    requires named { (names.tokens.table.shared.table_id ≡ B.table) × (names.list.seen.book ≡ B.book) × (B.origin ≡ B.start) }
-    requires begins { Begins any_kind B.start B.failures B.clock store.file.broken store.state (D.view store.file.disk) }
+    K::Seat: Drop + Send,
 {
-    let served = begin::<B, K, D, R>(rt, alloc, names, store, desk, 2)?;
-    let mut first = served.0.pass(&rt)?;
-    let given = are_given(&rt, &served.0, &mut first)?;
-    let mut passes = visited(&rt, alloc, &served.0)?;
+    let mut first = served.0.pass(rt)?;
+    let given = are_given(rt, &served.0, &mut first)?;
+    let mut passes = visited(rt, alloc, &served.0)?;
     passes.push(first).ok()?;
-    let closed = end(&rt, served, passes)?;
+    let closed = end(rt, served, passes)?;
     Some(given && is_kept(&closed, u64::from(TASKS) + CLIENTS * SLOTS))
-}
-
-/// The same by a name of its own.
-fn serve_named<R: Threads + Wait + Clock + Copy + Drop + Send + Sync + 'static>(
-    rt: R,
-    alloc: Global,
-    names: Names<AnyJob>,
-    store: Store<MemoryDisk, AnyJob>,
-    desk: JobDesk,
-) -> Option<bool>
-    requires { Begins any_kind store.state (memory_view store.file.disk).failures
-        (memory_view store.file.disk).clock store.file.broken store.state (memory_view store.file.disk) }
-{
-    serve::<Brand, JobDesk, MemoryDisk, R>(rt, alloc, names, store, desk)
-}
-
-/// Whether sixteen clients are served.
-fn are_served<R: Threads + Wait + Clock + Copy + Drop + Send + Sync + 'static>(
-    rt: R,
-    alloc: Global,
-) -> Option<bool> {
-    let store = thirds(alloc, memory(alloc)?)?;
-    serve_named(rt, alloc, Names::new(alloc).ok()?, store, desk(alloc)?)
 }
 
 #[test]
 fn sixteen_clients_are_served_by_two_workers(rt: HostRuntime) {
-    assert!(rt; are_served(rt, rt.alloc()) == Some(true));
+    assert!(rt; in_memory(rt, rt.alloc(), Session::Many) == Some(true));
 }

@@ -1,35 +1,28 @@
 //! One client of a front, with no worker, one and two.
-ghost use Rattle.std.specs.Prelude.{◌≡◌};
-ghost use Rattle.pfx_disk.specs.Memory.{memory_view};
-ghost use Rattle.pfx_kinds.specs.AnyKind.{any_kind};
-ghost use Rattle.pfx_front.specs.Starting.{Begins};
 
-use crate::stores::{
-    JobDesk, desk, have_looked, is_first_slot, is_number, is_refused, is_told_and_shown, memory,
-    submit, thirds,
-};
+use crate::fronts::Served;
+use crate::sessions::{Session, in_memory};
+use crate::stores::{have_looked, is_first_slot, is_number, is_refused, is_told_and_shown, submit};
 use pfx_board::reader::Reader;
 use pfx_book::book::Pass;
 use pfx_book::faults::BookFault;
 use pfx_crew::desk::Desk;
-use pfx_disk::{Disk, MemoryDisk};
+use pfx_disk::Disk;
 use pfx_front::calls::Front;
 use pfx_front::closing::{Closed, Given};
 use pfx_front::faults::{CallFault, CloseFault};
-use pfx_front::name::{Names, Since};
+use pfx_front::name::Since;
 use pfx_front::start::Crew;
 use pfx_jobs::quantum::{Done, Quantum};
 use pfx_kinds::any::AnyJob;
 use pfx_machine::{Command, MachineFault};
 use pfx_store::Store;
 use std::alloc::Global;
-use std::marker::Brand;
 use std::sync::Wait;
 use std::thread::Threads;
-use std::time::Clock;
 
 /// A front, and its threads, which are to be joined.
-type Served<B, D, K, R> = (Front<AnyJob, B, K>, Crew<AnyJob, B, D, K, R>);
+type Open<B, D, K, R> = (Front<AnyJob, B, K>, Crew<AnyJob, B, D, K, R>);
 
 /// Whether two Submits, three commands that are refused, and a slot are answered as they should be.
 fn first_calls<B: Since<AnyJob>, K: Desk<Quantum<AnyJob>, Done<AnyJob>> + Drop, R: Wait>(
@@ -65,11 +58,11 @@ fn is_kept_open<
 >(
     rt: &R,
     alloc: Global,
-    served: Served<B, D, K, R>,
+    served: Open<B, D, K, R>,
     readers: Vec<Reader<AnyJob, B>>,
     first: Pass<AnyJob, B>,
     second: Pass<AnyJob, B>,
-) -> Option<(Served<B, D, K, R>, Given<AnyJob, B>)>
+) -> Option<(Open<B, D, K, R>, Given<AnyJob, B>)>
 where
     K::Seat: Drop,
 {
@@ -106,79 +99,37 @@ fn has_kept<B: Since<AnyJob>, D: Disk + Drop>(
 }
 
 /// One client's session. Whether all was answered as it should be.
-fn serve<
-    B: Since<AnyJob> + Send + Sync + 'static,
-    K: Desk<Quantum<AnyJob>, Done<AnyJob>> + Drop + Send + Sync + 'static,
-    D: Disk + Drop + Send + 'static,
-    R: Threads + Wait + Clock + Copy + Drop + Send + Sync + 'static,
->(
-    rt: R,
-    alloc: Global,
-    names: Names<AnyJob>,
-    store: Store<D, AnyJob>,
-    desk: K,
-    workers: u32,
-) -> Option<bool>
+pub fn is_served<
+    B: Since<AnyJob>,
+    K: Desk<Quantum<AnyJob>, Done<AnyJob>> + Drop,
+    D: Disk + Drop,
+    R: Threads + Wait + Drop,
+>(rt: &R, alloc: Global, served: Served<B, D, K, R>) -> Option<bool>
 where
-    K::Seat: Drop + Send + 'static,
-    requires named { (names.tokens.table.shared.table_id ≡ B.table) × (names.list.seen.book ≡ B.book) × (B.origin ≡ B.start) }
-    requires begins { Begins any_kind B.start B.failures B.clock store.file.broken store.state (D.view store.file.disk) }
+    K::Seat: Drop,
 {
-    let started = Front::<AnyJob, B, K>::start::<D, R>(rt, alloc, names, store, desk, workers, 1);
-    let (front, crew, mut readers) = started.ok()?;
-    let mut first = front.pass(&rt)?;
-    let second = front.pass(&rt)?;
-    let answered = first_calls(&rt, &front, &mut first)?;
+    let (front, crew, mut readers) = served;
+    let mut first = front.pass(rt)?;
+    let second = front.pass(rt)?;
+    let answered = first_calls(rt, &front, &mut first)?;
     let reader = readers.get_mut(0)?;
-    let settled = is_told_and_shown(&rt, alloc, &front, &mut first, reader, 2);
-    let ((front, crew), given) = is_kept_open(&rt, alloc, (front, crew), readers, first, second)?;
-    let closed = front.close(&rt, crew, given).ok()?;
+    let settled = is_told_and_shown(rt, alloc, &front, &mut first, reader, 2);
+    let ((front, crew), given) = is_kept_open(rt, alloc, (front, crew), readers, first, second)?;
+    let closed = front.close(rt, crew, given).ok()?;
     Some(answered && settled && have_looked(&closed.looked, 1) && has_kept(alloc, closed, 4))
-}
-
-/// The same by a name of its own.
-fn serve_named<R: Threads + Wait + Clock + Copy + Drop + Send + Sync + 'static>(
-    rt: R,
-    alloc: Global,
-    names: Names<AnyJob>,
-    store: Store<MemoryDisk, AnyJob>,
-    desk: JobDesk,
-    workers: u32,
-) -> Option<bool>
-    requires { Begins any_kind store.state (memory_view store.file.disk).failures
-        (memory_view store.file.disk).clock store.file.broken store.state (memory_view store.file.disk) }
-{
-    serve::<Brand, JobDesk, MemoryDisk, R>(rt, alloc, names, store, desk, workers)
-}
-
-/// Whether a client is served with so many workers.
-fn is_served<R: Threads + Wait + Clock + Copy + Drop + Send + Sync + 'static>(
-    rt: R,
-    alloc: Global,
-    workers: u32,
-) -> Option<bool> {
-    let store = thirds(alloc, memory(alloc)?)?;
-    serve_named(
-        rt,
-        alloc,
-        Names::new(alloc).ok()?,
-        store,
-        desk(alloc)?,
-        workers,
-    )
 }
 
 #[test]
 fn a_client_is_served_by_its_own_thread(rt: HostRuntime) {
-    assert!(rt; is_served(rt, rt.alloc(), 0) == Some(true));
+    assert!(rt; in_memory(rt, rt.alloc(), Session::Served { workers: 0 }) == Some(true));
 }
 
 #[test]
 fn a_client_is_served_by_one_worker(rt: HostRuntime) {
-    assert!(rt; is_served(rt, rt.alloc(), 1) == Some(true));
+    assert!(rt; in_memory(rt, rt.alloc(), Session::Served { workers: 1 }) == Some(true));
 }
 
 #[test]
 fn a_client_is_served_by_two_workers(rt: HostRuntime) {
-    assert!(rt; is_served(rt, rt.alloc(), 2) == Some(true));
+    assert!(rt; in_memory(rt, rt.alloc(), Session::Served { workers: 2 }) == Some(true));
 }

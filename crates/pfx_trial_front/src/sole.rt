@@ -1,26 +1,20 @@
 //! A client that is the only one: the board and a copy of the state after its commands.
-ghost use Rattle.std.specs.Prelude.{◌≡◌};
-ghost use Rattle.pfx_disk.specs.Memory.{memory_view};
-ghost use Rattle.pfx_kinds.specs.AnyKind.{any_kind};
-ghost use Rattle.pfx_front.specs.Starting.{Begins};
 
-use crate::fronts::{begin, end, is_kept};
-use crate::stores::{JobDesk, desk, memory, submit, thirds};
+use crate::fronts::{Served, end, is_kept};
+use crate::sessions::{Session, in_memory};
+use crate::stores::submit;
 use pfx_book::book::Pass;
 use pfx_crew::desk::Desk;
-use pfx_disk::{Disk, MemoryDisk};
+use pfx_disk::Disk;
 use pfx_front::calls::Front;
-use pfx_front::name::{Names, Since};
+use pfx_front::name::Since;
 use pfx_jobs::job::Job;
 use pfx_jobs::quantum::{Done, Quantum};
 use pfx_kinds::any::AnyJob;
 use pfx_machine::{Command, JobStatus, State};
-use pfx_store::Store;
 use std::alloc::Global;
-use std::marker::Brand;
 use std::sync::Wait;
 use std::thread::Threads;
-use std::time::Clock;
 
 /// Whether two Submits and a slot are accepted. None of them is waited for.
 fn are_accepted<B: Since<AnyJob>, K: Desk<Quantum<AnyJob>, Done<AnyJob>> + Drop, R: Wait>(
@@ -82,57 +76,31 @@ where
     matches!(given, (Ok(None), Ok(None))) && !front.is_sole(rt, pass)
 }
 
-/// Whether a client is given a copy of its state, until there is a second client.
-fn serve<
-    B: Since<AnyJob> + Send + Sync + 'static,
-    K: Desk<Quantum<AnyJob>, Done<AnyJob>> + Drop + Send + Sync + 'static,
-    D: Disk + Drop + Send + 'static,
-    R: Threads + Wait + Clock + Copy + Drop + Send + Sync + 'static,
->(rt: R, alloc: Global, names: Names<AnyJob>, store: Store<D, AnyJob>, desk: K) -> Option<bool>
+/// Whether the only client is given a copy of its state, and one of two clients none.
+pub fn is_served<
+    B: Since<AnyJob>,
+    K: Desk<Quantum<AnyJob>, Done<AnyJob>> + Drop,
+    D: Disk + Drop,
+    R: Threads + Wait + Drop,
+>(rt: &R, alloc: Global, served: Served<B, D, K, R>) -> Option<bool>
 where
-    K::Seat: Drop + Send + 'static,
-    requires named { (names.tokens.table.shared.table_id ≡ B.table) × (names.list.seen.book ≡ B.book) × (B.origin ≡ B.start) }
-    requires begins { Begins any_kind B.start B.failures B.clock store.file.broken store.state (D.view store.file.disk) }
+    K::Seat: Drop,
 {
-    let served = begin::<B, K, D, R>(rt, alloc, names, store, desk, 1)?;
     let front = &served.0;
-    let mut first = front.pass(&rt)?;
-    let sole = front.is_sole(&rt, &mut first);
-    let accepted = are_accepted(&rt, front, &mut first)?;
-    let copied = is_copied(&rt, front, &mut first);
-    let second = front.pass(&rt)?;
-    let refused = is_told_nothing(&rt, front, &mut first);
+    let mut first = front.pass(rt)?;
+    let sole = front.is_sole(rt, &mut first);
+    let accepted = are_accepted(rt, front, &mut first)?;
+    let copied = is_copied(rt, front, &mut first);
+    let second = front.pass(rt)?;
+    let refused = is_told_nothing(rt, front, &mut first);
     let mut passes = Vec::new(alloc);
     passes.push(first).ok()?;
     passes.push(second).ok()?;
-    let closed = end(&rt, served, passes)?;
+    let closed = end(rt, served, passes)?;
     Some(sole && accepted && copied && refused && is_kept(&closed, 3))
-}
-
-/// The same by a name of its own.
-fn serve_named<R: Threads + Wait + Clock + Copy + Drop + Send + Sync + 'static>(
-    rt: R,
-    alloc: Global,
-    names: Names<AnyJob>,
-    store: Store<MemoryDisk, AnyJob>,
-    desk: JobDesk,
-) -> Option<bool>
-    requires { Begins any_kind store.state (memory_view store.file.disk).failures
-        (memory_view store.file.disk).clock store.file.broken store.state (memory_view store.file.disk) }
-{
-    serve::<Brand, JobDesk, MemoryDisk, R>(rt, alloc, names, store, desk)
-}
-
-/// Whether the only client is given a copy of its state, and one of two clients none.
-fn is_served<R: Threads + Wait + Clock + Copy + Drop + Send + Sync + 'static>(
-    rt: R,
-    alloc: Global,
-) -> Option<bool> {
-    let store = thirds(alloc, memory(alloc)?)?;
-    serve_named(rt, alloc, Names::new(alloc).ok()?, store, desk(alloc)?)
 }
 
 #[test]
 fn the_only_client_has_a_copy_of_its_state(rt: HostRuntime) {
-    assert!(rt; is_served(rt, rt.alloc()) == Some(true));
+    assert!(rt; in_memory(rt, rt.alloc(), Session::Sole) == Some(true));
 }

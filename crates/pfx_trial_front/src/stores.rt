@@ -26,6 +26,9 @@ pub type JobDesk = ChannelDesk<Quantum<AnyJob>, Done<AnyJob>>;
 /// What a client is answered.
 pub type Answer = Result<(u64, Reply), CallFault>;
 
+/// The length in bytes of segments that hold what most tests do.
+pub const SEGMENT: u32 = 8192;
+
 /// A desk on which nothing lies.
 pub fn desk(alloc: Global) -> Option<JobDesk> {
     ChannelDesk::new(alloc).ok()
@@ -45,13 +48,6 @@ pub fn thirds_by<D: Disk + Drop>(alloc: Global, disk: D, segment: u32) -> Option
         Ok(store) => Some(store),
         Err(_) => None,
     }
-}
-
-/// A new store on a disk, with segments that hold what the tests do.
-pub fn thirds<D: Disk + Drop>(alloc: Global, disk: D) -> Option<Store<D, AnyJob>>
-    ensures { IfSome result (λ s. Begins any_kind s.state (D.view s.file.disk).failures (D.view s.file.disk).clock s.file.broken s.state (D.view s.file.disk)) }
-{
-    thirds_by(alloc, disk, 8192)
 }
 
 /// Gives a task a count of five steps.

@@ -1,5 +1,6 @@
 //! Worked rows of commands, slots in parts, and boards.
 
+use pfx_choice::ChoiceFault;
 use pfx_columns::Columns;
 use pfx_jobs::job::{Job, are_same};
 use pfx_jobs::quantum::{Done, Quantum};
@@ -228,7 +229,11 @@ fn limits_as_expected(alloc: Global) -> u32 {
     let Some(mut state) = at_the_limits(alloc) else {
         return 0;
     };
-    if !refuses(&mut state, Command::Slot, MachineFault::SlotLimit) {
+    if !refuses(
+        &mut state,
+        Command::Slot,
+        MachineFault::NoRow(ChoiceFault::SlotLimit),
+    ) {
         return 0;
     }
     if !takes(&mut state, Command::Withdraw { task: 0 }, (1 << 48) - 1) {
@@ -278,14 +283,27 @@ fn cannot_go_on(
 
 #[test]
 fn refuses_a_ledger_that_cannot_go_on(rt: HostRuntime) {
-    let fault = MachineFault::TooManyUrgent { urgent: 2, m: 1 };
+    let fault = MachineFault::NoRow(ChoiceFault::TooManyUrgent { urgent: 2, m: 1 });
     let sixths = [(1, 3), (1, 3), (1, 6), (1, 6)];
     let refused = cannot_go_on(rt.alloc(), 7, 1, &sixths, [0, 0, 1, 1], fault);
     assert!(rt; refused == Some(true), "too many urgent");
-    let fault = MachineFault::TooFewEligible { eligible: 2, m: 3 };
+    let fault = MachineFault::NoRow(ChoiceFault::TooFewEligible { eligible: 2, m: 3 });
     let thirds = [(2, 3), (2, 3), (5, 6), (5, 6)];
     let refused = cannot_go_on(rt.alloc(), 0, 3, &thirds, [2, 2, 1, 1], fault);
     assert!(rt; refused == Some(true), "too few eligible");
+}
+
+#[test]
+fn want_of_memory_is_told_from_refusals(rt: HostRuntime) {
+    let rows = [
+        (MachineFault::NoRow(ChoiceFault::NoMemory), true),
+        (MachineFault::NoRow(ChoiceFault::SlotLimit), false),
+        (MachineFault::NumberLimit, false),
+        (MachineFault::NoJob { task: 0 }, false),
+    ];
+    for (fault, is_memory) in rows {
+        assert!(rt; fault.is_memory() == is_memory, "{fault}");
+    }
 }
 
 /// The same quantum again, unless its job is done.

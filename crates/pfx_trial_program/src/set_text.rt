@@ -1,7 +1,7 @@
 //! Set files as users write them, and texts that aren't one.
 
 use pfx_fault::Fault;
-use pfx_set_file::{SetText, read_set};
+use pfx_set_file::{SetText, is_name, read_set};
 use std::alloc::Global;
 
 const THREE: &str = "\u{feff}# Three tasks.
@@ -124,4 +124,20 @@ fn refuses_what_is_no_set(rt: HostRuntime) {
         assert!(rt; is_refused(rt.alloc(), text.as_bytes()), "{text}");
     }
     assert!(rt; is_refused(rt.alloc(), b"workers = 1 # caf\xe9"), "no text");
+}
+
+#[test]
+fn tells_names_from_other_texts(rt: HostRuntime) {
+    let rows = [
+        ("x", true),
+        ("Index_2-b", true),
+        ("abcdefghijklmnopqrstuvwxyz012345", true),
+        ("abcdefghijklmnopqrstuvwxyz0123456", false),
+        ("", false),
+        ("two words", false),
+        ("a:b", false),
+    ];
+    for (name, right) in rows {
+        assert!(rt; is_name(name) == right, "{name}");
+    }
 }

@@ -1,8 +1,5 @@
 //! The run of the trials through a front, asked by two clients in turn: each waits for each receipt, or all is asked first.
 ghost use Rattle.std.specs.Prelude.{◌≡◌, IfSome};
-ghost use Rattle.pfx_disk.specs.Fault.{fault_view};
-ghost use Rattle.pfx_disk.specs.Held.{held_view};
-ghost use Rattle.pfx_disk.specs.Memory.{memory_view};
 ghost use Rattle.pfx_kinds.specs.AnyKind.{any_kind};
 ghost use Rattle.pfx_front.specs.Starting.{Begins};
 
@@ -254,49 +251,32 @@ fn store_on<D: Disk + Drop>(alloc: Global, disk: D) -> Option<Store<D, AnyJob>>
     }
 }
 
-/// The run over a disk in memory, by a name of its own.
-fn serve_memory<R: Threads + Wait + Clock + Copy + Drop + Send + Sync + 'static>(
+/// The same by a name of its own.
+fn serve_named<
+    D: Disk + Drop + Send + 'static,
+    R: Threads + Wait + Clock + Copy + Drop + Send + Sync + 'static,
+>(
     rt: R,
     alloc: Global,
     names: Names<AnyJob>,
-    store: Store<MemoryDisk, AnyJob>,
+    store: Store<D, AnyJob>,
     desk: JobDesk,
-) -> Option<(Outcome, MemoryDisk)>
-    requires { Begins any_kind store.state (memory_view store.file.disk).failures
-        (memory_view store.file.disk).clock store.file.broken store.state (memory_view store.file.disk) }
+    gate: Option<Gate>,
+) -> Option<(Outcome, D)>
+    requires { Begins any_kind store.state (D.view store.file.disk).failures
+        (D.view store.file.disk).clock store.file.broken store.state (D.view store.file.disk) }
 {
-    serve::<Brand, JobDesk, MemoryDisk, R>(rt, alloc, names, store, desk, None)
+    serve::<Brand, JobDesk, D, R>(rt, alloc, names, store, desk, gate)
 }
 
-/// The run over a disk that is held, by a name of its own.
-fn serve_held<R: Threads + Wait + Clock + Copy + Drop + Send + Sync + 'static>(
-    rt: R,
-    alloc: Global,
-    names: Names<AnyJob>,
-    store: Store<GateDisk<MemoryDisk, R>, AnyJob>,
-    desk: JobDesk,
-    gate: Gate,
-) -> Option<(Outcome, GateDisk<MemoryDisk, R>)>
-    requires { Begins any_kind store.state (held_view memory_view store.file.disk).failures
-        (held_view memory_view store.file.disk).clock store.file.broken store.state
-        (held_view memory_view store.file.disk) }
-{
-    serve::<Brand, JobDesk, GateDisk<MemoryDisk, R>, R>(rt, alloc, names, store, desk, Some(gate))
-}
-
-/// The run over a disk that fails, by a name of its own.
-fn serve_failing<R: Threads + Wait + Clock + Copy + Drop + Send + Sync + 'static>(
-    rt: R,
-    alloc: Global,
-    names: Names<AnyJob>,
-    store: Store<FaultDisk<MemoryDisk>, AnyJob>,
-    desk: JobDesk,
-) -> Option<(Outcome, FaultDisk<MemoryDisk>)>
-    requires { Begins any_kind store.state (fault_view memory_view store.file.disk).failures
-        (fault_view memory_view store.file.disk).clock store.file.broken store.state
-        (fault_view memory_view store.file.disk) }
-{
-    serve::<Brand, JobDesk, FaultDisk<MemoryDisk>, R>(rt, alloc, names, store, desk, None)
+/// The run over an empty disk, held by the gate if there is one.
+fn run_on<
+    D: Disk + Drop + Send + 'static,
+    R: Threads + Wait + Clock + Copy + Drop + Send + Sync + 'static,
+>(rt: R, alloc: Global, disk: D, gate: Option<Gate>) -> Option<(Outcome, D)> {
+    let store = store_on(alloc, disk)?;
+    let desk = ChannelDesk::new(alloc).ok()?;
+    serve_named(rt, alloc, Names::new(alloc).ok()?, store, desk, gate)
 }
 
 /// The run over a disk in memory, each of whose frames has one command, since each client waits for each receipt.
@@ -305,9 +285,7 @@ pub fn run_in_memory<R: Threads + Wait + Clock + Copy + Drop + Send + Sync + 'st
     alloc: Global,
     disk: MemoryDisk,
 ) -> Option<(Outcome, MemoryDisk)> {
-    let store = store_on(alloc, disk)?;
-    let desk = ChannelDesk::new(alloc).ok()?;
-    serve_memory(rt, alloc, Names::new(alloc).ok()?, store, desk)
+    run_on(rt, alloc, disk, None)
 }
 
 /// The run over a disk in memory that holds its first frame until all is asked, so that the later frames have up to 16 commands.
@@ -317,9 +295,7 @@ pub fn run_held<R: Threads + Wait + Clock + Copy + Drop + Send + Sync + 'static>
     disk: MemoryDisk,
 ) -> Option<(Outcome, MemoryDisk)> {
     let (disk, gate) = GateDisk::new(rt, alloc, disk, MADE).ok()?;
-    let store = store_on(alloc, disk)?;
-    let desk = ChannelDesk::new(alloc).ok()?;
-    let (outcome, disk) = serve_held(rt, alloc, Names::new(alloc).ok()?, store, desk, gate)?;
+    let (outcome, disk) = run_on(rt, alloc, disk, Some(gate))?;
     Some((outcome, disk.into_inner()))
 }
 
@@ -329,8 +305,6 @@ pub fn run_failing<R: Threads + Wait + Clock + Copy + Drop + Send + Sync + 'stat
     alloc: Global,
     disk: FaultDisk<MemoryDisk>,
 ) -> Option<(Outcome, MemoryDisk)> {
-    let store = store_on(alloc, disk)?;
-    let desk = ChannelDesk::new(alloc).ok()?;
-    let (outcome, disk) = serve_failing(rt, alloc, Names::new(alloc).ok()?, store, desk)?;
+    let (outcome, disk) = run_on(rt, alloc, disk, None)?;
     Some((outcome, disk.into_inner()))
 }

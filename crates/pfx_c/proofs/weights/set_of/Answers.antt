@@ -7,4 +7,4 @@ use Rattle.pfx_c.proofs.weights.set_of.Goals as goal
 pub returns-then-weights-gt-MOST-clause-why : goal.returns-then-weights-gt-MOST-clause-why
 returns-then-weights-gt-MOST-clause-why c =
     let number = length-map c.args.weights.now pair_of in
-    (TooManyTasks, c.fault_of_set.ensures, omega (arith, number, c.if-weights-gt-MOST.true))
+    (TooManyTasks, c.set_fault.ensures, omega (arith, number, c.if-weights-gt-MOST.true))

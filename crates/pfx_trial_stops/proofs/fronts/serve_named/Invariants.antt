@@ -1,6 +1,4 @@
-use Rattle.pfx_disk.specs.Memory.{memory_view}
-use Rattle.pfx_disk.specs.Fault.{fault_view}
-use Rattle.pfx_trial_front.proofs.pieces.serve_failing.Given as goal
+use Rattle.pfx_trial_stops.proofs.fronts.serve_named.Given as goal
 
 abbrev pub ghosts-serve-B-Room : goal.ghosts-serve-B-Room
 ghosts-serve-B-Room g a = record { table = a.names.tokens.table.shared.table_id }
@@ -15,4 +13,4 @@ abbrev pub ghosts-serve-B-Named : goal.ghosts-serve-B-Named
 ghosts-serve-B-Named g a = record { start = a.store.state }
 
 abbrev pub ghosts-serve-B-Since : goal.ghosts-serve-B-Since
-ghosts-serve-B-Since g a = record { failures = (fault_view memory_view a.store.file.disk).failures; clock = (fault_view memory_view a.store.file.disk).clock }
+ghosts-serve-B-Since g a = record { failures = (g.D.Disk.view a.store.file.disk).failures; clock = (g.D.Disk.view a.store.file.disk).clock }

@@ -1,5 +1,4 @@
-use Rattle.pfx_disk.specs.Memory.{memory_view}
-use Rattle.pfx_trial_stops.proofs.fronts.serve_memory.Given as goal
+use Rattle.pfx_trial_front.proofs.sessions.serve_named.Given as goal
 
 abbrev pub ghosts-serve-B-Room : goal.ghosts-serve-B-Room
 ghosts-serve-B-Room g a = record { table = a.names.tokens.table.shared.table_id }
@@ -14,4 +13,4 @@ abbrev pub ghosts-serve-B-Named : goal.ghosts-serve-B-Named
 ghosts-serve-B-Named g a = record { start = a.store.state }
 
 abbrev pub ghosts-serve-B-Since : goal.ghosts-serve-B-Since
-ghosts-serve-B-Since g a = record { failures = (memory_view a.store.file.disk).failures; clock = (memory_view a.store.file.disk).clock }
+ghosts-serve-B-Since g a = record { failures = (g.D.Disk.view a.store.file.disk).failures; clock = (g.D.Disk.view a.store.file.disk).clock }
