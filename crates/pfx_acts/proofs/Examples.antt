@@ -5,6 +5,7 @@ use Rattle.pfx_recovery.specs.ToyCodec.{toy}
 use Rattle.pfx_segment.specs.Acts.{put_acts, close_acts}
 use Rattle.pfx_store_file.specs.Acts.{steps_acts, end_acts, ended_file, append_acts}
 use Rattle.pfx_store_file.specs.Files.{File}
+use Rattle.pfx_store_file.specs.declared.progress.Checkpoint.TheVariants.{Pending}
 
 -- two bytes behind a gate
 put_row : put_acts 7 (8 ∷ 9 ∷ []) ≡ Write 8 (8 ∷ 9 ∷ []) ∷ Sync ∷ Write 7 (195 ∷ []) ∷ Sync ∷ []
@@ -30,8 +31,7 @@ file = record {
   };
   area_open = true;
   segment_open = false;
-  begun = false;
-  done = 0;
+  checkpoint = Pending;
 }
 
 -- the checkpoint's first step closes the checkpoint area, the second one writes the state's two bytes, the third one opens it

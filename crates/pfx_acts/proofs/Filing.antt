@@ -17,6 +17,7 @@ use Rattle.pfx_recovery.specs.Store.{IsStore, Other, next_gate, with_frame, turn
 use Rattle.pfx_recovery.proofs.Regions.{area_inside, segment_inside, area_of_segment, other_segment, segment_of_area, other_area}
 use Rattle.pfx_recovery.proofs.Runs.{not_not}
 use Rattle.pfx_recovery.proofs.Steps.{append_step, turn_shut, turn_whole, close_step, piece_step, open_step, open_whole}
+use Rattle.pfx_store_file.specs.Checkpoints.{is_begun, written}
 use Rattle.pfx_store_file.specs.Holding.{IsGate, IsStart}
 use Rattle.pfx_acts.specs.Files.{IsFile, IsWhole}
 use Rattle.pfx_store_file.specs.Files.{File, area_of, segment_of}
@@ -58,12 +59,12 @@ module _ {H S : Type 0} (K : Codec H S) (laws : Laws K) (f : File H S) (s : S) w
       segment_agrees : Agree (segment_at (K.layout f.head) (not f.parts.segment)) (segment_at (K.layout f.head) (not f.parts.segment) + (K.layout f.head).segment) x z
       segment_agrees = other_segment (K.layout f.head) (next_gate K f.head f.parts) (1 + length (body ++ 0 ∷ [])) x z is.file.store.long appended.torn f.parts.segment low high
 
-      pub append_all : f.begun ≡ true → length spelling ≡ (K.layout f.head).body → StandAt (area_of K f + 1) (take f.done spelling) z
+      pub append_all : is_begun f.checkpoint ≡ true → length spelling ≡ (K.layout f.head).body → StandAt (area_of K f + 1) (take (written f.checkpoint) spelling) z
       append_all begun long i below =
-          let short = length-take f.done spelling in
+          let short = length-take (written f.checkpoint) spelling in
           area_agrees (area_of K f + 1 + i) (omega arith) (omega (arith, below, short, long)) ∙ is.stand begun i below
 
-      pub append_whole : (f.begun ≡ true → length spelling ≡ (K.layout f.head).body) → IsWhole K spelling t (framed_file K f (GATE_OPEN ∷ body)) z
+      pub append_whole : (is_begun f.checkpoint ≡ true → length spelling ≡ (K.layout f.head).body) → IsWhole K spelling t (framed_file K f (GATE_OPEN ∷ body)) z
       append_whole long = record {
         file = record {
           store = stored;
@@ -163,27 +164,27 @@ module _ {H S : Type 0} (K : Codec H S) (laws : Laws K) (f : File H S) (s : S) w
     }
 
     -- a piece of the body
-    module _ (spelling : List ℕ) (begun : f.begun ≡ true) (shut : f.area_open ≡ false) (long : length spelling ≡ (K.layout f.head).body) (less : f.done < (K.layout f.head).body) where
+    module _ (spelling : List ℕ) (begun : is_begun f.checkpoint ≡ true) (shut : f.area_open ≡ false) (long : length spelling ≡ (K.layout f.head).body) (less : written f.checkpoint < (K.layout f.head).body) where
       abbrev piece : List ℕ
-      piece = take (piece_len K f) (drop f.done spelling)
+      piece = take (piece_len K f) (drop (written f.checkpoint) spelling)
 
       n_is : length piece ≡ piece_len K f
-      n_is = omega (arith, length-take (piece_len K f) (drop f.done spelling), length-drop f.done spelling, long)
+      n_is = omega (arith, length-take (piece_len K f) (drop (written f.checkpoint) spelling), length-drop (written f.checkpoint) spelling, long)
 
       abbrev at : ℕ
-      at = area_of K f + 1 + f.done
+      at = area_of K f + 1 + written f.checkpoint
 
-      pub piece_file : (x y : List ℕ) → IsFile K s f x → Torn (area_of K f + 1 + f.done) (length (take (piece_len K f) (drop f.done spelling))) x y → IsFile K s (pieced_file K f) y
+      pub piece_file : (x y : List ℕ) → IsFile K s f x → Torn (area_of K f + 1 + written f.checkpoint) (length (take (piece_len K f) (drop (written f.checkpoint) spelling))) x y → IsFile K s (pieced_file K f) y
       piece_file x y is torn =
           let both = piece_step K laws f.head f.parts s at (length piece) x y (omega arith) (omega (arith, n_is, less)) (known_shut f.area_open (area_of K f) x is.area_gate shut) torn is.store in
           record {
             store = both.0;
             area_gate = subst (λ b. IsGate b (area_of K f) y) (sym shut) both.1;
             segment_gate = λ single. absurd (false≢true (sym single ∙ turned));
-            begun = is.begun;
+            begun = λ _. (turned, shut);
           }
 
-      pub piece_whole : (x : List ℕ) → IsWhole K spelling s f x → IsWhole K spelling s (pieced_file K f) (put (area_of K f + 1 + f.done) (take (piece_len K f) (drop f.done spelling)) x)
+      pub piece_whole : (x : List ℕ) → IsWhole K spelling s f x → IsWhole K spelling s (pieced_file K f) (put (area_of K f + 1 + written f.checkpoint) (take (piece_len K f) (drop (written f.checkpoint) spelling)) x)
       piece_whole x is = record { file = piece_file x (put at piece x) is.file torn; stand = λ _ i below. stands i below }
         where
           torn : Torn at (length piece) x (put at piece x)
@@ -192,32 +193,32 @@ module _ {H S : Type 0} (K : Codec H S) (laws : Laws K) (f : File H S) (s : S) w
           inside : area_of K f + 1 + (K.layout f.head).body ≤ length x
           inside = omega (arith, is.file.store.long, area_inside (K.layout f.head) (not f.parts.area))
 
-          written : Written at piece x (put at piece x)
-          written = put_inside at piece x (omega (arith, inside, less))
+          put_there : Written at piece x (put at piece x)
+          put_there = put_inside at piece x (omega (arith, inside, less))
 
-          stands : StandAt (area_of K f + 1) (take (f.done + piece_len K f) spelling) (put at piece x)
+          stands : StandAt (area_of K f + 1) (take (written f.checkpoint + piece_len K f) spelling) (put at piece x)
           stands i below = ⊎_elim
               (λ early. torn.elsewhere (area_of K f + 1 + i) (omega (arith, inside, early, less)) (inl (omega (arith, early)))
-              ∙ is.stand begun i (omega (arith, early, length-take f.done spelling, long, less))
-              ∙ get_or-take f.done spelling i 0 early ∙ sym (get_or-take (f.done + piece_len K f) spelling i 0 short))
-              (λ late. ap (λ (k : ℕ). get_or (put at piece x) k 0) (place late) ∙ written_stands at piece x (put at piece x) (omega (arith, inside, less)) written (i - f.done) (omega (arith, late, short, n_is))
-              ∙ get_or-take (piece_len K f) (drop f.done spelling) (i - f.done) 0 (omega (arith, late, short)) ∙ get_or-drop f.done spelling (i - f.done) 0
-              ∙ ap (λ (k : ℕ). get_or spelling k 0) (omega (arith, late)) ∙ sym (get_or-take (f.done + piece_len K f) spelling i 0 short))
-              (cases_lt i f.done)
+              ∙ is.stand begun i (omega (arith, early, length-take (written f.checkpoint) spelling, long, less))
+              ∙ get_or-take (written f.checkpoint) spelling i 0 early ∙ sym (get_or-take (written f.checkpoint + piece_len K f) spelling i 0 short))
+              (λ late. ap (λ (k : ℕ). get_or (put at piece x) k 0) (place late) ∙ written_stands at piece x (put at piece x) (omega (arith, inside, less)) put_there (i - written f.checkpoint) (omega (arith, late, short, n_is))
+              ∙ get_or-take (piece_len K f) (drop (written f.checkpoint) spelling) (i - written f.checkpoint) 0 (omega (arith, late, short)) ∙ get_or-drop (written f.checkpoint) spelling (i - written f.checkpoint) 0
+              ∙ ap (λ (k : ℕ). get_or spelling k 0) (omega (arith, late)) ∙ sym (get_or-take (written f.checkpoint + piece_len K f) spelling i 0 short))
+              (cases_lt i (written f.checkpoint))
             where
-              short : i < f.done + piece_len K f
-              short = omega (arith, below, length-take (f.done + piece_len K f) spelling)
+              short : i < written f.checkpoint + piece_len K f
+              short = omega (arith, below, length-take (written f.checkpoint + piece_len K f) spelling)
 
-              place : f.done ≤ i → area_of K f + 1 + i ≡ area_of K f + 1 + f.done + (i - f.done)
+              place : written f.checkpoint ≤ i → area_of K f + 1 + i ≡ area_of K f + 1 + written f.checkpoint + (i - written f.checkpoint)
               place late = omega (arith, late)
 
     -- the end
-    module _ (spelling : List ℕ) (begun : f.begun ≡ true) (shut : f.area_open ≡ false) (read : K.read_state f.head spelling ≡ Some f.parts.middle) (long : length spelling ≡ (K.layout f.head).body) (whole : (K.layout f.head).body ≤ f.done) where
+    module _ (spelling : List ℕ) (begun : is_begun f.checkpoint ≡ true) (shut : f.area_open ≡ false) (read : K.read_state f.head spelling ≡ Some f.parts.middle) (long : length spelling ≡ (K.layout f.head).body) (whole : (K.layout f.head).body ≤ written f.checkpoint) where
       pub finish_inside : (x : List ℕ) → IsWhole K spelling s f x → area_of K f + length spelling < length x
       finish_inside x is = omega (arith, long, is.file.store.long, area_inside (K.layout f.head) (not f.parts.area))
 
       pub finish_stand : (x : List ℕ) → IsWhole K spelling s f x → StandAt (area_of K f + 1) spelling x
-      finish_stand x is = subst (λ (l : List ℕ). StandAt (area_of K f + 1) l x) (take_all f.done spelling (omega (arith, whole, long))) (is.stand begun)
+      finish_stand x is = subst (λ (l : List ℕ). StandAt (area_of K f + 1) l x) (take_all (written f.checkpoint) spelling (omega (arith, whole, long))) (is.stand begun)
 
       pub finish_any : (x z : List ℕ) → IsWhole K spelling s f x → Appended (area_of K f) spelling x z → IsStore K f.head f.parts s z ⊎ IsStore K f.head (finished f.parts) s z
       finish_any x z is appended = open_step K laws f.head f.parts s spelling x z turned read long (known_shut f.area_open (area_of K f) x is.file.area_gate shut) appended is.file.store

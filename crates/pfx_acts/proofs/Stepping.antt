@@ -9,6 +9,7 @@ use Rattle.pfx_recovery.specs.Codec.{Codec, Laws}
 use Rattle.pfx_recovery.specs.Layout.{segment_at, segment_end}
 use Rattle.pfx_recovery.specs.Store.{Parts, IsStore, next_gate, turned_at, finished}
 use Rattle.pfx_recovery.proofs.Regions.{area_inside, segment_inside}
+use Rattle.pfx_store_file.specs.Checkpoints.{is_begun, written}
 use Rattle.pfx_store_file.specs.Holding.{IsStart}
 use Rattle.pfx_acts.specs.Files.{IsFile, IsWhole}
 use Rattle.pfx_segment.specs.Acts.{put_acts, close_acts, open_acts}
@@ -51,7 +52,7 @@ module _ {H S : Type 0} (K : Codec H S) (laws : Laws K) (D : List ℕ → Type 0
         (λ x y is closing shut. close_whole K laws f s turned spelling next x y is closing shut)
         (λ x is shut. known_shut f.area_open (area_of K f) x is.file.area_gate shut)
 
-    pieces : (f : File H S) (spelling : List ℕ) → f.parts.turned ≡ true → f.begun ≡ true → Spells K f spelling → f.done < (K.layout f.head).body → Goes f s spelling (piece_acts K f spelling) (pieced_file K f) s spelling
+    pieces : (f : File H S) (spelling : List ℕ) → f.parts.turned ≡ true → is_begun f.checkpoint ≡ true → Spells K f spelling → written f.checkpoint < (K.layout f.head).body → Goes f s spelling (piece_acts K f spelling) (pieced_file K f) s spelling
     pieces f spelling turned begun spells less = chain_with D (IsFile K s f) (IsWhole K spelling s f) (IsFile K s (pieced_file K f)) (IsWhole K spelling s (pieced_file K f)) (piece_acts K f spelling) (λ x was.
         let shut = (was.file.begun begun).1 in
         let long = (spells turned).1 in
@@ -59,7 +60,7 @@ module _ {H S : Type 0} (K : Codec H S) (laws : Laws K) (D : List ℕ → Type 0
         (λ x y is torn. piece_file K laws f s turned spelling begun shut long less x y is torn)
         (λ x is. piece_whole K laws f s turned spelling begun shut long less x is))
 
-    finishes : (f : File H S) (spelling next : List ℕ) → f.parts.turned ≡ true → f.begun ≡ true → Spells K f spelling → (K.layout f.head).body ≤ f.done → Goes f s spelling (open_acts (area_of K f)) (finished_file K f) s next
+    finishes : (f : File H S) (spelling next : List ℕ) → f.parts.turned ≡ true → is_begun f.checkpoint ≡ true → Spells K f spelling → (K.layout f.head).body ≤ written f.checkpoint → Goes f s spelling (open_acts (area_of K f)) (finished_file K f) s next
     finishes f spelling next turned begun spells whole = chain_with D (IsFile K s f) (IsWhole K spelling s f) (IsFile K s (finished_file K f)) (IsWhole K next s (finished_file K f)) (open_acts (area_of K f)) (λ x was.
         let shut = (was.file.begun begun).1 in
         let read = (spells turned).0 in
@@ -78,8 +79,8 @@ module _ {H S : Type 0} (K : Codec H S) (laws : Laws K) (D : List ℕ → Type 0
     pub tends : (f : File H S) (spelling : List ℕ) → Spells K f spelling → Goes f s spelling (tend_acts K f spelling) (tended_file K f) s spelling
     tends f spelling spells =
         by_if₂ (λ calls g. Goes f s spelling calls g s spelling) f.parts.turned _ [] _ f
-        (λ turned. by_if₂ (λ calls g. Goes f s spelling calls g s spelling) f.begun _ (close_acts (area_of K f) f.area_open) _ (closed_file K f)
-        (λ begun. by_if₂ (λ calls g. Goes f s spelling calls g s spelling) (nat_lt f.done (K.layout f.head).body) (piece_acts K f spelling) (open_acts (area_of K f)) (pieced_file K f) (finished_file K f)
+        (λ turned. by_if₂ (λ calls g. Goes f s spelling calls g s spelling) (is_begun f.checkpoint) _ (close_acts (area_of K f) f.area_open) _ (closed_file K f)
+        (λ begun. by_if₂ (λ calls g. Goes f s spelling calls g s spelling) (nat_lt (written f.checkpoint) (K.layout f.head).body) (piece_acts K f spelling) (open_acts (area_of K f)) (pieced_file K f) (finished_file K f)
         (λ less. pieces f spelling turned begun spells (ltb-true _ _ less))
         (λ whole. finishes f spelling spelling turned begun spells (ltb-false _ _ whole)))
         (λ none. closes f spelling spelling turned))

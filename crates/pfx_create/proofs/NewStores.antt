@@ -5,6 +5,7 @@ use Rattle.pfx_recovery.specs.Codec.{Codec}
 use Rattle.pfx_recovery.specs.Layout.{Layout, area_at, segment_at, IsClosedAt}
 use Rattle.pfx_recovery.specs.NewFile.{new_file, new_parts, IsNewFile}
 use Rattle.pfx_recovery.proofs.NewFiles.{made_new}
+use Rattle.pfx_store_file.specs.Checkpoints.{in_progress}
 use Rattle.pfx_store_file.specs.Holding.{ArePlaces, IsGate}
 use Rattle.pfx_store_file.specs.declared.places.Places.{Places}
 use Rattle.pfx_create.specs.Attempts.{IsMadeOf}
@@ -33,7 +34,7 @@ module _ {H S : Type 0} (K : Codec H S) (h : H) (s : S) (head body : List ℕ) (
       fits = record { head = are.head ∙ made.parts.head_long; body = are.body ∙ made.parts.body_long; segment = are.segment_len ∙ made.of_segment };
       area = are.area;
       segment = are.segment;
-      turned = are.turned;
+      turned = ap in_progress are.checkpoint;
       gate = omega (arith, are.gate, made.parts.head_long, made.parts.body_long);
       end = omega (arith, are.end, made.parts.head_long, made.parts.body_long, made.of_segment);
     }

@@ -12,7 +12,7 @@ ghost use Rattle.pfx_create.specs.NewPlaces.{AreNew};
 use crate::creation::create;
 use crate::fault::CreateFault;
 use pfx_disk::Disk;
-use pfx_store_file::{Places, Sizes, StoreFile};
+use pfx_store_file::{Checkpoint, Places, Sizes, StoreFile};
 
 /// The places of a new file whose parts are so long.
 pub fn new_places(sizes: Sizes) -> Places
@@ -23,13 +23,11 @@ pub fn new_places(sizes: Sizes) -> Places
         sizes,
         area: false,
         segment: false,
-        turned: false,
+        checkpoint: Checkpoint::Ended,
         gate: first + 9,
         end: first + sizes.segment,
         area_open: false,
         segment_open: false,
-        begun: false,
-        done: 0,
     }
 }
 

@@ -311,7 +311,7 @@ pub(crate) fn flush<J: Job, B: Since<J>, D: Disk, R: Wait + Drop, W: Wait + Cloc
     } = flusher;
     let mut pace = Pace::new();
     for _ in rt.forever() {
-        let busy = store.places().turned;
+        let busy = store.places().checkpoint.in_progress();
         match next_work(rt, monitor, &mut share, room, busy, pace) {
             Work::End => return home(share, store, publisher),
             Work::Tend(back) => {

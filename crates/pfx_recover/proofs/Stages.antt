@@ -10,9 +10,11 @@ use Rattle.pfx_recovery.specs.Store.{single, double}
 use Rattle.pfx_recovery.proofs.Backs.{opened_at, shut_at}
 use Rattle.pfx_recovery.proofs.Runs.{same_true, other_false, not_not}
 use Rattle.pfx_recovery.proofs.Stages.{from_one_as, from_two_as}
+use Rattle.pfx_store_file.specs.Checkpoints.{in_progress}
 use Rattle.pfx_store_file.specs.Holding.{IsGate}
 use Rattle.pfx_store_file.specs.Sizes.{HasSizes, total_len}
 use Rattle.pfx_store_file.specs.declared.places.Places.{Places}
+use Rattle.pfx_store_file.specs.declared.progress.Checkpoint.TheVariants.{Ended, Pending}
 use Rattle.pfx_store_file.specs.declared.sizes.Sizes.{Sizes}
 use Rattle.pfx_recover.specs.Answers.{Gives, IsRefusal, refusal_of}
 use Rattle.pfx_recover.specs.Choosing.{IsArea, IsSegment, area_state}
@@ -108,7 +110,7 @@ module _ {H S : Type 0} (K : Codec H S) (h : H) (bytes : List ℕ) where
   gate_at b frames walked stand fill = omega (arith, stand.gate, fill_size frames (frames_of walked) fill, length-take walked.len walked.bytes.items, walked.inside)
 
   pub single_found : (area segment : Choice) (taken begun : Result Bool means.Refusal) (s t : S) (walked : Walked) (frames : List (List ℕ)) (places : Places) → IsArea K h bytes area taken → IsSegment K h bytes segment begun → StandIn (K.layout h) segment.second walked
-      → Fill frames (frames_of walked) → AreInUse (K.layout h) area.second area.other_open false segment.second segment.other_open walked.gate places
+      → Fill frames (frames_of walked) → AreInUse (K.layout h) area.second area.other_open Ended segment.second segment.other_open walked.gate places
       → replay K (first_gate (K.layout h) segment.second) s frames ≡ Ok t → is_passed K h bytes walked.last (not segment.second) ≡ true
       → IsFound K h bytes places t None (from_one K h bytes area.second s segment.second frames walked.last)
   single_found area segment taken begun s t walked frames places in_area in_segment stand fill used run past = record {
@@ -119,20 +121,19 @@ module _ {H S : Type 0} (K : Codec H S) (h : H) (bytes : List ℕ) where
         fits = used.fits;
         area = used.area;
         segment = used.segment;
-        turned = used.turned;
+        turned = ap in_progress used.progress;
         gate = used.gate ∙ gate_at segment.second frames walked stand fill;
         end = used.end;
       };
       area_open = used.area_open ∙ in_area.other;
       segment_open = used.segment_open ∙ in_segment.other;
-      begun = used.unbegun;
-      done = used.undone;
+      checkpoint = used.progress;
     };
     between = refl;
   }
 
   pub double_found : (area : Choice) (b : Bool) (taken : Result Bool means.Refusal) (s m t : S) (walked : Walked) (before frames : List (List ℕ)) (places : Places) (spelled : Vec ℕ Global) → IsArea K h bytes area taken → IsOpenAt (segment_at (K.layout h) b) bytes
-      → StandIn (K.layout h) (not b) walked → Fill frames (frames_of walked) → AreInUse (K.layout h) area.second area.other_open true (not b) true walked.gate places
+      → StandIn (K.layout h) (not b) walked → Fill frames (frames_of walked) → AreInUse (K.layout h) area.second area.other_open Pending (not b) true walked.gate places
       → replay K (first_gate (K.layout h) b) s before ≡ Ok m → replay K (first_gate (K.layout h) (not b)) m frames ≡ Ok t
       → length spelled.items ≡ (K.layout h).body → K.read_state h spelled.items ≡ Some m
       → IsFound K h bytes places t (Some spelled) (from_two K h bytes area.second s b before frames)
@@ -144,14 +145,13 @@ module _ {H S : Type 0} (K : Codec H S) (h : H) (bytes : List ℕ) where
         fits = used.fits;
         area = used.area;
         segment = used.segment;
-        turned = used.turned;
+        turned = ap in_progress used.progress;
         gate = used.gate ∙ gate_at (not b) frames walked stand fill;
         end = used.end;
       };
       area_open = used.area_open ∙ in_area.other;
       segment_open = subst (λ (k : Bool). places.segment_open ≡ is_open (segment_at (K.layout h) k) bytes) (sym (not_not b)) (used.segment_open ∙ sym (same_true _ _ gate));
-      begun = used.unbegun;
-      done = used.undone;
+      checkpoint = used.progress;
     };
     between = (refl, long, read);
   }

@@ -6,6 +6,7 @@ use Rattle.pfx_recovery.specs.Codec.{Codec}
 use Rattle.pfx_recovery.specs.Recovery.{Found, found, found_of}
 use Rattle.pfx_recovery.specs.Refusals.{Refusal}
 use Rattle.pfx_recovery.specs.Store.{Parts}
+use Rattle.pfx_store_file.specs.Checkpoints.{is_begun}
 use Rattle.pfx_store_file.specs.Files.{AreOf, file_in}
 use Rattle.pfx_store_file.specs.Holding.{Holds}
 use Rattle.pfx_store_file.specs.Sizes.{HasSizes}
@@ -43,13 +44,13 @@ module _ {H S : Type 0} (K : Codec H S) (h : H) where
 pub record IsUsable {H S : Type 0} (K : Codec H S) (can_hold : H → S → Type 0) (h : H) (places : Places) (state : S) : Type 0 where
   pub fits : can_hold h state
   pub sized : HasSizes (K.layout h) places.sizes
-  pub unbegun : places.begun ≡ false
+  pub unbegun : is_begun places.checkpoint ≡ false
 
 -- A store can go on with the file that was opened: it isn't broken, no checkpoint is begun, also if one is in progress, the places are those
 -- of a file of this layout, and its checkpoint areas can hold the state.
 pub record CanGoOn {H S : Type 0} (K : Codec H S) (can_hold : H → S → Type 0) (h : H) (broken : Bool) (places : Places) (state : S) : Type 0 where
   pub whole : broken ≡ false
-  pub unbegun : places.begun ≡ false
+  pub unbegun : is_begun places.checkpoint ≡ false
   pub sized : HasSizes (K.layout h) places.sizes
   pub fits : can_hold h state
 

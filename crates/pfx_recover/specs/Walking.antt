@@ -9,6 +9,7 @@ use Rattle.pfx_recovery.specs.Refusals as means
 use Rattle.pfx_segment.specs.Frames.{frame_len}
 use Rattle.pfx_store_file.specs.Sizes.{HasSizes}
 use Rattle.pfx_store_file.specs.declared.places.Places.{Places}
+use Rattle.pfx_store_file.specs.declared.progress.Checkpoint.{Checkpoint}
 use Rattle.pfx_recover.specs.Answers.{Gives}
 use Rattle.pfx_recover.specs.Looking.{IsKept, OnlyReads}
 use Rattle.pfx_recover.specs.declared.faults.OpenFault.{OpenFault}
@@ -64,16 +65,14 @@ pub record StandIn (L : Layout) (second : Bool) (walked : Walked) : Type 0 where
   pub inside : walked.gate < segment_end L second
   pub last : walked.last < 2 ^ 48
 
--- These are the checkpoint area and the segment in use, how the gates of the others stand, and the next frame's gate; and no
--- checkpoint is begun, nor anything of one done.
-pub record AreInUse (L : Layout) (in_area other_area is_turned second other_segment : Bool) (next : ℕ) (places : Places) : Type 0 where
+-- These are the checkpoint area and the segment in use, how the gates of the others stand, and the next frame's gate; and so far is the
+-- checkpoint in progress.
+pub record AreInUse (L : Layout) (in_area other_area : Bool) (checkpoint : Checkpoint) (second other_segment : Bool) (next : ℕ) (places : Places) : Type 0 where
   pub fits : HasSizes L places.sizes
   pub area : places.area ≡ in_area
   pub area_open : places.area_open ≡ other_area
-  pub turned : places.turned ≡ is_turned
+  pub progress : places.checkpoint ≡ checkpoint
   pub segment : places.segment ≡ second
   pub segment_open : places.segment_open ≡ other_segment
   pub gate : places.gate ≡ next
   pub end : places.end ≡ segment_end L second
-  pub unbegun : places.begun ≡ false
-  pub undone : places.done ≡ 0

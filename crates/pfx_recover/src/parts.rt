@@ -2,6 +2,7 @@
 ghost use Rattle.std.specs.Prelude.{◌≡◌, ◌≤◌, ◌<◌, ◌+◌, ◌^◌, ℕ, List, not};
 ghost use Rattle.pfx_recovery.specs.Layout.{segment_at, segment_end, IsOpenAt};
 ghost use Rattle.pfx_recovery.specs.Recovery.{area_taken, segment_begun, from_one, from_two};
+ghost use Rattle.pfx_store_file.specs.Checkpoints.{written};
 ghost use Rattle.pfx_recover.specs.Answers.{Gives};
 ghost use Rattle.pfx_recover.specs.Choosing.{IsArea, IsSegment};
 ghost use Rattle.pfx_recover.specs.Finding.{IsFound, MakesContents};
@@ -14,7 +15,7 @@ use crate::outline::Outline;
 use crate::records::replay_frames;
 use crate::walked::Walked;
 use pfx_fault::Part;
-use pfx_store_file::Places;
+use pfx_store_file::{Checkpoint, Places};
 use std::alloc::Global;
 
 /// What a file holds.
@@ -32,13 +33,14 @@ pub(crate) struct Contents<F: Format> {
 fn places_of<F: Format>(
     file: &Outline<F>,
     area: Choice,
-    turned: bool,
+    checkpoint: Checkpoint,
     second: bool,
     segment_open: bool,
     gate: usize,
 ) -> Places
-    requires { gate < segment_end (F.codec.layout file.now.header) second }
-    ensures placed { AreInUse (F.codec.layout file.now.header) area.second area.other_open turned second
+    requires inside { gate < segment_end (F.codec.layout file.now.header) second }
+    requires unwritten { written checkpoint ≡ 0 }
+    ensures { AreInUse (F.codec.layout file.now.header) area.second area.other_open checkpoint second
         segment_open gate result }
 {
     let sizes = file.sizes;
@@ -46,13 +48,11 @@ fn places_of<F: Format>(
         sizes,
         area: area.second,
         segment: second,
-        turned,
+        checkpoint,
         gate,
         end: sizes.segment_at(second) + sizes.segment,
         area_open: area.other_open,
         segment_open,
-        begun: false,
-        done: 0,
     }
 }
 
@@ -87,7 +87,7 @@ pub(crate) fn read_single<F: Format>(
         places: places_of(
             file,
             area,
-            false,
+            Checkpoint::Ended,
             segment.second,
             segment.other_open,
             walked.gate,
@@ -124,7 +124,7 @@ pub(crate) fn read_double<F: Format>(
     F::encode(&file.header, &between, &mut middle);
     let reached = replay_frames::<F>(alloc, next, between, walked.frames())?;
     Ok(Contents {
-        places: places_of(file, area, true, !second, true, walked.gate),
+        places: places_of(file, area, Checkpoint::Pending, !second, true, walked.gate),
         state: reached,
         middle: Some(middle),
     })

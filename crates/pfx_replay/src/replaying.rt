@@ -62,7 +62,7 @@ pub fn replay<J: Job, D: Disk>(alloc: Global, disk: D) -> Result<(Verdict, D), (
         &image,
         places.area,
         places.segment,
-        places.turned,
+        places.checkpoint.in_progress(),
     ) {
         Ok(Some(verdict)) => Ok((verdict, disk)),
         Ok(None) => Err((

@@ -6,7 +6,9 @@ use Rattle.pfx_disk.specs.Disk.{View, HasFailed}
 use Rattle.pfx_segment.specs.Segment.{Takes}
 use Rattle.pfx_store_file.specs.Calls.{Works}
 use Rattle.pfx_store_file.specs.Fitting.{HasRoom}
-use Rattle.pfx_store_file.specs.Tending.{IsTurnedBefore, MovesOn, TakesFrame, append_calls, calls_left, pieces}
+use Rattle.pfx_store_file.specs.Tending.{IsTurnedBefore, MovesOn, TakesFrame, append_calls, calls_left, calls_to_end, pieces}
+use Rattle.pfx_store_file.specs.declared.progress.Checkpoint.{Checkpoint}
+use Rattle.pfx_store_file.specs.declared.progress.Checkpoint.TheVariants.{Ended, Pending, Writing}
 use Rattle.pfx_store_file.specs.declared.faults.StoreFault.{StoreFault}
 use Rattle.pfx_store_file.specs.declared.places.Places.{Places}
 use Rattle.pfx_store_file.proofs.Calling.{works_handed}
@@ -39,10 +41,10 @@ takes_both m n all a b c result sum first second =
       no_fewer = omega (arith, fails, fails_2);
     }
 
-left_bound : (turned begun : Bool) (body done : ℕ) → (if turned then (if begun then 3 + pieces (body - done) else 5 + pieces body) else 0) ≤ 5 + pieces body
-left_bound false begun body done = omega arith
-left_bound true false body done = omega arith
-left_bound true true body done = omega arith
+left_bound : (body : ℕ) (checkpoint : Checkpoint) → calls_to_end body checkpoint ≤ 5 + pieces body
+left_bound body Ended = omega arith
+left_bound body Pending = omega arith
+left_bound body (Writing done) = omega arith
 
 append_by : (room : Bool) (left n : ℕ) → left ≤ 5 + n → (if room then 4 else 10 + left) ≤ 15 + n
 append_by true left n most = omega arith
@@ -50,7 +52,7 @@ append_by false left n most = omega (arith, most)
 
 -- no append takes more calls than this
 pub append_most : (n : ℕ) (places : Places) → append_calls n places ≤ 15 + pieces places.sizes.body
-append_most n places = append_by (nat_lt (places.gate + n) places.end) (calls_left places) (pieces places.sizes.body) (left_bound places.turned places.begun places.sizes.body places.done)
+append_most n places = append_by (nat_lt (places.gate + n) places.end) (calls_left places) (pieces places.sizes.body) (left_bound places.sizes.body places.checkpoint)
 
 -- a frame of n bytes behind room that was made for it
 module _ (n a b : ℕ) (old mid new : Places) (is_a : a ≡ n) (is_b : b ≡ n) (there : HasRoom a old → mid ≡ old) (full : HasRoom a mid → HasRoom a old) (taken : TakesFrame b mid new) where

@@ -14,10 +14,14 @@ use Rattle.pfx_recovery.specs.Recovery.{recovered}
 use Rattle.pfx_recovery.proofs.Recovers.{recovers}
 use Rattle.pfx_recovery.proofs.Runs.{replays_one}
 use Rattle.pfx_store_file.specs.Calls.{Works}
+use Rattle.pfx_store_file.specs.Checkpoints.{in_progress, is_begun}
 use Rattle.pfx_store_file.specs.Holding.{KeepsAll, Survives}
+use Rattle.pfx_store_file.specs.Tending.{pieces, steps_of}
 use Rattle.pfx_store_file.specs.declared.faults.StoreFault.{StoreFault}
 use Rattle.pfx_store_file.specs.declared.faults.StoreFault.TheVariants.{Device, Broken, NoRoom}
 use Rattle.pfx_store_file.specs.declared.places.Places.{Places}
+use Rattle.pfx_store_file.specs.declared.progress.Checkpoint.{Checkpoint}
+use Rattle.pfx_store_file.specs.declared.progress.Checkpoint.TheVariants.{Ended, Pending, Writing}
 use Rattle.pfx_store.specs.Marks.{AreKept, Covers, IsKept, marked}
 use Rattle.pfx_store.specs.Standing.{Stands}
 use Rattle.pfx_store.specs.declared.store.Mark.{Mark}
@@ -133,5 +137,7 @@ module _ {J : Type 0} (K : Kind J) (L : Laws K) (places : Places) (s : Plain J) 
     }
 
 -- the steps that are left if none has been taken
-pub left_by : (turned begun t : Bool) (a b : ℕ) → begun ≡ false → turned ≡ t → (if turned then (if begun then a else b) else 0) ≡ (if t then b else 0)
-left_by turned begun t a b unbegun same = ap (λ (u : Bool). if u then (if begun then a else b) else 0) same ∙ ap (λ (v : Bool). if t then (if v then a else b) else 0) unbegun
+pub left_by : (body : ℕ) (checkpoint : Checkpoint) (t : Bool) → is_begun checkpoint ≡ false → in_progress checkpoint ≡ t → steps_of body checkpoint ≡ (if t then 2 + pieces body else 0)
+left_by body Ended t unbegun same = ap (λ (v : Bool). if v then 2 + pieces body else 0) same
+left_by body Pending t unbegun same = ap (λ (v : Bool). if v then 2 + pieces body else 0) same
+left_by body (Writing done) t unbegun same = absurd (true≢false unbegun)

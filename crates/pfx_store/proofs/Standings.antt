@@ -14,6 +14,7 @@ use Rattle.pfx_machine.specs.Plain.{Plain, IsState}
 use Rattle.pfx_recover.specs.Finding.{IsMiddle, IsOpened}
 use Rattle.pfx_recovery.specs.Recovery.{Found, found, found_of, on_ok, recovered}
 use Rattle.pfx_recovery.specs.Store.{Parts, Replays, finished, turned_at, with_frame}
+use Rattle.pfx_store_file.specs.Checkpoints.{in_progress}
 use Rattle.pfx_store_file.specs.Holding.{Holds, KeepsAll}
 use Rattle.pfx_store_file.specs.Tending.{settled, settled_unless, made_room}
 use Rattle.pfx_store_file.specs.declared.places.Places.{Places}
@@ -32,7 +33,7 @@ respelled K h places p s a b disk holds single = record {
   gate = holds.gate;
   end = holds.end;
   images = holds.images;
-  begun = λ is. absurd (true≢false (sym (holds.begun is).turned ∙ single));
+  begun = λ done is. absurd (true≢false (sym (holds.begun done is).turned ∙ single));
 }
 
 settled_by : {S : Type 0} (p : Parts S) (b : Bool) → p.turned ≡ b → (settled p).turned ≡ false
@@ -58,13 +59,13 @@ settled_middle true p P middle is = middle is
 settled_middle false p P middle is = absurd (true≢false (sym is ∙ settled_single p))
 
 pub stands_tended : {J : Type 0} (K : Kind J) (h : Header) (places : Places) (p : Parts (Plain J)) (s : Plain J) (a b : List ℕ) (disk : View) → a ≡ b → s.ledger.set ≡ h.set → (p.turned ≡ true → read_state K h.set a ≡ Some p.middle) →
-    Holds (format K) h places (settled_unless places.turned p) s a disk → Stands K places s b disk
+    Holds (format K) h places (settled_unless (in_progress places.checkpoint) p) s a disk → Stands K places s b disk
 stands_tended K h places p s a b disk same set middle holds = subst (λ (l : List ℕ). Stands K places s l disk) same (record {
   header = h;
-  parts = settled_unless places.turned p;
+  parts = settled_unless (in_progress places.checkpoint) p;
   holds = holds;
   set = set;
-  middle = settled_middle places.turned p (λ m. read_state K h.set a ≡ Some m) middle;
+  middle = settled_middle (in_progress places.checkpoint) p (λ m. read_state K h.set a ≡ Some m) middle;
 })
 
 -- if the store was turned, with the state spelled
@@ -149,7 +150,7 @@ same_turned : {H S E : Type 0} (a b : Found H S) → result {E = E} a ≡ Ok b �
 same_turned a b is = cc
 
 -- two segments were read where the parts say so
-pub opened_turned : {J : Type 0} (K : Kind J) (h : Header) (bytes : List ℕ) (places : Places) (s : Plain J) (middle : Option (Vec ℕ Global)) (disk : View) → IsOpened (format K) h bytes places s middle disk → (f : Found Header (Plain J)) → found (format K) bytes ≡ Ok f → places.turned ≡ f.parts.turned
+pub opened_turned : {J : Type 0} (K : Kind J) (h : Header) (bytes : List ℕ) (places : Places) (s : Plain J) (middle : Option (Vec ℕ Global)) (disk : View) → IsOpened (format K) h bytes places s middle disk → (f : Found Header (Plain J)) → found (format K) bytes ≡ Ok f → in_progress places.checkpoint ≡ f.parts.turned
 opened_turned K h bytes places s middle disk opened f is = (opened.holds []).turned ∙ same_turned (found_of h opened.parts s) f (sym opened.found ∙ is)
 
 pub on_ok_then : {T E P Q : Type 0} (r : Result T E) → (P → Q) → OnOk r P → OnOk r Q

@@ -12,6 +12,7 @@ use Rattle.pfx_recovery.specs.Store.{Parts}
 use Rattle.pfx_store_file.specs.Fitting.{HasRoom}
 use Rattle.pfx_store_file.specs.Holding.{Holds, IsPending}
 use Rattle.pfx_store_file.specs.declared.places.Places.{Places}
+use Rattle.pfx_store_file.specs.declared.progress.Checkpoint.TheVariants.{Ended}
 
 -- Under some header and with some parts the store holds on the disk at this state, which is of the header's set; if a
 -- checkpoint is in progress, its body is that of the state at the turn.
@@ -24,7 +25,7 @@ pub record Stands {J : Type 0} (K : Kind J) (places : Places) (s : Plain J) (spe
 
 -- a frame of n bytes has room, or a turn can make some: no checkpoint is in progress, and the body of one is this state's
 abbrev pub IsReady : {J : Type 0} → Kind J → ℕ → Places → Plain J → List ℕ → Type 0
-IsReady K n places s spelled = HasRoom n places ⊎ ((places.turned ≡ false) × (spelled ≡ state_bytes K s))
+IsReady K n places s spelled = HasRoom n places ⊎ ((places.checkpoint ≡ Ended) × (spelled ≡ state_bytes K s))
 
 -- these bytes, with a closed gate behind them, are what stands behind the gate of this frame
 abbrev pub IsBehind : List ℕ → List ℕ → Type 0

@@ -18,10 +18,12 @@ use Rattle.pfx_recovery.specs.Store.{Replays}
 use Rattle.pfx_redo.specs.Applying.{applied}
 use Rattle.pfx_segment.specs.Segment.{Takes}
 use Rattle.pfx_store_file.specs.Calls.{Works}
+use Rattle.pfx_store_file.specs.Checkpoints.{in_progress, written}
 use Rattle.pfx_store_file.specs.Fitting.{HasRoom, IsTurnable}
 use Rattle.pfx_store_file.specs.Sizes.{total_len}
 use Rattle.pfx_store_file.specs.Holding.{KeepsAll, Survives}
 use Rattle.pfx_store_file.specs.Tending.{IsTurned, StaysPut, append_calls, calls_left, calls_of, next_step, pieces, room_calls, steps_left}
+use Rattle.pfx_store_file.specs.declared.progress.Checkpoint.TheVariants.{Ended, Writing}
 use Rattle.pfx_store_file.specs.declared.checkpoint.TheConstants.{PIECE}
 use Rattle.pfx_store_file.specs.declared.checkpoint.Tended.TheVariants.{Piece}
 use Rattle.pfx_store_file.specs.declared.checkpoint.Tended.{Tended}
@@ -138,9 +140,9 @@ pub record Opens {D J : Type 0} (view : D → View) (K : Kind J) (disk : D) (res
 pub record Tends {D J : Type 0} (old new : PlainStore D J) (result : Result Tended StoreFault) : Type 0 where
   pub step : IfOk result (λ tended. tended ≡ next_step old.file.places)
   pub stays : StaysPut old.file.places new.file.places
-  pub nothing : old.file.places.turned ≡ false → (new.file ≡ old.file) × (new.spelled ≡ old.spelled)
-  pub piece : result ≡ Ok Piece → new.file.places.done ≡ min old.file.places.sizes.body (old.file.places.done + PIECE)
-  pub nearer : old.file.places.turned ≡ true → OnOk result (steps_left old.file.places ≡ 1 + steps_left new.file.places)
+  pub nothing : old.file.places.checkpoint ≡ Ended → (new.file ≡ old.file) × (new.spelled ≡ old.spelled)
+  pub piece : result ≡ Ok Piece → new.file.places.checkpoint ≡ Writing (min old.file.places.sizes.body (written old.file.places.checkpoint + PIECE))
+  pub nearer : in_progress old.file.places.checkpoint ≡ true → OnOk result (steps_left old.file.places ≡ 1 + steps_left new.file.places)
   pub fewer : OnOk result (calls_left old.file.places ≡ calls_of (next_step old.file.places) + calls_left new.file.places)
 
 -- the file was turned, exactly if that is lawful; else nothing was done
@@ -162,7 +164,7 @@ pub record MakesRoom {D J T : Type 0} (K : Kind J) (n : ℕ) (old new : PlainSto
 -- What was found in these bytes: the state that recovery gives, whether a checkpoint is in progress, and the file; the store stands for it.
 pub record Finds {D J : Type 0} (view : D → View) (K : Kind J) (bytes : List ℕ) (store : PlainStore D J) : Type 0 where
   pub recovers : recovered (format K) bytes ≡ Ok store.state
-  pub turned : (f : Found Header (Plain J)) → found (format K) bytes ≡ Ok f → store.file.places.turned ≡ f.parts.turned
+  pub turned : (f : Found Header (Plain J)) → found (format K) bytes ≡ Ok f → in_progress store.file.places.checkpoint ≡ f.parts.turned
   pub stands : Stands K store.file.places store.state store.spelled (view store.file.disk)
   pub file : (f : FileOf J) × (recovered_file K bytes ≡ Some (store.state, f)) × HasFile K f store.file.places store.spelled
 

@@ -9,6 +9,7 @@ ghost use Rattle.pfx_recover.specs.Answers.{IsRefusal};
 ghost use Rattle.pfx_recover.specs.Finding.{IsOpened};
 ghost use Rattle.pfx_recover.specs.Looking.{Looks};
 ghost use Rattle.pfx_recovery.specs.Recovery.{Found, found, recovered};
+ghost use Rattle.pfx_store_file.specs.Checkpoints.{is_begun};
 ghost use Rattle.pfx_store_file.specs.Sizes.{HasSizes};
 ghost use Rattle.pfx_store_file.specs.Tending.{pieces, steps_left};
 ghost use Rattle.pfx_store.specs.Stores.{stored};
@@ -87,7 +88,7 @@ impl<D: Disk, J: Job> Store<D, J> {
         ensures device { IfErr result (λ e. e.0 ≡ OpenFault.Device → HasFailed (D.view disk) (D.view e.1)) }
         ensures looks { MatchResult result
             (λ store. Looks (D.view disk) (D.view store.file.disk)) (λ e. Looks (D.view disk) (D.view e.1)) }
-        ensures fresh { IfOk result (λ store. (store.file.broken ≡ false) × (store.file.places.begun ≡ false)) }
+        ensures fresh { IfOk result (λ store. (store.file.broken ≡ false) × (is_begun store.file.places.checkpoint ≡ false)) }
 
         // If two segments were read a checkpoint is in progress, with all its steps to come; else there is none.
         ensures left { IsHonest (D.view disk) → IfOk result (λ store. (f : Found Header (Plain J))

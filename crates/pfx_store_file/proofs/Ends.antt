@@ -9,6 +9,7 @@ use Rattle.pfx_disk.proofs.CallsMade.{made_none, made_then, broken_first, broken
 use Rattle.pfx_recovery.specs.Codec.{Codec}
 use Rattle.pfx_store_file.specs.declared.checkpoint.TheConstants.{PIECE}
 use Rattle.pfx_store_file.specs.declared.places.Places.{Places}
+use Rattle.pfx_store_file.specs.Checkpoints.{in_progress, is_begun, written}
 use Rattle.pfx_store_file.specs.Files.{File, AreOf}
 use Rattle.pfx_store_file.specs.Acts.{piece_len, tend_acts, closed_file, pieced_file, finished_file, tended_file, steps_acts, stepped_file, end_acts, ended_file}
 
@@ -32,8 +33,8 @@ module _ {H S : Type 0} (K : Codec H S) where
   pub tended_kept : (f : File H S) → Kept f (tended_file K f)
   tended_kept f =
       by_if₂ (λ g (u : Unit {0}). Kept f g) f.parts.turned _ f tt tt
-      (λ turned. by_if₂ (λ g (u : Unit {0}). Kept f g) f.begun _ (closed_file K f) tt tt
-      (λ begun. by_if₂ (λ g (u : Unit {0}). Kept f g) (nat_lt f.done (K.layout f.head).body) (pieced_file K f) (finished_file K f) tt tt
+      (λ turned. by_if₂ (λ g (u : Unit {0}). Kept f g) (is_begun f.checkpoint) _ (closed_file K f) tt tt
+      (λ begun. by_if₂ (λ g (u : Unit {0}). Kept f g) (nat_lt (written f.checkpoint) (K.layout f.head).body) (pieced_file K f) (finished_file K f) tt tt
       (λ less. record { head = refl; middle = refl; segment = refl; frames = refl; turned = λ is. is })
       (λ whole. record { head = refl; middle = refl; segment = refl; frames = refl; turned = λ is. turned }))
       (λ none. record { head = refl; middle = refl; segment = refl; frames = refl; turned = λ is. is }))
@@ -63,7 +64,7 @@ module _ {H S : Type 0} (K : Codec H S) where
   most_left true true body done = omega arith
 
   abbrev left : File H S → ℕ
-  left f = left_of f.parts.turned f.begun (K.layout f.head).body f.done
+  left f = left_of f.parts.turned (is_begun f.checkpoint) (K.layout f.head).body (written f.checkpoint)
 
   left_at : (t b : Bool) (body done n : ℕ) → t ≡ true → b ≡ true → 1 + (body - done) ≤ n → left_of t b body done ≤ n
   left_at true true body done n turned begun low = low
@@ -90,19 +91,19 @@ module _ {H S : Type 0} (K : Codec H S) where
   one_fewer : (f : File H S) (n : ℕ) → left f ≤ suc n → left (tended_file K f) ≤ n
   one_fewer f n low =
       by_if₂ (λ g (u : Unit {0}). left g ≤ n) f.parts.turned _ f tt tt
-      (λ turned. by_if₂ (λ g (u : Unit {0}). left g ≤ n) f.begun _ (closed_file K f) tt tt
-      (λ begun. by_if₂ (λ g (u : Unit {0}). left g ≤ n) (nat_lt f.done (K.layout f.head).body) (pieced_file K f) (finished_file K f) tt tt
-      (λ less. left_at f.parts.turned f.begun (K.layout f.head).body (f.done + piece_len K f) n turned begun (omega (arith, some_piece, ltb-true _ _ less, left_begun f.parts.turned f.begun (K.layout f.head).body f.done (suc n) turned begun low)))
-      (λ whole. left_none false false (K.layout f.head).body f.done n refl))
-      (λ none. left_at f.parts.turned true (K.layout f.head).body 0 n turned refl (omega (arith, left_first f.parts.turned f.begun (K.layout f.head).body f.done (suc n) turned none low))))
-      (λ single. left_none f.parts.turned f.begun (K.layout f.head).body f.done n single)
+      (λ turned. by_if₂ (λ g (u : Unit {0}). left g ≤ n) (is_begun f.checkpoint) _ (closed_file K f) tt tt
+      (λ begun. by_if₂ (λ g (u : Unit {0}). left g ≤ n) (nat_lt (written f.checkpoint) (K.layout f.head).body) (pieced_file K f) (finished_file K f) tt tt
+      (λ less. left_at f.parts.turned true (K.layout f.head).body (written f.checkpoint + piece_len K f) n turned refl (omega (arith, some_piece, ltb-true _ _ less, left_begun f.parts.turned (is_begun f.checkpoint) (K.layout f.head).body (written f.checkpoint) (suc n) turned begun low)))
+      (λ whole. left_none false false (K.layout f.head).body 0 n refl))
+      (λ none. left_at f.parts.turned true (K.layout f.head).body 0 n turned refl (omega (arith, left_first f.parts.turned (is_begun f.checkpoint) (K.layout f.head).body (written f.checkpoint) (suc n) turned none low))))
+      (λ single. left_none f.parts.turned (is_begun f.checkpoint) (K.layout f.head).body (written f.checkpoint) n single)
 
   ended : (n : ℕ) (f : File H S) → left f ≤ n → (stepped_file K n f).parts.turned ≡ false
-  ended zero f low = none_left f.parts.turned f.begun (K.layout f.head).body f.done low
+  ended zero f low = none_left f.parts.turned (is_begun f.checkpoint) (K.layout f.head).body (written f.checkpoint) low
   ended (suc n) f low = ended n (tended_file K f) (one_fewer f n low)
 
   pub has_ended : (f : File H S) → (ended_file K f).parts.turned ≡ false
-  has_ended f = ended (2 + (K.layout f.head).body) f (most_left f.parts.turned f.begun (K.layout f.head).body f.done)
+  has_ended f = ended (2 + (K.layout f.head).body) f (most_left f.parts.turned (is_begun f.checkpoint) (K.layout f.head).body (written f.checkpoint))
 
   -- if none is in progress there is no next step
   pub none_acts : (f : File H S) (spelling : List ℕ) → f.parts.turned ≡ false → (tend_acts K f spelling ≡ []) × (tended_file K f ≡ f)
@@ -167,7 +168,7 @@ module _ {H S : Type 0} (K : Codec H S) where
       passed = subst (λ l. HasKeptTo l a c) (sym (steps_snoc w.n f spelling)) (within_then (steps_acts K w.n f spelling) (tend_acts K (stepped_file K w.n f) spelling) a b c w.went later w.passed passed);
     }
 
-    module _ (turned : places.turned ≡ true) where
+    module _ (turned : in_progress places.checkpoint ≡ true) where
       rest : (rest : List Act) × ((steps_acts K w.n f spelling ++ tend_acts K (stepped_file K w.n f) spelling) ++ rest ≡ end_acts K f spelling)
       rest = step_begins w.n f spelling (sym w.are.are.turned ∙ turned)
 
@@ -179,7 +180,7 @@ module _ {H S : Type 0} (K : Codec H S) where
       walked_within passed = subst (λ l. HasKeptTo l a c) rest.1 (within_first (steps_acts K w.n f spelling ++ tend_acts K (stepped_file K w.n f) spelling) rest.0 a c
           (within_then (steps_acts K w.n f spelling) (tend_acts K (stepped_file K w.n f) spelling) a b c w.went later w.passed passed))
 
-  module _ (f : File H S) (spelling : List ℕ) (places : Places) (a b : View) (single : places.turned ≡ false) (w : Walked f spelling places a b) where
+  module _ (f : File H S) (spelling : List ℕ) (places : Places) (a b : View) (single : in_progress places.checkpoint ≡ false) (w : Walked f spelling places a b) where
     same : (end_acts K f spelling ≡ steps_acts K w.n f spelling) × (ended_file K f ≡ stepped_file K w.n f)
     same = steps_ended w.n f spelling (sym w.are.are.turned ∙ single)
 

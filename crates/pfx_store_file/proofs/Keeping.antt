@@ -19,10 +19,12 @@ use Rattle.pfx_recovery.proofs.Runs.{not_not, replays_one}
 use Rattle.pfx_recovery.proofs.Stands.{found_stands}
 use Rattle.pfx_recovery.proofs.Steps.{append_step, turn_step, turn_whole, close_step, piece_step, open_step, open_whole}
 use Rattle.pfx_store_file.specs.Fitting.{HasRoom}
+use Rattle.pfx_store_file.specs.Checkpoints.{in_progress, is_begun, written}
 use Rattle.pfx_store_file.specs.Holding.{ArePlaces, IsGate, IsPending, IsKnown, IsBegun, Holds, Survives, KeepsAll}
 use Rattle.pfx_store_file.specs.Sizes.{HasSizes}
 use Rattle.pfx_store_file.specs.Tending.{settled, settled_unless, made_room}
 use Rattle.pfx_store_file.specs.declared.places.Places.{Places}
+use Rattle.pfx_store_file.specs.declared.progress.Checkpoint.TheVariants.{Ended, Pending, Writing}
 
 pub still_on : {S : Type 0} (turned : Bool) (p : Parts S) → turned ≡ true → settled_unless turned p ≡ p
 still_on true p is = refl
@@ -175,23 +177,23 @@ module _ {H S : Type 0} (K : Codec H S) (laws : Laws K) (h : H) where
           segment_gate = λ single. gate_same places.segment_open (segment_at (K.layout h) (not p.segment)) old.contents new.contents (segment_agrees (segment_at (K.layout h) (not p.segment)) (omega arith) (omega (arith, (K.layout h).room))) (here.segment_gate single);
         }
 
-        begun_then : IsBegun K h places p spelling old.contents → IsBegun K h places (with_frame p (GATE_OPEN ∷ body)) spelling new.contents
-        begun_then b = record {
+        begun_then : (done : ℕ) → IsBegun K h places p done spelling old.contents → IsBegun K h places (with_frame p (GATE_OPEN ∷ body)) done spelling new.contents
+        begun_then done b = record {
           turned = b.turned;
           shut = b.shut;
           read = b.read;
           long = b.long;
-          stand = λ i below. area_agrees (area_at (K.layout h) (not p.area) + 1 + i) (omega arith) (omega (arith, below, length-take places.done spelling, b.long)) ∙ b.stand i below;
+          stand = λ i below. area_agrees (area_at (K.layout h) (not p.area) + 1 + i) (omega arith) (omega (arith, below, length-take done spelling, b.long)) ∙ b.stand i below;
         }
 
-        pub append_holds : (then : Places) → HasSizes (K.layout h) then.sizes → then.area ≡ places.area → then.segment ≡ places.segment → then.turned ≡ places.turned → then.gate ≡ places.gate + length bytes → then.end ≡ places.end
-            → then.area_open ≡ places.area_open → then.segment_open ≡ places.segment_open → then.begun ≡ places.begun → then.done ≡ places.done → Holds K h then (with_frame p (GATE_OPEN ∷ body)) t spelling new
-        append_holds then fitting area segment turned gate end area_open segment_open begun done = record {
+        pub append_holds : (then : Places) → HasSizes (K.layout h) then.sizes → then.area ≡ places.area → then.segment ≡ places.segment → then.checkpoint ≡ places.checkpoint → then.gate ≡ places.gate + length bytes → then.end ≡ places.end
+            → then.area_open ≡ places.area_open → then.segment_open ≡ places.segment_open → Holds K h then (with_frame p (GATE_OPEN ∷ body)) t spelling new
+        append_holds then fitting area segment checkpoint gate end area_open segment_open = record {
           honest = leaves.honest;
           fits = fitting;
           area = area ∙ holds.area;
           segment = segment ∙ holds.segment;
-          turned = turned ∙ holds.turned;
+          turned = ap in_progress checkpoint ∙ holds.turned;
           gate = omega (arith, gate, holds.gate, bytes_len, size-push p.frames (GATE_OPEN ∷ body));
           end = end ∙ holds.end;
           images = λ image now. subst (λ (l : List ℕ). IsKnown K h then (with_frame p (GATE_OPEN ∷ body)) t l) (sym (only image now)) (record {
@@ -199,12 +201,12 @@ module _ {H S : Type 0} (K : Codec H S) (laws : Laws K) (h : H) where
             area_gate = subst (λ b. IsGate b (area_at (K.layout h) (not p.area)) new.contents) (sym area_open) known.area_gate;
             segment_gate = λ single. subst (λ b. IsGate b (segment_at (K.layout h) (not p.segment)) new.contents) (sym segment_open) (known.segment_gate single);
           });
-          begun = λ is. let b = begun_then (holds.begun (sym begun ∙ is)) in record {
+          begun = λ done is. let b = begun_then done (holds.begun done (sym checkpoint ∙ is)) in record {
             turned = b.turned;
             shut = area_open ∙ b.shut;
             read = b.read;
             long = b.long;
-            stand = subst (λ (k : ℕ). StandAt (area_at (K.layout h) (not p.area) + 1) (take k spelling) new.contents) (sym done) b.stand;
+            stand = b.stand;
           };
         }
 
@@ -233,14 +235,14 @@ module _ {H S : Type 0} (K : Codec H S) (laws : Laws K) (h : H) where
       begin_keeps new leaves start all run = keeps_same old new holds.honest (Closing at places.area_open) leaves s start all run (λ x y now step. recovers K laws h y p s (closed x y now step))
 
       pub begin_holds : (new : View) → Leaves (Closing at places.area_open) old new → Only new.contents new → get_or new.contents at 0 ≢ GATE_OPEN → (code : List ℕ) → p.turned ≡ true → K.read_state h code ≡ Some p.middle → length code ≡ (K.layout h).body
-          → (then : Places) → HasSizes (K.layout h) then.sizes → then.area ≡ places.area → then.segment ≡ places.segment → then.turned ≡ places.turned → then.gate ≡ places.gate → then.end ≡ places.end
-          → then.area_open ≡ false → then.segment_open ≡ places.segment_open → then.done ≡ 0 → Holds K h then p s code new
-      begin_holds new leaves only shut code turned read long then fitting area segment turned_is gate end area_open segment_open done = record {
+          → (then : Places) → HasSizes (K.layout h) then.sizes → then.area ≡ places.area → then.segment ≡ places.segment → then.checkpoint ≡ Writing 0 → then.gate ≡ places.gate → then.end ≡ places.end
+          → then.area_open ≡ false → then.segment_open ≡ places.segment_open → Holds K h then p s code new
+      begin_holds new leaves only shut code turned read long then fitting area segment checkpoint gate end area_open segment_open = record {
         honest = leaves.honest;
         fits = fitting;
         area = area ∙ holds.area;
         segment = segment ∙ holds.segment;
-        turned = turned_is ∙ holds.turned;
+        turned = ap in_progress checkpoint ∙ sym turned;
         gate = gate ∙ holds.gate;
         end = end ∙ holds.end;
         images = λ image now. subst (λ (l : List ℕ). IsKnown K h then p s l) (sym (only image now)) (record {
@@ -248,55 +250,55 @@ module _ {H S : Type 0} (K : Codec H S) (laws : Laws K) (h : H) where
           area_gate = subst (λ b. IsGate b (area_at (K.layout h) (not p.area)) new.contents) (sym area_open) (subst (λ (k : ℕ). get_or new.contents k 0 ≢ GATE_OPEN) at_is shut);
           segment_gate = λ single. absurd (false≢true (sym single ∙ turned));
         });
-        begun = λ _. record {
+        begun = λ done is. record {
           turned = turned;
           shut = area_open;
           read = read;
           long = long;
-          stand = λ i below. absurd (omega (arith, below, length-take then.done code, done));
+          stand = λ i below. absurd (omega (arith, below, length-take done code, ap written (sym is ∙ checkpoint)));
         };
       }
 
       -- a piece of the body
-      module _ (piece : List ℕ) (n : ℕ) (some : 0 < n) (fits : places.done + n ≤ (K.layout h).body) (b : IsBegun K h places p spelling old.contents) (is : piece ≡ take n (drop places.done spelling)) where
+      module _ (piece : List ℕ) (done n : ℕ) (some : 0 < n) (fits : done + n ≤ (K.layout h).body) (b : IsBegun K h places p done spelling old.contents) (is : piece ≡ take n (drop done spelling)) where
         piece_len : length piece ≡ n
-        piece_len = omega (arith, ap length is, length-take n (drop places.done spelling), length-drop places.done spelling, b.long, fits)
+        piece_len = omega (arith, ap length is, length-take n (drop done spelling), length-drop done spelling, b.long, fits)
 
         shut_in : (x : List ℕ) → old.now x → get_or x (area_at (K.layout h) (not p.area)) 0 ≢ GATE_OPEN
         shut_in x now = known_shut places.area_open (area_at (K.layout h) (not p.area)) x (holds.images x now).area_gate b.shut
 
-        pieced : (x y : List ℕ) → old.now x → Torn (at + 1 + places.done) (length piece) x y → IsStore K h p s y × (get_or y (area_at (K.layout h) (not p.area)) 0 ≢ GATE_OPEN)
-        pieced x y now torn = piece_step K laws h p s (at + 1 + places.done) (length piece) x y (omega (arith, at_is)) (omega (arith, at_is, piece_len, fits)) (shut_in x now) torn (store_of x now)
+        pieced : (x y : List ℕ) → old.now x → Torn (at + 1 + done) (length piece) x y → IsStore K h p s y × (get_or y (area_at (K.layout h) (not p.area)) 0 ≢ GATE_OPEN)
+        pieced x y now torn = piece_step K laws h p s (at + 1 + done) (length piece) x y (omega (arith, at_is)) (omega (arith, at_is, piece_len, fits)) (shut_in x now) torn (store_of x now)
 
-        pub piece_keeps : (new : View) → Leaves (Torn (at + 1 + places.done) (length piece)) old new → (start : S) (all : List (List ℕ)) → Replays K start all s → KeepsAll K start all all old new
-        piece_keeps new leaves start all run = keeps_same old new holds.honest (Torn (at + 1 + places.done) (length piece)) leaves s start all run (λ x y now torn. recovers K laws h y p s (pieced x y now torn).0)
+        pub piece_keeps : (new : View) → Leaves (Torn (at + 1 + done) (length piece)) old new → (start : S) (all : List (List ℕ)) → Replays K start all s → KeepsAll K start all all old new
+        piece_keeps new leaves start all run = keeps_same old new holds.honest (Torn (at + 1 + done) (length piece)) leaves s start all run (λ x y now torn. recovers K laws h y p s (pieced x y now torn).0)
 
-        stands_on : (y : List ℕ) → Torn (at + 1 + places.done) (length piece) old.contents y → Written (at + 1 + places.done) piece old.contents y → StandAt (area_at (K.layout h) (not p.area) + 1) (take (places.done + n) spelling) y
-        stands_on y torn written i below = ⊎_elim
+        stands_on : (y : List ℕ) → Torn (at + 1 + done) (length piece) old.contents y → Written (at + 1 + done) piece old.contents y → StandAt (area_at (K.layout h) (not p.area) + 1) (take (done + n) spelling) y
+        stands_on y torn put i below = ⊎_elim
             (λ early. torn.elsewhere (area_at (K.layout h) (not p.area) + 1 + i) (omega (arith, inside, early, fits)) (inl (omega (arith, early, at_is)))
-            ∙ b.stand i (omega (arith, early, length-take places.done spelling, b.long, fits))
-            ∙ get_or-take places.done spelling i 0 early ∙ sym (get_or-take (places.done + n) spelling i 0 short))
-            (λ late. ap (λ (k : ℕ). get_or y k 0) (omega (arith, late, at_is)) ∙ written_stands (at + 1 + places.done) piece old.contents y (omega (arith, inside, at_is, fits)) written (i - places.done) (omega (arith, late, short, piece_len))
-            ∙ ap (λ (l : List ℕ). get_or l (i - places.done) 0) is
-            ∙ get_or-take n (drop places.done spelling) (i - places.done) 0 (omega (arith, late, short, some)) ∙ get_or-drop places.done spelling (i - places.done) 0
-            ∙ ap (λ (k : ℕ). get_or spelling k 0) (omega (arith, late)) ∙ sym (get_or-take (places.done + n) spelling i 0 short))
-            (cases_lt i places.done)
+            ∙ b.stand i (omega (arith, early, length-take done spelling, b.long, fits))
+            ∙ get_or-take done spelling i 0 early ∙ sym (get_or-take (done + n) spelling i 0 short))
+            (λ late. ap (λ (k : ℕ). get_or y k 0) (omega (arith, late, at_is)) ∙ written_stands (at + 1 + done) piece old.contents y (omega (arith, inside, at_is, fits)) put (i - done) (omega (arith, late, short, piece_len))
+            ∙ ap (λ (l : List ℕ). get_or l (i - done) 0) is
+            ∙ get_or-take n (drop done spelling) (i - done) 0 (omega (arith, late, short, some)) ∙ get_or-drop done spelling (i - done) 0
+            ∙ ap (λ (k : ℕ). get_or spelling k 0) (omega (arith, late)) ∙ sym (get_or-take (done + n) spelling i 0 short))
+            (cases_lt i done)
           where
-            short : i < places.done + n
-            short = omega (arith, below, length-take (places.done + n) spelling)
+            short : i < done + n
+            short = omega (arith, below, length-take (done + n) spelling)
 
             inside : area_at (K.layout h) (not p.area) + 1 + (K.layout h).body ≤ length old.contents
             inside = omega (arith, here.store.long, area_inside (K.layout h) (not p.area))
 
-        pub piece_holds : (new : View) → Leaves (Torn (at + 1 + places.done) (length piece)) old new → Written (at + 1 + places.done) piece old.contents new.contents
-            → (then : Places) → HasSizes (K.layout h) then.sizes → then.area ≡ places.area → then.segment ≡ places.segment → then.turned ≡ places.turned → then.gate ≡ places.gate → then.end ≡ places.end
-            → then.area_open ≡ places.area_open → then.segment_open ≡ places.segment_open → then.done ≡ places.done + n → Holds K h then p s spelling new
-        piece_holds new leaves written then fitting area segment turned gate end area_open segment_open done = record {
+        pub piece_holds : (new : View) → Leaves (Torn (at + 1 + done) (length piece)) old new → Written (at + 1 + done) piece old.contents new.contents
+            → (then : Places) → HasSizes (K.layout h) then.sizes → then.area ≡ places.area → then.segment ≡ places.segment → then.checkpoint ≡ Writing (done + n) → then.gate ≡ places.gate → then.end ≡ places.end
+            → then.area_open ≡ places.area_open → then.segment_open ≡ places.segment_open → Holds K h then p s spelling new
+        piece_holds new leaves put then fitting area segment checkpoint gate end area_open segment_open = record {
           honest = leaves.honest;
           fits = fitting;
           area = area ∙ holds.area;
           segment = segment ∙ holds.segment;
-          turned = turned ∙ holds.turned;
+          turned = ap in_progress checkpoint ∙ sym b.turned;
           gate = gate ∙ holds.gate;
           end = end ∙ holds.end;
           images = λ image now. let d = leaves.now image now in let after = pieced d.0 image d.1 d.2 in record {
@@ -304,23 +306,23 @@ module _ {H S : Type 0} (K : Codec H S) (laws : Laws K) (h : H) where
             area_gate = subst (λ t. IsGate t (area_at (K.layout h) (not p.area)) image) (sym (area_open ∙ b.shut)) after.1;
             segment_gate = λ single. absurd (false≢true (sym single ∙ b.turned));
           };
-          begun = λ _. record {
+          begun = λ more goes. record {
             turned = b.turned;
             shut = area_open ∙ b.shut;
             read = b.read;
             long = b.long;
-            stand = subst (λ (k : ℕ). StandAt (area_at (K.layout h) (not p.area) + 1) (take k spelling) new.contents) (sym done) (stands_on new.contents leaves.contents written);
+            stand = subst (λ (k : ℕ). StandAt (area_at (K.layout h) (not p.area) + 1) (take k spelling) new.contents) (ap written (sym checkpoint ∙ goes)) (stands_on new.contents leaves.contents put);
           };
         }
 
       -- the end
-      module _ (b : IsBegun K h places p spelling old.contents) (whole : places.done ≡ (K.layout h).body) where
+      module _ (done : ℕ) (b : IsBegun K h places p done spelling old.contents) (whole : done ≡ (K.layout h).body) where
         pub finish_inside : at + length spelling < length old.contents
         finish_inside = omega (arith, at_is, b.long, here.store.long, area_inside (K.layout h) (not p.area))
 
         pub finish_stand : StandAt (at + 1) spelling old.contents
         finish_stand = subst (λ (k : ℕ). StandAt (k + 1) spelling old.contents) (sym at_is)
-            (subst (λ (l : List ℕ). StandAt (area_at (K.layout h) (not p.area) + 1) l old.contents) (take_all places.done spelling (omega (arith, whole, b.long))) b.stand)
+            (subst (λ (l : List ℕ). StandAt (area_at (K.layout h) (not p.area) + 1) l old.contents) (take_all done spelling (omega (arith, whole, b.long))) b.stand)
 
         put_here : (x y : List ℕ) → Appended at spelling x y → Appended (area_at (K.layout h) (not p.area)) spelling x y
         put_here x y a = subst (λ (k : ℕ). Appended k spelling x y) at_is a
@@ -330,7 +332,7 @@ module _ {H S : Type 0} (K : Codec H S) (laws : Laws K) (h : H) where
 
         pub finish_keeps : (new : View) → Leaves (Appended at spelling) old new → (start : S) (all : List (List ℕ)) → Replays K start all s → KeepsAll K start all all old new
         finish_keeps new leaves start all run = keeps_same old new holds.honest (Appended at spelling) leaves s start all run
-            (λ x y now a. ⊎_elim (λ still. recovers K laws h y p s still) (λ done. recovers K laws h y (finished p) s done)
+            (λ x y now a. ⊎_elim (λ still. recovers K laws h y p s still) (λ ended. recovers K laws h y (finished p) s ended)
             (open_step K laws h p s spelling x y b.turned b.read b.long (shut_then x now) (put_here x y a) (store_of x now)))
 
         module _ (new : View) (leaves : Leaves (Appended at spelling) old new) (only : Only new.contents new) (opened : get_or new.contents at 0 ≡ GATE_OPEN) where
@@ -359,14 +361,14 @@ module _ {H S : Type 0} (K : Codec H S) (laws : Laws K) (h : H) where
               segment_of_area (K.layout h) (area_at (K.layout h) (not p.area)) (1 + length spelling) old.contents new.contents here.store.long a_here.torn (not p.area) (not p.segment) (omega (arith, b.long))
               (segment_at (K.layout h) (not p.segment)) (omega arith) (omega (arith, (K.layout h).room)) ∙ two.0.gate
 
-          pub finish_holds : (then : Places) → HasSizes (K.layout h) then.sizes → then.area ≡ not places.area → then.segment ≡ places.segment → then.turned ≡ false → then.gate ≡ places.gate → then.end ≡ places.end
-              → then.area_open ≡ true → then.segment_open ≡ true → then.begun ≡ false → Holds K h then (finished p) s spelling new
-          finish_holds then fitting area segment turned gate end area_open segment_open begun = record {
+          pub finish_holds : (then : Places) → HasSizes (K.layout h) then.sizes → then.area ≡ not places.area → then.segment ≡ places.segment → then.checkpoint ≡ Ended → then.gate ≡ places.gate → then.end ≡ places.end
+              → then.area_open ≡ true → then.segment_open ≡ true → Holds K h then (finished p) s spelling new
+          finish_holds then fitting area segment checkpoint gate end area_open segment_open = record {
             honest = leaves.honest;
             fits = fitting;
             area = area ∙ ap not holds.area;
             segment = segment ∙ holds.segment;
-            turned = turned;
+            turned = ap in_progress checkpoint;
             gate = gate ∙ holds.gate;
             end = end ∙ holds.end;
             images = λ image now. subst (λ (l : List ℕ). IsKnown K h then (finished p) s l) (sym (only image now)) (record {
@@ -374,13 +376,13 @@ module _ {H S : Type 0} (K : Codec H S) (laws : Laws K) (h : H) where
               area_gate = subst (λ t. IsGate t (area_at (K.layout h) (not (not p.area))) new.contents) (sym area_open) used_open;
               segment_gate = λ _. subst (λ t. IsGate t (segment_at (K.layout h) (not p.segment)) new.contents) (sym segment_open) older_open;
             });
-            begun = λ is. absurd (false≢true (sym begun ∙ is));
+            begun = λ k is. absurd (false≢true (ap is_begun (sym checkpoint ∙ is)));
           }
 
     -- A turn. The gate of the other segment is at this place.
-    module _ (at : ℕ) (at_is : at ≡ segment_at (K.layout h) (not p.segment)) (single : places.turned ≡ false) (bytes : List ℕ) (nine : length bytes ≡ 9) (spelled : K.segment_number (take 8 bytes) ≡ K.number s + 1) (shut : get_or bytes 8 0 ≡ 0) (some : 0 < length p.frames) where
+    module _ (at : ℕ) (at_is : at ≡ segment_at (K.layout h) (not p.segment)) (single : places.checkpoint ≡ Ended) (bytes : List ℕ) (nine : length bytes ≡ 9) (spelled : K.segment_number (take 8 bytes) ≡ K.number s + 1) (shut : get_or bytes 8 0 ≡ 0) (some : 0 < length p.frames) where
       alone : p.turned ≡ false
-      alone = sym holds.turned ∙ single
+      alone = sym holds.turned ∙ ap in_progress single
 
       prepared_here : (x y : List ℕ) → Prepared at places.segment_open bytes x y → Prepared (segment_at (K.layout h) (not p.segment)) places.segment_open bytes x y
       prepared_here x y step = subst (λ (k : ℕ). Prepared k places.segment_open bytes x y) at_is step
@@ -391,14 +393,14 @@ module _ {H S : Type 0} (K : Codec H S) (laws : Laws K) (h : H) where
           (turn_step K laws h p s places.segment_open bytes x y alone some nine spelled shut (known_open places.segment_open (segment_at (K.layout h) (not p.segment)) x ((holds.images x now).segment_gate alone)) (prepared_here x y step) (store_of x now)))
 
       pub turn_holds : (next : List ℕ) (new : View) → Leaves (Prepared at places.segment_open bytes) old new → Only new.contents new → StandAt at (GATE_OPEN ∷ bytes) new.contents
-          → (then : Places) → HasSizes (K.layout h) then.sizes → then.area ≡ places.area → then.segment ≡ not places.segment → then.turned ≡ true → then.gate ≡ at + 9 → then.end ≡ at + places.sizes.segment
-          → then.area_open ≡ places.area_open → then.begun ≡ false → Holds K h then (turned_at p s) s next new
-      turn_holds next new leaves only stand then fitting area segment turned gate end area_open begun = record {
+          → (then : Places) → HasSizes (K.layout h) then.sizes → then.area ≡ places.area → then.segment ≡ not places.segment → then.checkpoint ≡ Pending → then.gate ≡ at + 9 → then.end ≡ at + places.sizes.segment
+          → then.area_open ≡ places.area_open → Holds K h then (turned_at p s) s next new
+      turn_holds next new leaves only stand then fitting area segment checkpoint gate end area_open = record {
         honest = leaves.honest;
         fits = fitting;
         area = area ∙ holds.area;
         segment = segment ∙ ap not holds.segment;
-        turned = turned;
+        turned = ap in_progress checkpoint;
         gate = omega (arith, gate, at_is);
         end = omega (arith, end, at_is, holds.fits.segment);
         images = λ image now. subst (λ (l : List ℕ). IsKnown K h then (turned_at p s) s l) (sym (only image now)) (record {
@@ -408,7 +410,7 @@ module _ {H S : Type 0} (K : Codec H S) (laws : Laws K) (h : H) where
               (area_of_segment (K.layout h) (segment_at (K.layout h) (not p.segment)) (1 + length bytes) old.contents new.contents here.store.long torn (not p.segment) (not p.area) (omega arith) (area_at (K.layout h) (not p.area)) (omega arith) (omega arith)) here.area_gate);
           segment_gate = λ is. absurd (false≢true (sym is));
         });
-        begun = λ is. absurd (false≢true (sym begun ∙ is));
+        begun = λ k is. absurd (false≢true (ap is_begun (sym checkpoint ∙ is)));
       }
         where
           torn : Torn (segment_at (K.layout h) (not p.segment)) (1 + length bytes) old.contents new.contents
@@ -418,7 +420,7 @@ module _ {H S : Type 0} (K : Codec H S) (laws : Laws K) (h : H) where
       turn_known is = subst (λ (k : ℕ). get_or old.contents k 0 ≢ GATE_OPEN) (sym at_is) (known_shut places.segment_open (segment_at (K.layout h) (not p.segment)) old.contents (here.segment_gate alone) is)
 
   -- What is found in the contents of a synced disk holds.
-  pub open_holds : (places : Places) (p : Parts S) (s : S) (disk : View) → IsHonest disk → Only disk.contents disk → found K disk.contents ≡ Ok (found_of h p s) → ArePlaces K h p places → places.begun ≡ false
+  pub open_holds : (places : Places) (p : Parts S) (s : S) (disk : View) → IsHonest disk → Only disk.contents disk → found K disk.contents ≡ Ok (found_of h p s) → ArePlaces K h p places → is_begun places.checkpoint ≡ false
       → IsGate places.area_open (area_at (K.layout h) (not p.area)) disk.contents → IsGate places.segment_open (segment_at (K.layout h) (not p.segment)) disk.contents → (spelling : List ℕ) → Holds K h places p s spelling disk
   open_holds places p s disk honest only is are begun area_gate segment_gate spelling = record {
     honest = honest;
@@ -429,7 +431,7 @@ module _ {H S : Type 0} (K : Codec H S) (laws : Laws K) (h : H) where
     gate = are.gate;
     end = are.end;
     images = λ image now. subst (λ (l : List ℕ). IsKnown K h places p s l) (sym (only image now)) (record { store = found_stands K laws (found_of h p s) disk.contents is; area_gate = area_gate; segment_gate = λ _. segment_gate });
-    begun = λ opened. absurd (false≢true (sym begun ∙ opened));
+    begun = λ done is. absurd (false≢true (sym begun ∙ ap is_begun is));
   }
 
 -- one call after another

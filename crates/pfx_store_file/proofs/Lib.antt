@@ -3,3 +3,4 @@ pub mod Keeping
 pub mod Ends
 mod Rooms
 pub mod Joins
+pub mod Checkpoints

@@ -7,41 +7,43 @@ use Rattle.pfx_recovery.specs.Codec.{Codec}
 use Rattle.pfx_recovery.specs.Layout.{segment_end}
 use Rattle.pfx_recovery.specs.Store.{next_gate, with_frame, turned_at, finished}
 use Rattle.pfx_store_file.specs.declared.checkpoint.TheConstants.{PIECE}
+use Rattle.pfx_store_file.specs.Checkpoints.{is_begun, written}
 use Rattle.pfx_store_file.specs.Files.{File, area_of, segment_of}
+use Rattle.pfx_store_file.specs.declared.progress.Checkpoint.TheVariants.{Ended, Pending, Writing}
 
 module _ {H S : Type 0} (K : Codec H S) where
   -- how long the next piece of the checkpoint in progress is
   abbrev pub piece_len : File H S → ℕ
-  piece_len f = min ((K.layout f.head).body - f.done) PIECE
+  piece_len f = min ((K.layout f.head).body - written f.checkpoint) PIECE
 
   -- that piece, written after those before it
   abbrev pub piece_acts : File H S → List ℕ → List Act
-  piece_acts f spelling = Write (area_of K f + 1 + f.done) (take (piece_len f) (drop f.done spelling)) ∷ []
+  piece_acts f spelling = Write (area_of K f + 1 + written f.checkpoint) (take (piece_len f) (drop (written f.checkpoint) spelling)) ∷ []
 
   -- the next step of the checkpoint in progress, whose body is spelled so: closed, a piece, finished
   abbrev pub tend_acts : File H S → List ℕ → List Act
   tend_acts f spelling = if f.parts.turned
-      then (if f.begun
-      then (if nat_lt f.done (K.layout f.head).body then piece_acts f spelling else open_acts (area_of K f))
+      then (if is_begun f.checkpoint
+      then (if nat_lt (written f.checkpoint) (K.layout f.head).body then piece_acts f spelling else open_acts (area_of K f))
       else close_acts (area_of K f) f.area_open)
       else []
 
   -- the file after its first step
   abbrev pub closed_file : File H S → File H S
-  closed_file f = record f { area_open = false; begun = true; done = 0 }
+  closed_file f = record f { area_open = false; checkpoint = Writing 0 }
 
   -- after a piece
   abbrev pub pieced_file : File H S → File H S
-  pieced_file f = record f { done = f.done + piece_len f }
+  pieced_file f = record f { checkpoint = Writing (written f.checkpoint + piece_len f) }
 
   -- after its last step
   abbrev pub finished_file : File H S → File H S
-  finished_file f = record f { parts = finished f.parts; area_open = true; segment_open = true; begun = false }
+  finished_file f = record f { parts = finished f.parts; area_open = true; segment_open = true; checkpoint = Ended }
 
   -- after the next step, whichever that is
   abbrev pub tended_file : File H S → File H S
   tended_file f = if f.parts.turned
-      then (if f.begun then (if nat_lt f.done (K.layout f.head).body then pieced_file f else finished_file f) else closed_file f)
+      then (if is_begun f.checkpoint then (if nat_lt (written f.checkpoint) (K.layout f.head).body then pieced_file f else finished_file f) else closed_file f)
       else f
 
   -- so many steps of it
@@ -68,7 +70,7 @@ module _ {H S : Type 0} (K : Codec H S) where
 
   -- the file after a turn
   abbrev pub turned_file : File H S → S → File H S
-  turned_file f s = record f { parts = turned_at f.parts s; begun = false }
+  turned_file f s = record f { parts = turned_at f.parts s; checkpoint = Pending }
 
   -- where the next frame's gate stands
   abbrev pub gate_of : File H S → ℕ

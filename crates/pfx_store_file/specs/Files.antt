@@ -1,20 +1,21 @@
 -- A store's file by its parts, and what is known of it besides, as the places of a store have it.
-use Rattle.std.specs.Prelude.{◌≡◌, ℕ, List, Bool, false, not}
+use Rattle.std.specs.Prelude.{◌≡◌, ℕ, List, Bool, not, if◌then◌else◌}
 use Rattle.pfx_recovery.specs.Codec.{Codec}
 use Rattle.pfx_recovery.specs.Layout.{area_at, segment_at, is_open}
 use Rattle.pfx_recovery.specs.Store.{Parts}
 use Rattle.pfx_store_file.specs.Holding.{ArePlaces}
 use Rattle.pfx_store_file.specs.declared.places.Places.{Places}
+use Rattle.pfx_store_file.specs.declared.progress.Checkpoint.{Checkpoint}
+use Rattle.pfx_store_file.specs.declared.progress.Checkpoint.TheVariants.{Ended, Pending}
 
--- The header and the parts; whether the gates of the checkpoint area and of the segment that aren't in use stand open; whether that
--- checkpoint area was closed for the checkpoint in progress, and how many bytes of it have been written behind that gate.
+-- The header and the parts; whether the gates of the checkpoint area and of the segment that aren't in use stand open; and how far the
+-- checkpoint in progress is, if there is one.
 pub record File (H S : Type 0) : Type 0 where
   pub head : H
   pub parts : Parts S
   pub area_open : Bool
   pub segment_open : Bool
-  pub begun : Bool
-  pub done : ℕ
+  pub checkpoint : Checkpoint
 
 module _ {H S : Type 0} (K : Codec H S) where
   -- where the checkpoint area that isn't in use stands
@@ -32,8 +33,7 @@ module _ {H S : Type 0} (K : Codec H S) where
     parts = p;
     area_open = is_open (area_at (K.layout h) (not p.area)) image;
     segment_open = is_open (segment_at (K.layout h) (not p.segment)) image;
-    begun = false;
-    done = 0;
+    checkpoint = if p.turned then Pending else Ended;
   }
 
   -- the places of a store are those of the file
@@ -41,5 +41,4 @@ module _ {H S : Type 0} (K : Codec H S) where
     pub are : ArePlaces K f.head f.parts places
     pub area_open : places.area_open ≡ f.area_open
     pub segment_open : places.segment_open ≡ f.segment_open
-    pub begun : places.begun ≡ f.begun
-    pub done : places.done ≡ f.done
+    pub checkpoint : places.checkpoint ≡ f.checkpoint

@@ -8,8 +8,10 @@ use Rattle.pfx_recovery.specs.Codec.{Codec}
 use Rattle.pfx_recovery.specs.Layout.{area_at, segment_at, segment_end, IsOpenAt, IsClosedAt}
 use Rattle.pfx_recovery.specs.Recovery.{recovered}
 use Rattle.pfx_recovery.specs.Store.{Parts, Replays, IsStore, next_gate}
+use Rattle.pfx_store_file.specs.Checkpoints.{in_progress}
 use Rattle.pfx_store_file.specs.Sizes.{HasSizes}
 use Rattle.pfx_store_file.specs.declared.places.Places.{Places}
+use Rattle.pfx_store_file.specs.declared.progress.Checkpoint.TheVariants.{Writing}
 
 -- the gate at this place stands so: open, or closed
 abbrev pub IsGate : Bool → ℕ → List ℕ → Type 0
@@ -51,20 +53,20 @@ module _ {H S : Type 0} (K : Codec H S) where
       pub area_gate : IsGate places.area_open (area_at (K.layout h) (not p.area)) image
       pub segment_gate : p.turned ≡ false → IsGate places.segment_open (segment_at (K.layout h) (not p.segment)) image
 
-    -- a checkpoint has been begun: so much of the spelling of the state at the turn stands behind the closed gate
-    pub record IsBegun (places : Places) (p : Parts S) (spelling : List ℕ) (contents : List ℕ) : Type 0 where
+    -- a checkpoint has been begun: so many bytes of the spelling of the state at the turn stand behind the closed gate
+    pub record IsBegun (places : Places) (p : Parts S) (done : ℕ) (spelling : List ℕ) (contents : List ℕ) : Type 0 where
       pub turned : p.turned ≡ true
       pub shut : places.area_open ≡ false
       pub read : K.read_state h spelling ≡ Some p.middle
       pub long : length spelling ≡ (K.layout h).body
-      pub stand : StandAt (area_at (K.layout h) (not p.area) + 1) (take places.done spelling) contents
+      pub stand : StandAt (area_at (K.layout h) (not p.area) + 1) (take done spelling) contents
 
     -- the places are those of the store's parts
     pub record ArePlaces (p : Parts S) (places : Places) : Type 0 where
       pub fits : HasSizes (K.layout h) places.sizes
       pub area : places.area ≡ p.area
       pub segment : places.segment ≡ p.segment
-      pub turned : places.turned ≡ p.turned
+      pub turned : in_progress places.checkpoint ≡ p.turned
       pub gate : places.gate ≡ next_gate K h p
       pub end : places.end ≡ segment_end (K.layout h) p.segment
 
@@ -75,8 +77,8 @@ module _ {H S : Type 0} (K : Codec H S) where
       pub fits : HasSizes (K.layout h) places.sizes
       pub area : places.area ≡ p.area
       pub segment : places.segment ≡ p.segment
-      pub turned : places.turned ≡ p.turned
+      pub turned : in_progress places.checkpoint ≡ p.turned
       pub gate : places.gate ≡ next_gate K h p
       pub end : places.end ≡ segment_end (K.layout h) p.segment
       pub images : (image : List ℕ) → disk.now image → IsKnown places p s image
-      pub begun : places.begun ≡ true → IsBegun places p spelling disk.contents
+      pub begun : (done : ℕ) → places.checkpoint ≡ Writing done → IsBegun places p done spelling disk.contents

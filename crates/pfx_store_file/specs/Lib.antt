@@ -1,6 +1,7 @@
 pub mod Acts
 pub mod Files
 pub mod Calls
+pub mod Checkpoints
 pub mod Fitting
 pub mod Holding
 pub mod Sizes

@@ -1,15 +1,23 @@
 -- The steps of a checkpoint in progress.
-use Rattle.std.specs.Prelude.{◌≡◌, ℕ, ◌+◌, ◌-◌, ◌/◌, nat_lt, Bool, true, false, if◌then◌else◌}
+use Rattle.std.specs.Prelude.{◌≡◌, ℕ, ◌+◌, ◌-◌, ◌/◌, nat_lt, Bool, if◌then◌else◌}
 use Rattle.pfx_recovery.specs.Store.{Parts, finished, turned_at}
+use Rattle.pfx_store_file.specs.Checkpoints.{in_progress}
 use Rattle.pfx_store_file.specs.Fitting.{HasRoom, IsEmpty}
 use Rattle.pfx_store_file.specs.declared.places.Places.{Places}
+use Rattle.pfx_store_file.specs.declared.progress.Checkpoint.{Checkpoint}
+use Rattle.pfx_store_file.specs.declared.progress.Checkpoint.TheVariants.{Ended, Pending, Writing}
 use Rattle.pfx_store_file.specs.declared.checkpoint.TheConstants.{PIECE}
 use Rattle.pfx_store_file.specs.declared.checkpoint.Tended.{Tended}
 use Rattle.pfx_store_file.specs.declared.checkpoint.Tended.TheVariants.{Nothing, Closed, Piece, Finished}
 
--- the step that comes next
+-- the step that comes next, of a checkpoint whose body is so long
+abbrev pub step_of : ℕ → Checkpoint → Tended
+step_of body Ended = Nothing
+step_of body Pending = Closed
+step_of body (Writing done) = if nat_lt done body then Piece else Finished
+
 abbrev pub next_step : Places → Tended
-next_step places = if places.turned then (if places.begun then (if nat_lt places.done places.sizes.body then Piece else Finished) else Closed) else Nothing
+next_step places = step_of places.sizes.body places.checkpoint
 
 -- how many calls of the disk a step takes
 abbrev pub calls_of : Tended → ℕ
@@ -23,12 +31,22 @@ abbrev pub pieces : ℕ → ℕ
 pieces n = (n + (PIECE - 1)) / PIECE
 
 -- how many steps are to come until the checkpoint in progress has ended: the first, the pieces and the last
+abbrev pub steps_of : ℕ → Checkpoint → ℕ
+steps_of body Ended = 0
+steps_of body Pending = 2 + pieces body
+steps_of body (Writing done) = 1 + pieces (body - done)
+
 abbrev pub steps_left : Places → ℕ
-steps_left places = if places.turned then (if places.begun then 1 + pieces (places.sizes.body - places.done) else 2 + pieces places.sizes.body) else 0
+steps_left places = steps_of places.sizes.body places.checkpoint
 
 -- how many calls of the disk they take
+abbrev pub calls_to_end : ℕ → Checkpoint → ℕ
+calls_to_end body Ended = 0
+calls_to_end body Pending = 5 + pieces body
+calls_to_end body (Writing done) = 3 + pieces (body - done)
+
 abbrev pub calls_left : Places → ℕ
-calls_left places = if places.turned then (if places.begun then 3 + pieces (places.sizes.body - places.done) else 5 + pieces places.sizes.body) else 0
+calls_left places = calls_to_end places.sizes.body places.checkpoint
 
 -- how many it takes to make room for a frame of n bytes: none if it fits, else those of the steps to come
 abbrev pub room_calls : ℕ → Places → ℕ
@@ -40,12 +58,11 @@ append_calls n places = if nat_lt (places.gate + n) places.end then 4 else 10 + 
 
 -- how many a turn takes: none if it isn't lawful
 abbrev pub turn_calls : Places → ℕ
-turn_calls places = if places.turned then 0 else (if nat_lt (places.end + 9) (places.gate + places.sizes.segment) then 6 else 0)
+turn_calls places = if in_progress places.checkpoint then 0 else (if nat_lt (places.end + 9) (places.gate + places.sizes.segment) then 6 else 0)
 
 -- after a turn: the segment that frames go to has none, and the checkpoint in progress has all its steps to come
 pub record IsTurned (places : Places) : Type 0 where
-  pub turned : places.turned ≡ true
-  pub begun : places.begun ≡ false
+  pub pending : places.checkpoint ≡ Pending
   pub empty : IsEmpty places
 
 -- frames go where they went
@@ -60,16 +77,13 @@ pub record MovesOn (n : ℕ) (old new : Places) : Type 0 where
   pub end : new.end ≡ old.end
   pub area : new.area ≡ old.area
   pub segment : new.segment ≡ old.segment
-  pub turned : new.turned ≡ old.turned
+  pub checkpoint : new.checkpoint ≡ old.checkpoint
   pub area_open : new.area_open ≡ old.area_open
   pub segment_open : new.segment_open ≡ old.segment_open
-  pub begun : new.begun ≡ old.begun
-  pub done : new.done ≡ old.done
 
 -- after a turn and a frame of n bytes: that frame alone is in its segment, and the checkpoint has all its steps to come
 pub record IsTurnedBefore (n : ℕ) (places : Places) : Type 0 where
-  pub turned : places.turned ≡ true
-  pub begun : places.begun ≡ false
+  pub pending : places.checkpoint ≡ Pending
   pub gate : places.end + 9 + n ≡ places.gate + places.sizes.segment
 
 -- how a frame of n bytes moves the places, whether it fits or not
@@ -83,7 +97,7 @@ settled p = if p.turned then finished p else p
 
 -- the parts, if it may have ended
 abbrev pub settled_unless : {S : Type 0} → Bool → Parts S → Parts S
-settled_unless turned p = if turned then p else settled p
+settled_unless still p = if still then p else settled p
 
 -- the parts, if room was made for n bytes at this state: the same, if there was room; else turned, after the end of
 -- the checkpoint in progress

@@ -8,6 +8,7 @@ use Rattle.pfx_recovery.specs.Codec.{Codec}
 use Rattle.pfx_recovery.specs.Store.{Parts, Replays}
 use Rattle.pfx_segment.specs.Segment.{Takes}
 use Rattle.pfx_store_file.specs.Calls.{Works}
+use Rattle.pfx_store_file.specs.Checkpoints.{in_progress, written}
 use Rattle.pfx_store_file.specs.Holding.{Holds, KeepsAll, Survives}
 use Rattle.pfx_store_file.specs.Tending.{StaysPut, calls_left, calls_of, next_step, steps_left}
 use Rattle.pfx_store_file.specs.declared.checkpoint.TheConstants.{PIECE}
@@ -17,13 +18,14 @@ use Rattle.pfx_store_file.specs.declared.faults.StoreFault.{StoreFault}
 use Rattle.pfx_store_file.specs.declared.faults.StoreFault.TheVariants.{Broken, Device, NoRoom}
 use Rattle.pfx_store_file.specs.declared.file.StoreFile.{StoreFile}
 use Rattle.pfx_store_file.specs.declared.places.Places.{Places}
+use Rattle.pfx_store_file.specs.declared.progress.Checkpoint.TheVariants.{Ended, Writing}
 
--- n bytes more of the checkpoint in progress may be written: it was begun, they aren't none, and the spelling has them
-pub record IsPiece (n : ℕ) (spelling : List ℕ) (places : Places) : Type 0 where
+-- n bytes more of the checkpoint in progress may be written: so many of it are, the n aren't none, and the spelling has them
+pub record IsPiece (done n : ℕ) (spelling : List ℕ) (places : Places) : Type 0 where
   pub some : 0 < n
-  pub fits : places.done + n ≤ places.sizes.body
+  pub fits : done + n ≤ places.sizes.body
   pub long : length spelling ≡ places.sizes.body
-  pub begun : places.begun ≡ true
+  pub writing : places.checkpoint ≡ Writing done
 
 -- the places are so once the call succeeded, and as they were after a fault
 pub record MovesTo {T : Type 0} (result : Result T StoreFault) (old new : Places) (after : Type 0) : Type 0 where
@@ -84,8 +86,8 @@ module _ {D T : Type 0} {g : Ghosts D} (old new : StoreFile D g) (result : Resul
 
   -- no checkpoint is in progress any more, once the call succeeded; if none was, nothing was done, and frames go where they went
   pub record Ends : Type 0 where
-    pub nothing : old.places.turned ≡ false → new ≡ old
-    pub ended : OnOk result (new.places.turned ≡ false)
+    pub nothing : old.places.checkpoint ≡ Ended → new ≡ old
+    pub ended : OnOk result (new.places.checkpoint ≡ Ended)
     pub stays : StaysPut old.places new.places
 
 -- A step of the checkpoint in progress was taken, the one that comes next, and one fewer is to come; after a fault the places are as they
@@ -94,7 +96,7 @@ pub record Tends {D : Type 0} {g : Ghosts D} (old new : StoreFile D g) (result :
   pub step : IfOk result (λ tended. tended ≡ next_step old.places)
   pub stays : StaysPut old.places new.places
   pub same : OnErr result (new.places ≡ old.places)
-  pub nothing : old.places.turned ≡ false → new ≡ old
-  pub piece : result ≡ Ok Piece → new.places.done ≡ min old.places.sizes.body (old.places.done + PIECE)
-  pub nearer : old.places.turned ≡ true → OnOk result (steps_left old.places ≡ 1 + steps_left new.places)
+  pub nothing : old.places.checkpoint ≡ Ended → new ≡ old
+  pub piece : result ≡ Ok Piece → new.places.checkpoint ≡ Writing (min old.places.sizes.body (written old.places.checkpoint + PIECE))
+  pub nearer : in_progress old.places.checkpoint ≡ true → OnOk result (steps_left old.places ≡ 1 + steps_left new.places)
   pub fewer : OnOk result (calls_left old.places ≡ calls_of (next_step old.places) + calls_left new.places)

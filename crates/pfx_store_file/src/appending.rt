@@ -49,7 +49,7 @@ impl<D: Disk> StoreFile<D> {
         if self.broken {
             return Err(StoreFault::Broken);
         }
-        if frame.len() >= self.places.end - self.places.gate {
+        if !self.has_room(frame.len()) {
             return Err(StoreFault::NoRoom);
         }
         self.broken = true;
@@ -92,9 +92,6 @@ impl<D: Disk> StoreFile<D> {
             → (next : List ℕ) → length next ≡ length frame.now
             → OnOk result (AreOf K (appended_file K f s frame.now next) self.new.places) }
     {
-        if self.broken {
-            return Err(StoreFault::Broken);
-        }
         if self.has_room(frame.len()) {
             self.append::<H, S>(frame)?;
             return Ok(());

@@ -6,13 +6,16 @@ ghost use Rattle.pfx_recovery.specs.Codec.{Codec, Laws};
 ghost use Rattle.pfx_recovery.specs.Store.{Parts, Replays, finished};
 ghost use Rattle.pfx_segment.specs.Acts.{close_acts, open_acts};
 ghost use Rattle.pfx_store_file.specs.Acts.{closed_file, finished_file, tend_acts, tended_file, end_acts, ended_file};
+ghost use Rattle.pfx_store_file.specs.Checkpoints.{in_progress, written};
 ghost use Rattle.pfx_store_file.specs.Files.{File, AreOf, area_of};
 ghost use Rattle.pfx_store_file.specs.Holding.{Holds, KeepsAll};
 ghost use Rattle.pfx_store_file.specs.Tending.{next_step, calls_of, calls_left, settled, settled_unless};
 ghost use Rattle.pfx_store_file.specs.Working.{Ends, IsCall, IsPiece, IsStep, Keeps, Makes, Tends};
+ghost use Rattle.pfx_store_file.specs.declared.progress.Checkpoint.TheVariants.{Ended, Pending, Writing};
 
 use crate::faults::StoreFault;
 use crate::file::StoreFile;
+use crate::progress::Checkpoint;
 use pfx_disk::Disk;
 use pfx_segment::{close, open_gate};
 
@@ -36,10 +39,9 @@ impl<D: Disk> StoreFile<D> {
     // The first step: two calls.
     fn begin<H, S>(&mut self) -> Result<(), StoreFault>
         requires whole { self.old.broken ≡ false }
-        requires turned { self.old.places.turned ≡ true }
+        requires pending { self.old.places.checkpoint ≡ Pending }
         ensures call { IsCall self.old self.new result 2 }
-        ensures step { IsStep result self.old.places self.new.places
-            ((self.new.places.turned ≡ true) × (self.new.places.begun ≡ true) × (self.new.places.done ≡ 0)) }
+        ensures step { IsStep result self.old.places self.new.places (self.new.places.checkpoint ≡ Writing 0) }
         ensures holds { (K : Codec H S) → Laws K → (h : H) → (p : Parts S) → (s : S) → (code : List ℕ)
             → Holds K h self.old.places p s code (D.view self.old.disk)
             → (spelling : List ℕ) → K.read_state h spelling ≡ Some p.middle → length spelling ≡ (K.layout h).body
@@ -57,33 +59,35 @@ impl<D: Disk> StoreFile<D> {
         self.broken = true;
         close(&mut self.disk, at, self.places.area_open)?;
         self.places.area_open = false;
-        self.places.begun = true;
-        self.places.done = 0;
+        self.places.checkpoint = Checkpoint::Writing { done: 0 };
         self.broken = false;
         Ok(())
     }
 
-    // A middle step: one call, for the next n bytes of the spelling.
-    fn write_piece<H, S>(&mut self, spelling: &[u8], n: usize) -> Result<(), StoreFault>
+    // A middle step, of a checkpoint of which so many bytes are done: one call, for the next n bytes of the spelling.
+    fn write_piece<H, S>(
+        &mut self,
+        spelling: &[u8],
+        done: usize,
+        n: usize,
+    ) -> Result<(), StoreFault>
         requires whole { self.old.broken ≡ false }
-        requires piece { IsPiece n spelling.now self.old.places }
+        requires piece { IsPiece done n spelling.now self.old.places }
         ensures call { IsCall self.old self.new result 1 }
-        ensures step { IsStep result self.old.places self.new.places ((self.new.places.turned ≡ self.old.places.turned)
-            × (self.new.places.begun ≡ true) × (self.new.places.done ≡ self.old.places.done + n)) }
+        ensures step { IsStep result self.old.places self.new.places (self.new.places.checkpoint ≡ Writing (done + n)) }
         ensures keeps { (K : Codec H S) → Laws K → (h : H) → (p : Parts S) → (s : S)
             → Holds K h self.old.places p s spelling.now (D.view self.old.disk)
             → Keeps self.old self.new result K h p s spelling.now }
         ensures acts { (K : Codec H S) → (f : File H S) → AreOf K f self.old.places → IsHonest (D.view self.old.disk)
-            → Makes self.old self.new result (Write (area_of K f + 1 + f.done) (take n (drop f.done spelling.now)) ∷ []) }
+            → Makes self.old self.new result (Write (area_of K f + 1 + written f.checkpoint) (take n (drop (written f.checkpoint) spelling.now)) ∷ []) }
         ensures file { (K : Codec H S) → (f : File H S) → AreOf K f self.old.places
-            → OnOk result (AreOf K (record f { done = f.done + n }) self.new.places) }
+            → OnOk result (AreOf K (record f { checkpoint = Writing (written f.checkpoint + n) }) self.new.places) }
     {
         let at = self.places.sizes.area_at(!self.places.area);
-        let done = self.places.done;
         self.broken = true;
         self.disk
             .write_at(at + 1 + done, &spelling[done..done + n])?;
-        self.places.done += n;
+        self.places.checkpoint = Checkpoint::Writing { done: done + n };
         self.broken = false;
         Ok(())
     }
@@ -91,10 +95,9 @@ impl<D: Disk> StoreFile<D> {
     // The last step: three calls.
     fn finish<H, S>(&mut self) -> Result<(), StoreFault>
         requires whole { self.old.broken ≡ false }
-        requires done { self.old.places.done ≡ self.old.places.sizes.body }
-        requires begun { self.old.places.begun ≡ true }
+        requires written { self.old.places.checkpoint ≡ Writing self.old.places.sizes.body }
         ensures call { IsCall self.old self.new result 3 }
-        ensures step { IsStep result self.old.places self.new.places (self.new.places.turned ≡ false) }
+        ensures step { IsStep result self.old.places self.new.places (self.new.places.checkpoint ≡ Ended) }
         ensures keeps { (K : Codec H S) → Laws K → (h : H) → (p : Parts S) → (s : S) → (spelling : List ℕ)
             → Holds K h self.old.places p s spelling (D.view self.old.disk)
             → Keeps self.old self.new result K h (finished p) s spelling }
@@ -107,8 +110,7 @@ impl<D: Disk> StoreFile<D> {
         self.broken = true;
         open_gate(&mut self.disk, at)?;
         self.places.area = !self.places.area;
-        self.places.turned = false;
-        self.places.begun = false;
+        self.places.checkpoint = Checkpoint::Ended;
         self.places.area_open = true;
         self.places.segment_open = true;
         self.broken = false;
@@ -130,7 +132,7 @@ impl<D: Disk> StoreFile<D> {
         ensures keeps { (K : Codec H S) → Laws K → (h : H) → (p : Parts S) → (s : S)
             → Holds K h self.old.places p s spelling.now (D.view self.old.disk)
             → (p.turned ≡ true → K.read_state h spelling.now ≡ Some p.middle)
-            → Keeps self.old self.new result K h (settled_unless self.new.places.turned p) s spelling.now }
+            → Keeps self.old self.new result K h (settled_unless (in_progress self.new.places.checkpoint) p) s spelling.now }
         ensures acts { (K : Codec H S) → (f : File H S) → AreOf K f self.old.places → IsHonest (D.view self.old.disk)
             → Makes self.old self.new result (tend_acts K f spelling.now) }
         ensures file { (K : Codec H S) → (f : File H S) → AreOf K f self.old.places
@@ -139,20 +141,26 @@ impl<D: Disk> StoreFile<D> {
         if self.broken {
             return Err(StoreFault::Broken);
         }
-        if !self.places.turned {
-            return Ok(Tended::Nothing);
+        match self.places.checkpoint {
+            Checkpoint::Ended => Ok(Tended::Nothing),
+            Checkpoint::Pending => {
+                self.begin::<H, S>()?;
+                Ok(Tended::Closed)
+            }
+            Checkpoint::Writing { done } => {
+                if done < self.places.sizes.body {
+                    let left = self.places.sizes.body - done;
+                    self.write_piece::<H, S>(
+                        spelling,
+                        done,
+                        if left < PIECE { left } else { PIECE },
+                    )?;
+                    return Ok(Tended::Piece);
+                }
+                self.finish::<H, S>()?;
+                Ok(Tended::Finished)
+            }
         }
-        if !self.places.begun {
-            self.begin::<H, S>()?;
-            return Ok(Tended::Closed);
-        }
-        if self.places.done < self.places.sizes.body {
-            let left = self.places.sizes.body - self.places.done;
-            self.write_piece::<H, S>(spelling, if left < PIECE { left } else { PIECE })?;
-            return Ok(Tended::Piece);
-        }
-        self.finish::<H, S>()?;
-        Ok(Tended::Finished)
     }
 
     /// Takes all steps that are left of the checkpoint in progress, if there is one. `spelling` is as for `tend`.
@@ -178,10 +186,10 @@ impl<D: Disk> StoreFile<D> {
         if self.broken {
             return Err(StoreFault::Broken);
         }
-        if !self.places.turned {
+        if !self.places.checkpoint.in_progress() {
             return Ok(());
         }
-        'steps: while self.places.turned {
+        'steps: while self.places.checkpoint.in_progress() {
             let _tended = self.tend::<H, S>(spelling)?;
         }
         Ok(())

@@ -5,6 +5,7 @@ ghost use Rattle.pfx_recovery.specs.Codec.{Codec, Laws};
 ghost use Rattle.pfx_recovery.specs.Layout.{area_at, segment_at};
 ghost use Rattle.pfx_recovery.specs.Recovery.{found, found_of};
 ghost use Rattle.pfx_recovery.specs.Store.{Parts};
+ghost use Rattle.pfx_store_file.specs.Checkpoints.{is_begun};
 ghost use Rattle.pfx_store_file.specs.Holding.{ArePlaces, Holds, IsGate};
 ghost use Rattle.pfx_store_file.specs.Sizes.{total_len};
 
@@ -36,7 +37,7 @@ impl<D: Disk> StoreFile<D> {
         ensures holds { (K : Codec H S) → Laws K → (h : H) → (p : Parts S) → (s : S)
             → IsHonest (D.view disk) → Only (D.view disk).contents (D.view disk)
             → found K (D.view disk).contents ≡ Ok (found_of h p s)
-            → ArePlaces K h p places → places.begun ≡ false
+            → ArePlaces K h p places → is_begun places.checkpoint ≡ false
             → IsGate places.area_open (area_at (K.layout h) (not p.area)) (D.view disk).contents
             → IsGate places.segment_open (segment_at (K.layout h) (not p.segment)) (D.view disk).contents
             → (spelling : List ℕ) → Holds K h result.places p s spelling (D.view result.disk) }

@@ -22,6 +22,7 @@ mod faults;
 mod file;
 pub mod laws;
 mod places;
+mod progress;
 mod sizes;
 mod turning;
 
@@ -29,4 +30,5 @@ pub use checkpoint::{PIECE, Tended};
 pub use faults::StoreFault;
 pub use file::StoreFile;
 pub use places::Places;
+pub use progress::Checkpoint;
 pub use sizes::Sizes;

@@ -1,7 +1,9 @@
 // Where the parts of a store's file lie, and how its gates stand.
 ghost use Rattle.std.specs.Prelude.{◌≤◌, ◌<◌};
+ghost use Rattle.pfx_store_file.specs.Checkpoints.{written};
 ghost use Rattle.pfx_store_file.specs.Sizes.{total_len};
 
+use crate::progress::Checkpoint;
 use crate::sizes::Sizes;
 
 /// Where the parts of a store's file lie, and how its gates stand. Of the two checkpoint areas and of the two segments `true` names
@@ -14,8 +16,8 @@ pub struct Places {
     pub area: bool,
     /// The segment that frames go to.
     pub segment: bool,
-    /// Whether the other segment is to be read before it, since no checkpoint of its frames has ended.
-    pub turned: bool,
+    /// How far the checkpoint in progress is. While there is one the other segment is to be read before the one that frames go to.
+    pub checkpoint: Checkpoint,
     /// The gate of the next frame.
     pub gate: usize,
     /// The end of the segment that frames go to.
@@ -24,11 +26,7 @@ pub struct Places {
     pub area_open: bool,
     /// Whether the gate of the other segment stands open, if that isn't to be read.
     pub segment_open: bool,
-    /// Whether that checkpoint area was closed for the checkpoint in progress.
-    pub begun: bool,
-    /// How many bytes of the checkpoint have been written behind that checkpoint area's gate.
-    pub done: usize,
     ghost before: { gate < end },
     ghost inside: { end ≤ total_len sizes },
-    ghost part: { done ≤ sizes.body },
+    ghost part: { written checkpoint ≤ sizes.body },
 }

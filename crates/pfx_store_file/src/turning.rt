@@ -12,6 +12,7 @@ ghost use Rattle.pfx_store_file.specs.Working.{IsCall, Keeps, Makes, MovesTo};
 
 use crate::faults::StoreFault;
 use crate::file::StoreFile;
+use crate::progress::Checkpoint;
 use pfx_disk::Disk;
 use pfx_segment::prepare;
 
@@ -23,7 +24,8 @@ impl<D: Disk> StoreFile<D> {
             → Holds K h self.now.places p s spelling (D.view self.now.disk)
             → IsTrue result ↔ (p.turned ≡ false) × (0 < length p.frames) }
     {
-        !self.places.turned && self.places.end + 9 < self.places.gate + self.places.sizes.segment
+        !self.places.checkpoint.in_progress()
+            && self.places.end + 9 < self.places.gate + self.places.sizes.segment
     }
 
     /// Goes on in the other segment, by six calls of the disk: that segment's gate is closed, if it stands open, or else
@@ -56,8 +58,7 @@ impl<D: Disk> StoreFile<D> {
         prepare(&mut self.disk, at, self.places.segment_open, start)?;
         let mut places = self.places;
         places.segment = !places.segment;
-        places.turned = true;
-        places.begun = false;
+        places.checkpoint = Checkpoint::Pending;
         places.gate = at + 9;
         places.end = at + places.sizes.segment;
         self.places = places;

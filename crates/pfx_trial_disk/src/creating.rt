@@ -6,7 +6,7 @@ use crate::held::{held, is_held};
 use pfx_create::laws::a_new_file_can_be_made;
 use pfx_create::{CreateFault, create, create_file, new_places};
 use pfx_disk::{Disk, Fate, FaultDisk, GATE_OPEN, MemoryDisk};
-use pfx_store_file::{PIECE, Places, Sizes, StoreFile};
+use pfx_store_file::{Checkpoint, PIECE, Places, Sizes, StoreFile};
 use std::alloc::Global;
 
 /// The gate, the letters PFXSTORE, version 1, two workers, three tasks, the segment's length, and the tasks.
@@ -230,11 +230,9 @@ fn have_lengths(places: &Places) -> bool {
 fn are_at_the_start(places: &Places) -> bool {
     !places.area
         && !places.segment
-        && !places.turned
+        && places.checkpoint == Checkpoint::Ended
         && !places.area_open
         && !places.segment_open
-        && !places.begun
-        && places.done == 0
 }
 
 /// Whether the file takes the frame by four calls, and holds it.

@@ -80,7 +80,7 @@ fn stands_at(opened: &Opened<MemoryDisk, Toy>, number: u64, sum: u64) -> bool {
 /// Whether the area and the segment are these, the first or the second, and turned or not.
 fn is_in(file: &StoreFile<MemoryDisk>, area: bool, segment: bool, turned: bool) -> bool {
     let places = &file.places;
-    places.area == area && places.segment == segment && places.turned == turned
+    places.area == area && places.segment == segment && places.checkpoint.in_progress() == turned
 }
 
 /// Whether the frames end at this gate, and the segment there.

@@ -71,7 +71,7 @@ fn stands_at_last(alloc: Global) -> Option<(u64, u64, bool)> {
     let mut store = new_store(alloc, disk, 8192)?;
     let marks = run_ten(alloc, &mut store)?;
     let places = store.places();
-    let is_twice = places.area && !places.turned && !places.segment;
+    let is_twice = places.area && !places.checkpoint.in_progress() && !places.segment;
     Some((marks.0.number, marks.1.number, is_twice))
 }
 

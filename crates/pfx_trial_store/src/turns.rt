@@ -133,7 +133,7 @@ fn a_second_turn_leads_back(rt: HostRuntime) {
     };
     check(&rt, stands_at(&again, 12, 8), "state");
     let places = again.store.places();
-    let leads_back = places.area && places.turned && !places.segment;
+    let leads_back = places.area && places.checkpoint.in_progress() && !places.segment;
     check(&rt, leads_back, "places");
 }
 
@@ -221,7 +221,11 @@ fn a_checkpoint_ends_between_slots(rt: HostRuntime) {
     };
     check(&rt, stands_at(&after, 45, 30), "state");
     let places = after.store.places();
-    check(&rt, places.area && !places.turned, "places");
+    check(
+        &rt,
+        places.area && !places.checkpoint.in_progress(),
+        "places",
+    );
 }
 
 /// The engine after five slots and a turn.

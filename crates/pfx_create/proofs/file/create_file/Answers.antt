@@ -1,6 +1,7 @@
 use Rattle.std.proofs.Common.{◌≡◌, ◌∙◌, ap, subst, sym, length, arith, refl}
 use Rattle.pfx_recovery.specs.NewFile.{new_parts}
 use Rattle.pfx_recovery.specs.Recovery.{found}
+use Rattle.pfx_store_file.specs.Checkpoints.{is_begun}
 use Rattle.pfx_store_file.specs.Sizes.{total_len}
 use Rattle.pfx_create.specs.Attempts.{IsNoneOrMade}
 use Rattle.pfx_create.proofs.NewBytes.{some_layout}
@@ -27,7 +28,7 @@ returns-in-Ok-clause-holds g c K h s made honest spelling =
     let contents = (g.D.Disk.view c.create.new.disk).contents in
     c.new.ensures.holds K made.laws h (new_parts s) s (c.create.ensures.attempts.leaves honest (K.layout h) has).honest (c.in-Ok.ensures.made honest).durable
     (ap (found K) is ∙ whole_is_found K h s c.args.head.now c.args.body.now c.args.segment made)
-    (are_places K h s c.args.head.now c.args.body.now c.args.segment made places c.new_places-places.ensures) c.new_places-places.ensures.begun
+    (are_places K h s c.args.head.now c.args.body.now c.args.segment made places c.new_places-places.ensures) (ap is_begun c.new_places-places.ensures.checkpoint)
     (area_gate K h s c.args.head.now c.args.body.now c.args.segment made places c.new_places-places.ensures contents is)
     (segment_gate K h s c.args.head.now c.args.body.now c.args.segment made places c.new_places-places.ensures contents is) spelling
 

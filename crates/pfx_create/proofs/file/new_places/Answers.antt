@@ -13,11 +13,9 @@ returns c =
       segment_len = refl;
       area = refl;
       segment = refl;
-      turned = refl;
+      checkpoint = refl;
       gate = omega (arith, first);
       end = omega (arith, first);
       area_open = refl;
       segment_open = refl;
-      begun = refl;
-      done = refl;
     }

@@ -51,6 +51,6 @@ returns g c = record {
       let whole : length c.encode.new.out ≡ middle.len = omega (arith, c.encode.ensures.long, c.deref_mut.ensures.len, ap length c.deref_mut.ensures.value, middle.ok.0) in
       let spelled = with_items_is middle c.encode.new.out whole in
       let long : length (with_items middle c.encode.new.out).items ≡ (K.layout file.header).body = omega (arith, ap length spelled, c.encode.ensures.long, c.deref_mut.ensures.len, ap length c.deref_mut.ensures.value, c.in_ok-middle.ensures.len, middle.ok.0, file.sized.body) in
-      double_found K file.header bytes c.args.area b _ c.args.state c.in_ok-between.between c.in_ok-reached.reached c.args.walked before frames c.places_of.result (with_items middle c.encode.new.out) in_area gate c.requires.stand fill_next c.places_of.ensures.placed first second long
+      double_found K file.header bytes c.args.area b _ c.args.state c.in_ok-between.between c.in_ok-reached.reached c.args.walked before frames c.places_of.result (with_items middle c.encode.new.out) in_area gate c.requires.stand fill_next c.places_of.ensures first second long
       (ap (λ (l : List ℕ). K.read_state file.header l) spelled ∙ c.encode.ensures.read);
 }

@@ -45,5 +45,5 @@ returns g c = record {
       let b = c.args.segment.second in
       let run = replay_same K file.header bytes b c.args.state _ frames (c.segment_at-first.ensures.at _ file.sized) ∙ c.in_ok-reached.ensures.exact frames (subst (λ l. Fill frames l) (sym c.frames.ensures.value) fill) in
       let past = passed_as K file.header bytes c.args.segment _ c.args.walked.last in_segment ∙ sym c.is_passed.ensures ∙ c.if-not-is_passed.false in
-      single_found K file.header bytes c.args.area c.args.segment _ _ c.args.state c.in_ok-reached.reached c.args.walked frames c.places_of.result in_area in_segment c.requires.stand fill c.places_of.ensures.placed run past;
+      single_found K file.header bytes c.args.area c.args.segment _ _ c.args.state c.in_ok-reached.reached c.args.walked frames c.places_of.result in_area in_segment c.requires.stand fill c.places_of.ensures run past;
 }

@@ -45,7 +45,7 @@ returns-in-Ok-Some-clause-verdict g c honest =
     let store = store_is K o.header bytes o.file.places o.state o.middle (view o.file.disk) opened in
     let long = c.file_len.ensures ∙ len_is K o.header bytes o.file.places o.state o.middle (view o.file.disk) opened c.in-Ok.ensures.going.sized in
     let image = c.deref.ensures.value ∙ c.in-Ok-read_image.ensures.exact bytes (subst (λ d. IsKept bytes (view d)) (sym c.into_disk-disk.ensures) opened.kept) long in
-    let judged = rw c.in-Ok-Some.field-0-is at (c.in-Ok-Some.ensures opened.parts o.state (subst (λ l. IsStore K o.header opened.parts o.state l) (sym image) store) (sym opened.file.are.area) (sym opened.file.are.segment) (sym opened.file.are.turned)) in
+    let judged = rw c.in-Ok-Some.field-0-is at (c.in-Ok-Some.ensures opened.parts o.state (subst (λ l. IsStore K o.header opened.parts o.state l) (sym image) store) (sym opened.file.are.area) (sym opened.file.are.segment) (sym opened.file.are.turned ∙ sym c.in_progress.ensures)) in
     record {
       found = found_of o.header opened.parts o.state;
       read_is = opened.found;
@@ -64,4 +64,4 @@ returns-in-Ok-None-clause-refused g c honest =
     let store = store_is K o.header bytes o.file.places o.state o.middle (view o.file.disk) opened in
     let long = c.file_len.ensures ∙ len_is K o.header bytes o.file.places o.state o.middle (view o.file.disk) opened c.in-Ok.ensures.going.sized in
     let image = c.deref.ensures.value ∙ c.in-Ok-read_image.ensures.exact bytes (subst (λ d. IsKept bytes (view d)) (sym c.into_disk-disk.ensures) opened.kept) long in
-    absurd (rw c.in-Ok-None.field-0-is at (c.in-Ok-None.ensures opened.parts o.state (subst (λ l. IsStore K o.header opened.parts o.state l) (sym image) store) (sym opened.file.are.area) (sym opened.file.are.segment) (sym opened.file.are.turned)))
+    absurd (rw c.in-Ok-None.field-0-is at (c.in-Ok-None.ensures opened.parts o.state (subst (λ l. IsStore K o.header opened.parts o.state l) (sym image) store) (sym opened.file.are.area) (sym opened.file.are.segment) (sym opened.file.are.turned ∙ sym c.in_progress.ensures)))

@@ -3,6 +3,7 @@ use Rattle.pfx_disk.specs.CallsMade.{HasMade, HasBrokenOff, HasKeptTo}
 use Rattle.pfx_disk.specs.Disk.{IsHonest, Only}
 use Rattle.pfx_disk.specs.Stop.{Sync}
 use Rattle.pfx_disk.proofs.CallsMade.{sync_made, sync_broken, sync_within}
+use Rattle.pfx_store_file.specs.Checkpoints.{is_begun}
 use Rattle.pfx_store.proofs.Marking.{covers_begun, left_by, recovered_since}
 use Rattle.pfx_store.proofs.standing.Store.open.Goals as goal
 
@@ -17,8 +18,8 @@ returns-in-Ok-furnished-clause-found g c = λ honest. (c.in-Ok-furnished.ensures
 
 pub returns-in-Ok-furnished-clause-left : goal.returns-in-Ok-furnished-clause-left
 returns-in-Ok-furnished-clause-left g c = λ honest f is.
-    left_by c.in-Ok-furnished.journal.file.places.turned c.in-Ok-furnished.journal.file.places.begun f.parts.turned _ _
-    (ap (λ i. i.places.begun) c.in-Ok-furnished.ensures.file ∙ c.in-Ok.ensures.going.unbegun)
+    left_by c.in-Ok-furnished.journal.file.places.sizes.body c.in-Ok-furnished.journal.file.places.checkpoint f.parts.turned
+    (ap (λ i. is_begun i.places.checkpoint) c.in-Ok-furnished.ensures.file ∙ c.in-Ok.ensures.going.unbegun)
     ((c.in-Ok-furnished.ensures.found (g.D.Disk.view c.args.disk).contents (c.in-Ok.ensures.opened honest)).turned f is)
 
 pub returns-in-Ok-furnished-clause-durable : goal.returns-in-Ok-furnished-clause-durable
@@ -80,5 +81,5 @@ furnished-requires-clause-set g c = c.in-Ok.ensures.going.fits
 pub returns-in-Ok-furnished-clause-fresh : goal.returns-in-Ok-furnished-clause-fresh
 returns-in-Ok-furnished-clause-fresh g c = (
   ap (λ i. i.broken) c.in-Ok-furnished.ensures.file ∙ c.in-Ok.ensures.going.whole,
-  ap (λ i. i.places.begun) c.in-Ok-furnished.ensures.file ∙ c.in-Ok.ensures.going.unbegun,
+  ap (λ i. is_begun i.places.checkpoint) c.in-Ok-furnished.ensures.file ∙ c.in-Ok.ensures.going.unbegun,
 )

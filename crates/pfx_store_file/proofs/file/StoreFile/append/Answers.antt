@@ -16,8 +16,8 @@ returns-then-self-clause-commits g c K laws h p s spelling holds body t pending 
       acknowledged = search rules;
     }
 
-pub returns-then-frame-self-clause-commits : goal.returns-then-frame-self-clause-commits
-returns-then-frame-self-clause-commits g c K laws h p s spelling holds body t pending one =
+pub returns-then-not-has_room-clause-commits : goal.returns-then-not-has_room-clause-commits
+returns-then-not-has_room-clause-commits g c K laws h p s spelling holds body t pending one =
     record {
       holds = search rules;
       keeps = λ start all run. keeps_none K laws h (g.D.Disk.view c.args.self.now.disk) start all (GATE_OPEN ∷ body);
@@ -39,7 +39,7 @@ returns-clause-commits g c K laws h p s spelling holds body t pending one =
     let view = g.D.Disk.view in
     let old = c.args.self.now in
     record {
-      holds = append_holds K laws h old.places p s spelling (view old.disk) holds c.args.frame.now body t pending one (omega arith) (view c.put_behind.new.disk) (c.put_behind.ensures.leaves holds.honest) (c.in_ok-put_behind.ensures.run.durable holds.honest) (c.in_ok-put_behind.ensures.written holds.honest) _ holds.fits refl refl refl refl refl refl refl refl refl;
+      holds = append_holds K laws h old.places p s spelling (view old.disk) holds c.args.frame.now body t pending one (omega arith) (view c.put_behind.new.disk) (c.put_behind.ensures.leaves holds.honest) (c.in_ok-put_behind.ensures.run.durable holds.honest) (c.in_ok-put_behind.ensures.written holds.honest) _ holds.fits refl refl refl refl refl refl refl;
       keeps = λ start all run. append_keeps K laws h old.places p s spelling (view old.disk) holds c.args.frame.now body t pending one (omega arith) (view c.put_behind.new.disk) (c.put_behind.ensures.leaves holds.honest) start all run;
       acknowledged = λ start all run. append_acknowledged K laws h old.places p s spelling (view old.disk) holds c.args.frame.now body t pending one (omega arith) (view c.put_behind.new.disk) (c.put_behind.ensures.leaves holds.honest) (c.in_ok-put_behind.ensures.run.durable holds.honest) (c.in_ok-put_behind.ensures.written holds.honest) (g.met.D.Disk.only_now c.put_behind.new.disk) start all run;
     }
@@ -52,8 +52,8 @@ returns-then-self-clause-acts g c K f are honest =
       between = λ start done follows k image le is. inl is;
     }
 
-pub returns-then-frame-self-clause-acts : goal.returns-then-frame-self-clause-acts
-returns-then-frame-self-clause-acts g c K f are honest =
+pub returns-then-not-has_room-clause-acts : goal.returns-then-not-has_room-clause-acts
+returns-then-not-has_room-clause-acts g c K f are honest =
     record {
       made = search rules;
       broken_off = search rules;
@@ -95,8 +95,7 @@ returns-clause-file g c K f are next long =
       };
       area_open = are.area_open;
       segment_open = are.segment_open;
-      begun = are.begun;
-      done = are.done;
+      checkpoint = are.checkpoint;
     }
 
 pub returns-in_err-put_behind-clause-call : goal.returns-in_err-put_behind-clause-call

@@ -19,14 +19,6 @@ use Rattle.pfx_store_file.specs.declared.sizes.Sizes.{Sizes}
 use Rattle.pfx_store_file.proofs.Rooms.{there_acts, full_acts, there_file, full_file}
 use Rattle.pfx_store_file.proofs.file.StoreFile.append_or_turn.Goals as goal
 
-pub returns-then-self-clause-commits : goal.returns-then-self-clause-commits
-returns-then-self-clause-commits g c K laws h p s holds reads begins body t pending one =
-    record {
-      holds = search rules;
-      keeps = λ from all run. keeps_none K laws h (g.D.Disk.view c.args.self.now.disk) from all (GATE_OPEN ∷ body);
-      acknowledged = search rules;
-    }
-
 pub returns-in_err-append-clause-commits : goal.returns-in_err-append-clause-commits
 returns-in_err-append-clause-commits g c K laws h p s holds reads begins body t pending one =
     record {
@@ -41,7 +33,7 @@ returns-then-has_room-clause-commits g c K laws h p s holds reads begins body t 
     record {
       holds = subst (λ q. Holds K h then.places (with_frame q (GATE_OPEN ∷ body)) t c.args.spelling.now (g.D.Disk.view then.disk)) (sym (room_there (length c.args.frame.now) c.args.self.now.places p s (c.has_room.ensures.0 c.if-has_room.true))) ((c.in_ok-append.ensures.commits K laws h p s c.args.spelling.now holds body t pending one).holds);
       keeps = λ from all run. (c.append.ensures.commits K laws h p s c.args.spelling.now holds body t pending one).keeps from all run;
-      acknowledged = search rules;
+      acknowledged = λ from all run. (c.in_ok-append.ensures.commits K laws h p s c.args.spelling.now holds body t pending one).acknowledged from all run;
     }
 
 pub returns-in_err-end_checkpoint-clause-commits : goal.returns-in_err-end_checkpoint-clause-commits
@@ -110,14 +102,6 @@ returns-clause-commits g c K laws h p s holds reads begins body t pending one =
           let keeps_2 = (c.turn.ensures.keeps K laws h (settled p) s c.args.spelling.now holds_1 begins c.args.spelling.now).keeps from all run in
           keeps_then K from all all more a d (view c.append-2.new.self.disk) later (keeps_then K from all all all a b d c.end_checkpoint.ensures.call.takes.later keeps_1 keeps_2) ((c.append-2.ensures.commits K laws h (turned_at (settled p) s) s c.args.spelling.now holds_2 body t pending one).keeps from all run);
       acknowledged = λ from all run. (c.in_ok-append-2.ensures.commits K laws h (turned_at (settled p) s) s c.args.spelling.now holds_2 body t pending one).acknowledged from all run;
-    }
-
-pub returns-then-self-clause-acts : goal.returns-then-self-clause-acts
-returns-then-self-clause-acts g c K f s are honest =
-    record {
-      made = search rules;
-      broken_off = search rules;
-      between = λ start done follows k image le is. inl is;
     }
 
 pub returns-in_err-append-clause-acts : goal.returns-in_err-append-clause-acts
@@ -309,8 +293,7 @@ returns-clause-place g c =
     record {
       room = λ room. absurd (false≢true (sym c.if-has_room.false ∙ c.has_room.ensures.1 room));
       full = λ _. record {
-        turned = moved.turned ∙ turned.turned;
-        begun = moved.begun ∙ turned.begun;
+        pending = moved.checkpoint ∙ turned.pending;
         gate = omega (arith, moved.gate, moved.end, ap (λ (z : Sizes). z.segment) parts, turned.empty);
       };
     }

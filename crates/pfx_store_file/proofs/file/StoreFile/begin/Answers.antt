@@ -3,6 +3,7 @@ use Rattle.std.proofs.Common.{◌≡◌, ◌∙◌, sym, ap, not, refl}
 use Rattle.std.proofs.Common.{ℕ, Bool, subst}
 use Rattle.pfx_segment.specs.Acts.{close_acts}
 use Rattle.pfx_disk.specs.CallsMade.{HasMade, HasBrokenOff, HasKeptTo}
+use Rattle.pfx_store_file.specs.Checkpoints.{in_progress}
 use Rattle.pfx_store_file.specs.Files.{area_of}
 use Rattle.pfx_recovery.specs.Layout.{area_at}
 use Rattle.pfx_store_file.proofs.Keeping.{begin_keeps, begin_holds, begin_shut}
@@ -28,8 +29,8 @@ returns-clause-holds g c K laws h p s spelling holds code read long =
     let old = c.args.self.now in
     let at_is : c.area_at-at.result ≡ area_at (K.layout h) (not p.area) = c.area_at-at.ensures.at (K.layout h) holds.fits ∙ ap (λ b. area_at (K.layout h) (not b)) holds.area in
     begin_holds K laws h old.places p s spelling (view old.disk) holds c.area_at-at.result at_is (view c.close.new.disk) (c.close.ensures.leaves holds.honest)
-    (c.in_ok-close.ensures.run.durable holds.honest) (c.in_ok-close.ensures.closed holds.honest (begin_shut K laws h old.places p s spelling (view old.disk) holds c.area_at-at.result at_is)) code (sym holds.turned ∙ c.requires.turned) read long _
-    holds.fits refl refl refl refl refl refl refl refl
+    (c.in_ok-close.ensures.run.durable holds.honest) (c.in_ok-close.ensures.closed holds.honest (begin_shut K laws h old.places p s spelling (view old.disk) holds c.area_at-at.result at_is)) code (sym holds.turned ∙ ap in_progress c.requires.pending) read long _
+    holds.fits refl refl refl refl refl refl refl
 
 pub returns-in_err-close-clause-acts : goal.returns-in_err-close-clause-acts
 returns-in_err-close-clause-acts g c K f are honest =
@@ -62,12 +63,11 @@ returns-clause-file g c K f are =
         fits = are.are.fits;
         area = are.are.area;
         segment = are.are.segment;
-        turned = are.are.turned;
+        turned = sym (ap in_progress c.requires.pending) ∙ are.are.turned;
         gate = are.are.gate;
         end = are.are.end;
       };
       area_open = refl;
       segment_open = are.segment_open;
-      begun = refl;
-      done = refl;
+      checkpoint = refl;
     }

@@ -14,12 +14,13 @@ returns-in_err-open_gate-clause-keeps g c K laws h p s spelling holds =
     let old = c.args.self.now in
     let at = c.area_at-at.result in
     let at_is : c.area_at-at.result ≡ area_at (K.layout h) (not p.area) = c.area_at-at.ensures.at (K.layout h) holds.fits ∙ ap (λ b. area_at (K.layout h) (not b)) holds.area in
-    let begun = holds.begun c.requires.begun in
-    let whole : old.places.done ≡ (K.layout h).body = c.requires.done ∙ holds.fits.body in
-    let leaves = c.open_gate.ensures.leaves holds.honest spelling (finish_inside K laws h old.places p s spelling (view old.disk) holds at at_is begun whole) (finish_stand K laws h old.places p s spelling (view old.disk) holds at at_is begun whole) in
+    let done = old.places.sizes.body in
+    let begun = holds.begun done c.requires.written in
+    let whole : done ≡ (K.layout h).body = holds.fits.body in
+    let leaves = c.open_gate.ensures.leaves holds.honest spelling (finish_inside K laws h old.places p s spelling (view old.disk) holds at at_is done begun whole) (finish_stand K laws h old.places p s spelling (view old.disk) holds at at_is done begun whole) in
     record {
       holds = search rules;
-      keeps = λ start all run. finish_keeps K laws h old.places p s spelling (view old.disk) holds at at_is begun whole (view c.open_gate.new.disk) leaves start all run;
+      keeps = λ start all run. finish_keeps K laws h old.places p s spelling (view old.disk) holds at at_is done begun whole (view c.open_gate.new.disk) leaves start all run;
     }
 
 pub returns-clause-keeps : goal.returns-clause-keeps
@@ -28,12 +29,13 @@ returns-clause-keeps g c K laws h p s spelling holds =
     let old = c.args.self.now in
     let at = c.area_at-at.result in
     let at_is : c.area_at-at.result ≡ area_at (K.layout h) (not p.area) = c.area_at-at.ensures.at (K.layout h) holds.fits ∙ ap (λ b. area_at (K.layout h) (not b)) holds.area in
-    let begun = holds.begun c.requires.begun in
-    let whole : old.places.done ≡ (K.layout h).body = c.requires.done ∙ holds.fits.body in
-    let leaves = c.open_gate.ensures.leaves holds.honest spelling (finish_inside K laws h old.places p s spelling (view old.disk) holds at at_is begun whole) (finish_stand K laws h old.places p s spelling (view old.disk) holds at at_is begun whole) in
+    let done = old.places.sizes.body in
+    let begun = holds.begun done c.requires.written in
+    let whole : done ≡ (K.layout h).body = holds.fits.body in
+    let leaves = c.open_gate.ensures.leaves holds.honest spelling (finish_inside K laws h old.places p s spelling (view old.disk) holds at at_is done begun whole) (finish_stand K laws h old.places p s spelling (view old.disk) holds at at_is done begun whole) in
     record {
-      holds = finish_holds K laws h old.places p s spelling (view old.disk) holds at at_is begun whole (view c.open_gate.new.disk) leaves (c.in_ok-open_gate.ensures.run.durable holds.honest) (c.in_ok-open_gate.ensures.opened holds.honest) _ holds.fits refl refl refl refl refl refl refl refl;
-      keeps = λ start all run. finish_keeps K laws h old.places p s spelling (view old.disk) holds at at_is begun whole (view c.open_gate.new.disk) leaves start all run;
+      holds = finish_holds K laws h old.places p s spelling (view old.disk) holds at at_is done begun whole (view c.open_gate.new.disk) leaves (c.in_ok-open_gate.ensures.run.durable holds.honest) (c.in_ok-open_gate.ensures.opened holds.honest) _ holds.fits refl refl refl refl refl refl refl;
+      keeps = λ start all run. finish_keeps K laws h old.places p s spelling (view old.disk) holds at at_is done begun whole (view c.open_gate.new.disk) leaves start all run;
     }
 
 pub returns-in_err-open_gate-clause-acts : goal.returns-in_err-open_gate-clause-acts
@@ -73,6 +75,5 @@ returns-clause-file g c K f are =
       };
       area_open = refl;
       segment_open = refl;
-      begun = refl;
-      done = are.done;
+      checkpoint = refl;
     }

@@ -37,7 +37,7 @@ returns-clause-keeps g c K laws h p s spelling holds begins next =
     let some = has_frames K laws h old.places p s spelling (view old.disk) holds c.requires.lawful.1 in
     let leaves = c.prepare.ensures.leaves holds.honest (turn_known K laws h old.places p s spelling (view old.disk) holds at at_is c.requires.lawful.0 c.args.start.now begins.long begins.number begins.closed some) in
     record {
-      holds = turn_holds K laws h old.places p s spelling (view old.disk) holds at at_is c.requires.lawful.0 c.args.start.now begins.long begins.number begins.closed some next (view c.prepare.new.disk) leaves (c.in_ok-prepare.ensures.run.durable holds.honest) (c.in_ok-prepare.ensures.stands holds.honest) _ holds.fits refl refl refl refl refl refl refl;
+      holds = turn_holds K laws h old.places p s spelling (view old.disk) holds at at_is c.requires.lawful.0 c.args.start.now begins.long begins.number begins.closed some next (view c.prepare.new.disk) leaves (c.in_ok-prepare.ensures.run.durable holds.honest) (c.in_ok-prepare.ensures.stands holds.honest) _ holds.fits refl refl refl refl refl refl;
       keeps = λ start all run. turn_keeps K laws h old.places p s spelling (view old.disk) holds at at_is c.requires.lawful.0 c.args.start.now begins.long begins.number begins.closed some (view c.prepare.new.disk) leaves start all run;
     }
 
@@ -87,6 +87,5 @@ returns-clause-file g c K f are s =
       };
       area_open = are.area_open;
       segment_open = are.segment_open;
-      begun = refl;
-      done = are.done;
+      checkpoint = refl;
     }
