@@ -1,11 +1,13 @@
 -- This product's store provides what the events ask of one.
-use Rattle.std.specs.Prelude.{◌≡◌, ◌⊎◌, ℕ, ◌+◌, ◌*◌, ◌<◌, ◌≤◌, List, ◌∷◌, length, drop, slice_index, not, Some, Result, Ok, Err, refl}
+use Rattle.std.specs.Prelude.{◌≡◌, ◌⊎◌, Bool, true, false, if◌then◌else◌, ℕ, ◌+◌, ◌*◌, ◌<◌, ◌≤◌, List, ◌∷◌, length, drop, slice_index, not, Some, Result, Ok, Err, refl}
 use Rattle.std.proofs.Common.{sym, ap, subst, arith, inl, inr, length-append, eq-eqb}
 use Rattle.std.proofs.Math.Nat.{le-max_right}
 use Rattle.std.proofs.lemmas.Bool.{cases_eq, ne_eqb, false≢true}
 use Rattle.std.proofs.lemmas.Option.{same_Some, none-some}
 use Rattle.pfx_segment.specs.Acts.{put_acts}
 use Rattle.pfx_store_file.specs.Acts.{room_acts, append_acts, appended_file, tend_acts, tended_file, ended_file, roomy_file, gate_of}
+use Rattle.pfx_store_file.specs.declared.progress.Checkpoint.TheVariants.{Ended, Pending}
+use Rattle.pfx_store_file.specs.Checkpoints.{is_begun}
 use Rattle.pfx_store_file.specs.Files.{file_in}
 use Rattle.pfx_acts.specs.Files.{IsFile, IsWhole}
 use Rattle.pfx_acts.proofs.Chains.{safe_at, Safe, Steady, chain_with}
@@ -46,17 +48,22 @@ gate_is at image = elim (cases_eq (slice_index image at) GATE_OPEN) [
 ]
 
 module _ {J : Type 0} (K : Kind J) (L : Laws K) where
+  -- a checkpoint that is to begin anew isn't begun
+  unbegun : (turned : Bool) → is_begun (if turned then Pending else Ended) ≡ true → ⊥
+  unbegun true began = false≢true began
+  unbegun false began = false≢true began
+
   -- a file that a store may leave is one, with its gates as they stand
   file_is : (h : Header) (p : Parts (Plain J)) (s : Plain J) (image : List ℕ) → IsStore (format K) h p s image → IsFile (format K) s (file_in (format K) image h p) image
   file_is h p s image is = record {
     store = is;
     area_gate = gate_is (area_at (layout h) (not p.area)) image;
     segment_gate = λ single. gate_is (segment_at (layout h) (not p.segment)) image;
-    begun = λ began. absurd (false≢true began);
+    begun = λ began. absurd (unbegun p.turned began);
   }
 
   whole_is : (h : Header) (p : Parts (Plain J)) (s : Plain J) (image : List ℕ) → IsStore (format K) h p s image → IsWhole (format K) (spelled K (file_in (format K) image h p)) s (file_in (format K) image h p) image
-  whole_is h p s image is = record { file = file_is h p s image is; stand = λ began. absurd (false≢true began) }
+  whole_is h p s image is = record { file = file_is h p s image is; stand = λ began. absurd (unbegun p.turned began) }
 
   reads_file : (image : List ℕ) (s : Plain J) (f : FileOf J) → IsFile (format K) s f image → (q : FileOf J) × (recovered_file K image ≡ Some (s, q))
   reads_file image s f is = (file_in (format K) image f.head f.parts, ap (file_found K image) (finds (format K) (format_laws K L) f.head image f.parts s is.store))
