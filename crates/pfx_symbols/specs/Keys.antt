@@ -38,7 +38,8 @@ gaps_key zero size e p v = record { number = 0; whole = false }
 gaps_key (suc k) size e p v =
     let a = gap e p in
     let w = width (a - 1) size in
-    above (start (a - 1) size) (if a == 2 then back_from (w - 1) (first_key (gaps_key k) (w - 1) (p - e) p (p - v)) else first_key (gaps_key k) w (e * a - p) e v)
+    let light = first_key (gaps_key k) w (e * a - p) e v in
+    above (start (a - 1) size) (if a == 2 then back_from (w - 1) (first_key (gaps_key k) (w - 1) (p - e) p (p - v)) else light)
 
 -- the keys of whole strings: those of the strings that end with their first gap are the last
 abbrev pub keys : ℕ
