@@ -37,7 +37,7 @@ pub(crate) fn init(
         Err((fault, _disk)) => return Err(init_fault(fault)),
     };
     sync_directory(rt, file)?;
-    let Ok(line) = created_line(alloc, &set, store.places().len) else {
+    let Ok(line) = created_line(alloc, &set, store.places().sizes.file_len()) else {
         return Err(Fault::NoMemory);
     };
     match output_of(rt, &traces.seen).write_all(line.as_bytes()) {
