@@ -93,7 +93,7 @@ impl<J: Job, B: Begun<J>, R: Wait + Drop> BoardWriter<J, B, Shown<J, B>, R> {
         requires { applied J.kind B.origin (records_of (self.old.batches ++ batch.now ∷ [])) ≡ Some state.now }
         ensures durable { self.new.batches ≡ self.old.batches ++ batch.now ∷ [] }
         ensures shown { OnOk result (self.new.shown ≡ self.new.batches) }
-        ensures err { OnErr result (self.new.shown ≡ self.old.shown) }
+        ensures kept { OnErr result (self.new.shown ≡ self.old.shown) }
     {
         let _number = state.number();
         let BoardWriter { end, word, writer } = self;

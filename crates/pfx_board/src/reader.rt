@@ -77,7 +77,7 @@ impl<J: Job, B: Begun<J>> Reader<J, B> {
         ensures board { IfOk result (λ board. IsBoardOf J.kind B.origin self.new board) }
         ensures number { IfOk result (λ board. board.number ≡ last_of B.origin self.new) }
         ensures least { IfOk result (λ board. last_of B.origin self.old ≤ board.number) }
-        ensures err { OnErr result (self.new ≡ self.old) }
+        ensures kept { OnErr result (self.new ≡ self.old) }
     {
         let Ok(room) = Vec::with_capacity(alloc, self.tasks) else {
             return Err(StatusFault::NoMemory);

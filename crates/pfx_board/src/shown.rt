@@ -77,7 +77,7 @@ impl<J: Job, B: Begun<J>> Shown<J, B> {
         ensures seen { IfOk result (λ board. (known.new ≡ self.now) × IsBoardOf J.kind B.origin self.now board) }
         ensures number { IfOk result (λ board. board.number ≡ last_of B.origin known.new) }
         ensures least { IfOk result (λ board. last_of B.origin known.old ≤ board.number) }
-        ensures err { OnErr result (known.new ≡ known.old) }
+        ensures kept { OnErr result (known.new ≡ known.old) }
     {
         if !known.begins(&self.word) {
             return Err(StatusFault::BoardShut);

@@ -34,7 +34,7 @@ impl<J: Job, B: Named<J>> Book<J, B> {
         requires { number ≤ B.start.number + self.old.session.marked }
         ensures receipt { IfOk result (λ r. (r.number ≡ number) × (r.clock ≡ self.old.session.marked_at)) }
         ensures receipted { OnOk result (IsReceipted number self.old self.new pass.old pass.new) }
-        ensures err { OnErr result ((self.new ≡ self.old) × (pass.new ≡ pass.old)) }
+        ensures kept { OnErr result ((self.new ≡ self.old) × (pass.new ≡ pass.old)) }
     {
         let Book {
             keeper,
@@ -122,7 +122,7 @@ impl<J: Job, B: Named<J>> Book<J, B> {
     pub fn is_sole(&mut self, pass: &mut Pass<J, B>) -> bool
         ensures same { (self.new ≡ self.old) × (pass.new ≡ pass.old) }
         ensures sole { IsTrue result → self.old.history ≡ alone pass.old.1 }
-        ensures found { self.old.passes ≡ 1 → pass.old.0 ≡ 1 → result ≡ true }
+        ensures yes { self.old.passes ≡ 1 → pass.old.0 ≡ 1 → result ≡ true }
     {
         if self.passes != 1 {
             return false;

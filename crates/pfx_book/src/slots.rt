@@ -85,7 +85,7 @@ impl<J: Job, B: Named<J>> Book<J, B> {
     pub fn give(&mut self, done: Done<J>) -> Result<(), GatherFault>
         ensures event { OnOk result (ComesBack J.kind (deal done.number done.slot done.task done.before) self.old self.new) }
         ensures err { IfErr result (λ fault. IsRepelled self.old.session.opened (deal done.number done.slot done.task done.before) fault) }
-        ensures same { OnErr result (self.new ≡ self.old) }
+        ensures kept { OnErr result (self.new ≡ self.old) }
     {
         let Some(slot) = &mut self.slot else {
             return Err(GatherFault::Stranger { task: done.task });

@@ -24,7 +24,7 @@ fn put_next(
 ) -> Result<(), Fault>
     ensures ok { OnOk result (IsNext workers weights.now slot allocs.now row.old row.new) }
     ensures why { IfErr result (NextFails workers weights.now slot allocs.now row.old) }
-    ensures err { OnErr result (row.new ≡ row.old) }
+    ensures kept { OnErr result (row.new ≡ row.old) }
 {
     let ledger = given_ledger(alloc, workers, weights, slot, allocs)?;
     if row.len() < workers as usize {
@@ -57,7 +57,7 @@ pub extern "C" fn pfx_next(
 ) -> u32
     ensures ok { result ≡ 0 → IsNext workers weights.now slot allocs.now row.old row.new }
     ensures why { result ≢ 0 → IsRefused result (NextFails workers weights.now slot allocs.now row.old) }
-    ensures err { result ≢ 0 → row.new ≡ row.old }
+    ensures kept { result ≢ 0 → row.new ≡ row.old }
 {
     match put_next(alloc, workers, weights, slot, allocs, row) {
         Ok(()) => 0,

@@ -49,7 +49,7 @@ pub extern "C" fn pfx_total(
 ) -> u32
     ensures ok { result ≡ 0 → HasTotal workers weights.now total.new }
     ensures why { result ≢ 0 → IsRefused result (SetFails workers weights.now) }
-    ensures err { result ≢ 0 → total.new ≡ total.old }
+    ensures kept { result ≢ 0 → total.new ≡ total.old }
 {
     match set_of(alloc, workers, weights) {
         Ok(set) => {
@@ -74,7 +74,7 @@ pub extern "C" fn pfx_set(
 ) -> u32
     ensures ok { result ≡ 0 → IsShown workers weights.now shown.new × (task.new ≡ task.old) }
     ensures why { result ≢ 0 → IsNamed result task.old task.new (SetFails workers weights.now) }
-    ensures err { result ≢ 0 → shown.new ≡ shown.old }
+    ensures kept { result ≢ 0 → shown.new ≡ shown.old }
 {
     match set_of(alloc, workers, weights) {
         Ok(set) => {

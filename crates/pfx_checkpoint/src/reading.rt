@@ -95,7 +95,7 @@ fn ledger_of(
     slot: u64,
     allocs: &[u64],
 ) -> Result<Columns, CheckpointFault>
-    requires number { length allocs.now ≡ length set.now.weights }
+    requires long { length allocs.now ≡ length set.now.weights }
     requires slot { slot < 2 ^ 40 }
     ensures { MatchResult result (λ g. (g ≡ ledger_at set.now slot allocs.now) × IsLedger g)
         (λ f. f ≡ CheckpointFault.Damaged → IsLedger (ledger_at set.now slot allocs.now) → ⊥) }

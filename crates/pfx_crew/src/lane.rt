@@ -102,7 +102,7 @@ impl<T: Drop> Berth<T> {
     #[tactic(auto, using(crate::proofs::Items::items_end, crate::proofs::Items::ends_more))]
     /// Waits for room and puts the end in: whoever takes from now on finds what was put in before, and then the end.
     pub fn end<R: Wait>(&mut self, rt: &R)
-        ensures items { (self.new.put ≡ self.old.put) × (self.new.taken ≡ self.old.taken) }
+        ensures same { (self.new.put ≡ self.old.put) × (self.new.taken ≡ self.old.taken) }
         ensures ends { (self.new.ends_put ≡ self.old.ends_put + 1) × (self.new.ends_taken ≡ self.old.ends_taken) }
     {
         match self

@@ -57,7 +57,7 @@ fn put_piece(
 ) -> Result<(), AllocError>
     requires drawable { IsDrawable s }
     requires gap { track.gap ≤ 1 }
-    requires number { length marks.now ≤ 1440 }
+    requires limit { length marks.now ≤ 1440 }
     requires within { i < length marks.now }
     ensures { OnOk result (text.new.items ≡ text.old.items ++ bar_piece s track marks.now mark i) }
 {
@@ -83,7 +83,7 @@ pub(crate) fn put_bars(
 ) -> Result<(), AllocError>
     requires drawable { IsDrawable s }
     requires gap { track.gap ≤ 1 }
-    requires number { length marks.now ≤ 1440 }
+    requires limit { length marks.now ≤ 1440 }
     ensures { OnOk result (text.new.items ≡ text.old.items ++ bars_path s track marks.now mark) }
 {
     for i in 0..marks.len() {

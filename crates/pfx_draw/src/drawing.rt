@@ -134,7 +134,7 @@ fn course_of(ledger: &Columns, x: usize) -> Course
 
 fn marks_of(alloc: Global, rows: &[Row], x: u16) -> Result<Vec<u64>, AllocError>
     ensures marks { IfOk result (λ v. v.items ≡ marks_of rows.now x) }
-    ensures number { IfOk result (λ v. length v.items ≡ length rows.now) }
+    ensures count { IfOk result (λ v. length v.items ≡ length rows.now) }
 {
     let mut marks = Vec::new(alloc);
     for row in rows {
@@ -154,7 +154,7 @@ fn put_lane_of(
 ) -> Result<(), AllocError>
     requires drawable { IsDrawable s }
     requires within { x < length ledger.now.set.weights }
-    requires number { length rows.now ≤ 1440 }
+    requires limit { length rows.now ≤ 1440 }
     ensures { OnOk result (text.new.items ≡ text.old.items ++ lane_of s (map task_view tasks.now) ledger.now rows.now x) }
 {
     let _total = ledger.total();
@@ -184,7 +184,7 @@ fn put_lanes(
     rows: &[Row],
 ) -> Result<(), AllocError>
     requires drawable { IsDrawable s }
-    requires number { length rows.now ≤ 1440 }
+    requires limit { length rows.now ≤ 1440 }
     ensures { OnOk result (text.new.items ≡ text.old.items ++ lanes_of s (map task_view tasks.now) ledger.now rows.now) }
 {
     for x in 0..ledger.total() {
@@ -202,7 +202,7 @@ fn framed(
     rows: &[Row],
 ) -> Result<Vec<u8>, AllocError>
     requires drawable { IsDrawable s }
-    requires number { length rows.now ≤ 1440 }
+    requires limit { length rows.now ≤ 1440 }
     ensures { IfOk result (λ v. v.items ≡ framed s name.now (map task_view tasks.now) ledger.now rows.now) }
 {
     let _total = ledger.total();

@@ -140,9 +140,9 @@ pub(crate) fn counted(k: u64, marks: &[u64], i: usize) -> u64
 #[tactic(auto, using(crate::proofs::Pieces::each_one, crate::proofs::Pieces::each_none, crate::proofs::Pieces::count_more, crate::proofs::Pieces::no_count))]
 pub(crate) fn levels(alloc: Global, c: Course, marks: &[u64]) -> Result<Vec<u64>, AllocError>
     requires course { IsCourse c }
-    requires number { length marks.now ≤ 1440 }
+    requires limit { length marks.now ≤ 1440 }
     ensures levels { IfOk result (λ v. v.items ≡ levels c marks.now) }
-    ensures number { IfOk result (λ v. length v.items ≡ length marks.now) }
+    ensures count { IfOk result (λ v. length v.items ≡ length marks.now) }
 {
     let mut found = Vec::new(alloc);
     let mut k = 0;
@@ -157,7 +157,7 @@ pub(crate) fn levels(alloc: Global, c: Course, marks: &[u64]) -> Result<Vec<u64>
 #[tactic(auto, using(crate::proofs::Pieces::most_more, crate::proofs::Pieces::most_none, crate::proofs::Pieces::count_more, crate::proofs::Pieces::no_count))]
 pub(crate) fn summed(c: Course, marks: &[u64]) -> Summary
     requires course { IsCourse c }
-    requires number { length marks.now ≤ 1440 }
+    requires limit { length marks.now ≤ 1440 }
     ensures is { result ≡ summed c marks.now }
     ensures few { result.runs ≤ 1440 }
 {

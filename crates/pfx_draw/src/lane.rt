@@ -110,7 +110,7 @@ fn put_run_bars(
 ) -> Result<(), AllocError>
     requires drawable { IsDrawable s }
     requires y { y ≤ 65536 }
-    requires number { length marks.now ≤ 1440 }
+    requires limit { length marks.now ≤ 1440 }
     ensures { OnOk result (text.new.items ≡ text.old.items ++ bars s ink y marks.now) }
 {
     put_phrase(text, Phrase::PathBegin)?;
@@ -235,7 +235,7 @@ fn put_tall_drawn(
     requires drawable { IsDrawable s }
     requires within { x ≤ 1152 }
     requires course { IsCourse c }
-    requires number { length marks.now ≤ 1440 }
+    requires limit { length marks.now ≤ 1440 }
     ensures { OnOk result (text.new.items ≡ text.old.items ++ tall_drawn s ink x c marks.now) }
 {
     let top = y_at(s, x);
@@ -302,7 +302,7 @@ fn put_cells(
 ) -> Result<(), AllocError>
     requires drawable { IsDrawable s }
     requires y { y ≤ 65536 }
-    requires number { length marks.now ≤ 1440 }
+    requires limit { length marks.now ≤ 1440 }
     ensures { OnOk result (text.new.items ≡ text.old.items ++ cells s y marks.now k) }
 {
     put_phrase(text, Phrase::PathBegin)?;
@@ -319,7 +319,7 @@ fn put_all_cells(
 ) -> Result<(), AllocError>
     requires drawable { IsDrawable s }
     requires y { y ≤ 65536 }
-    requires number { length marks.now ≤ 1440 }
+    requires limit { length marks.now ≤ 1440 }
     ensures { OnOk result (text.new.items ≡ text.old.items ++ all_cells s y marks.now) }
 {
     put_cells(alloc, text, s, y, marks, 1)?;
@@ -351,7 +351,7 @@ fn put_low_lane(
     requires drawable { IsDrawable s }
     requires within { x ≤ 1152 }
     requires course { IsCourse c }
-    requires number { length marks.now ≤ 1440 }
+    requires limit { length marks.now ≤ 1440 }
     ensures { OnOk result (text.new.items ≡ text.old.items ++ low_lane s x name.now c marks.now) }
 {
     let top = y_at(s, x);
@@ -376,7 +376,7 @@ fn put_body(
     requires drawable { IsDrawable s }
     requires within { x ≤ 1152 }
     requires course { IsCourse c }
-    requires number { length marks.now ≤ 1440 }
+    requires limit { length marks.now ≤ 1440 }
     requires few { m.runs ≤ 1440 }
     requires runs { m.runs ≡ runs_in marks.now (length marks.now) }
     ensures { OnOk result (text.new.items ≡ text.old.items ++ lane_body s real x name.now c marks.now) }
@@ -403,7 +403,7 @@ fn put_lane_by(
     requires drawable { IsDrawable s }
     requires within { x ≤ 1152 }
     requires course { IsCourse c }
-    requires number { length marks.now ≤ 1440 }
+    requires limit { length marks.now ≤ 1440 }
     requires few { m.runs ≤ 1440 }
     requires runs { m.runs ≡ runs_in marks.now (length marks.now) }
     ensures { OnOk result (text.new.items ≡ text.old.items ++ lane_by s real x name.now c marks.now m) }
@@ -430,7 +430,7 @@ pub(crate) fn put_lane(
     requires drawable { IsDrawable s }
     requires within { x ≤ 1152 }
     requires course { IsCourse c }
-    requires number { length marks.now ≤ 1440 }
+    requires limit { length marks.now ≤ 1440 }
     ensures { OnOk result (text.new.items ≡ text.old.items ++ lane s real x name.now c marks.now) }
 {
     put_lane_by(alloc, text, s, real, x, name, c, marks, summed(c, marks))

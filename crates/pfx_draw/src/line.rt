@@ -55,7 +55,7 @@ pub(crate) fn put_lag_path(
     requires drawable { IsDrawable s }
     requires course { IsCourse c }
     requires base { base ≤ 131072 }
-    requires number { length marks.now ≤ 1440 }
+    requires limit { length marks.now ≤ 1440 }
     ensures { OnOk result (text.new.items ≡ text.old.items ++ lag_path s c base marks.now) }
 {
     put_move(alloc, text, x_at(s, 0), lag_y(s, c, base, 0, 0))?;

@@ -33,7 +33,7 @@ pub fn run_durable<R: Read + Drop, W: Write, D: Disk>(
     requires some { 0 < window }
     ensures runs { Runs ⟦<DurableEngine<D> as Engine>⟧.promise form window script.old script.new.failed engine.old engine.new
         (W.contents output.old) (W.contents output.new) result }
-    ensures kept { engine.old.store.file.broken ≡ false → IsHonest (D.view engine.old.store.file.disk)
+    ensures printed { engine.old.store.file.broken ≡ false → IsHonest (D.view engine.old.store.file.disk)
         → Anchors (D.view engine.old.store.file.disk) engine.old.store.state
         → (records : List Fields) × IfSome script.old.left (λ all. all ≡ records)
         × IsKeptAsPrinted form engine.old.store.state script.old records (W.contents output.old) (W.contents output.new) (D.view engine.new.store.file.disk) }

@@ -320,7 +320,7 @@ where
         requires readers { 0 < readers }
         requires begins { Begins J.kind B.start B.failures B.clock store.file.broken store.state (D.view store.file.disk) }
         ensures readers { IfOk result (λ r. r.2.items ≡ replicate readers []) }
-        ensures err { IfErr result (λ e. e.1 ≡ store) }
+        ensures given_back { IfErr result (λ e. e.1 ≡ store) }
     {
         let Names { tokens, list } = names;
         let Ok((publisher, given, looked)) = show_first::<J, B, D, R>(

@@ -80,7 +80,7 @@ pub fn plain_slots<J: Job>(task: u16, happened: &[Happening<J>]) -> usize
 
 /// One if a slot was run that holds the task, else none.
 fn slots_of_one<J: Job>(task: u16, happening: &Happening<J>) -> usize
-    ensures number { result ≡ times_in (rows_of (happening.now ∷ [])) task }
+    ensures count { result ≡ times_in (rows_of (happening.now ∷ [])) task }
     ensures few { result ≤ 1 }
 {
     match happening {

@@ -27,7 +27,7 @@ pub(crate) fn holds(row: &[u16], task: usize) -> bool
 
 // The number one for what holds, else none.
 fn one(holds: bool) -> u64
-    ensures number { result ≡ one holds }
+    ensures count { result ≡ one holds }
     ensures few { result ≤ 1 }
 {
     if holds { 1 } else { 0 }
@@ -138,7 +138,7 @@ impl PlainLedger {
     // How many contending tasks go before this one.
     fn rivals(&self, x: usize) -> usize
         requires { x < length self.now.weights.items }
-        ensures number { result ≡ rivals (ledger_of self.now) x }
+        ensures count { result ≡ rivals (ledger_of self.now) x }
         ensures few { result ≤ length self.now.weights.items }
     {
         let mut number = 0;
@@ -150,7 +150,7 @@ impl PlainLedger {
 
     // How many tasks are urgent.
     fn urgent(&self) -> usize
-        ensures number { result ≡ urgent (ledger_of self.now) }
+        ensures count { result ≡ urgent (ledger_of self.now) }
         ensures few { result ≤ length self.now.weights.items }
     {
         let mut number = 0;
@@ -162,7 +162,7 @@ impl PlainLedger {
 
     // How many tasks contend.
     fn contending(&self) -> usize
-        ensures number { result ≡ contending (ledger_of self.now) }
+        ensures count { result ≡ contending (ledger_of self.now) }
         ensures few { result ≤ length self.now.weights.items }
     {
         let mut number = 0;

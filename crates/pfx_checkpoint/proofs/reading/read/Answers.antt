@@ -10,8 +10,8 @@ returns-then-number g c = none_number g.J.Job.kind c.args.set.now c.args.bytes.n
 pub returns-then-slot : goal.returns-then-slot
 returns-then-slot g c = none_slot g.J.Job.kind c.args.set.now c.args.bytes.now c.number_at-slot.result c.number_at-slot.ensures c.if-slot.true
 
-pub ledger_of-requires-clause-number : goal.ledger_of-requires-clause-number
-ledger_of-requires-clause-number g c =
+pub ledger_of-requires-clause-long : goal.ledger_of-requires-clause-long
+ledger_of-requires-clause-long g c =
     ap length (c.deref.ensures.value ∙ c.in-Ok.ensures) ∙ allocs_long c.args.set.now.real (length c.args.set.now.weights) c.args.bytes.now
 
 pub from_parts-requires-clause-jobs : goal.from_parts-requires-clause-jobs

@@ -11,6 +11,6 @@ returns-in-Ok-drawn-clause-ok c =
     record {
       rows = c.in-Ok-plan.rows.items;
       plan = c.in-Ok-plan.ensures.rows;
-      number = c.in-Ok-plan.ensures.number;
+      number = c.in-Ok-plan.ensures.count;
       is = c.in-Ok-drawn.ensures ∙ ap (λ (g : Ledger). of g c.as_slice.result.now) c.in-Ok.ensures ∙ ap (λ (rows : Schedule). of c.args.ledger rows) c.as_slice.ensures.value;
     }

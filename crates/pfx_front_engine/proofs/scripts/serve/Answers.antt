@@ -33,5 +33,5 @@ returns-after-pass g c = absurd c.never.ensures
 pub returns-in-Err : goal.returns-in-Err
 returns-in-Err g c =
     let begins = c.requires.begins in
-    subst (λ store. IsServedRun c.args.form g.B.Named.start c.args.script.now c.args.script.now.failed (g.W.Write.contents c.args.output.now) (g.W.Write.contents c.args.output.now) (g.D.Disk.view store.file.disk) (Err c.start_fault.result)) (sym c.in-Err.ensures.err)
+    subst (λ store. IsServedRun c.args.form g.B.Named.start c.args.script.now c.args.script.now.failed (g.W.Write.contents c.args.output.now) (g.W.Write.contents c.args.output.now) (g.D.Disk.view store.file.disk) (Err c.start_fault.result)) (sym c.in-Err.ensures.given_back)
     (unserved c.args.form g.B.Named.start (g.D.Disk.view c.args.store.file.disk) c.args.script.now c.args.script.now.failed (g.W.Write.contents c.args.output.now) c.start_fault.result c.start_fault.ensures (λ honest image here. begins.images honest image here ∙ ap Ok begins.state))

@@ -7,7 +7,7 @@ use Rattle.pfx_machine.proofs.slot.deal_all.Goals.{in-Some+in_ok-push, in_defaul
 
 pub loop-i-preserved : goal.loop-i-preserved
 loop-i-preserved g c =
-    let within : c.loop-i.i < length c.args.row.now = omega (arith, c.loop-i-test.true, c.len-i-end.ensures.number) in
+    let within : c.loop-i.i < length c.args.row.now = omega (arith, c.loop-i-test.true, c.len-i-end.ensures.count) in
     let all = deals g.J.Job.kind c.args.number c.args.slot c.args.row.now c.args.jobs.now in
     elim c.match-deal_one.branch [
       | in-Some+in_ok-push w ↦
@@ -25,5 +25,5 @@ loop-i-preserved g c =
 
 pub returns : goal.returns
 returns g c =
-    let past : length c.args.row.now ≤ c.loop-i.i = omega (arith, c.loop-i-test.false, c.len-i-end.ensures.number) in
+    let past : length c.args.row.now ≤ c.loop-i.i = omega (arith, c.loop-i-test.false, c.len-i-end.ensures.count) in
     deal_end g.J.Job.kind c.args.number c.args.slot c.args.row.now c.args.jobs.now c.loop-i.i _ _ past c.loop-i.invariant

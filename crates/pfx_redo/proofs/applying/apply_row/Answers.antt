@@ -12,7 +12,7 @@ returns-then-not-pass_row-clause-right g c =
     let s = c.args.state.now in
     let row = c.args.row.now in
     let ledger : IsLedger s.ledger = subst IsLedger c.columns.ensures c.total-total.ensures.ledger in
-    let flags : Flags g.J.Job.kind s row = rw (← c.jobs.ensures, ← c.columns.ensures, ← c.total-total.ensures.number) (sym c.are_flagged.ensures ∙ c.if-not-are_flagged.false) in
+    let flags : Flags g.J.Job.kind s row = rw (← c.jobs.ensures, ← c.columns.ensures, ← c.total-total.ensures.count) (sym c.are_flagged.ensures ∙ c.if-not-are_flagged.false) in
     let tasks : c.row_of-tasks.result ≡ tasks_of row = c.row_of-tasks.ensures in
     row_wrong g.J.Job.kind s row ledger.set.workers.1 c.requires.fits flags
     (λ full less fair. absurd (false≢true (sym c.if-not-pass_row.true ∙ c.pass_row.ensures.right.1 (subst (IsFullRow s.ledger.set.workers (total s.ledger)) (sym tasks) full, less, subst (λ r. IsFair (after s.ledger (is_in r))) (sym tasks) fair))))
@@ -22,7 +22,7 @@ returns-clause-right g c =
     let s = c.args.state.now in
     let row = c.args.row.now in
     let ledger : IsLedger s.ledger = subst IsLedger c.columns.ensures c.total-total.ensures.ledger in
-    let flags : Flags g.J.Job.kind s row = rw (← c.jobs.ensures, ← c.columns.ensures, ← c.total-total.ensures.number) (sym c.are_flagged.ensures ∙ c.if-not-are_flagged.false) in
+    let flags : Flags g.J.Job.kind s row = rw (← c.jobs.ensures, ← c.columns.ensures, ← c.total-total.ensures.count) (sym c.are_flagged.ensures ∙ c.if-not-are_flagged.false) in
     let tasks : c.row_of-tasks.result ≡ tasks_of row = c.row_of-tasks.ensures in
     let passed = c.pass_row.ensures.right.0 c.if-not-pass_row.false in
     row_right g.J.Job.kind s row ledger c.requires.number c.requires.fits flags

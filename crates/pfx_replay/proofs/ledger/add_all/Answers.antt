@@ -26,7 +26,7 @@ loop-x-preserved c =
     let within_now : x < length now = search rules in
     let within : x < length old = omega (arith, within_now, c.loop-x.invariant.long) in
     let v : d + c.one.result ≡ f x (get_or now x d) =
-    ap (λ a. a + c.one.result) c.index_mut.ensures.value ∙ ap (λ b. get_or now x d + b) (c.one.ensures.number ∙ ap one c.holds.ensures) in
+    ap (λ a. a + c.one.result) c.index_mut.ensures.value ∙ ap (λ b. get_or now x d + b) (c.one.ensures.count ∙ ap one c.holds.ensures) in
     let next = change_one f x now old (d + c.one.result) d d c.loop-x.invariant.changed within v in
     record { changed = next; long = ap length next ∙ changed-length f (x + 1) 0 old }
 
