@@ -10,6 +10,7 @@
 //! | `scripts` | `pfx_engine`: scripts over stores, on disks in memory, in a file, and on ones that fail |
 //! | `stops` | `pfx_engine`: stops after each call, and where frames go |
 //! | `turns` | `pfx_engine`: turns and checkpoints, and stops after each call of sixty slots |
+//! | `walks` | `pfx_store`: jobs of a kind that only its user knows, stopped after each call and recovered from a checkpoint |
 //! | `windows` | `pfx_engine`: scripts whose slots share frames, on disks in memory, on ones that fail, and stopped after each call |
 //!
 //! A case is a plain `bool`; `check`, `check_at` and `check_pair` name the one that doesn't hold.
@@ -35,5 +36,7 @@ mod scripts;
 mod stops;
 #[cfg(test)]
 mod turns;
+#[cfg(test)]
+mod walks;
 #[cfg(test)]
 mod windows;

@@ -14,18 +14,18 @@ use pfx_store::Store;
 use pfx_store_file::Tended;
 use std::alloc::Global;
 
-/// The record of a slot, if the state accepts one.
-fn slot_of(alloc: Global, state: &State<AnyJob>) -> Option<Record<AnyJob>> {
+/// The record of a command, if the state accepts it.
+fn entry_of<J: Job>(alloc: Global, command: Command<J>, state: &State<J>) -> Option<Record<J>> {
     let mut copy = state.copy_of(alloc).ok()?;
-    let done = run_recorded(alloc, &mut copy, Command::Slot).ok()?;
+    let done = run_recorded(alloc, &mut copy, command).ok()?;
     Some(done.entry)
 }
 
 /// Whether the records are appended in one batch, right at the store's state.
-fn append(
+fn append<J: Job>(
     alloc: Global,
-    records: Vec<Record<AnyJob>>,
-    store: &mut Store<MemoryDisk, AnyJob>,
+    records: Vec<Record<J>>,
+    store: &mut Store<MemoryDisk, J>,
 ) -> bool {
     let Ok(mut copy) = store.state().copy_of(alloc) else {
         return false;
@@ -39,9 +39,13 @@ fn append(
     apply_all(&mut copy, &batch.records) && store.append(&batch).is_ok()
 }
 
-/// Appends a slot, with no step of a checkpoint before it.
-pub fn append_slot(alloc: Global, store: &mut Store<MemoryDisk, AnyJob>) -> bool {
-    let Some(entry) = slot_of(alloc, store.state()) else {
+/// Appends a command, with no step of a checkpoint before it.
+pub fn append_command<J: Job>(
+    alloc: Global,
+    command: Command<J>,
+    store: &mut Store<MemoryDisk, J>,
+) -> bool {
+    let Some(entry) = entry_of(alloc, command, store.state()) else {
         return false;
     };
     match Vec::with_capacity(alloc, 1) {
@@ -51,6 +55,11 @@ pub fn append_slot(alloc: Global, store: &mut Store<MemoryDisk, AnyJob>) -> bool
         }
         Err(_) => false,
     }
+}
+
+/// Appends a slot, with no step of a checkpoint before it.
+pub fn append_slot(alloc: Global, store: &mut Store<MemoryDisk, AnyJob>) -> bool {
+    append_command(alloc, Command::Slot, store)
 }
 
 /// Whether so many slots are appended, with no step of a checkpoint between them.

@@ -2,7 +2,7 @@ use Rattle.std.proofs.Common.{rules, refl, sym}
 use Rattle.pfx_trial_store.proofs.turns.append.Goals as goal
 
 pub append-requires : goal.append-requires
-append-requires c =
+append-requires g c =
     let taken = c.if-apply_all.ensures.taken refl in
     record {
       next = record {
