@@ -148,49 +148,76 @@ fn damaged(at: usize, what: Part) -> Refusal {
 }
 
 /// Whether the front of a new file of this length is refused so.
-fn is_front_refused(alloc: Global, bytes: &[u8], len: usize, wanted: Refusal) -> bool {
+fn is_front_refused(alloc: Global, len: usize, wanted: Refusal) -> bool {
+    let bytes = new_file(alloc).unwrap_or(Vec::new(alloc));
     match bytes.get(..len) {
         Some(front) => is_refused(alloc, front, wanted),
         None => false,
     }
 }
 
-#[test]
-fn faulty_files_are_refused(rt: HostRuntime) {
-    let alloc = rt.alloc();
+/// Whether a new file with this byte at this place is refused so.
+fn is_new_refused(alloc: Global, at: usize, byte: u8, wanted: Refusal) -> bool {
     let bytes = new_file(alloc).unwrap_or(Vec::new(alloc));
-    let short = damaged(LEN - 1, Part::Length);
-    let fronts = [
-        (0, Refusal::NotAStore),
-        (30, Refusal::NotAStore),
-        (LEN - 1, short),
-    ];
-    for (len, refusal) in fronts {
-        check_at(
-            &rt,
-            is_front_refused(alloc, &bytes, len, refusal),
-            "bytes",
-            len,
-        );
-    }
-    let rows = [
-        (9, 9, Refusal::WrongVersion { version: 9 }),
-        (10, 0, damaged(0, Part::Header)),
-        (41, 0, damaged(41, Part::Checkpoint)),
-        (897, 0, damaged(897, Part::Segment)),
-    ];
-    for (at, byte, refusal) in rows {
-        let holds = is_refused_with(alloc, &bytes, &[(at, byte)], refusal);
-        check_at(&rt, holds == Some(true), "byte", at);
-    }
+    is_refused_with(alloc, &bytes, &[(at, byte)], wanted) == Some(true)
+}
+
+/// Whether a file with a frame, with these bytes at these places, is damaged so in the frame.
+fn is_frame_refused(alloc: Global, changes: &[(usize, u8)], what: Part) -> bool {
     let bytes = file_of_one_slot(alloc).unwrap_or(Vec::new(alloc));
+    is_refused_with(alloc, &bytes, changes, damaged(906, what)) == Some(true)
+}
+
+#[test]
+fn a_file_that_ends_in_its_header_is_not_a_store(rt: HostRuntime) {
+    let alloc = rt.alloc();
+    let holds = is_front_refused(alloc, 0, Refusal::NotAStore);
+    check(&rt, holds, "an empty file");
+    let holds = is_front_refused(alloc, 30, Refusal::NotAStore);
+    check(&rt, holds, "30 bytes");
+}
+
+#[test]
+fn a_byte_too_few_is_a_damaged_length(rt: HostRuntime) {
+    let short = damaged(LEN - 1, Part::Length);
+    check(&rt, is_front_refused(rt.alloc(), LEN - 1, short), "short");
+}
+
+#[test]
+fn another_version_is_a_wrong_version(rt: HostRuntime) {
+    let other = Refusal::WrongVersion { version: 9 };
+    check(&rt, is_new_refused(rt.alloc(), 9, 9, other), "version 9");
+}
+
+#[test]
+fn no_workers_are_a_damaged_header(rt: HostRuntime) {
+    let header = damaged(0, Part::Header);
+    check(&rt, is_new_refused(rt.alloc(), 10, 0, header), "no workers");
+}
+
+#[test]
+fn a_closed_area_alone_is_a_damaged_checkpoint(rt: HostRuntime) {
+    let area = damaged(41, Part::Checkpoint);
+    check(&rt, is_new_refused(rt.alloc(), 41, 0, area), "its gate");
+}
+
+#[test]
+fn a_closed_segment_is_a_damaged_segment(rt: HostRuntime) {
+    let segment = damaged(897, Part::Segment);
+    check(&rt, is_new_refused(rt.alloc(), 897, 0, segment), "its gate");
+}
+
+#[test]
+fn a_frame_that_ends_nowhere_is_a_damaged_frame(rt: HostRuntime) {
     let endless = [(907, 0xff), (908, 0xff), (909, 0xff), (910, 0xff)];
-    let frame = damaged(906, Part::Frame);
-    let holds = is_refused_with(alloc, &bytes, &endless, frame);
-    check(&rt, holds == Some(true), "a frame that ends nowhere");
-    let record = damaged(906, Part::Record);
-    let holds = is_refused_with(alloc, &bytes, &[(922, 1), (925, 0)], record);
-    check(&rt, holds == Some(true), "a row that falls");
+    let holds = is_frame_refused(rt.alloc(), &endless, Part::Frame);
+    check(&rt, holds, "its length");
+}
+
+#[test]
+fn a_row_that_falls_is_a_damaged_record(rt: HostRuntime) {
+    let holds = is_frame_refused(rt.alloc(), &[(922, 1), (925, 0)], Part::Record);
+    check(&rt, holds, "its row");
 }
 
 /// The bytes of a new store's file, with the frame that submits the search for `ab` in `abcab` as task 0.
@@ -220,7 +247,7 @@ fn file_of_a_scan(alloc: Global) -> Option<Vec<u8>> {
 
 /// A stored text or needle with a byte that no search has: 0xA0 or 0x1F, or a colon in the needle.
 #[test]
-fn damaged_scans_are_refused(rt: HostRuntime) {
+fn a_letter_that_no_search_has_is_a_damaged_record(rt: HostRuntime) {
     let alloc = rt.alloc();
     let bytes = file_of_a_scan(alloc).unwrap_or(Vec::new(alloc));
     let whole = opened(alloc, &bytes);
