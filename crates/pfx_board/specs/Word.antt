@@ -1,7 +1,7 @@
 -- Batches in a row: their records, and the number of the last one.
 use Rattle.std.specs.Prelude.{ℕ, ◌+◌, List, [], ◌∷◌, ◌++◌, length, map}
 use Rattle.pfx_machine.specs.Plain.{Plain}
-use Rattle.pfx_record.specs.Records.{plain, Plain as Recorded}
+use Rattle.pfx_record.specs.Records.{plain, Recorded}
 use Rattle.pfx_record.specs.declared.batch.Batch.{Batch}
 
 module _ {J : Type 0} where

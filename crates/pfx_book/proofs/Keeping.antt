@@ -5,7 +5,7 @@ use Rattle.pfx_fault.specs.declared.parts.Cause.{Cause}
 use Rattle.pfx_jobs.specs.Kind.{Kind}
 use Rattle.pfx_machine.specs.Plain.{Plain}
 use Rattle.pfx_machine.specs.Outcome.{outcome}
-use Rattle.pfx_record.specs.Records.{Plain as Recorded}
+use Rattle.pfx_record.specs.Records.{Recorded}
 use Rattle.pfx_redo.specs.Recording.{records_of}
 use Rattle.pfx_book.specs.Merging.{of, lists_from}
 use Rattle.pfx_book.specs.declared.note.Note.{Note}

@@ -18,7 +18,7 @@ use Rattle.pfx_redo.specs.Recording.{record_of, records_of}
 use Rattle.pfx_redo.proofs.Outcomes.{records_outcome}
 use Rattle.pfx_redo.proofs.States.{applied_behind}
 use Rattle.pfx_record.specs.Batches.{all_fit, batch_fits, counts_fit}
-use Rattle.pfx_record.specs.Records.{plain, Plain as Recorded, record_fits}
+use Rattle.pfx_record.specs.Records.{plain, Recorded, record_fits}
 use Rattle.pfx_record.proofs.Rising.{both, of_both}
 use Rattle.std.specs.Global.{Vec}
 use Rattle.pfx_record.specs.declared.record.Record.{Record}

@@ -14,7 +14,7 @@ use Rattle.pfx_machine.specs.Refusals.{reply}
 use Rattle.pfx_machine.specs.declared.command.Reply.{Reply}
 use Rattle.pfx_machine.specs.Slots.{Deal}
 use Rattle.pfx_record.specs.declared.record.Record.{Record}
-use Rattle.pfx_record.specs.Records.{plain, Plain as Recorded}
+use Rattle.pfx_record.specs.Records.{plain, Recorded}
 use Rattle.pfx_redo.specs.Recording.{records_of}
 use Rattle.pfx_world.specs.Session.{Session, Opened, AllBack, MayGive, begun, gave, receipted, took}
 use Rattle.pfx_book.specs.declared.faults.BookFault.{BookFault}

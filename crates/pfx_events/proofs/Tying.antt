@@ -16,7 +16,7 @@ use Rattle.pfx_machine.specs.Plain.{Plain, IsState}
 use Rattle.pfx_machine.specs.Sessions.{IsAcceptable}
 use Rattle.pfx_machine.specs.declared.command.Command.{Command}
 use Rattle.pfx_record.specs.Batches.{PlainBatch, batch_bytes}
-use Rattle.pfx_record.specs.Records.{Plain as Recorded}
+use Rattle.pfx_record.specs.Records.{Recorded}
 use Rattle.pfx_format.specs.Format.{format}
 use Rattle.pfx_recovery.specs.Store.{Replays}
 use Rattle.pfx_machine.proofs.Compose.{outcome-none}

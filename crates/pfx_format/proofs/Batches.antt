@@ -12,7 +12,7 @@ use Rattle.pfx_jobs.specs.Kind.{Kind, Laws}
 use Rattle.pfx_record.specs.Batches.{PlainBatch, all_fit, batch_bytes, batch_fits, counts_fit, head_bytes}
 use Rattle.pfx_record.specs.Begins.{joined}
 use Rattle.pfx_record.specs.Numbers.{number_bytes}
-use Rattle.pfx_record.specs.Records.{Plain, submitted, ran, withdrawn, place_bytes, record_bytes, record_fits, records_bytes, rises_from, row_bytes, state_bytes, tasks_of}
+use Rattle.pfx_record.specs.Records.{Recorded, submitted, ran, withdrawn, place_bytes, record_bytes, record_fits, records_bytes, rises_from, row_bytes, state_bytes, tasks_of}
 use Rattle.pfx_record.specs.declared.record.Place.{Place}
 use Rattle.pfx_record.proofs.Again.{length-number_bytes}
 use Rattle.pfx_record.proofs.Heads.{counts_of, length-head, parts_of}
@@ -65,7 +65,7 @@ module _ {J : Type 0} (K : Kind J) (L : Laws K) where
       ap (λ l. row_at K (length row) (drop (length (place_bytes K place)) l)) split ∙ (ap (row_at K (length row)) (drop-append_seam (place_bytes K place) (row_bytes K row ++ rest)) ∙ row_there row (place.task + 1) rest r.others) in
       if_some_is _ place _ (ap (place_at K) split ∙ place_there place (row_bytes K row ++ rest) r.small) ∙ if_some_is _ row (λ more. Some (place ∷ more)) others
 
-  record_there : (workers : ℕ) (done : Plain J) (rest : List ℕ) → IsTrue (record_fits workers done) → record_at K workers (record_bytes K done ++ rest) ≡ Some done
+  record_there : (workers : ℕ) (done : Recorded J) (rest : List ℕ) → IsTrue (record_fits workers done) → record_at K workers (record_bytes K done ++ rest) ≡ Some done
   record_there workers (submitted task job) rest h =
       let split : (number_bytes 2 task ++ K.spelling job) ++ rest ≡ number_bytes 2 task ++ (K.spelling job ++ rest) = append_assoc (number_bytes 2 task) (K.spelling job) rest in
       let number : little_number 2 ((number_bytes 2 task ++ K.spelling job) ++ rest) ≡ task = ap (little_number 2) split ∙ number_there 2 task (K.spelling job ++ rest) (ltb-true task (2 ^ 16) h) in
@@ -78,7 +78,7 @@ module _ {J : Type 0} (K : Kind J) (L : Laws K) where
       if_some_is _ row _ there
   record_there workers (withdrawn task) rest h = ap (λ n. Some (withdrawn n)) (number_there 2 task rest (ltb-true task (2 ^ 16) h))
 
-  records_there : (workers : ℕ) (records : List (Plain J)) (rest : List ℕ) → IsTrue (all_fit workers records) → records_at K workers (length records) (records_bytes K records ++ rest) ≡ Some records
+  records_there : (workers : ℕ) (records : List (Recorded J)) (rest : List ℕ) → IsTrue (all_fit workers records) → records_at K workers (length records) (records_bytes K records ++ rest) ≡ Some records
   records_there workers [] rest h = refl
   records_there workers (done ∷ records) rest h =
       let parts = both (record_fits workers done) (all_fit workers records) h in

@@ -9,7 +9,7 @@ use Rattle.pfx_machine.specs.Plain as machine
 use Rattle.pfx_record.specs.Batches.{PlainBatch, all_fit, batch_bytes}
 use Rattle.pfx_record.specs.Begins.{Begins}
 use Rattle.pfx_record.specs.Reading.{IsHead, IsRecord, NoRecord, body_of}
-use Rattle.pfx_record.specs.Records.{Plain, records_bytes}
+use Rattle.pfx_record.specs.Records.{Recorded, records_bytes}
 use Rattle.pfx_record.specs.declared.faults.FramePart.TheVariants.{Record}
 use Rattle.pfx_record.proofs.Bodies.{SoFar, so_far_begins, so_far_more, so_far_inside, stop_short, stop_over, all_read, no_head, no_records, is_batch, same_as, goes}
 use Rattle.pfx_format.specs.Frames.{number_after, state_after}
@@ -24,7 +24,7 @@ on_ok (Err e) known follows = tt
 
 module _ {J : Type 0} (K : Kind J) where
   -- one record more
-  applied_push : (s t : machine.Plain J) (read : List (Plain J)) (next : Plain J) → applied K s read ≡ Some t → applied K s (read ++ next ∷ []) ≡ applied K t (next ∷ [])
+  applied_push : (s t : machine.Plain J) (read : List (Recorded J)) (next : Recorded J) → applied K s read ≡ Some t → applied K s (read ++ next ∷ []) ≡ applied K t (next ∷ [])
   applied_push s t [] next is = ap (λ a. applied K a (next ∷ [])) (some_same s t is)
   applied_push s t (first ∷ read) next is = by (is_right K s first) (λ h. applied_push (after_record s first) t read next h) is
     where
@@ -33,7 +33,7 @@ module _ {J : Type 0} (K : Kind J) where
       by true more h = more h
       by false more h = absurd (none-some t h)
 
-  applied_none : (s : machine.Plain J) (read more : List (Plain J)) → applied K s read ≡ None → applied K s (read ++ more) ≡ None
+  applied_none : (s : machine.Plain J) (read more : List (Recorded J)) → applied K s read ≡ None → applied K s (read ++ more) ≡ None
   applied_none s [] more is = absurd (none-some s (sym is))
   applied_none s (first ∷ read) more is = by (is_right K s first) (λ h. applied_none (after_record s first) read more h) is
     where
@@ -45,7 +45,7 @@ module _ {J : Type 0} (K : Kind J) where
   module _ (L : Laws K) (workers : ℕ) (body : List ℕ) (s : machine.Plain J) where
     -- the records so far, which lead to this state
     pub record TakenSoFar (at n : ℕ) (t : machine.Plain J) : Type 0 where
-      pub read : List (Plain J)
+      pub read : List (Recorded J)
       pub so_far : SoFar K L workers body read at
       pub number : length read ≡ n
       pub leads : applied K s read ≡ Some t
@@ -60,7 +60,7 @@ module _ {J : Type 0} (K : Kind J) where
       pub none_next : n < count → NoRecord K workers (drop at body) → AreWrong K workers body count s
       none_next more none = inl (15 + at, Record, stop_short K L workers body now.read at count now.so_far (omega (arith, now.number, more)) none)
 
-      pub wrong_next : (next : Plain J) (taken : ℕ) → n < count → IsRecord K workers (drop at body) next taken → is_right K t next ≡ false → AreWrong K workers body count s
+      pub wrong_next : (next : Recorded J) (taken : ℕ) → n < count → IsRecord K workers (drop at body) next taken → is_right K t next ≡ false → AreWrong K workers body count s
       wrong_next next taken more is wrong =
           let so_far = so_far_more K L workers body now.read at next taken now.so_far is in
           inr (
@@ -71,7 +71,7 @@ module _ {J : Type 0} (K : Kind J) where
             applied_push s t now.read next now.leads ∙ ap (λ b. cond b (applied K (after_record t next) []) None) wrong,
           )
 
-      pub taken_more : (next : Plain J) (taken : ℕ) (then : machine.Plain J) → IsRecord K workers (drop at body) next taken → is_right K t next ≡ true → then ≡ after_record t next → TakenSoFar (at + taken) (n + 1) then
+      pub taken_more : (next : Recorded J) (taken : ℕ) (then : machine.Plain J) → IsRecord K workers (drop at body) next taken → is_right K t next ≡ true → then ≡ after_record t next → TakenSoFar (at + taken) (n + 1) then
       taken_more next taken then is right after = record {
         read = now.read ++ next ∷ [];
         so_far = so_far_more K L workers body now.read at next taken now.so_far is;
@@ -109,11 +109,11 @@ module _ {J : Type 0} (K : Kind J) where
         | inr bad ↦ by bad.0 bad.1 bad.2 bad.3 bad.4
       ]
         where
-          by : (read : List (Plain J)) → IsTrue (all_fit rows read) → Begins (body_of len frame) (records_bytes K read) → length read ≤ count → applied K s read ≡ None → None ≡ state_after K s frame
+          by : (read : List (Recorded J)) → IsTrue (all_fit rows read) → Begins (body_of len frame) (records_bytes K read) → length read ≤ count → applied K s read ≡ None → None ≡ state_after K s frame
           by read fit begins few none = leads_none K s frame (λ batch found.
               let spelled = batch_spelled K L rows frame batch found in
               let more = goes K L rows frame len first count head read batch spelled.0 (spells batch spelled.1) fit begins few in
-              ap (λ (l : List (Plain J)). applied K s l) more.1 ∙ applied_none s read more.0 none)
+              ap (λ (l : List (Recorded J)). applied K s l) more.1 ∙ applied_none s read more.0 none)
 
       pub taken_there : (t : machine.Plain J) (last : ℕ) → number_after s.number frame ≡ Some last → 15 + len ≡ length frame → AreTaken K rows (body_of len frame) count s t → Some t ≡ state_after K s frame
       taken_there t last number same taken = leads K s frame L t last _ (15 + len) number (is_batch K L rows frame len first count head taken.0 taken.1) same taken.2

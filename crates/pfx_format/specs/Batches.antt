@@ -4,7 +4,7 @@ use Rattle.std.specs.Str.{bytes_eq}
 use Rattle.byteorder.specs.Endian.{little_number}
 use Rattle.pfx_jobs.specs.Kind.{Kind}
 use Rattle.pfx_record.specs.Batches.{PlainBatch, batch_bytes, batch_fits}
-use Rattle.pfx_record.specs.Records.{Plain, submitted, ran, withdrawn, place_bytes, record_bytes}
+use Rattle.pfx_record.specs.Records.{Recorded, submitted, ran, withdrawn, place_bytes, record_bytes}
 use Rattle.pfx_record.specs.declared.record.Place.{Place}
 
 -- what follows on a value, if it is there
@@ -25,13 +25,13 @@ abbrev pub row_at : {J : Type 0} → Kind J → ℕ → List ℕ → Option (Lis
 row_at K zero bytes = Some []
 row_at K (suc n) bytes = if_some (place_at K bytes) (λ place. if_some (row_at K n (drop (length (place_bytes K place)) bytes)) (λ row. Some (place ∷ row)))
 
-abbrev pub record_at : {J : Type 0} → Kind J → ℕ → List ℕ → Option (Plain J)
+abbrev pub record_at : {J : Type 0} → Kind J → ℕ → List ℕ → Option (Recorded J)
 record_at K workers [] = None
 record_at K workers (tag ∷ bytes) =
     if tag == 1 then if_some (K.decoded (take 128 (drop 2 bytes))) (λ s. Some (submitted (little_number 2 bytes) s))
     else (if tag == 2 then if_some (row_at K workers bytes) (λ row. Some (ran row)) else Some (withdrawn (little_number 2 bytes)))
 
-abbrev pub records_at : {J : Type 0} → Kind J → ℕ → ℕ → List ℕ → Option (List (Plain J))
+abbrev pub records_at : {J : Type 0} → Kind J → ℕ → ℕ → List ℕ → Option (List (Recorded J))
 records_at K workers zero bytes = Some []
 records_at K workers (suc n) bytes = if_some (record_at K workers bytes)
     (λ done. if_some (records_at K workers n (drop (length (record_bytes K done)) bytes)) (λ records. Some (done ∷ records)))
@@ -44,11 +44,11 @@ abbrev pub count_in : List ℕ → ℕ
 count_in frame = little_number 2 (drop 13 frame)
 
 -- the batch that the bytes begin, with these records
-abbrev pub begun : {J : Type 0} → List ℕ → List (Plain J) → PlainBatch J
+abbrev pub begun : {J : Type 0} → List ℕ → List (Recorded J) → PlainBatch J
 begun frame records = record { first = first_in frame; records = records }
 
 -- the batch, if it has a spelling and these very bytes are it
-abbrev pub checked : {J : Type 0} → Kind J → ℕ → List ℕ → List (Plain J) → Option (PlainBatch J)
+abbrev pub checked : {J : Type 0} → Kind J → ℕ → List ℕ → List (Recorded J) → Option (PlainBatch J)
 checked K workers frame records = if batch_fits workers (begun frame records) && bytes_eq frame (batch_bytes K (begun frame records))
     then Some (begun frame records) else None
 

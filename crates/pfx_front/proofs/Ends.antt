@@ -27,7 +27,7 @@ use mathlib.Core.List.{IsPrefix}
 use Rattle.pfx_board.specs.Word.{records_of as records_of_batches}
 use Rattle.pfx_board.proofs.Words.{records_append}
 use Rattle.pfx_redo.proofs.States.{applied_behind}
-use Rattle.pfx_record.specs.Records.{Plain as Recorded}
+use Rattle.pfx_record.specs.Records.{Recorded}
 use Rattle.pfx_record.specs.declared.batch.Batch.{Batch}
 use Rattle.pfx_front.specs.Showing.{IsShown}
 use Rattle.pfx_front.specs.Closing.{Acknowledged, IsSeen, IsStored, IsHeld}

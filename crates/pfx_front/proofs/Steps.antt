@@ -13,7 +13,7 @@ use Rattle.pfx_fault.specs.declared.parts.Cause.TheVariants.{Device, Memory}
 use Rattle.pfx_jobs.specs.Kind.{Kind}
 use Rattle.pfx_machine.specs.Plain.{Plain}
 use Rattle.pfx_record.specs.Batches.{batch_bytes, batch_of, batch_fits, counts_fit, all_fit}
-use Rattle.pfx_record.specs.Records.{plain, Plain as Recorded}
+use Rattle.pfx_record.specs.Records.{plain, Recorded}
 use Rattle.pfx_record.specs.declared.batch.Batch.{Batch}
 use Rattle.pfx_record.specs.declared.record.Record.{Record}
 use Rattle.pfx_record.proofs.Rising.{both}

@@ -6,7 +6,7 @@ use Rattle.pfx_book.specs.Notes.{records_in}
 use Rattle.pfx_redo.specs.Applying.{applied}
 use Rattle.pfx_jobs.specs.Kind.{Kind}
 use Rattle.pfx_machine.specs.Plain.{Plain}
-use Rattle.pfx_record.specs.Records.{plain, Plain as Recorded}
+use Rattle.pfx_record.specs.Records.{plain, Recorded}
 use Rattle.pfx_record.specs.declared.batch.Batch.{Batch}
 
 module _ {J : Type 0} where

@@ -4,7 +4,7 @@ use Rattle.std.specs.Bool.{IsTrue}
 use Rattle.std.proofs.lemmas.List.{map-append, drop-drop}
 use Rattle.pfx_jobs.specs.Kind.{Kind, Laws}
 use Rattle.pfx_record.specs.Begins.{Begins}
-use Rattle.pfx_record.specs.Records.{Plain, submitted, ran, withdrawn, rises_from, tasks_of, place_bytes, row_bytes, record_bytes, record_fits}
+use Rattle.pfx_record.specs.Records.{Recorded, submitted, ran, withdrawn, rises_from, tasks_of, place_bytes, row_bytes, record_bytes, record_fits}
 use Rattle.pfx_record.specs.declared.record.Place.{Place}
 use Rattle.pfx_record.proofs.Rising.{both, of_both, next_from, rises, rises-push, next-push, rises-behind}
 use Rattle.pfx_record.proofs.Fronts.{Each, goes_on, joined-push, begins_left, begins_join, begins_head, begins_tail, begins_cons, begins_len}
@@ -76,7 +76,7 @@ module _ {J : Type 0} (K : Kind J) (L : Laws K) where
 
   -- no row of so many tasks stands there
   pub no_row : (bytes : List ℕ) (row : List (Place J)) (at low m : ℕ) → RowSoFar K bytes row at low → NoPlace K low (drop at bytes) → length row < m → get_or bytes 0 0 ≡ 2
-      → (r : Plain J) → IsTrue (record_fits m r) → Begins bytes (record_bytes K r) → ⊥
+      → (r : Recorded J) → IsTrue (record_fits m r) → Begins bytes (record_bytes K r) → ⊥
   no_row bytes row at low m so_far none short tag (submitted task job) fits begins = omega (arith, tag, begins_head bytes 1 _ begins)
   no_row bytes row at low m so_far none short tag (withdrawn task) fits begins = omega (arith, tag, begins_head bytes 3 _ begins)
   no_row bytes row at low m so_far none short tag (ran whole) fits begins =

@@ -3,19 +3,19 @@ use Rattle.std.specs.Prelude.{ℕ, ◌+◌, ◌*◌, ◌^◌, Bool, ◌&&◌, na
 use Rattle.std.specs.List.{list_all}
 use Rattle.pfx_jobs.specs.Kind.{Kind}
 use Rattle.pfx_record.specs.Numbers.{number_bytes}
-use Rattle.pfx_record.specs.Records.{Plain, plain, record_fits, records_bytes}
+use Rattle.pfx_record.specs.Records.{Recorded, plain, record_fits, records_bytes}
 use Rattle.pfx_disk.specs.declared.gates.TheConstants.{GATE_OPEN}
 use Rattle.pfx_record.specs.declared.record.Record.{Record}
 
 -- the number of the first command, and the records of it and those after it
 pub record PlainBatch (J : Type 0) : Type 0 where
   pub first : ℕ
-  pub records : List (Plain J)
+  pub records : List (Recorded J)
 
 abbrev pub batch_of : {J : Type 0} → ℕ → List (Record J) → PlainBatch J
 batch_of first records = record { first = first; records = map plain records }
 
-abbrev pub all_fit : {J : Type 0} → ℕ → List (Plain J) → Bool
+abbrev pub all_fit : {J : Type 0} → ℕ → List (Recorded J) → Bool
 all_fit workers records = list_all (record_fits workers) records
 
 -- 1 to 16 commands, whose numbers are 1 to 2 ^ 48 - 1, and rows of 1 to 64 tasks

@@ -1,6 +1,6 @@
 -- What records do to a plain state. They are taken as they stand: no job is stepped, and nothing is chosen.
 use Rattle.std.specs.Prelude.{ℕ, ◌+◌, ◌==◌, ◌||◌, if◌then◌else◌, Bool, false, List, [], ◌∷◌, Option, Some, None}
-use Rattle.pfx_record.specs.Records.{Plain, submitted, ran, withdrawn}
+use Rattle.pfx_record.specs.Records.{Recorded, submitted, ran, withdrawn}
 use Rattle.pfx_record.specs.declared.record.Place.{Place}
 
 -- a state without its set of tasks: the number of the last command, the slot to come, what each task got, and each real
@@ -27,13 +27,13 @@ instead_of None job = job
 instead_of (Some state) job = Some state
 
 -- one task's job after a record
-abbrev pub job_after : {J : Type 0} → Plain J → ℕ → Option J → Option J
+abbrev pub job_after : {J : Type 0} → Recorded J → ℕ → Option J → Option J
 job_after (submitted other given) task job = if other == task then Some given else job
 job_after (ran row) task job = instead_of (state_in row task) job
 job_after (withdrawn other) task job = if other == task then None else job
 
 -- the jobs after a record, of the tasks from this one on
-abbrev pub jobs_from : {J : Type 0} → Plain J → ℕ → List (Option J) → List (Option J)
+abbrev pub jobs_from : {J : Type 0} → Recorded J → ℕ → List (Option J) → List (Option J)
 jobs_from done task [] = []
 jobs_from done task (job ∷ jobs) = job_after done task job ∷ jobs_from done (task + 1) jobs
 
@@ -42,18 +42,18 @@ abbrev pub counted_from : {J : Type 0} → List (Place J) → ℕ → List ℕ �
 counted_from row task [] = []
 counted_from row task (got ∷ allocations) = (if holds row task then got + 1 else got) ∷ counted_from row (task + 1) allocations
 
-abbrev pub allocations_after : {J : Type 0} → Plain J → List ℕ → List ℕ
+abbrev pub allocations_after : {J : Type 0} → Recorded J → List ℕ → List ℕ
 allocations_after (submitted task job) allocations = allocations
 allocations_after (ran row) allocations = counted_from row 0 allocations
 allocations_after (withdrawn task) allocations = allocations
 
-abbrev pub slot_after : {J : Type 0} → Plain J → ℕ → ℕ
+abbrev pub slot_after : {J : Type 0} → Recorded J → ℕ → ℕ
 slot_after (submitted task job) slot = slot
 slot_after (ran row) slot = slot + 1
 slot_after (withdrawn task) slot = slot
 
 -- the state after one record
-abbrev pub recorded_one : {J : Type 0} → Standing J → Plain J → Standing J
+abbrev pub recorded_one : {J : Type 0} → Standing J → Recorded J → Standing J
 recorded_one s done = record {
   number = s.number + 1;
   slot = slot_after done s.slot;
@@ -62,6 +62,6 @@ recorded_one s done = record {
 }
 
 -- the state after records, one after the other
-abbrev pub recorded : {J : Type 0} → Standing J → List (Plain J) → Standing J
+abbrev pub recorded : {J : Type 0} → Standing J → List (Recorded J) → Standing J
 recorded s [] = s
 recorded s (done ∷ records) = recorded (recorded_one s done) records

@@ -9,13 +9,13 @@ use Rattle.pfx_record.specs.declared.record.Record.TheVariants.{Submit, Slot, Wi
 
 -- a task got a job; or the tasks of a row ran, each with its job's state after the step if it took one; or a job was
 -- taken away
-pub data Plain (J : Type 0) : Type 0 where
-  submitted : (task : ℕ) (job : J) → Plain J
-  ran : (row : List (Place J)) → Plain J
-  withdrawn : (task : ℕ) → Plain J
+pub data Recorded (J : Type 0) : Type 0 where
+  submitted : (task : ℕ) (job : J) → Recorded J
+  ran : (row : List (Place J)) → Recorded J
+  withdrawn : (task : ℕ) → Recorded J
 
 -- what a record says
-abbrev pub plain : {J : Type 0} → Record J → Plain J
+abbrev pub plain : {J : Type 0} → Record J → Recorded J
 plain (Submit task job) = submitted task job
 plain (Slot row) = ran row.items
 plain (Withdraw task) = withdrawn task
@@ -30,7 +30,7 @@ rises_from low [] = true
 rises_from low (task ∷ tasks) = nat_le low task && (nat_lt task (2 ^ 16) && rises_from (task + 1) tasks)
 
 -- the record has a spelling if the rows have so many tasks
-abbrev pub record_fits : {J : Type 0} → ℕ → Plain J → Bool
+abbrev pub record_fits : {J : Type 0} → ℕ → Recorded J → Bool
 record_fits workers (submitted task job) = nat_lt task (2 ^ 16)
 record_fits workers (ran row) = (length row == workers) && rises_from 0 (tasks_of row)
 record_fits workers (withdrawn task) = nat_lt task (2 ^ 16)
@@ -48,10 +48,10 @@ abbrev pub row_bytes : {J : Type 0} → Kind J → List (Place J) → List ℕ
 row_bytes K row = joined (place_bytes K) row
 
 -- the tag, and what it is followed by
-abbrev pub record_bytes : {J : Type 0} → Kind J → Plain J → List ℕ
+abbrev pub record_bytes : {J : Type 0} → Kind J → Recorded J → List ℕ
 record_bytes K (submitted task job) = 1 ∷ (number_bytes 2 task ++ K.spelling job)
 record_bytes K (ran row) = 2 ∷ row_bytes K row
 record_bytes K (withdrawn task) = 3 ∷ number_bytes 2 task
 
-abbrev pub records_bytes : {J : Type 0} → Kind J → List (Plain J) → List ℕ
+abbrev pub records_bytes : {J : Type 0} → Kind J → List (Recorded J) → List ℕ
 records_bytes K records = joined (record_bytes K) records

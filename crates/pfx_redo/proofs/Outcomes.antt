@@ -29,7 +29,7 @@ use Rattle.pfx_machine.proofs.Keeping.{below_limit, chosen_is, ledger_after_row,
 use Rattle.pfx_machine.proofs.Places.{state_step-given, state_step-taken}
 use Rattle.pfx_machine.proofs.Snoc.{outcome-snoc}
 use Rattle.pfx_record.specs.Effect.{holds, instead_of, jobs_from, state_in}
-use Rattle.pfx_record.specs.Records.{Plain, submitted, ran, withdrawn, record_fits, rises_from, tasks_of}
+use Rattle.pfx_record.specs.Records.{Recorded, submitted, ran, withdrawn, record_fits, rises_from, tasks_of}
 use Rattle.pfx_record.specs.declared.record.Place.{Place}
 use Rattle.pfx_record.proofs.Rising.{both, of_both, rises-from}
 use Rattle.pfx_machine.specs.Jobs.{has_job, is_busy, is_free}

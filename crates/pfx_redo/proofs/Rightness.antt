@@ -13,7 +13,7 @@ use Rattle.pfx_machine.proofs.Fits.{Fitting, fits_of, fitting, state_fits}
 use Rattle.pfx_jobs.specs.Kind.{Kind}
 use Rattle.pfx_machine.specs.Plain as machine
 use Rattle.pfx_record.specs.Effect.{jobs_from}
-use Rattle.pfx_record.specs.Records.{Plain, submitted, ran, withdrawn, record_fits, rises_from, tasks_of}
+use Rattle.pfx_record.specs.Records.{Recorded, submitted, ran, withdrawn, record_fits, rises_from, tasks_of}
 use Rattle.pfx_record.specs.declared.record.Place.{Place}
 use Rattle.pfx_record.proofs.Rising.{both, of_both}
 use Rattle.pfx_machine.specs.Jobs.{has_job, is_free}
@@ -40,7 +40,7 @@ none_of true true = refl
 none_of true false = refl
 none_of false b = refl
 
-unfit : {J : Type 0} (K : Kind J) (s : machine.Plain J) (done : Plain J) → (fits (after_record s done) ≡ true → ⊥) → false ≡ is_right K s done
+unfit : {J : Type 0} (K : Kind J) (s : machine.Plain J) (done : Recorded J) → (fits (after_record s done) ≡ true → ⊥) → false ≡ is_right K s done
 unfit K s done never = by_fits (fits (after_record s done)) refl
   where
     by_fits : (b : Bool) → fits (after_record s done) ≡ b → false ≡ is_right K s done
@@ -76,7 +76,7 @@ pub withdraw_right : {J : Type 0} (K : Kind J) (s : machine.Plain J) (t : ℕ) �
 withdraw_right K s t h below form has = sym (of_both _ _ form (of_both _ _ has (ap fits (after-withdrawn K s t) ∙ plain_fits s _ h below)))
 
 -- a number above the last one
-pub number_wrong : {J : Type 0} (K : Kind J) (s : machine.Plain J) (done : Plain J) → 2 ^ 48 ≤ s.number + 1 → false ≡ is_right K s done
+pub number_wrong : {J : Type 0} (K : Kind J) (s : machine.Plain J) (done : Recorded J) → 2 ^ 48 ≤ s.number + 1 → false ≡ is_right K s done
 number_wrong K s done above = unfit K s done (λ is. let h = fitting (after_record s done) is in let n = h.number in omega (arith, n, above))
 
 pub free_is_real : {J : Type 0} (K : Kind J) (jobs : List (Option J)) (t : ℕ) → is_free K (slice_get jobs t) ≡ true → t < length jobs

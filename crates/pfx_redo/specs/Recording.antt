@@ -8,7 +8,7 @@ use Rattle.pfx_machine.specs.Outcome.{outcome}
 use Rattle.pfx_machine.specs.Slots.{Deal}
 use Rattle.pfx_machine.specs.declared.command.Command.{Command}
 use Rattle.pfx_machine.specs.declared.command.Command.TheVariants.{Submit, Slot, Withdraw}
-use Rattle.pfx_record.specs.Records.{Plain, submitted, ran, withdrawn}
+use Rattle.pfx_record.specs.Records.{Recorded, submitted, ran, withdrawn}
 use Rattle.pfx_record.specs.declared.record.Place.{Place}
 
 -- the state of an unfinished job after a step, by its task's place in the list of jobs
@@ -27,12 +27,12 @@ abbrev pub place_of : {J : Type 0} → Kind J → List (Option J) → ℕ → Pl
 place_of K jobs task = record { task = task; state = state_after_step K (slice_get jobs task) }
 
 -- the record of a command that is accepted in a state
-abbrev pub record_of : {J : Type 0} → Kind J → machine.Plain J → Command J → Plain J
+abbrev pub record_of : {J : Type 0} → Kind J → machine.Plain J → Command J → Recorded J
 record_of K s (Submit task job) = submitted task job
 record_of K s (Withdraw task) = withdrawn task
 record_of K s Slot = ran (map (place_of K s.jobs) (row_or_none (chosen s.ledger)))
 
 -- the records of commands, each accepted after those before it
-abbrev pub records_of : {J : Type 0} → Kind J → machine.Plain J → List (Command J) → List (Plain J)
+abbrev pub records_of : {J : Type 0} → Kind J → machine.Plain J → List (Command J) → List (Recorded J)
 records_of K s [] = []
 records_of K s (c ∷ H) = record_of K s c ∷ records_of K (outcome K s (c ∷ [])) H

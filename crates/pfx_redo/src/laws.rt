@@ -1,6 +1,6 @@
 //! What holds of all records, each the contract of a function without a body.
 ghost use Rattle.std.specs.Prelude.{◌≡◌, ◌+◌, ◌∷◌, [], List, length, IsTrue, Some, None};
-ghost use Rattle.pfx_record.specs.Records.{Plain as Recorded};
+ghost use Rattle.pfx_record.specs.Records.{Recorded};
 ghost use Rattle.pfx_machine.specs.Plain.{Plain, IsState};
 ghost use Rattle.pfx_machine.specs.Outcome.{outcome};
 ghost use Rattle.pfx_machine.specs.Refusals.{refusal};

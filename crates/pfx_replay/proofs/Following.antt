@@ -8,7 +8,7 @@ use Rattle.pfx_machine.specs.Plain as machine
 use Rattle.pfx_machine.specs.Refusals.{refusal}
 use Rattle.pfx_machine.specs.declared.command.Command.{Command}
 use Rattle.pfx_machine.proofs.Compose.{outcome-none, outcome-outcome}
-use Rattle.pfx_record.specs.Records.{Plain, plain}
+use Rattle.pfx_record.specs.Records.{Recorded, plain}
 use Rattle.pfx_record.specs.declared.record.Record.{Record}
 use Rattle.pfx_redo.specs.Applying.{after_record, applied, is_right}
 use Rattle.pfx_redo.specs.Recording.{record_of}
@@ -27,11 +27,11 @@ use Rattle.pfx_replay.proofs.Sessions as sessions
 
 module _ {J : Type 0} (K : Kind J) (L : Laws K) where
   -- what is known of one record at a state
-  module _ (s : machine.Plain J) (one : Plain J) (is_accepted : refusal K s (command_of one) ≡ None) (is_recorded : one ≡ record_of K s (command_of one)) where
+  module _ (s : machine.Plain J) (one : Recorded J) (is_accepted : refusal K s (command_of one) ≡ None) (is_recorded : one ≡ record_of K s (command_of one)) where
     abbrev next : machine.Plain J
     next = outcome K s (command_of one ∷ [])
 
-    follow-cons : (records : List (Plain J)) → Follow K next records → Follow K s (one ∷ records)
+    follow-cons : (records : List (Recorded J)) → Follow K next records → Follow K s (one ∷ records)
     follow-cons records h = record {
       acceptable = sessions.acceptable-cons K L s (command_of one) (commands_of records) is_accepted h.acceptable;
       recorded = ap₂ (λ x xs. x ∷ xs) is_recorded h.recorded;
@@ -43,7 +43,7 @@ module _ {J : Type 0} (K : Kind J) (L : Laws K) where
     number-next : next.number ≡ s.number + 1
     number-next = ap (λ (t : machine.Plain J). t.number) (outcome-one K L s (command_of one))
 
-    first-cons : (what : Difference) (records : List (Plain J)) (n : ℕ) → IsFirst K what next records n → IsFirst K what s (one ∷ records) n
+    first-cons : (what : Difference) (records : List (Recorded J)) (n : ℕ) → IsFirst K what next records n → IsFirst K what s (one ∷ records) n
     first-cons what records n h = record {
       agreed = one ∷ h.agreed;
       one = h.one;
@@ -54,11 +54,11 @@ module _ {J : Type 0} (K : Kind J) (L : Laws K) where
       wrong = subst (λ t. IsWrong K what t h.one) (outcome-cons (commands_of h.agreed)) h.wrong;
     }
 
-    pub gives-cons : (records : List (Plain J)) (v : Judged J) → GivesAll K next records v → GivesAll K s (one ∷ records) v
+    pub gives-cons : (records : List (Recorded J)) (v : Judged J) → GivesAll K next records v → GivesAll K s (one ∷ records) v
     gives-cons records (Agrees t) h = (follow-cons records h.0, h.1 ∙ outcome-cons (commands_of records))
     gives-cons records (Differs n what) h = first-cons what records n h
 
-    pub applied-cons : (records : List (Plain J)) (t : machine.Plain J) → applied K (after_record s one) records ≡ Some t → applied K next records ≡ Some t
+    pub applied-cons : (records : List (Recorded J)) (t : machine.Plain J) → applied K (after_record s one) records ≡ Some t → applied K next records ≡ Some t
     applied-cons records t h = subst (λ x. applied K x records ≡ Some t) (ap (after_record s) is_recorded ∙ record_outcome K L s (command_of one)) h
 
   follow-none : (s : machine.Plain J) → Follow K s []
@@ -67,7 +67,7 @@ module _ {J : Type 0} (K : Kind J) (L : Laws K) where
   pub gives-none : (s : machine.Plain J) (t : PlainState J) → plain_of t ≡ s → GivesAll K s [] (Agrees t)
   gives-none s t is = (follow-none s, is ∙ sym (outcome-none K s))
 
-  pub gives-wrong : (s : machine.Plain J) (one : Plain J) (records : List (Plain J)) (n : ℕ) (what : Difference) → n ≡ s.number + 1 → IsWrong K what s one → GivesAll K s (one ∷ records) (Differs n what)
+  pub gives-wrong : (s : machine.Plain J) (one : Recorded J) (records : List (Recorded J)) (n : ℕ) (what : Difference) → n ≡ s.number + 1 → IsWrong K what s one → GivesAll K s (one ∷ records) (Differs n what)
   gives-wrong s one records n what number wrong = record {
     agreed = [];
     one = one;
@@ -79,14 +79,14 @@ module _ {J : Type 0} (K : Kind J) (L : Laws K) where
   }
 
 -- the number after records
-pub follow_number : {J : Type 0} (K : Kind J) (L : Laws K) (s : machine.Plain J) (records : List (Plain J)) → IsState s → Follow K s records → (outcome K s (commands_of records)).number ≡ s.number + length records
+pub follow_number : {J : Type 0} (K : Kind J) (L : Laws K) (s : machine.Plain J) (records : List (Recorded J)) → IsState s → Follow K s records → (outcome K s (commands_of records)).number ≡ s.number + length records
 follow_number K L s records state h =
     let t = outcome K s (commands_of records) in
     let run : applied K s records ≡ Some t = ap (applied K s) h.recorded ∙ records_outcome K L s (commands_of records) state h.acceptable in
     (applied_behind K s t records run).number
 
 -- one record more is taken over if it is right
-pub applied_by : {J : Type 0} (K : Kind J) (s t : machine.Plain J) (one : Plain J) (records : List (Plain J)) (b : Bool) → is_right K s one ≡ b → (if b then applied K (after_record s one) records else None) ≡ Some t →
+pub applied_by : {J : Type 0} (K : Kind J) (s t : machine.Plain J) (one : Recorded J) (records : List (Recorded J)) (b : Bool) → is_right K s one ≡ b → (if b then applied K (after_record s one) records else None) ≡ Some t →
     IsTrue (is_right K s one) × (applied K (after_record s one) records ≡ Some t)
 applied_by K s t one records true is h = (is, h)
 applied_by K s t one records false is h = absurd (none-some t h)

@@ -10,7 +10,7 @@ use Rattle.pfx_jobs.specs.Kind.{Kind, Laws}
 use Rattle.pfx_machine.specs.Plain.{Plain}
 use Rattle.pfx_record.specs.Batches.{PlainBatch, batch_bytes}
 use Rattle.pfx_record.specs.Reading.{IsBatch, NoBatch}
-use Rattle.pfx_record.specs.Records.{Plain as Recorded}
+use Rattle.pfx_record.specs.Records.{Recorded}
 use Rattle.pfx_record.proofs.Bodies.{one_batch}
 use Rattle.pfx_segment.specs.Frames.{AreFrames}
 use Rattle.pfx_segment.proofs.FrameLemmas.{read_is}

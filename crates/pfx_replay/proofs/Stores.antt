@@ -8,7 +8,7 @@ use Rattle.pfx_format.proofs.Keeping.{after_set, read_set}
 use Rattle.pfx_header.specs.Headers.{Header}
 use Rattle.pfx_jobs.specs.Kind.{Kind, Laws}
 use Rattle.pfx_machine.specs.Plain.{Plain}
-use Rattle.pfx_record.specs.Records.{Plain as Recorded}
+use Rattle.pfx_record.specs.Records.{Recorded}
 use Rattle.pfx_recovery.specs.Layout.{segment_at, area_at}
 use Rattle.pfx_recovery.specs.Store.{Parts, IsStore, Other, Replays}
 use Rattle.pfx_segment.specs.Frames.{AreFrames}

@@ -12,7 +12,7 @@ use Rattle.pfx_machine.specs.Refusals.{refusal, command_fault, slot_fault, submi
 use Rattle.pfx_machine.specs.declared.command.Command.{Command}
 use Rattle.pfx_machine.specs.declared.command.Command.TheVariants.{Submit, Slot, Withdraw}
 use Rattle.pfx_machine.specs.declared.faults.MachineFault.TheVariants.{NumberLimit, TaskBusy}
-use Rattle.pfx_record.specs.Records.{Plain, submitted, ran, withdrawn, record_fits, tasks_of}
+use Rattle.pfx_record.specs.Records.{Recorded, submitted, ran, withdrawn, record_fits, tasks_of}
 use Rattle.pfx_record.specs.declared.record.Place.{Place}
 use Rattle.pfx_record.proofs.Rising.{both}
 use Rattle.pfx_machine.specs.Jobs.{has_job, is_free}
@@ -21,7 +21,7 @@ use Rattle.pfx_redo.specs.Recording.{place_of, record_of}
 use Rattle.pfx_redo.proofs.Rightness.{number_wrong}
 
 module _ {J : Type 0} (K : Kind J) (s : machine.Plain J) where
-  pub number_below : (one : Plain J) → IsTrue (is_right K s one) → s.number + 1 < 2 ^ 48
+  pub number_below : (one : Recorded J) → IsTrue (is_right K s one) → s.number + 1 < 2 ^ 48
   number_below one right = elim (cases_lt (s.number + 1) (2 ^ 48)) [
     | inl less ↦ less
     | inr more ↦ absurd (let e : false ≡ true = number_wrong K s one more ∙ right in cc)
@@ -43,7 +43,7 @@ module _ {J : Type 0} (K : Kind J) (s : machine.Plain J) where
   no_withdraw_fault t (Some None) has = cc
   no_withdraw_fault t (Some (Some j)) has = refl
 
-  apt : (one : Plain J) → IsTrue (is_right K s one) → IsTrue (is_apt K (total s.ledger) s.jobs one)
+  apt : (one : Recorded J) → IsTrue (is_right K s one) → IsTrue (is_apt K (total s.ledger) s.jobs one)
   apt one right =
       let rest = (both (record_fits s.ledger.set.workers one) (is_apt K (total s.ledger) s.jobs one && fits (after_record s one)) right).1 in
       (both (is_apt K (total s.ledger) s.jobs one) (fits (after_record s one)) rest).0
@@ -54,7 +54,7 @@ module _ {J : Type 0} (K : Kind J) (s : machine.Plain J) where
   pub withdraw_accepted : (t : ℕ) → IsTrue (is_right K s (withdrawn t)) → refusal K s (Withdraw t) ≡ None
   withdraw_accepted t right = accepted (Withdraw t) (number_below (withdrawn t) right) (no_withdraw_fault t (slice_get s.jobs t) (apt (withdrawn t) right))
 
-  abbrev row_in : Plain J → List (Place J)
+  abbrev row_in : Recorded J → List (Place J)
   row_in (submitted t job) = []
   row_in (ran row) = row
   row_in (withdrawn t) = []

@@ -5,7 +5,7 @@ use Rattle.pfx_machine.specs.Plain.{Plain}
 use Rattle.pfx_machine.specs.Sessions.{IsAcceptable}
 use Rattle.pfx_machine.specs.declared.command.Command.{Command}
 use Rattle.pfx_machine.specs.declared.command.Command.TheVariants.{Submit, Slot, Withdraw}
-use Rattle.pfx_record.specs.Records.{Plain as Recorded, submitted, ran, withdrawn}
+use Rattle.pfx_record.specs.Records.{Recorded, submitted, ran, withdrawn}
 use Rattle.pfx_redo.specs.Recording.{records_of}
 
 -- the command that a record is of

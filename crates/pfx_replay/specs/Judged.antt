@@ -4,7 +4,7 @@ use Rattle.pfx_jobs.specs.Kind.{Kind}
 use Rattle.pfx_machine.specs.Outcome.{outcome}
 use Rattle.pfx_machine.specs.Plain.{Plain}
 use Rattle.pfx_machine.specs.Refusals.{refusal}
-use Rattle.pfx_record.specs.Records.{Plain as Recorded}
+use Rattle.pfx_record.specs.Records.{Recorded}
 use Rattle.pfx_redo.specs.Recording.{record_of}
 use Rattle.pfx_replay.specs.Commands.{Follow, command_of, commands_of}
 use Rattle.pfx_replay.specs.Stated.{plain_of}

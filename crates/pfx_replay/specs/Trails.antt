@@ -6,7 +6,7 @@ use Rattle.pfx_header.specs.Headers.{Header}
 use Rattle.pfx_jobs.specs.Kind.{Kind}
 use Rattle.pfx_machine.specs.Plain.{Plain}
 use Rattle.pfx_record.specs.Batches.{PlainBatch}
-use Rattle.pfx_record.specs.Records.{Plain as Recorded}
+use Rattle.pfx_record.specs.Records.{Recorded}
 use Rattle.pfx_recovery.specs.Codec.{Codec}
 use Rattle.pfx_recovery.specs.Layout.{area_at, segment_at}
 use Rattle.pfx_recovery.specs.Recovery.{Found}

@@ -5,7 +5,7 @@ use Rattle.pfx_choice.specs.PfRows.{chosen}
 use Rattle.pfx_machine.specs.Plain.{Plain}
 use Rattle.pfx_machine.specs.Outcome.{outcome}
 use Rattle.pfx_machine.specs.declared.command.Command.TheVariants.{Slot}
-use Rattle.pfx_record.specs.Records.{Plain as Recorded, ran, tasks_of}
+use Rattle.pfx_record.specs.Records.{Recorded, ran, tasks_of}
 use Rattle.pfx_record.specs.declared.record.Place.{Place}
 use Rattle.pfx_redo.specs.Recording.{record_of}
 use Rattle.pfx_replay.specs.Commands.{Follow, commands_of}

@@ -23,7 +23,7 @@ use Rattle.pfx_machine.specs.declared.command.Command.{Command}
 use Rattle.pfx_machine.proofs.Compose.{outcome-none, outcome-outcome}
 use Rattle.pfx_machine.proofs.Keeping.{prefix_is_state}
 use Rattle.pfx_record.specs.Batches.{PlainBatch, all_fit, batch_bytes, batch_fits, counts_fit}
-use Rattle.pfx_record.specs.Records.{Plain as Recorded, record_fits}
+use Rattle.pfx_record.specs.Records.{Recorded, record_fits}
 use Rattle.pfx_record.proofs.Rising.{both, of_both}
 use Rattle.pfx_recovery.specs.Codec.{Codec}
 use Rattle.pfx_recovery.specs.Store.{Replays}

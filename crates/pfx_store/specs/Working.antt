@@ -11,7 +11,7 @@ use Rattle.pfx_header.specs.Headers.{Header, IsSegmentSize}
 use Rattle.pfx_jobs.specs.Kind.{Kind}
 use Rattle.pfx_machine.specs.Plain.{Plain, empty}
 use Rattle.pfx_record.specs.Numbers.{number_bytes}
-use Rattle.pfx_record.specs.Records.{Plain as Recorded}
+use Rattle.pfx_record.specs.Records.{Recorded}
 use Rattle.pfx_recover.specs.declared.faults.OpenFault.{OpenFault}
 use Rattle.pfx_recovery.specs.Recovery.{Found, found, recovered}
 use Rattle.pfx_recovery.specs.Store.{Replays}

@@ -5,7 +5,7 @@ use Rattle.std.specs.Bool.{IsTrue}
 use Rattle.std.specs.Prelude.{Some, None, if◌then◌else◌}
 use Rattle.pfx_jobs.specs.Kind.{Kind}
 use Rattle.pfx_machine.specs.Plain as machine
-use Rattle.pfx_record.specs.Records.{Plain, plain}
+use Rattle.pfx_record.specs.Records.{Recorded, plain}
 use Rattle.pfx_record.specs.declared.batch.Batch.{Batch}
 use Rattle.pfx_record.specs.declared.record.Record.{Record}
 use Rattle.pfx_redo.specs.Applying.{after_record, applied, is_right}
@@ -13,14 +13,14 @@ use Rattle.pfx_board.specs.Word.{records_of}
 use Rattle.pfx_board.proofs.Words.{records_more}
 
 module _ {J : Type 0} where
-  one_more : (K : Kind J) (s t : machine.Plain J) (d e : Plain J) (rs : List (Plain J)) (b : Bool) → is_right K s e ≡ b
+  one_more : (K : Kind J) (s t : machine.Plain J) (d e : Recorded J) (rs : List (Recorded J)) (b : Bool) → is_right K s e ≡ b
       → (if b then applied K (after_record s e) rs else None) ≡ Some t
       → (applied K (after_record s e) rs ≡ Some t → applied K (after_record s e) (rs ++ d ∷ []) ≡ Some (after_record t d))
       → applied K s (e ∷ (rs ++ d ∷ [])) ≡ Some (after_record t d)
   one_more K s t d e rs true is h rest = rw is (rest h)
   one_more K s t d e rs false is h rest = absurd (none-some t h)
 
-  applied_more : (K : Kind J) (s t : machine.Plain J) (rs : List (Plain J)) (d : Plain J) → applied K s rs ≡ Some t → IsTrue (is_right K t d)
+  applied_more : (K : Kind J) (s t : machine.Plain J) (rs : List (Recorded J)) (d : Recorded J) → applied K s rs ≡ Some t → IsTrue (is_right K t d)
       → applied K s (rs ++ d ∷ []) ≡ Some (after_record t d)
   applied_more K s t [] d h right =
       let same : s ≡ t = ap (λ o. elim o [ Some x ↦ x | None ↦ s ]) h in

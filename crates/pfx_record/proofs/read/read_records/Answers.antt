@@ -1,6 +1,6 @@
 use Rattle.std.proofs.Common.{◌≡◌, ◌∙◌, ◌<◌, ◌+◌, ◌++◌, ◌∷◌, [], ℕ, List, sym, ap, subst, arith, length, map}
 use Rattle.std.proofs.lemmas.List.{map_push, length-map, take_rest}
-use Rattle.pfx_record.specs.Records.{Plain, plain}
+use Rattle.pfx_record.specs.Records.{Recorded, plain}
 use Rattle.pfx_record.specs.Reading.{IsRecord, NoRecord}
 use Rattle.pfx_record.proofs.Bodies.{SoFar, so_far_begins, so_far_more, record_inside, stop_short, stop_over, all_read}
 use Rattle.pfx_record.proofs.read.read_records.Goals as goal
@@ -35,7 +35,7 @@ loop-i-preserved g c =
     let more = so_far_more K L c.args.workers body (map plain c.loop-i.records.items) c.loop-i.at (plain c.in-Some.record) c.in-Some.taken c.loop-i.invariant.so_far is in
     let pushed : map plain c.push_reserved.new.self.items ≡ map plain c.loop-i.records.items ++ plain c.in-Some.record ∷ [] = ap (map plain) c.push_reserved.ensures.items ∙ map_push plain c.loop-i.records.items c.in-Some.record in
     record {
-      so_far = subst (λ (l : List (Plain g.row.J.Denot)). SoFar K L c.args.workers body l (c.loop-i.at + c.in-Some.taken)) (sym pushed) more;
+      so_far = subst (λ (l : List (Recorded g.row.J.Denot)). SoFar K L c.args.workers body l (c.loop-i.at + c.in-Some.taken)) (sym pushed) more;
       count = omega (arith, c.push_reserved.ensures.len, c.loop-i.invariant.count);
       room = omega (arith, c.push_reserved.ensures.capacity, c.loop-i.invariant.room);
       inside = record_inside K L c.args.workers body c.loop-i.at (plain c.in-Some.record) c.in-Some.taken c.loop-i.invariant.inside is;

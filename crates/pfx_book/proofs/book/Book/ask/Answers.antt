@@ -7,7 +7,7 @@ use Rattle.pfx_machine.specs.Steps.{state_step, happening_in}
 use Rattle.pfx_machine.specs.declared.command.Command.{Command}
 use Rattle.pfx_world.specs.Session.{asked}
 use Rattle.pfx_machine.specs.Refusals.{reply}
-use Rattle.pfx_record.specs.Records.{plain, Plain as Recorded}
+use Rattle.pfx_record.specs.Records.{plain, Recorded}
 use Rattle.pfx_book.specs.declared.note.Note.{Note}
 use Rattle.pfx_book.specs.declared.note.Note.TheVariants.{Accepted, Refused}
 use Rattle.pfx_book.specs.Notes.{greatest, lost_in, commands_of, refused_at}

@@ -1,7 +1,7 @@
 use Rattle.std.specs.Prelude.{None, slice_set, map}
 use Rattle.std.proofs.Common.{◌≡◌, ◌++◌, ◌∷◌, [], List, length, sym, subst, ap, ◌∙◌}
 use Rattle.pfx_machine.specs.Plain.{Plain}
-use Rattle.pfx_record.specs.Records.{plain, Plain as Recorded}
+use Rattle.pfx_record.specs.Records.{plain, Recorded}
 use Rattle.pfx_book.specs.declared.note.Note.{Note}
 use Rattle.pfx_book.specs.declared.note.Note.TheVariants.{Marked}
 use Rattle.pfx_book.specs.declared.line.Line.{Line}

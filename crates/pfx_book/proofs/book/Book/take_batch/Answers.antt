@@ -3,7 +3,7 @@ use Rattle.std.specs.VecDeque.{deque_items}
 use Rattle.std.proofs.Common.{◌≡◌, ℕ, List, [], ◌∷◌, ◌++◌, ◌<◌, ◌+◌, ◌-◌, length, refl, sym, ap, ◌∙◌, subst, arith, rules, length-append}
 use Rattle.std.proofs.lemmas.List.{map-append}
 use Rattle.pfx_record.specs.Batches.{batch_fits}
-use Rattle.pfx_record.specs.Records.{plain, Plain as Recorded}
+use Rattle.pfx_record.specs.Records.{plain, Recorded}
 use Rattle.pfx_book.specs.declared.note.Note.{Note}
 use Rattle.pfx_book.specs.declared.note.Note.TheVariants.{Took}
 use Rattle.pfx_book.specs.Notes.{GoesOn, commands_of}
