@@ -1,5 +1,5 @@
 -- What the making of a new file leaves on a disk, and what a codec says of it.
-use Rattle.std.specs.Prelude.{◌≡◌, ◌≤◌, ◌<◌, ◌+◌, ◌⊎◌, ◌↔◌, ℕ, List, [], length, Result, Ok, Err, OnOk, IsErr}
+use Rattle.std.specs.Prelude.{◌≡◌, ◌≤◌, ◌<◌, ◌+◌, ◌⊎◌, ◌↔◌, ℕ, List, [], length, take, Result, Ok, Err, OnOk, IsErr}
 use Rattle.pfx_disk.specs.Disk.{View, HasFailed, IsHonest, Leaves, Only, Same, Ticks}
 use Rattle.pfx_disk.specs.declared.device.DeviceFailed.{DeviceFailed}
 use Rattle.pfx_recovery.specs.Codec.{Codec, Laws}
@@ -8,7 +8,8 @@ use Rattle.pfx_recovery.specs.NewFile.{ArePartsOfNew, new_file}
 use Rattle.pfx_recovery.specs.Recovery.{recovered}
 use Rattle.pfx_recovery.specs.Refusals.{NotAStore}
 use Rattle.pfx_segment.specs.Segment.{Takes}
-use Rattle.pfx_create.specs.Creating.{Creating, HasLengths, IsUnmade, number_one, unopened}
+use Rattle.pfx_store_file.specs.declared.checkpoint.TheConstants.{PIECE}
+use Rattle.pfx_create.specs.Creating.{Creating, HasLengths, IsBehindFirst, IsInLimits, IsUnmade, StaysClosed, number_one, unopened}
 
 -- It takes so many calls of the disk; if it answers that the device failed, the disk did; and an honest disk stays one.
 pub record IsCall {T E : Type 0} (calls : ℕ) (device : Type 0) (old new : View) (result : Result T E) : Type 0 where
@@ -20,6 +21,25 @@ pub record IsCall {T E : Type 0} (calls : ℕ) (device : Type 0) (old new : View
 pub record IsOneCall {T : Type 0} (old new : View) (result : Result T DeviceFailed) : Type 0 where
   pub time : Ticks old new result
   pub honest : IsHonest old ↔ IsHonest new
+
+-- A new file in the limits can be written onto a disk that holds these bytes, if it is honest.
+pub record CanBeWritten (head body : List ℕ) (segment : ℕ) (held : List ℕ) (disk : View) : Type 0 where
+  pub limits : IsInLimits head body segment
+  pub holds : IsHonest disk → disk.contents ≡ held
+
+-- The next piece of a new file goes to this place behind its first byte, where an honest disk ends.
+pub record IsNextPiece (head body : List ℕ) (segment at : ℕ) (disk : View) : Type 0 where
+  pub place : IsBehindFirst head body segment at
+  pub end : IsHonest disk → length disk.contents ≡ at
+
+-- One call that writes it: a first gate that was closed stays so at any moment of it, and if the file stood there up to this place, with its
+-- first gate closed, it does up to the end of the piece once the call succeeded.
+pub record WritesPiece {T : Type 0} (head body : List ℕ) (segment at : ℕ) (old new : View) (result : Result T DeviceFailed) : Type 0 where
+  pub call : IsOneCall old new result
+  pub leaves : IsHonest old → Leaves StaysClosed old new
+  pub written : IsHonest old → (L : Layout) → HasLengths L head body segment
+      → old.contents ≡ take at (unopened (new_file L head body number_one))
+      → OnOk result (new.contents ≡ take (at + PIECE) (unopened (new_file L head body number_one)))
 
 -- Calls that write a new file with its first gate closed, so many: a stop at any moment of them leaves what was there in this relation
 -- to it, and once they succeeded all of the file stands there.

@@ -1,11 +1,8 @@
 // Writing all of a new file but its first gate.
-ghost use Rattle.std.specs.Prelude.{◌≡◌, ◌+◌, ◌-◌, ◌∷◌, [], length, take, OnOk};
-ghost use Rattle.pfx_disk.specs.Disk.{IsHonest, Leaves};
-ghost use Rattle.pfx_recovery.specs.Layout.{Layout};
-ghost use Rattle.pfx_recovery.specs.NewFile.{new_file};
+ghost use Rattle.std.specs.Prelude.{◌+◌, ◌-◌, ◌∷◌, []};
 ghost use Rattle.pfx_store_file.specs.Tending.{pieces};
-ghost use Rattle.pfx_create.specs.Attempts.{IsOneCall, WritesUnopened};
-ghost use Rattle.pfx_create.specs.Creating.{Beginning, HasLengths, IsBehindFirst, IsInLimits, StaysClosed, len_of, number_one, unopened};
+ghost use Rattle.pfx_create.specs.Attempts.{CanBeWritten, IsNextPiece, WritesPiece, WritesUnopened};
+ghost use Rattle.pfx_create.specs.Creating.{Beginning, StaysClosed, len_of};
 
 use crate::bytes::{file_len, fill};
 use pfx_disk::{DeviceFailed, Disk};
@@ -19,14 +16,8 @@ fn write_piece<D: Disk>(
     segment: usize,
     at: usize,
 ) -> Result<(), DeviceFailed>
-    requires place { IsBehindFirst head.now body.now segment at }
-    requires end { IsHonest (D.view disk.old) → length (D.view disk.old).contents ≡ at }
-    ensures call { IsOneCall (D.view disk.old) (D.view disk.new) result }
-    ensures leaves { IsHonest (D.view disk.old) → Leaves StaysClosed (D.view disk.old) (D.view disk.new) }
-    ensures written { IsHonest (D.view disk.old) → (L : Layout) → HasLengths L head.now body.now segment
-        → (D.view disk.old).contents ≡ take at (unopened (new_file L head.now body.now number_one))
-        → OnOk result ((D.view disk.new).contents
-        ≡ take (at + PIECE) (unopened (new_file L head.now body.now number_one))) }
+    requires { IsNextPiece head.now body.now segment at (D.view disk.old) }
+    ensures { WritesPiece head.now body.now segment at (D.view disk.old) (D.view disk.new) result }
 {
     let mut bytes = [0; PIECE];
     let n = PIECE.min(file_len(head, body, segment) - at);
@@ -42,8 +33,7 @@ fn write_pieces<D: Disk>(
     body: &[u8],
     segment: usize,
 ) -> Result<(), DeviceFailed>
-    requires limits { IsInLimits head.now body.now segment }
-    requires first { IsHonest (D.view disk.old) → (D.view disk.old).contents ≡ 0 ∷ [] }
+    requires { CanBeWritten head.now body.now segment (0 ∷ []) (D.view disk.old) }
     ensures { WritesUnopened (pieces (len_of head.now body.now segment - 1)) StaysClosed head.now body.now segment
         (D.view disk.old) (D.view disk.new) result }
 {
@@ -62,8 +52,7 @@ pub fn write_unopened<D: Disk>(
     body: &[u8],
     segment: usize,
 ) -> Result<(), DeviceFailed>
-    requires limits { IsInLimits head.now body.now segment }
-    requires empty { IsHonest (D.view disk.old) → (D.view disk.old).contents ≡ [] }
+    requires { CanBeWritten head.now body.now segment [] (D.view disk.old) }
     ensures { WritesUnopened (2 + pieces (len_of head.now body.now segment - 1)) Beginning head.now body.now segment
         (D.view disk.old) (D.view disk.new) result }
 {

@@ -1,7 +1,7 @@
 -- What an opened file is.
 use Rattle.std.specs.Prelude.{◌≡◌, ◌<◌, ◌^◌, ℕ, List, length, Bool, true, false, Option, Some, None, Result, Ok, Vec, IfOk, IsErrOf}
 use Rattle.std.specs.declared.alloc.Global.{Global}
-use Rattle.pfx_disk.specs.Disk.{View}
+use Rattle.pfx_disk.specs.Disk.{View, IsHonest}
 use Rattle.pfx_recovery.specs.Codec.{Codec}
 use Rattle.pfx_recovery.specs.Recovery.{Found, found, found_of}
 use Rattle.pfx_recovery.specs.Refusals.{Refusal}
@@ -9,12 +9,16 @@ use Rattle.pfx_recovery.specs.Store.{Parts}
 use Rattle.pfx_store_file.specs.Checkpoints.{is_begun}
 use Rattle.pfx_store_file.specs.Files.{AreOf, file_in}
 use Rattle.pfx_store_file.specs.Holding.{Holds}
-use Rattle.pfx_store_file.specs.Sizes.{HasSizes}
+use Rattle.pfx_store_file.specs.Sizes.{HasSizes, total_len}
 use Rattle.pfx_store_file.specs.declared.places.Places.{Places}
-use Rattle.pfx_recover.specs.Looking.{IsKept, OnlyReads}
+use Rattle.pfx_recover.specs.Answers.{Gives, IsRead}
+use Rattle.pfx_recover.specs.Choosing.{area_state}
+use Rattle.pfx_recover.specs.Looking.{IsKept, OnlyReads, Reaches, ReadsKept}
+use Rattle.pfx_recover.specs.Walking.{StandIn}
 use Rattle.pfx_recover.specs.declared.faults.OpenFault.{OpenFault}
 use Rattle.pfx_recover.specs.declared.faults.OpenFault.TheVariants.{Device}
 use Rattle.pfx_recover.specs.declared.parts.Contents.{Contents}
+use Rattle.pfx_recover.specs.declared.walked.Walked.{Walked}
 
 module _ {H S : Type 0} (K : Codec H S) (h : H) where
   -- where two segments were read, the body of a checkpoint area that holds the state between them; else there is none
@@ -46,6 +50,12 @@ pub record IsUsable {H S : Type 0} (K : Codec H S) (can_hold : H → S → Type 
   pub sized : HasSizes (K.layout h) places.sizes
   pub unbegun : is_begun places.checkpoint ≡ false
 
+-- A store can go on with what was found on a disk, which has so many bytes, and keeps those that it had.
+pub record CanBeHeld {H S : Type 0} (K : Codec H S) (can_hold : H → S → Type 0) (h : H) (places : Places) (state : S) (old new : View) : Type 0 where
+  pub usable : IsUsable K can_hold h places state
+  pub inside : Reaches (total_len places.sizes) new
+  pub kept : IsHonest old → IsKept old.contents new
+
 -- A store can go on with the file that was opened: it isn't broken, no checkpoint is begun, also if one is in progress, the places are those
 -- of a file of this layout, and its checkpoint areas can hold the state.
 pub record CanGoOn {H S : Type 0} (K : Codec H S) (can_hold : H → S → Type 0) (h : H) (broken : Bool) (places : Places) (state : S) : Type 0 where
@@ -74,3 +84,15 @@ pub record MakesContents {F H S : Type 0} (K : Codec H S) (can_hold : H → S �
 pub record IsHeldState {H S : Type 0} (K : Codec H S) (can_hold : H → S → Type 0) (h : H) (state : S) : Type 0 where
   pub fits : can_hold h state
   pub number : K.number state < 2 ^ 48
+
+-- The state in this checkpoint area was read, by calls that only read: whatever bytes the disk keeps, it is the one there, or refused for the
+-- same reason; and a checkpoint area can hold it.
+pub record ReadsState {H S : Type 0} (K : Codec H S) (can_hold : H → S → Type 0) (h : H) (second : Bool) (old new : View)
+    (result : Result S OpenFault) : Type 0 where
+  pub reads : ReadsKept old new result (λ bytes. Gives IsRead (area_state K h bytes second) result)
+  pub state : IfOk result (IsHeldState K can_hold h)
+
+-- frames come after a state that a checkpoint area can hold, and stand in this segment
+pub record ComeAfter {H S : Type 0} (K : Codec H S) (can_hold : H → S → Type 0) (h : H) (state : S) (second : Bool) (walked : Walked) : Type 0 where
+  pub fits : can_hold h state
+  pub stand : StandIn (K.layout h) second walked

@@ -1,6 +1,9 @@
 -- What is known of a format beside the laws of its codec.
-use Rattle.std.specs.Prelude.{◌≡◌, ℕ, ◌<◌, ◌^◌, List, take, Some}
+use Rattle.std.specs.Prelude.{◌≡◌, ℕ, ◌<◌, ◌≤◌, ◌^◌, List, length, take, Bool, IsTrue, IsFalse, Some, None}
 use Rattle.pfx_recovery.specs.Codec.{Codec}
+use Rattle.pfx_recovery.specs.Layout.{Layout}
+use Rattle.pfx_store_file.specs.Sizes.{HasSizes}
+use Rattle.pfx_store_file.specs.declared.sizes.Sizes.{Sizes}
 
 pub record Bounds {H S : Type 0} (K : Codec H S) (fits : H → S → Type 0) (most : ℕ) : Type 0 where
   -- so many bytes at the front are enough for each header
@@ -13,3 +16,23 @@ pub record Bounds {H S : Type 0} (K : Codec H S) (fits : H → S → Type 0) (mo
   -- a state that is read fits, and so does one after a frame's records
   pub read : (h : H) (bytes : List ℕ) (s : S) → K.read_state h bytes ≡ Some s → fits h s
   pub applied : (h : H) (s : S) (frame : List ℕ) (t : S) → fits h s → K.apply s frame ≡ Some t → fits h t
+
+-- these are the lengths of the layout's parts, and a checkpoint area's body has room for the eight bytes of its number
+pub record AreSizes (L : Layout) (lengths : Sizes) : Type 0 where
+  pub sizes : HasSizes L lengths
+  pub number : 8 ≤ lengths.body
+
+-- the frame's records were right at a state, and lead to the next one; or they weren't
+pub record Applies {H S : Type 0} (K : Codec H S) (old : S) (frame : List ℕ) (new : S) (right : Bool) : Type 0 where
+  pub taken : IsTrue right → K.apply old frame ≡ Some new
+  pub wrong : IsFalse right → K.apply old frame ≡ None
+
+-- a checkpoint area of a file with this header can hold the state, and here is room for its body
+pub record CanEncode {H S : Type 0} (K : Codec H S) (can_hold : H → S → Type 0) (h : H) (s : S) (room : List ℕ) : Type 0 where
+  pub state : can_hold h s
+  pub long : length room ≡ (K.layout h).body
+
+-- that room has such a body now, and the state is read from it
+pub record Encodes {H S : Type 0} (K : Codec H S) (h : H) (state : S) (room body : List ℕ) : Type 0 where
+  pub read : K.read_state h body ≡ Some state
+  pub long : length body ≡ length room

@@ -1,5 +1,5 @@
 -- What calls that only read leave of a disk.
-use Rattle.std.specs.Prelude.{◌≡◌, ℕ, ◌<◌, ◌≤◌, List, length, take, drop, Result, IsErr, IsErrOf}
+use Rattle.std.specs.Prelude.{◌≡◌, ℕ, ◌<◌, ◌≤◌, ◌^◌, List, length, take, drop, Result, IfOk, IsErr, IsErrOf}
 use Rattle.pfx_disk.specs.Disk.{View, HasFailed, IsHonest, Leaves, Same, Only}
 use Rattle.pfx_disk.specs.declared.device.DeviceFailed.{DeviceFailed}
 use Rattle.pfx_recovery.specs.Layout.{is_open, first_at}
@@ -25,6 +25,11 @@ pub record IsLook {T : Type 0} (old new : View) (result : Result T DeviceFailed)
   pub looks : Looks old new
   pub failed : IsErr result → HasFailed old new
 
+-- such a call, and this is so of what it answers
+pub record LooksAt {T : Type 0} (old new : View) (result : Result T DeviceFailed) (answered : T → Type 0) : Type 0 where
+  pub call : IsLook old new result
+  pub read : IfOk result answered
+
 -- calls that only read, of which a fault of the device means that the disk failed
 pub record OnlyReads {T : Type 0} (old new : View) (result : Result T OpenFault) : Type 0 where
   pub looks : Looks old new
@@ -39,10 +44,17 @@ pub record ReadsKept {T : Type 0} (old new : View) (result : Result T OpenFault)
 abbrev pub Reaches : ℕ → View → Type 0
 Reaches n disk = IsHonest disk → n ≤ length disk.contents
 
--- from the first place up to the end there are some bytes, and the disk has them, if it is honest
-pub record IsStretch (first end : ℕ) (disk : View) : Type 0 where
+-- From the first place up to the end there are some bytes, and the disk has them, if it is honest; frames there come after the command of
+-- this number, which is below 2^48.
+pub record IsStretch (first end last : ℕ) (disk : View) : Type 0 where
   pub order : first < end
   pub inside : Reaches end disk
+  pub number : last < 2 ^ 48
+
+-- these are the first n bytes
+pub record IsFront (n : ℕ) (bytes front : List ℕ) : Type 0 where
+  pub value : front ≡ take n bytes
+  pub len : length front ≡ n
 
 -- these are so many bytes, and the ones that stand here, if the disk keeps any
 pub record AreHeld (at len : ℕ) (disk : View) (held : List ℕ) : Type 0 where

@@ -1,33 +1,13 @@
--- The codec of small files meets the laws.
+-- The codec of small files meets the laws. Its headers are those of pfx_recovery's toy, and so are their laws.
 use Rattle.std.proofs.Common.{◌≡◌, ℕ, ◌+◌, ◌<◌, ◌≤◌, List, [], ◌∷◌, length, get_or, take, refl, sym, ◌∙◌, ap, subst, arith, cond, nat_lt, ◌==◌, Bool, true}
 use Rattle.std.proofs.Common.{false, Some, None, Ok, Err}
 use Rattle.std.proofs.lemmas.Bool.{eqb-true, ltb-true, lt-ltb}
 use Rattle.pfx_recovery.specs.Codec.{Laws}
-use Rattle.pfx_recovery.specs.Refusals.{Refusal, NotAStore, WrongVersion, IsOfHeader}
-use Rattle.pfx_recovery.specs.ToyCodec.{toy_head}
-use Rattle.pfx_recovery.proofs.Answers.{okay, faulty, some, not_err, not_ok, not_none, err_same, some_same, if_some}
+use Rattle.pfx_recovery.proofs.Answers.{some, not_none, some_same, if_some}
 use Rattle.pfx_recovery.proofs.Runs.{same_true}
+use Rattle.pfx_recovery.proofs.ToyLaws.{front, toy_meets}
 use Rattle.pfx_recover.specs.Formats.{Bounds}
 use Rattle.pfx_recover.specs.ToyCodec.{small_codec, small, small_after, small_apply, is_small}
-
-head_whole : (h : ℕ) (bytes : List ℕ) → toy_head bytes ≡ Ok h → 2 ≤ length bytes
-head_whole h [] is = not_err NotAStore h is
-head_whole h (version ∷ []) is = not_err NotAStore h is
-head_whole h (version ∷ room ∷ bytes) is = omega arith
-
-front : (bytes : List ℕ) → toy_head (take 2 bytes) ≡ toy_head bytes
-front [] = refl
-front (version ∷ []) = refl
-front (version ∷ room ∷ bytes) = refl
-
-head_refused : (bytes : List ℕ) (refusal : Refusal) → toy_head bytes ≡ Err refusal → IsOfHeader refusal
-head_refused [] refusal is = subst IsOfHeader (err_same {A = ℕ} NotAStore refusal is) tt
-head_refused (version ∷ []) refusal is = subst IsOfHeader (err_same {A = ℕ} NotAStore refusal is) tt
-head_refused (version ∷ room ∷ bytes) refusal is = by (version == 1) is
-  where
-    by : (one : Bool) → cond one (okay room) (faulty (WrongVersion version)) ≡ Err refusal → IsOfHeader refusal
-    by true is = not_ok room refusal is
-    by false is = subst IsOfHeader (err_same {A = ℕ} (WrongVersion version) refusal is) tt
 
 -- a small state is this one
 small_is : (number sum : ℕ) (s : ℕ × ℕ) → small number sum ≡ Some s → ((number, sum) ≡ s) × (number < 200) × (sum < 100)
@@ -63,9 +43,9 @@ after_next n frame m is below same = rw (same_true (get_or frame 5 0) (n + 1) is
 
 pub laws_hold : Laws small_codec
 laws_hold = record {
-  head_whole = λ h bytes is. head_whole h bytes is;
-  head_alone = λ h bytes other is same. sym (front other) ∙ ap toy_head same ∙ front bytes ∙ is;
-  head_refused = λ bytes refusal is. head_refused bytes refusal is;
+  head_whole = λ h bytes is. toy_meets.head_whole h bytes is;
+  head_alone = λ h bytes other is same. toy_meets.head_alone h bytes other is same;
+  head_refused = λ bytes refusal is. toy_meets.head_refused bytes refusal is;
   area_number = λ h body s is. number_of (get_or body 0 0) (get_or body 1 0) s is;
   later = λ n frame m is. omega (arith, (after_is n frame m is).1);
   after = λ s frame t is.

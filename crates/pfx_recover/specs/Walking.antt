@@ -1,18 +1,19 @@
 -- The frames of a segment, as they were read, and the places of a file that was read.
-use Rattle.std.specs.Prelude.{◌≡◌, ◌<◌, ◌≤◌, ◌+◌, ◌^◌, ◌⊎◌, ℕ, List, Bool, false, All, length, take, drop, Some, None, Result, Ok, IfOk}
+use Rattle.std.specs.Prelude.{◌≡◌, ◌<◌, ◌≤◌, ◌+◌, ◌^◌, ◌⊎◌, ℕ, List, Bool, false, All, length, take, drop, Some, None, Result, Ok, IfOk, IsErrOf}
 use Rattle.std.specs.List.{concat}
 use Rattle.pfx_recovery.specs.Codec.{Codec}
 use Rattle.pfx_disk.specs.Disk.{View}
 use Rattle.pfx_recovery.specs.Layout.{Layout, first_gate, segment_end}
-use Rattle.pfx_recovery.specs.Recovery.{walk}
+use Rattle.pfx_recovery.specs.Recovery.{replay, walk}
 use Rattle.pfx_recovery.specs.Refusals as means
 use Rattle.pfx_segment.specs.Frames.{frame_len}
 use Rattle.pfx_store_file.specs.Sizes.{HasSizes}
 use Rattle.pfx_store_file.specs.declared.places.Places.{Places}
 use Rattle.pfx_store_file.specs.declared.progress.Checkpoint.{Checkpoint}
-use Rattle.pfx_recover.specs.Answers.{Gives}
+use Rattle.pfx_recover.specs.Answers.{Gives, IsRead}
 use Rattle.pfx_recover.specs.Looking.{IsKept, OnlyReads}
 use Rattle.pfx_recover.specs.declared.faults.OpenFault.{OpenFault}
+use Rattle.pfx_recover.specs.declared.faults.OpenFault.TheVariants.{Device}
 use Rattle.pfx_recover.specs.declared.walked.Walked.{Walked}
 
 -- these frames, each as long as its head says, fill the bytes, one behind the other
@@ -44,6 +45,29 @@ pub record IsHead {H S : Type 0} (K : Codec H S) (bytes : List ℕ) (at last len
 abbrev pub IsNoHead : {H S : Type 0} → Codec H S → List ℕ → ℕ → ℕ → Type 0
 IsNoHead K bytes at last = (length bytes ≤ at + frame_len at bytes)
     ⊎ ((at + frame_len at bytes < length bytes) × (K.after last (take (frame_len at bytes) (drop at bytes)) ≡ None))
+
+-- Some bytes were read, from this place on, and end below 2^64; frames there come after the command of this number, which is below 2^48.
+pub record CanBeWalked (first last : ℕ) (held : List ℕ) : Type 0 where
+  pub some : 0 < length held
+  pub place : first + length held < 2 ^ 64
+  pub number : last < 2 ^ 48
+
+-- How many of these bytes the frames take that they begin with, and their last number: no call of the disk fails; the closed gate after them
+-- is one of the bytes, and the number below 2^48; and if the bytes stand from this place on, these frames are read there, or refused for the
+-- same reason.
+pub record WalksHeld {H S : Type 0} (K : Codec H S) (first number : ℕ) (held : List ℕ) (result : Result (ℕ × ℕ) OpenFault) : Type 0 where
+  pub device : ¬ IsErrOf result Device
+  pub ends : IfOk result (λ walked. (walked.0 < length held) × (walked.1 < 2 ^ 48))
+  pub exact : (image : List ℕ) → held ≡ take (length held) (drop first image) → (n : ℕ) → first + length held ≤ n
+      → Gives (λ walked. IsWalk (take walked.0 held) walked.1) (walk K (1 + n) first (first + length held) number image) result
+
+-- The records of the frames that fill these bytes, the first of which has this gate, applied to a state: no call of the disk fails; what
+-- a checkpoint area can hold stays so; and it is the state to which they lead, or refused for the same reason.
+pub record ReplaysFrames {H S : Type 0} (K : Codec H S) (can_hold : H → S → Type 0) (gate : ℕ) (state : S) (bytes : List ℕ)
+    (result : Result S OpenFault) : Type 0 where
+  pub device : ¬ IsErrOf result Device
+  pub fits : (h : H) → can_hold h state → IfOk result (can_hold h)
+  pub exact : (frames : List (List ℕ)) → Fill frames bytes → Gives IsRead (replay K gate state frames) result
 
 -- they begin here, their closed gate lies before the end, and the last command's number is below 2^48
 pub record IsWalked (first end : ℕ) (walked : Walked) : Type 0 where

@@ -1,10 +1,10 @@
 // The checkpoint area that is taken, and the state in it.
-ghost use Rattle.std.specs.Prelude.{◌≡◌, ◌≤◌, ◌<◌, ◌+◌, ◌^◌, ℕ, List, Ok, IfOk};
+ghost use Rattle.std.specs.Prelude.{◌≡◌, ◌≤◌, ◌<◌, ◌+◌, ◌^◌, ℕ, List, Ok};
 ghost use Rattle.pfx_recovery.specs.Recovery.{area_taken};
 ghost use Rattle.pfx_store_file.specs.Sizes.{total_len};
-ghost use Rattle.pfx_recover.specs.Answers.{Gives, IsRead};
-ghost use Rattle.pfx_recover.specs.Choosing.{IsArea, area_state};
-ghost use Rattle.pfx_recover.specs.Finding.{IsHeldState};
+ghost use Rattle.pfx_recover.specs.Answers.{Gives};
+ghost use Rattle.pfx_recover.specs.Choosing.{IsArea};
+ghost use Rattle.pfx_recover.specs.Finding.{ReadsState};
 ghost use Rattle.pfx_recover.specs.Looking.{Reaches, ReadsKept};
 
 use crate::choosing::{Choice, Numbered, newer};
@@ -51,9 +51,7 @@ pub(crate) fn read_area<F: Format, D: Disk>(
     second: bool,
 ) -> Result<F::State, OpenFault>
     requires inside { Reaches (total_len file.now.sizes) (D.view disk.old) }
-    ensures reads { ReadsKept (D.view disk.old) (D.view disk.new) result (λ bytes.
-        Gives IsRead (area_state F.codec file.now.header bytes second) result) }
-    ensures state { IfOk result (IsHeldState F.codec F.fits file.now.header) }
+    ensures { ReadsState F.codec F.fits file.now.header second (D.view disk.old) (D.view disk.new) result }
 {
     let at = file.sizes.area_at(second);
     let mut body = vec![in alloc; 0; file.sizes.body]?;

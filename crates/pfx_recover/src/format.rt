@@ -1,5 +1,5 @@
 // How the bytes of a store's file are read.
-ghost use Rattle.std.specs.Prelude.{◌≡◌, ◌≤◌, ◌<◌, ◌^◌, ℕ, length, Some, None, IfOk, IsTrue, IsFalse};
+ghost use Rattle.std.specs.Prelude.{◌≡◌, ◌<◌, ◌^◌, ℕ, IfOk};
 
 use crate::faults::HeadFault;
 use pfx_store_file::Sizes;
@@ -12,8 +12,7 @@ use std::alloc::{AllocError, Global};
 /// below 2^48: the last one that a state has seen, or that a frame has.
 pub trait Format {
     ghost use Rattle.pfx_recovery.specs.Codec.{Codec, Laws};
-    ghost use Rattle.pfx_store_file.specs.Sizes.{HasSizes};
-    ghost use Rattle.pfx_recover.specs.Formats.{Bounds};
+    ghost use Rattle.pfx_recover.specs.Formats.{Applies, AreSizes, Bounds, CanEncode, Encodes};
     ghost use Rattle.pfx_recover.specs.Answers.{GivesHead};
 
     /// What stands at the front of a file.
@@ -39,8 +38,7 @@ pub trait Format {
 
     /// How long the parts of a file with this header are. A checkpoint area's body begins with a number of eight bytes.
     fn sizes(header: &Self::Header) -> Sizes
-        ensures sizes { HasSizes (codec.layout header.now) result }
-        ensures number { 8 ≤ result.body };
+        ensures { AreSizes (codec.layout header.now) result };
 
     /// The number at the beginning of a checkpoint area's body, which isn't tested.
     fn area_number(bytes: &[u8; 8]) -> u64
@@ -70,15 +68,12 @@ pub trait Format {
     /// Takes over the frame's records. If they aren't right at this state, the answer is `false`, and the state is no
     /// longer of use.
     fn apply(alloc: Global, state: &mut Self::State, frame: &[u8]) -> Result<bool, AllocError>
-        ensures taken { IfOk result (λ right. IsTrue right → codec.apply state.old frame.now ≡ Some state.new) }
-        ensures wrong { IfOk result (λ right. IsFalse right → codec.apply state.old frame.now ≡ None) };
+        ensures { IfOk result (Applies codec state.old frame.now state.new) };
 
     /// Writes the body of a checkpoint area that holds the state. It takes no memory.
     fn encode(header: &Self::Header, state: &Self::State, out: &mut [u8])
-        requires state { fits header.now state.now }
-        requires long { length out.old ≡ (codec.layout header.now).body }
-        ensures read { codec.read_state header.now out.new ≡ Some state.now }
-        ensures long { length out.new ≡ length out.old };
+        requires { CanEncode codec fits header.now state.now out.old }
+        ensures { Encodes codec header.now state.now out.old out.new };
 
     /// The codec is one of a store's files.
     ghost laws: { Laws codec };

@@ -1,9 +1,6 @@
 // The frames of a segment.
-ghost use Rattle.std.specs.Prelude.{◌≡◌, ◌≤◌, ◌<◌, ◌+◌, ◌*◌, ◌^◌, ℕ, List, length, take, drop, IfOk, IsErrOf};
-ghost use Rattle.pfx_recovery.specs.Recovery.{walk};
-ghost use Rattle.pfx_recover.specs.Answers.{Gives};
 ghost use Rattle.pfx_recover.specs.Looking.{IsStretch};
-ghost use Rattle.pfx_recover.specs.Walking.{IsWalk, ReadsFrames};
+ghost use Rattle.pfx_recover.specs.Walking.{CanBeWalked, ReadsFrames, WalksHeld};
 
 use crate::faults::{OpenFault, Refusal};
 use crate::format::Format;
@@ -17,15 +14,8 @@ use std::alloc::Global;
 // How many bytes the frames take that these bytes begin with, up to the first closed gate, and their last number. The
 // first of them has this gate, and comes after the command of this number.
 fn walk_held<F: Format>(bytes: &[u8], first: usize, number: u64) -> Result<(usize, u64), OpenFault>
-    requires some { 0 < length bytes.now }
-    requires place { first + length bytes.now < 2 ^ 64 }
-    requires number { number < 2 ^ 48 }
-    ensures device { ¬ IsErrOf result OpenFault.Device }
-    ensures ends { IfOk result (λ walked. (walked.0 < length bytes.now) × (walked.1 < 2 ^ 48)) }
-    ensures exact { (image : List ℕ) → bytes.now ≡ take (length bytes.now) (drop first image)
-        → (n : ℕ) → first + length bytes.now ≤ n
-        → Gives (λ walked. IsWalk (take walked.0 bytes.now) walked.1)
-        (walk F.codec (1 + n) first (first + length bytes.now) number image) result }
+    requires { CanBeWalked first number bytes.now }
+    ensures { WalksHeld F.codec first number bytes.now result }
 {
     let mut at = 0;
     let mut last = number;
@@ -52,8 +42,7 @@ fn read_singly<F: Format, D: Disk>(
     end: usize,
     number: u64,
 ) -> Result<Walked, OpenFault>
-    requires stretch { IsStretch first end (D.view disk.old) }
-    requires number { number < 2 ^ 48 }
+    requires stretch { IsStretch first end number (D.view disk.old) }
     ensures { ReadsFrames F.codec first end number (D.view disk.old) (D.view disk.new) result }
 {
     let mut gate = first;
@@ -91,8 +80,7 @@ pub(crate) fn read_frames<F: Format, D: Disk>(
     end: usize,
     number: u64,
 ) -> Result<Walked, OpenFault>
-    requires stretch { IsStretch first end (D.view disk.old) }
-    requires number { number < 2 ^ 48 }
+    requires stretch { IsStretch first end number (D.view disk.old) }
     ensures { ReadsFrames F.codec first end number (D.view disk.old) (D.view disk.new) result }
 {
     let Some(bytes) = hold(alloc, disk, first, end - first)? else {

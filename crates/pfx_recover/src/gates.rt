@@ -1,6 +1,6 @@
 // The gates of checkpoint areas and segments, and the numbers after them.
-ghost use Rattle.std.specs.Prelude.{◌≡◌, ◌≤◌, ◌+◌, ℕ, List, IfOk};
-ghost use Rattle.pfx_recover.specs.Looking.{IsGateHead, IsKept, IsLook, Reaches};
+ghost use Rattle.std.specs.Prelude.{◌≡◌, ◌≤◌, ◌+◌, ℕ, List};
+ghost use Rattle.pfx_recover.specs.Looking.{IsGateHead, IsKept, LooksAt, Reaches};
 
 use pfx_disk::{DeviceFailed, Disk, GATE_OPEN};
 
@@ -14,8 +14,8 @@ pub(crate) struct GateHead {
 /// The gate of a checkpoint area or a segment and the bytes behind it, by one call of the disk.
 pub(crate) fn read_gate<D: Disk>(disk: &mut D, at: usize) -> Result<GateHead, DeviceFailed>
     requires inside { Reaches (at + 9) (D.view disk.old) }
-    ensures call { IsLook (D.view disk.old) (D.view disk.new) result }
-    ensures head { (bytes : List ℕ) → IsKept bytes (D.view disk.old) → IfOk result (IsGateHead at bytes) }
+    ensures { LooksAt (D.view disk.old) (D.view disk.new) result (λ head.
+        (bytes : List ℕ) → IsKept bytes (D.view disk.old) → IsGateHead at bytes head) }
 {
     let mut read = [0; 9];
     disk.read(at, &mut read)?;

@@ -1,6 +1,6 @@
 // Bytes of a file that were read at once, and the frames in them.
-ghost use Rattle.std.specs.Prelude.{◌≤◌, ◌<◌, ◌+◌, ◌^◌, length, IfOk, IfSome, MatchOption};
-ghost use Rattle.pfx_recover.specs.Looking.{AreHeld, IsLook, Reaches};
+ghost use Rattle.std.specs.Prelude.{◌≤◌, ◌<◌, ◌+◌, ◌^◌, length, IfSome, MatchOption};
+ghost use Rattle.pfx_recover.specs.Looking.{AreHeld, LooksAt, Reaches};
 ghost use Rattle.pfx_recover.specs.Walking.{IsFrameLen, IsHead, IsNoHead};
 
 use crate::format::Format;
@@ -16,8 +16,8 @@ pub(crate) fn hold<D: Disk>(
     len: usize,
 ) -> Result<Option<Vec<u8>>, DeviceFailed>
     requires inside { Reaches (at + len) (D.view disk.old) }
-    ensures call { IsLook (D.view disk.old) (D.view disk.new) result }
-    ensures held { IfOk result (λ found. IfSome found (λ held. AreHeld at len (D.view disk.old) held.items)) }
+    ensures { LooksAt (D.view disk.old) (D.view disk.new) result (λ found.
+        IfSome found (λ held. AreHeld at len (D.view disk.old) held.items)) }
 {
     let Ok(mut bytes) = vec![in alloc; 0; len] else {
         return Ok(None);

@@ -5,7 +5,7 @@ ghost use Rattle.pfx_recovery.specs.Recovery.{area_taken, segment_begun, from_on
 ghost use Rattle.pfx_store_file.specs.Checkpoints.{written};
 ghost use Rattle.pfx_recover.specs.Answers.{Gives};
 ghost use Rattle.pfx_recover.specs.Choosing.{IsArea, IsSegment};
-ghost use Rattle.pfx_recover.specs.Finding.{IsFound, MakesContents};
+ghost use Rattle.pfx_recover.specs.Finding.{ComeAfter, IsFound, MakesContents};
 ghost use Rattle.pfx_recover.specs.Walking.{StandIn, AreInUse, Fill, frames_of};
 
 use crate::choosing::Choice;
@@ -65,8 +65,7 @@ pub(crate) fn read_single<F: Format>(
     state: F::State,
     walked: Walked,
 ) -> Result<Contents<F>, OpenFault>
-    requires stand { StandIn (F.codec.layout file.now.header) segment.second walked }
-    requires fits { F.fits file.now.header state }
+    requires { ComeAfter F.codec F.fits file.now.header state segment.second walked }
     ensures { MakesContents F.codec F.fits file.now.header result (λ bytes.
         IsArea F.codec file.now.header bytes area (area_taken F.codec file.now.header bytes)
         → (n : ℕ)
@@ -107,8 +106,7 @@ pub(crate) fn read_double<F: Format>(
     before: Walked,
     walked: Walked,
 ) -> Result<Contents<F>, OpenFault>
-    requires fits { F.fits file.now.header state }
-    requires before { StandIn (F.codec.layout file.now.header) second before }
+    requires before { ComeAfter F.codec F.fits file.now.header state second before }
     requires stand { StandIn (F.codec.layout file.now.header) (not second) walked }
     ensures { MakesContents F.codec F.fits file.now.header result (λ bytes.
         IsArea F.codec file.now.header bytes area (area_taken F.codec file.now.header bytes)

@@ -1,12 +1,12 @@
 // A synced disk, read in the order of the tests.
-ghost use Rattle.std.specs.Prelude.{◌≡◌, ◌≤◌, ◌<◌, ◌+◌, ◌^◌, ℕ, List, length, IfOk, OnOk};
+ghost use Rattle.std.specs.Prelude.{◌≡◌, ◌≤◌, ◌<◌, ◌+◌, ◌^◌, ℕ, List, length, IfOk};
 ghost use Rattle.pfx_disk.specs.Disk.{IsHonest};
 ghost use Rattle.pfx_recovery.specs.Recovery.{area_taken, segment_begun, from_frames, from_state, from_area, found, on_ok};
 ghost use Rattle.pfx_store_file.specs.Sizes.{total_len};
 ghost use Rattle.pfx_recover.specs.Answers.{Gives, IsRead};
 ghost use Rattle.pfx_recover.specs.Choosing.{IsArea, IsSegment};
-ghost use Rattle.pfx_recover.specs.Finding.{IsFound, IsHeldState, IsUsable, ReadsContents};
-ghost use Rattle.pfx_recover.specs.Looking.{IsKept, OnlyReads, Reaches, ReadsKept};
+ghost use Rattle.pfx_recover.specs.Finding.{CanBeHeld, IsFound, IsHeldState, ReadsContents};
+ghost use Rattle.pfx_recover.specs.Looking.{OnlyReads, Reaches, ReadsKept};
 ghost use Rattle.pfx_recover.specs.Walking.{StandIn, Fill, frames_of};
 
 use crate::areas::{read_area, take_area};
@@ -89,10 +89,7 @@ pub(crate) fn read_file<F: Format, D: Disk>(
     disk: &mut D,
 ) -> Result<(Outline<F>, Contents<F>), OpenFault>
     ensures call { OnlyReads (D.view disk.old) (D.view disk.new) result }
-    ensures usable { IfOk result (λ r. IsUsable F.codec F.fits r.0.header r.1.places r.1.state) }
-    ensures inside { IfOk result (λ r. Reaches (total_len r.1.places.sizes) (D.view disk.new)) }
-    ensures kept { IsHonest (D.view disk.old)
-        → OnOk result (IsKept (D.view disk.old).contents (D.view disk.new)) }
+    ensures holds { IfOk result (λ r. CanBeHeld F.codec F.fits r.0.header r.1.places r.1.state (D.view disk.old) (D.view disk.new)) }
     ensures exact { IsHonest (D.view disk.old) → Gives
         (λ r. IsFound F.codec r.0.header (D.view disk.old).contents r.1.places r.1.state r.1.middle)
         (found F.codec (D.view disk.old).contents) result }

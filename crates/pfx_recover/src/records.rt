@@ -1,8 +1,6 @@
 // The records of frames.
-ghost use Rattle.std.specs.Prelude.{◌≡◌, ◌≤◌, ◌<◌, ◌+◌, ◌^◌, ℕ, List, length, IfOk, IsErrOf};
-ghost use Rattle.pfx_recovery.specs.Recovery.{replay};
-ghost use Rattle.pfx_recover.specs.Answers.{Gives, IsRead};
-ghost use Rattle.pfx_recover.specs.Walking.{Fill};
+ghost use Rattle.std.specs.Prelude.{◌<◌, ◌+◌, ◌^◌, length};
+ghost use Rattle.pfx_recover.specs.Walking.{ReplaysFrames};
 
 use crate::faults::{OpenFault, Refusal};
 use crate::format::Format;
@@ -19,10 +17,7 @@ pub(crate) fn replay_frames<F: Format>(
     bytes: &[u8],
 ) -> Result<F::State, OpenFault>
     requires inside { gate + length bytes.now < 2 ^ 62 }
-    ensures device { ¬ IsErrOf result OpenFault.Device }
-    ensures fits { (h : F.Header) → F.fits h state → IfOk result (F.fits h) }
-    ensures exact { (frames : List (List ℕ)) → Fill frames bytes.now
-        → Gives IsRead (replay F.codec gate state frames) result }
+    ensures { ReplaysFrames F.codec F.fits gate state bytes.now result }
 {
     let mut at = 0;
     let mut reached = state;

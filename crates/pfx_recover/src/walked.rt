@@ -1,5 +1,5 @@
 // The frames that were read of a segment.
-ghost use Rattle.std.specs.Prelude.{◌≡◌, ◌≤◌, length, take};
+ghost use Rattle.std.specs.Prelude.{◌≤◌, length};
 
 /// The frames of a segment that were read.
 #[derive(Drop)]
@@ -16,10 +16,11 @@ pub(crate) struct Walked {
 }
 
 impl Walked {
+    ghost use Rattle.pfx_recover.specs.Looking.{IsFront};
+
     /// The frames, one behind the other.
     pub(crate) fn frames(&self) -> &[u8]
-        ensures value { result.now ≡ take self.now.len self.now.bytes.items }
-        ensures len { length result.now ≡ self.now.len }
+        ensures { IsFront self.now.len self.now.bytes.items result.now }
     {
         &self.bytes[..self.len]
     }

@@ -15,8 +15,7 @@ pub struct Sizes {
 }
 
 impl Sizes {
-    ghost use Rattle.pfx_recovery.specs.Layout.{Layout, area_at, segment_at};
-    ghost use Rattle.pfx_store_file.specs.Sizes.{HasSizes, total_len};
+    ghost use Rattle.pfx_store_file.specs.Sizes.{IsAreaAt, IsSegmentAt, total_len};
 
     /// The file's length.
     pub fn file_len(&self) -> usize
@@ -27,8 +26,7 @@ impl Sizes {
 
     /// Where a checkpoint area stands.
     pub fn area_at(&self, b: bool) -> usize
-        ensures at { (L : Layout) → HasSizes L self.now → result ≡ area_at L b }
-        ensures inside { result + 1 + self.now.body + 2 * self.now.segment ≤ total_len self.now }
+        ensures { IsAreaAt self.now b result }
     {
         if b {
             self.head + 1 + self.body
@@ -39,8 +37,7 @@ impl Sizes {
 
     /// Where a segment stands.
     pub fn segment_at(&self, b: bool) -> usize
-        ensures at { (L : Layout) → HasSizes L self.now → result ≡ segment_at L b }
-        ensures inside { result + self.now.segment ≤ total_len self.now }
+        ensures { IsSegmentAt self.now b result }
     {
         let first = self.head + 2 * (1 + self.body);
         if b { first + self.segment } else { first }

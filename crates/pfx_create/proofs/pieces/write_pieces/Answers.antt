@@ -6,12 +6,15 @@ use Rattle.pfx_create.proofs.NewBytes.{some_layout, long_so_far, whole_at_last, 
 use Rattle.pfx_create.proofs.Creations.{stays_then}
 use Rattle.pfx_create.proofs.pieces.write_pieces.Goals as goal
 
-pub write_piece-requires-clause-end : goal.write_piece-requires-clause-end
-write_piece-requires-clause-end g c now =
-    let inv = c.loop-i.invariant in
-    let some = some_layout c.args.head.now c.args.body.now c.args.segment c.requires.limits.room in
-    let inside : 1 + c.loop-i.i * 4096 < len_of c.args.head.now c.args.body.now c.args.segment = search rules in
-    long_so_far some.0 c.args.head.now c.args.body.now c.args.segment (1 + c.loop-i.i * 4096) (g.D.Disk.view c.loop-i.disk).contents some.1 inside (inv.written (inv.honest now) some.0 some.1)
+pub write_piece-requires : goal.write_piece-requires
+write_piece-requires g c = record {
+  place = record { limits = c.requires.limits; behind = search rules; inside = search rules };
+  end = λ now.
+      let inv = c.loop-i.invariant in
+      let some = some_layout c.args.head.now c.args.body.now c.args.segment c.requires.limits.room in
+      let inside : 1 + c.loop-i.i * 4096 < len_of c.args.head.now c.args.body.now c.args.segment = search rules in
+      long_so_far some.0 c.args.head.now c.args.body.now c.args.segment (1 + c.loop-i.i * 4096) (g.D.Disk.view c.loop-i.disk).contents some.1 inside (inv.written (inv.honest now) some.0 some.1);
+}
 
 pub returns-in_err-write_piece : goal.returns-in_err-write_piece
 returns-in_err-write_piece g c = record {

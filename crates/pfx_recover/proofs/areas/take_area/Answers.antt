@@ -19,11 +19,11 @@ returns g c = record {
       let long : 8 ≤ (K.layout file.header).body = omega (arith, file.number, file.sized.body) in
       let low = c.area_at-low.ensures.at _ file.sized in
       let high = c.area_at-high.ensures.at _ file.sized in
-      let low_open = (c.in_ok-low_gate.ensures.head bytes kept).gate in
-      let high_open = (c.in_ok-high_gate.ensures.head bytes then).gate in
+      let low_open = (c.in_ok-low_gate.ensures.read bytes kept).gate in
+      let high_open = (c.in_ok-high_gate.ensures.read bytes then).gate in
       let same = area_taken_by K file.header bytes g.F.Format.fits _ g.met.F.Format.bounds long _ _ _ _ _ _ _ _
       low high low_open high_open
-      (c.in_ok-low_gate.ensures.head bytes kept).behind (c.in_ok-high_gate.ensures.head bytes then).behind c.area_number.ensures c.area_number-2.ensures in
+      (c.in_ok-low_gate.ensures.read bytes kept).behind (c.in_ok-high_gate.ensures.read bytes then).behind c.area_number.ensures c.area_number-2.ensures in
       record {
         chosen = sym same ∙ c.in_ok-is_second.ensures ∙ ap Ok (sym c.of.ensures.chosen.second);
         other = area_open_by K file.header bytes _ _ _ _ _ _ _ low high low_open high_open c.of.ensures.chosen.second c.of.ensures.chosen.open_other;
@@ -39,8 +39,8 @@ returns-in_err-is_second g c = record {
       let then = kept_after bytes _ _ c.read_gate.ensures.call.looks kept in
       let long : 8 ≤ (K.layout file.header).body = omega (arith, file.number, file.sized.body) in
       let same = area_taken_by K file.header bytes g.F.Format.fits _ g.met.F.Format.bounds long _ _ _ _ _ _ _ _
-      (c.area_at-low.ensures.at _ file.sized) (c.area_at-high.ensures.at _ file.sized) (c.in_ok-low_gate.ensures.head bytes kept).gate (c.in_ok-high_gate.ensures.head bytes then).gate
-      (c.in_ok-low_gate.ensures.head bytes kept).behind (c.in_ok-high_gate.ensures.head bytes then).behind c.area_number.ensures c.area_number-2.ensures in
+      (c.area_at-low.ensures.at _ file.sized) (c.area_at-high.ensures.at _ file.sized) (c.in_ok-low_gate.ensures.read bytes kept).gate (c.in_ok-high_gate.ensures.read bytes then).gate
+      (c.in_ok-low_gate.ensures.read bytes kept).behind (c.in_ok-high_gate.ensures.read bytes then).behind c.area_number.ensures c.area_number-2.ensures in
       gives_refused (IsArea K file.header bytes) _ _ _ (sym same ∙ c.in_err-is_second.ensures) c.from_residual-in_err-is_second.ensures.1;
 }
 

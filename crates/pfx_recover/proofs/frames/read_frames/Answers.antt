@@ -18,7 +18,7 @@ returns-in_err-len g c = record {
   call = record { looks = c.hold.ensures.call.looks; device = search rules };
   walked = search rules;
   exact = λ bytes kept n long.
-      let held = rw c.in-Some.is at c.in_ok-bytes.ensures.held in
+      let held = rw c.in-Some.is at c.in_ok-bytes.ensures.read in
       let is_held = held.kept bytes kept in
       let is = c.deref.ensures.value ∙ is_held ∙ ap (λ (k : ℕ). take k (drop c.args.first bytes)) (sym (ap length c.deref.ensures.value ∙ held.long)) in
       let end : c.args.first + length c.deref.result.now ≡ c.args.end = omega (arith, ap length c.deref.ensures.value, held.long, c.requires.stretch.order) in
@@ -33,7 +33,7 @@ returns g c = record {
   call = record { looks = c.hold.ensures.call.looks; device = search rules };
   walked = search rules;
   exact = λ bytes kept n long.
-      let held = rw c.in-Some.is at c.in_ok-bytes.ensures.held in
+      let held = rw c.in-Some.is at c.in_ok-bytes.ensures.read in
       let is_held = held.kept bytes kept in
       let is = c.deref.ensures.value ∙ is_held ∙ ap (λ (k : ℕ). take k (drop c.args.first bytes)) (sym (ap length c.deref.ensures.value ∙ held.long)) in
       let end : c.args.first + length c.deref.result.now ≡ c.args.end = omega (arith, ap length c.deref.ensures.value, held.long, c.requires.stretch.order) in

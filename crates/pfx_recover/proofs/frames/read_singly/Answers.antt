@@ -61,7 +61,7 @@ returns-in_default g c = record {
 pub walk-init : goal.walk-init
 walk-init g c = record {
   order = c.requires.stretch.order;
-  last = c.requires.number;
+  last = c.requires.stretch.number;
   looks = looks_none _;
   place = omega (arith, ap length c.new-bytes.ensures.items);
   walks = λ image kept. subst (λ (l : List ℕ). WalksTo g.F.Format.codec c.args.first c.args.end c.args.number image l c.args.first c.args.number) (sym c.new-bytes.ensures.items) (walks_none g.F.Format.codec c.args.first c.args.end c.args.number image);

@@ -1,14 +1,23 @@
+use Rattle.std.proofs.Common.{rules}
 use Rattle.pfx_recover.proofs.Walking.{held_shut, held_wrong, held_on}
 use Rattle.pfx_recover.proofs.frames.walk_held.Goals as goal
 
-pub returns-then-bytes-at-clause-exact : goal.returns-then-bytes-at-clause-exact
-returns-then-bytes-at-clause-exact g c image is n long =
-    held_shut c.args.first c.args.bytes.now image is g.F.Format.codec c.args.number c.walk.at c.walk.last (c.walk.invariant.walks image is) c.walk.invariant.order c.if-bytes-at.true n long
+pub returns-then-bytes-at : goal.returns-then-bytes-at
+returns-then-bytes-at g c = record {
+  device = search rules;
+  ends = (c.walk.invariant.order, c.walk.invariant.last);
+  exact = λ image is n long.
+      held_shut c.args.first c.args.bytes.now image is g.F.Format.codec c.args.number c.walk.at c.walk.last (c.walk.invariant.walks image is) c.walk.invariant.order c.if-bytes-at.true n long;
+}
 
-pub returns-in_default-clause-exact : goal.returns-in_default-clause-exact
-returns-in_default-clause-exact g c image is n long =
-    let wrong = rw c.in_default.is at c.head_at.ensures in
-    held_wrong c.args.first c.args.bytes.now image is g.F.Format.codec c.args.number c.walk.at c.walk.last (c.walk.invariant.walks image is) c.walk.invariant.order c.if-bytes-at.false wrong n long
+pub returns-in_default : goal.returns-in_default
+returns-in_default g c = record {
+  device = search rules;
+  ends = search rules;
+  exact = λ image is n long.
+      let wrong = rw c.in_default.is at c.head_at.ensures in
+      held_wrong c.args.first c.args.bytes.now image is g.F.Format.codec c.args.number c.walk.at c.walk.last (c.walk.invariant.walks image is) c.walk.invariant.order c.if-bytes-at.false wrong n long;
+}
 
 pub walk-preserved : goal.walk-preserved
 walk-preserved g c =

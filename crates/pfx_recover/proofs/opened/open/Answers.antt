@@ -16,7 +16,7 @@ returns-in-Ok-clause-opened g c honest =
     let h = c.in-Ok.outline.header in
     let places = c.in-Ok.contents.places in
     let of = c.in-Ok.ensures.exact honest in
-    let kept = c.in-Ok.ensures.kept honest in
+    let kept = c.in-Ok.ensures.holds.kept honest in
     let p = of.parts in
     let bytes = (g.D.Disk.view c.args.disk).contents in
     record {
@@ -25,7 +25,7 @@ returns-in-Ok-clause-opened g c honest =
       file = subst (λ q. AreOf K (file_in K bytes h p) q) (sym c.new.ensures.places) of.file;
       kept = subst (λ (d : g.row.D.Denot). IsKept bytes (g.D.Disk.view d)) (sym c.new.ensures.disk) kept;
       holds = c.new.ensures.holds K g.met.F.Format.laws h p c.in-Ok.contents.state kept.honest (λ image is. kept.only image is ∙ sym kept.contents)
-          (ap (λ (l : List ℕ). found K l) kept.contents ∙ of.found) of.file.are c.in-Ok.ensures.usable.unbegun
+          (ap (λ (l : List ℕ). found K l) kept.contents ∙ of.found) of.file.are c.in-Ok.ensures.holds.usable.unbegun
           (subst (λ (l : List ℕ). IsGate places.area_open (area_at (K.layout h) (not p.area)) l) (sym kept.contents) (gate_is K h bytes places.area_open _ of.file.area_open))
           (subst (λ (l : List ℕ). IsGate places.segment_open (segment_at (K.layout h) (not p.segment)) l) (sym kept.contents) (gate_is K h bytes places.segment_open _ of.file.segment_open));
       between = of.between;

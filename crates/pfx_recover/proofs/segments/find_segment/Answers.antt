@@ -18,10 +18,10 @@ returns g c = record {
       let then = kept_after bytes _ _ c.read_gate.ensures.call.looks kept in
       let low = c.segment_at-low.ensures.at _ file.sized in
       let high = c.segment_at-high.ensures.at _ file.sized in
-      let low_open = (c.in_ok-low_gate.ensures.head bytes kept).gate in
-      let high_open = (c.in_ok-high_gate.ensures.head bytes then).gate in
-      let low_bytes = (c.in_ok-low_gate.ensures.head bytes kept).behind in
-      let high_bytes = (c.in_ok-high_gate.ensures.head bytes then).behind in
+      let low_open = (c.in_ok-low_gate.ensures.read bytes kept).gate in
+      let high_open = (c.in_ok-high_gate.ensures.read bytes then).gate in
+      let low_bytes = (c.in_ok-low_gate.ensures.read bytes kept).behind in
+      let high_bytes = (c.in_ok-high_gate.ensures.read bytes then).behind in
       let same = segment_begun_by K file.header bytes c.args.number _ _ _ _ _ _ _ _ low high low_open high_open low_bytes high_bytes c.segment_number.ensures c.segment_number-2.ensures in
       record {
         chosen = sym same ∙ c.in_ok-is_second.ensures ∙ ap Ok (sym c.of.ensures.chosen.second);
@@ -38,8 +38,8 @@ returns-in_err-is_second g c = record {
       let file = c.args.file.now in
       let then = kept_after bytes _ _ c.read_gate.ensures.call.looks kept in
       let same = segment_begun_by K file.header bytes c.args.number _ _ _ _ _ _ _ _
-      (c.segment_at-low.ensures.at _ file.sized) (c.segment_at-high.ensures.at _ file.sized) (c.in_ok-low_gate.ensures.head bytes kept).gate (c.in_ok-high_gate.ensures.head bytes then).gate
-      (c.in_ok-low_gate.ensures.head bytes kept).behind (c.in_ok-high_gate.ensures.head bytes then).behind c.segment_number.ensures c.segment_number-2.ensures in
+      (c.segment_at-low.ensures.at _ file.sized) (c.segment_at-high.ensures.at _ file.sized) (c.in_ok-low_gate.ensures.read bytes kept).gate (c.in_ok-high_gate.ensures.read bytes then).gate
+      (c.in_ok-low_gate.ensures.read bytes kept).behind (c.in_ok-high_gate.ensures.read bytes then).behind c.segment_number.ensures c.segment_number-2.ensures in
       gives_refused (IsSegment K file.header bytes) _ _ _ (sym same ∙ c.in_err-is_second.ensures) c.from_residual-in_err-is_second.ensures.1;
 }
 
