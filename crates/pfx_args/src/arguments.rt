@@ -1,13 +1,30 @@
-//! Arguments that subcommands share, and what was found for them.
+//! How a subcommand and the arguments that several share are made, and what was found for these.
 
 ghost use Rattle.std.specs.Prelude.{◌≡◌, option_map};
+ghost use Rattle.clap.specs.Simple.{new_app};
 ghost use Rattle.clap.specs.Matches.{found_of};
 ghost use Rattle.clap.specs.Walk.{rows_of};
-ghost use Rattle.pfx_args.specs.Commands.{required, as_json, IsArgument};
+ghost use Rattle.pfx_args.specs.Commands.{required, as_json, IsArgument, IsCommand};
 ghost use Rattle.pfx_args.specs.Requests.{flag_at, text_at, number_at};
 
-use clap::{Arg, ArgAction, ArgMatches};
+use clap::{Arg, ArgAction, ArgMatches, Command};
 use std::alloc::Global;
+
+// A subcommand without its arguments: its line in the list of all, its help and its example.
+pub(crate) fn subcommand<'a>(
+    alloc: Global,
+    name: &'a str,
+    about: &'a str,
+    long: &'a str,
+    example: &'a str,
+) -> Command<'a>
+    ensures { IsCommand result (new_app name.entry.now) }
+{
+    Command::new(alloc, name)
+        .about(about)
+        .long_about(long)
+        .after_help(example)
+}
 
 // A word that has to be there, by its name in the usage.
 pub(crate) fn required_word<'a>(alloc: Global, name: &'a str) -> Arg<'a>

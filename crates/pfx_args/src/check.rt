@@ -7,7 +7,7 @@ ghost use Rattle.pfx_args.specs.Commands.{check_app, IsCommand};
 ghost use Rattle.pfx_args.specs.Requests.{asked_by, check_in};
 
 use crate::Request;
-use crate::arguments::{required_word, text_under};
+use crate::arguments::{required_word, subcommand, text_under};
 use clap::{ArgMatches, Command};
 use std::alloc::{AllocError, Global};
 
@@ -39,11 +39,7 @@ pub(crate) fn check_command<'a>(alloc: Global) -> Result<Command<'a>, AllocError
     ensures { IfOk result (λ c. IsCommand c check_app) }
 {
     let set = required_word(alloc, "SET").help("The set file, in TOML; - is standard input");
-    Command::new(alloc, "check")
-        .about(ABOUT)
-        .long_about(LONG)
-        .after_help(EXAMPLE)
-        .arg(set)
+    subcommand(alloc, "check", ABOUT, LONG, EXAMPLE).arg(set)
 }
 
 pub(crate) fn check_request<'a>(matches: &ArgMatches<'a>) -> Option<Request<'a>>

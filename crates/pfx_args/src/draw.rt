@@ -7,7 +7,7 @@ ghost use Rattle.pfx_args.specs.Commands.{drawn_slots, draw_words, draw_app, IsA
 ghost use Rattle.pfx_args.specs.Requests.{asked_by, draw_in};
 
 use crate::Request;
-use crate::arguments::{number_under, required_word, text_under};
+use crate::arguments::{number_under, required_word, subcommand, text_under};
 use crate::plan::at_option;
 use clap::{Arg, ArgMatches, Command, value_parser};
 use std::alloc::{AllocError, Global};
@@ -39,10 +39,7 @@ fn bare_draw<'a>(alloc: Global) -> Result<Command<'a>, AllocError>
     ensures { IfOk result (λ c. IsCommand c draw_words) }
 {
     let set = required_word(alloc, "SET").help("The set file, in TOML; - is standard input");
-    let command = Command::new(alloc, "draw")
-        .about(ABOUT)
-        .long_about(LONG)
-        .after_help(EXAMPLE);
+    let command = subcommand(alloc, "draw", ABOUT, LONG, EXAMPLE);
     command.arg(set)?.arg(slots_word(alloc))
 }
 

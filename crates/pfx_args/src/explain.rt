@@ -7,7 +7,7 @@ ghost use Rattle.pfx_args.specs.Commands.{explain_app, IsCommand};
 ghost use Rattle.pfx_args.specs.Requests.{asked_by, explain_in};
 
 use crate::Request;
-use crate::arguments::{required_word, text_under};
+use crate::arguments::{required_word, subcommand, text_under};
 use clap::{ArgMatches, Command};
 use std::alloc::{AllocError, Global};
 
@@ -26,11 +26,7 @@ pub(crate) fn explain_command<'a>(alloc: Global) -> Result<Command<'a>, AllocErr
     ensures { IfOk result (λ c. IsCommand c explain_app) }
 {
     let fault = required_word(alloc, "FAULT").help("The fault's number or its name");
-    Command::new(alloc, "explain")
-        .about(ABOUT)
-        .long_about(LONG)
-        .after_help(EXAMPLE)
-        .arg(fault)
+    subcommand(alloc, "explain", ABOUT, LONG, EXAMPLE).arg(fault)
 }
 
 pub(crate) fn explain_request<'a>(matches: &ArgMatches<'a>) -> Option<Request<'a>>

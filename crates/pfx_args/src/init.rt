@@ -7,7 +7,7 @@ ghost use Rattle.pfx_args.specs.Commands.{init_app, IsCommand};
 ghost use Rattle.pfx_args.specs.Requests.{asked_by, init_in};
 
 use crate::Request;
-use crate::arguments::{required_word, text_under};
+use crate::arguments::{required_word, subcommand, text_under};
 use clap::{ArgMatches, Command};
 use std::alloc::{AllocError, Global};
 
@@ -33,10 +33,7 @@ pub(crate) fn init_command<'a>(alloc: Global) -> Result<Command<'a>, AllocError>
 {
     let set = required_word(alloc, "SET").help("The set file, in TOML; - is standard input");
     let file = required_word(alloc, "FILE").help("The file to make the store in");
-    let command = Command::new(alloc, "init")
-        .about(ABOUT)
-        .long_about(LONG)
-        .after_help(EXAMPLE);
+    let command = subcommand(alloc, "init", ABOUT, LONG, EXAMPLE);
     command.arg(set)?.arg(file)
 }
 

@@ -3,11 +3,13 @@
 ghost use Rattle.std.specs.Prelude.{◌≡◌, IfOk, option_map};
 ghost use Rattle.clap.specs.Matches.{found_of};
 ghost use Rattle.clap.specs.Walk.{rows_of};
-ghost use Rattle.pfx_args.specs.Commands.{slots, at_ledger, plan_words, plan_from, plan_app, IsArgument, IsCommand};
+ghost use Rattle.pfx_args.specs.Commands.{slots, at_ledger, plan_words, plan_app, IsArgument, IsCommand};
 ghost use Rattle.pfx_args.specs.Requests.{asked_by, plan_in};
 
 use crate::Request;
-use crate::arguments::{flag_under, json_flag, number_under, required_word, text_under};
+use crate::arguments::{
+    flag_under, json_flag, number_under, required_word, subcommand, text_under,
+};
 use clap::{Arg, ArgMatches, Command, value_parser};
 use std::alloc::{AllocError, Global};
 
@@ -49,23 +51,16 @@ fn bare_plan<'a>(alloc: Global) -> Result<Command<'a>, AllocError>
     ensures { IfOk result (λ c. IsCommand c plan_words) }
 {
     let set = required_word(alloc, "SET").help("The set file, in TOML; - is standard input");
-    let command = Command::new(alloc, "plan")
-        .about(ABOUT)
-        .long_about(LONG)
-        .after_help(EXAMPLE);
+    let command = subcommand(alloc, "plan", ABOUT, LONG, EXAMPLE);
     command.arg(set)?.arg(slots_word(alloc))
-}
-
-fn plan_from<'a>(alloc: Global) -> Result<Command<'a>, AllocError>
-    ensures { IfOk result (λ c. IsCommand c plan_from) }
-{
-    bare_plan(alloc)?.arg(at_option(alloc))
 }
 
 pub(crate) fn plan_command<'a>(alloc: Global) -> Result<Command<'a>, AllocError>
     ensures { IfOk result (λ c. IsCommand c plan_app) }
 {
-    plan_from(alloc)?.arg(json_flag(alloc))
+    bare_plan(alloc)?
+        .arg(at_option(alloc))?
+        .arg(json_flag(alloc))
 }
 
 pub(crate) fn plan_request<'a>(matches: &ArgMatches<'a>) -> Option<Request<'a>>

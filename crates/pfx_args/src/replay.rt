@@ -7,7 +7,7 @@ ghost use Rattle.pfx_args.specs.Commands.{replay_app, IsCommand};
 ghost use Rattle.pfx_args.specs.Requests.{asked_by, replay_in};
 
 use crate::Request;
-use crate::arguments::{required_word, text_under};
+use crate::arguments::{required_word, subcommand, text_under};
 use clap::{ArgMatches, Command};
 use std::alloc::{AllocError, Global};
 
@@ -35,11 +35,7 @@ pub(crate) fn replay_command<'a>(alloc: Global) -> Result<Command<'a>, AllocErro
     ensures { IfOk result (λ c. IsCommand c replay_app) }
 {
     let file = required_word(alloc, "FILE").help("The store's file");
-    Command::new(alloc, "replay")
-        .about(ABOUT)
-        .long_about(LONG)
-        .after_help(EXAMPLE)
-        .arg(file)
+    subcommand(alloc, "replay", ABOUT, LONG, EXAMPLE).arg(file)
 }
 
 pub(crate) fn replay_request<'a>(matches: &ArgMatches<'a>) -> Option<Request<'a>>

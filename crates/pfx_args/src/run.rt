@@ -3,11 +3,13 @@
 ghost use Rattle.std.specs.Prelude.{◌≡◌, IfOk, option_map};
 ghost use Rattle.clap.specs.Matches.{found_of};
 ghost use Rattle.clap.specs.Walk.{rows_of};
-ghost use Rattle.pfx_args.specs.Commands.{workers, batch, strict, run_words, run_by_workers, run_by_batch, run_strictly, run_app, IsArgument, IsCommand};
+ghost use Rattle.pfx_args.specs.Commands.{workers, batch, strict, run_words, run_app, IsArgument, IsCommand};
 ghost use Rattle.pfx_args.specs.Requests.{asked_by, run_in};
 
 use crate::Request;
-use crate::arguments::{flag_under, json_flag, number_under, required_word, text_under};
+use crate::arguments::{
+    flag_under, json_flag, number_under, required_word, subcommand, text_under,
+};
 use clap::{Arg, ArgAction, ArgMatches, Command, value_parser};
 use std::alloc::{AllocError, Global};
 
@@ -95,35 +97,16 @@ fn bare_run<'a>(alloc: Global) -> Result<Command<'a>, AllocError>
 {
     let file = required_word(alloc, "FILE").help("The store's file");
     let script = required_word(alloc, "SCRIPT").help("The script, in CSV; - is standard input");
-    let command = Command::new(alloc, "run")
-        .about(ABOUT)
-        .long_about(LONG)
-        .after_help(EXAMPLE);
+    let command = subcommand(alloc, "run", ABOUT, LONG, EXAMPLE);
     command.arg(file)?.arg(script)
-}
-
-fn run_by_workers<'a>(alloc: Global) -> Result<Command<'a>, AllocError>
-    ensures { IfOk result (λ c. IsCommand c run_by_workers) }
-{
-    bare_run(alloc)?.arg(workers_option(alloc))
-}
-
-fn run_by_batch<'a>(alloc: Global) -> Result<Command<'a>, AllocError>
-    ensures { IfOk result (λ c. IsCommand c run_by_batch) }
-{
-    run_by_workers(alloc)?.arg(batch_option(alloc))
-}
-
-fn run_strictly<'a>(alloc: Global) -> Result<Command<'a>, AllocError>
-    ensures { IfOk result (λ c. IsCommand c run_strictly) }
-{
-    run_by_batch(alloc)?.arg(strict_flag(alloc))
 }
 
 pub(crate) fn run_command<'a>(alloc: Global) -> Result<Command<'a>, AllocError>
     ensures { IfOk result (λ c. IsCommand c run_app) }
 {
-    run_strictly(alloc)?.arg(json_flag(alloc))
+    let command = bare_run(alloc)?.arg(workers_option(alloc))?;
+    let command = command.arg(batch_option(alloc))?;
+    command.arg(strict_flag(alloc))?.arg(json_flag(alloc))
 }
 
 pub(crate) fn run_request<'a>(matches: &ArgMatches<'a>) -> Option<Request<'a>>

@@ -3,11 +3,13 @@
 ghost use Rattle.std.specs.Prelude.{◌≡◌, IfOk, option_map};
 ghost use Rattle.clap.specs.Matches.{found_of};
 ghost use Rattle.clap.specs.Walk.{rows_of};
-ghost use Rattle.pfx_args.specs.Commands.{task, show_words, show_of_task, show_app, IsArgument, IsCommand};
+ghost use Rattle.pfx_args.specs.Commands.{task, show_words, show_app, IsArgument, IsCommand};
 ghost use Rattle.pfx_args.specs.Requests.{asked_by, show_in};
 
 use crate::Request;
-use crate::arguments::{flag_under, json_flag, number_under, required_word, text_under};
+use crate::arguments::{
+    flag_under, json_flag, number_under, required_word, subcommand, text_under,
+};
 use clap::{Arg, ArgMatches, Command, value_parser};
 use std::alloc::{AllocError, Global};
 
@@ -42,28 +44,20 @@ fn task_word<'a>(alloc: Global) -> Arg<'a>
         .value_parser(value_parser!(u32).range(0..=65_535))
 }
 
-// The command without the task.
+// The command without the task and the flag.
 fn bare_show<'a>(alloc: Global) -> Result<Command<'a>, AllocError>
     ensures { IfOk result (λ c. IsCommand c show_words) }
 {
     let file = required_word(alloc, "FILE").help("The store's file");
-    Command::new(alloc, "show")
-        .about(ABOUT)
-        .long_about(LONG)
-        .after_help(EXAMPLE)
-        .arg(file)
-}
-
-fn show_of_task<'a>(alloc: Global) -> Result<Command<'a>, AllocError>
-    ensures { IfOk result (λ c. IsCommand c show_of_task) }
-{
-    bare_show(alloc)?.arg(task_word(alloc))
+    subcommand(alloc, "show", ABOUT, LONG, EXAMPLE).arg(file)
 }
 
 pub(crate) fn show_command<'a>(alloc: Global) -> Result<Command<'a>, AllocError>
     ensures { IfOk result (λ c. IsCommand c show_app) }
 {
-    show_of_task(alloc)?.arg(json_flag(alloc))
+    bare_show(alloc)?
+        .arg(task_word(alloc))?
+        .arg(json_flag(alloc))
 }
 
 pub(crate) fn show_request<'a>(matches: &ArgMatches<'a>) -> Option<Request<'a>>

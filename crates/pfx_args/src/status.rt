@@ -7,7 +7,7 @@ ghost use Rattle.pfx_args.specs.Commands.{status_words, status_app, IsCommand};
 ghost use Rattle.pfx_args.specs.Requests.{asked_by, status_in};
 
 use crate::Request;
-use crate::arguments::{flag_under, json_flag, required_word, text_under};
+use crate::arguments::{flag_under, json_flag, required_word, subcommand, text_under};
 use clap::{ArgMatches, Command};
 use std::alloc::{AllocError, Global};
 
@@ -36,11 +36,7 @@ fn bare_status<'a>(alloc: Global) -> Result<Command<'a>, AllocError>
     ensures { IfOk result (λ c. IsCommand c status_words) }
 {
     let file = required_word(alloc, "FILE").help("The store's file");
-    Command::new(alloc, "status")
-        .about(ABOUT)
-        .long_about(LONG)
-        .after_help(EXAMPLE)
-        .arg(file)
+    subcommand(alloc, "status", ABOUT, LONG, EXAMPLE).arg(file)
 }
 
 pub(crate) fn status_command<'a>(alloc: Global) -> Result<Command<'a>, AllocError>
