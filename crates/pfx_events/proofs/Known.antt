@@ -7,7 +7,7 @@ use Rattle.pfx_checkpoint.proofs.Readings.{only_states}
 use Rattle.pfx_redo.proofs.States.{applied_behind}
 use Rattle.pfx_format.specs.Format.{format}
 use Rattle.pfx_format.proofs.Nexts.{after_of}
-use Rattle.pfx_format.proofs.Areas.{state_long, spelled_read as frozen_is_read}
+use Rattle.pfx_store.proofs.Areas.{state_long, spelled_read as frozen_is_read}
 use Rattle.pfx_header.specs.Headers.{Header, IsHeader}
 use Rattle.pfx_header.proofs.Meanings.{read_filled, read_a_header}
 use Rattle.pfx_jobs.specs.Kind.{Kind, Laws}

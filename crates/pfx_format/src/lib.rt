@@ -10,14 +10,11 @@
 //! Records are read and taken over one by one, so that a batch isn't held, and a slot's record in which no task has a state
 //! without a list of places: it takes no memory.
 //!
-//! `FileFormat` is that codec as `pfx_recover::Format`, for those who open files, and `FileHeader` its header. `laws` has that it keeps
-//! what recovery asks of one.
+//! `laws` has that the codec keeps what recovery asks of one.
 #![tactic(auto)]
 
-mod format;
 mod frames;
 mod idle;
 pub mod laws;
 
-pub use format::{FileFormat, FileHeader};
 pub use frames::{apply_frame, number_after, number_of};

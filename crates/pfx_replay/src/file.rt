@@ -16,12 +16,12 @@ use crate::jobs::PlainState;
 use crate::records::add_records;
 use crate::verdict::Verdict;
 use crate::way::find_way;
-use pfx_format::{FileFormat, FileHeader};
 use pfx_jobs::job::Job;
 use pfx_machine::State;
 use pfx_record::Record;
 use pfx_recover::Format;
 use pfx_redo::apply_all;
+use pfx_store::{FileFormat, FileHeader};
 use std::alloc::{AllocError, Global};
 
 // Adds the records of a segment's frames, or answers `false` if a frame doesn't fit.

@@ -12,9 +12,9 @@ use crate::file::judge_file;
 use crate::verdict::Verdict;
 use pfx_disk::Disk;
 use pfx_fault::Part;
-use pfx_format::FileFormat;
 use pfx_jobs::job::Job;
 use pfx_recover::{OpenFault, Opened, Refusal, open};
+use pfx_store::FileFormat;
 use std::alloc::Global;
 
 // All bytes of a disk, of which there are so many.

@@ -26,7 +26,7 @@ use Rattle.pfx_store_file.specs.Tending.{pieces}
 use Rattle.pfx_store_file.specs.declared.places.Places.{Places}
 use Rattle.pfx_store.specs.Making.{making_calls}
 use Rattle.pfx_store.specs.Standing.{Stands}
-use Rattle.pfx_format.proofs.Areas.{spelled_read, state_long}
+use Rattle.pfx_store.proofs.Areas.{spelled_read, state_long}
 
 -- a segment of a header has the room that a layout asks for
 pub segment_same : (h : Header) → IsHeader h → (layout h).segment ≡ h.segment

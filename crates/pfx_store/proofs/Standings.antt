@@ -20,7 +20,7 @@ use Rattle.pfx_store_file.specs.Tending.{settled, settled_unless, made_room}
 use Rattle.pfx_store_file.specs.declared.places.Places.{Places}
 use Rattle.pfx_store_file.proofs.Keeping.{keeps_then, room_there, room_made}
 use Rattle.pfx_store.specs.Standing.{IsReady, Stands}
-use Rattle.pfx_format.proofs.Areas.{spelled_read}
+use Rattle.pfx_store.proofs.Areas.{spelled_read}
 
 -- how the body of a checkpoint is spelled matters only if one is in progress
 respelled : {J : Type 0} (K : Kind J) (h : Header) (places : Places) (p : Parts (Plain J)) (s : Plain J) (a b : List ℕ) (disk : View) → Holds (format K) h places p s a disk → p.turned ≡ false → Holds (format K) h places p s b disk

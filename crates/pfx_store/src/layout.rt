@@ -9,9 +9,9 @@ ghost use Rattle.pfx_recover.specs.Answers.{Gives, IsRead, IsRefusal};
 ghost use Rattle.pfx_recover.specs.Looking.{OnlyReads};
 ghost use Rattle.pfx_recovery.specs.Recovery.{Found, found, recovered};
 
+use crate::format::{FileFormat, FileHeader};
 use crate::standing::Store;
 use pfx_disk::Disk;
-use pfx_format::{FileFormat, FileHeader};
 use pfx_header::HEADER_MOST;
 use pfx_jobs::job::Job;
 use pfx_recover::{Format, OpenFault};

@@ -10,13 +10,13 @@ ghost use Rattle.pfx_store.specs.Stores.{as_store};
 ghost use Rattle.pfx_store.specs.Working.{IsDurable, IsMaking, IsNew, IsUnmade, MakesStore};
 ghost use Rattle.pfx_store.specs.Making.{IsPrepared, making_calls};
 
+use crate::format::FileHeader;
 use crate::journal::Journal;
 use crate::opening::longest_frame;
 use crate::standing::Store;
 use pfx_checkpoint::{freeze, frozen_len};
 use pfx_create::{CreateFault, create_file};
 use pfx_disk::Disk;
-use pfx_format::FileHeader;
 use pfx_header::{SegmentSizeFault, check_segment, header_len, write_header};
 use pfx_jobs::job::Job;
 use pfx_machine::State;

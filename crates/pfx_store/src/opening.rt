@@ -15,11 +15,11 @@ ghost use Rattle.pfx_store_file.specs.Tending.{pieces, steps_left};
 ghost use Rattle.pfx_store.specs.Stores.{stored};
 ghost use Rattle.pfx_store.specs.Working.{Finds, IsDurable, Opens};
 
+use crate::format::{FileFormat, FileHeader};
 use crate::journal::Journal;
 use crate::standing::Store;
 use pfx_checkpoint::state_len;
 use pfx_disk::Disk;
-use pfx_format::{FileFormat, FileHeader};
 use pfx_jobs::job::Job;
 use pfx_machine::State;
 use pfx_recover::{OpenFault, Opened, open};

@@ -12,11 +12,11 @@ ghost use Rattle.pfx_store.specs.Standing.{IsBehind};
 ghost use Rattle.pfx_store.specs.Stores.{stored};
 ghost use Rattle.pfx_store.specs.Working.{BeginsBehind, IsCall, IsNext, Makes, MakesRoom, MovesBy, StandsAfter, StandsOn};
 
+use crate::format::FileHeader;
 use crate::journal::Journal;
 use byteorder::{ByteOrder, LittleEndian};
 use pfx_checkpoint::freeze;
 use pfx_disk::Disk;
-use pfx_format::FileHeader;
 use pfx_jobs::job::Job;
 use pfx_machine::State;
 use pfx_record::{Batch, batch_len, write_batch};

@@ -7,10 +7,10 @@ ghost use Rattle.pfx_store.specs.Files.{tending, turning};
 ghost use Rattle.pfx_store.specs.Stores.{stored};
 ghost use Rattle.pfx_store.specs.Working.{IsCall, Makes, StandsOn, Tends, Turns};
 
+use crate::format::FileHeader;
 use crate::journal::Journal;
 use crate::store::{encode, start_behind};
 use pfx_disk::Disk;
-use pfx_format::FileHeader;
 use pfx_jobs::job::Job;
 use pfx_machine::State;
 use pfx_store_file::{StoreFault, Tended};

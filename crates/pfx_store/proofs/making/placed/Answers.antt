@@ -9,7 +9,7 @@ use Rattle.pfx_store.specs.Standing.{Stands}
 use Rattle.std.proofs.lemmas.Bool.{true≢false}
 use Rattle.pfx_store.proofs.Counts.{takes_told}
 use Rattle.pfx_store.proofs.Made.{file_short, gate_of, made_calls, made_of, new_stands, unmade_refused}
-use Rattle.pfx_format.proofs.Areas.{state_long}
+use Rattle.pfx_store.proofs.Areas.{state_long}
 use Rattle.pfx_store.proofs.making.placed.Goals as goal
 
 pub create_file-requires : goal.create_file-requires

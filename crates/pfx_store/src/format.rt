@@ -3,9 +3,9 @@ ghost use Rattle.std.specs.Prelude.{◌≡◌};
 ghost use Rattle.pfx_format.specs.Format.{format, IsSetOf};
 ghost use Rattle.pfx_header.specs.declared.sizes.TheConstants.{HEADER_MOST};
 
-use crate::frames::{apply_frame, number_after, number_of};
 use pfx_checkpoint::{CheckpointFault, freeze, read, state_len};
 use pfx_fault::Part;
+use pfx_format::{apply_frame, number_after, number_of};
 use pfx_header::{HEADER_MOST, HeaderFault, header_len, read_header};
 use pfx_jobs::job::Job;
 use pfx_machine::State;

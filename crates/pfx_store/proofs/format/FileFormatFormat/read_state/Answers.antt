@@ -3,8 +3,8 @@ use Rattle.pfx_header.specs.Headers.{Header}
 use Rattle.pfx_checkpoint.specs.Spelling.{state_len}
 use Rattle.pfx_header.proofs.Meanings.{accepted_filled}
 use Rattle.pfx_weights.specs.Sets.{IsFilled}
-use Rattle.pfx_format.proofs.Areas.{other_length}
-use Rattle.pfx_format.proofs.format.FileFormatFormat.read_state.Goals as goal
+use Rattle.pfx_store.proofs.Areas.{other_length}
+use Rattle.pfx_store.proofs.format.FileFormatFormat.read_state.Goals as goal
 
 pub returns-then-bytes-state_len : goal.returns-then-bytes-state_len
 returns-then-bytes-state_len g c =
