@@ -7,7 +7,7 @@ ghost use Rattle.pfx_recover.specs.Choosing.{IsArea};
 ghost use Rattle.pfx_recover.specs.Finding.{ReadsState};
 ghost use Rattle.pfx_recover.specs.Looking.{Reaches, ReadsKept};
 
-use crate::choosing::{Choice, Numbered, newer};
+use crate::choosing::{Choice, newer};
 use crate::faults::{OpenFault, Refusal};
 use crate::format::Format;
 use crate::gates::read_gate;
@@ -29,16 +29,8 @@ pub(crate) fn take_area<F: Format, D: Disk>(
     let high = file.sizes.area_at(true);
     let low_gate = read_gate(disk, low)?;
     let high_gate = read_gate(disk, high)?;
-    let first = Numbered {
-        at: low,
-        open: low_gate.open,
-        number: F::area_number(&low_gate.bytes),
-    };
-    let second = Numbered {
-        at: high,
-        open: high_gate.open,
-        number: F::area_number(&high_gate.bytes),
-    };
+    let first = low_gate.numbered(low, F::area_number(&low_gate.bytes));
+    let second = high_gate.numbered(high, F::area_number(&high_gate.bytes));
     let is_second = newer(first, second)?;
     Ok(Choice::of(is_second, first, second))
 }

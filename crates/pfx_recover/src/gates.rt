@@ -2,6 +2,7 @@
 ghost use Rattle.std.specs.Prelude.{◌≡◌, ◌≤◌, ◌+◌, ℕ, List};
 ghost use Rattle.pfx_recover.specs.Looking.{IsGateHead, IsKept, LooksAt, Reaches};
 
+use crate::choosing::Numbered;
 use pfx_disk::{DeviceFailed, Disk, GATE_OPEN};
 
 /// How a gate stands, and the eight bytes behind it.
@@ -9,6 +10,19 @@ use pfx_disk::{DeviceFailed, Disk, GATE_OPEN};
 pub(crate) struct GateHead {
     pub open: bool,
     pub bytes: [u8; 8],
+}
+
+impl GateHead {
+    /// The gate, which stands here, with the number that its bytes spell.
+    pub(crate) fn numbered(&self, at: usize, number: u64) -> Numbered
+        ensures { result ≡ record { at = at; «open» = self.now.open; number = number } }
+    {
+        Numbered {
+            at,
+            open: self.open,
+            number,
+        }
+    }
 }
 
 /// The gate of a checkpoint area or a segment and the bytes behind it, by one call of the disk.

@@ -6,7 +6,7 @@ ghost use Rattle.pfx_recover.specs.Answers.{Gives};
 ghost use Rattle.pfx_recover.specs.Choosing.{IsSegment};
 ghost use Rattle.pfx_recover.specs.Looking.{Reaches, ReadsKept};
 
-use crate::choosing::{Choice, Numbered, beginning};
+use crate::choosing::{Choice, beginning};
 use crate::faults::OpenFault;
 use crate::format::Format;
 use crate::gates::read_gate;
@@ -27,16 +27,8 @@ pub(crate) fn find_segment<F: Format, D: Disk>(
     let high = file.sizes.segment_at(true);
     let low_gate = read_gate(disk, low)?;
     let high_gate = read_gate(disk, high)?;
-    let first = Numbered {
-        at: low,
-        open: low_gate.open,
-        number: F::segment_number(&low_gate.bytes),
-    };
-    let second = Numbered {
-        at: high,
-        open: high_gate.open,
-        number: F::segment_number(&high_gate.bytes),
-    };
+    let first = low_gate.numbered(low, F::segment_number(&low_gate.bytes));
+    let second = high_gate.numbered(high, F::segment_number(&high_gate.bytes));
     let is_second = beginning(number, first, second)?;
     Ok(Choice::of(is_second, first, second))
 }

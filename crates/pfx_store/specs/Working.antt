@@ -1,7 +1,9 @@
 -- What the calls of a store do.
-use Rattle.std.specs.Prelude.{◌≡◌, ◌↔◌, ◌<◌, ◌+◌, ◌-◌, ◌++◌, ℕ, List, [], ◌∷◌, length, min, take, slice_index, true, false, Bool, Result, Ok, Some}
-use Rattle.std.specs.Prelude.{OnOk, OnErr, IfOk, IfErr, IsErrOf, IsTrue, MatchResult}
+use Rattle.std.specs.Prelude.{◌≡◌, ◌↔◌, ◌≤◌, ◌<◌, ◌+◌, ◌-◌, ◌++◌, ℕ, List, [], ◌∷◌, length, min, take, slice_index, true, false, Bool, Option}
+use Rattle.std.specs.Prelude.{Result, Ok, Some, Vec, OnOk, OnErr, IfOk, IfErr, IsErrOf, IsTrue, MatchResult}
+use Rattle.std.specs.declared.alloc.Global.{Global}
 use Rattle.byteorder.specs.Endian.{little_number}
+use Rattle.pfx_checkpoint.specs.Spelling.{state_bytes}
 use Rattle.pfx_disk.specs.CallsMade.{HasMade, HasBrokenOff, HasKeptTo}
 use Rattle.pfx_disk.specs.Disk.{View, HasFailed, IsHonest, Leaves, Only, Same}
 use Rattle.pfx_disk.specs.Stop.{Act, Sync}
@@ -9,7 +11,8 @@ use Rattle.pfx_create.specs.Attempts.{IsNoneOrMade}
 use Rattle.pfx_format.specs.Format.{format}
 use Rattle.pfx_header.specs.Headers.{Header, IsSegmentSize}
 use Rattle.pfx_jobs.specs.Kind.{Kind}
-use Rattle.pfx_machine.specs.Plain.{Plain, empty}
+use Rattle.pfx_machine.specs.Plain.{Plain, IsState, empty}
+use Rattle.pfx_record.specs.Batches.{batch_most}
 use Rattle.pfx_record.specs.Numbers.{number_bytes}
 use Rattle.pfx_record.specs.Records.{Recorded}
 use Rattle.pfx_recover.specs.declared.faults.OpenFault.{OpenFault}
@@ -22,7 +25,7 @@ use Rattle.pfx_store_file.specs.Checkpoints.{in_progress, written}
 use Rattle.pfx_store_file.specs.Fitting.{HasRoom, IsTurnable}
 use Rattle.pfx_store_file.specs.Sizes.{total_len}
 use Rattle.pfx_store_file.specs.Holding.{KeepsAll, Survives}
-use Rattle.pfx_store_file.specs.Tending.{IsTurned, StaysPut, append_calls, calls_left, calls_of, next_step, pieces, room_calls, steps_left}
+use Rattle.pfx_store_file.specs.Tending.{IsTurned, StaysPut, TakesFrame, append_calls, calls_left, calls_of, next_step, pieces, room_calls, steps_left}
 use Rattle.pfx_store_file.specs.declared.progress.Checkpoint.TheVariants.{Ended, Writing}
 use Rattle.pfx_store_file.specs.declared.checkpoint.TheConstants.{PIECE}
 use Rattle.pfx_store_file.specs.declared.checkpoint.Tended.TheVariants.{Piece}
@@ -36,6 +39,7 @@ use Rattle.pfx_store.specs.Making.{IsBeforeAnyCall, IsSizeFault, making_calls}
 use Rattle.pfx_store.specs.Marks.{Covers}
 use Rattle.pfx_store.specs.Standing.{IsReady, Stands}
 use Rattle.pfx_store.specs.Stores.{PlainStore}
+use Rattle.pfx_store.specs.declared.store.Mark.{Mark}
 use Rattle.pfx_weights.specs.Sets.{FilledSet}
 
 -- the records may come next at a state: rows are of its workers, the first number is the next, and each record is right in turn
@@ -48,6 +52,32 @@ pub record IsNext {J : Type 0} (K : Kind J) (s : Plain J) (m n : ℕ) (records :
 pub record MovesBy {J T : Type 0} (K : Kind J) (records : List (Recorded J)) (result : Result T StoreFault) (old new : Plain J) : Type 0 where
   pub moved : OnOk result (applied K old records ≡ Some new)
   pub same : OnErr result (new ≡ old)
+
+-- The bytes of a state stand where those of another one stood.
+pub record IsEncoded {J : Type 0} (K : Kind J) (s : Plain J) (old new : List ℕ) : Type 0 where
+  pub spelled : new ≡ state_bytes K s
+  pub long : length new ≡ length old
+  pub state : IsState s
+
+-- these bytes are a frame, with the closed gate of the next one behind it, and there is no less room for bytes than before
+pub record IsSpelled (frame bytes : List ℕ) (old_room new_room : ℕ) : Type 0 where
+  pub items : bytes ≡ frame ++ 0 ∷ []
+  pub room : old_room ≤ new_room
+
+-- a frame of rows for m workers, with that gate behind it
+pub record IsFrameOf (m : ℕ) (frame bytes : List ℕ) : Type 0 where
+  pub spelled : bytes ≡ frame ++ 0 ∷ []
+  pub short : length frame ≤ batch_most m
+
+-- the records lead from one state to the other, of the same set
+pub record LeadsOn {J : Type 0} (K : Kind J) (old : Plain J) (records : List (Recorded J)) (new : Plain J) : Type 0 where
+  pub taken : applied K old records ≡ Some new
+  pub set : new.ledger.set ≡ old.ledger.set
+
+-- room for a body of so many bytes; where a body is given that is as long it is this one
+pub record IsBody (given : Option (Vec ℕ Global)) (len : ℕ) (body : List ℕ) : Type 0 where
+  pub long : length body ≡ len
+  pub kept : (v : Vec ℕ Global) → given ≡ Some v → length v.items ≡ len → body ≡ v.items
 
 -- At every moment of a call what survived before survives, with this frame or without; and once it succeeded each image has it.
 pub record Commits {J T : Type 0} (K : Kind J) (s : Plain J) (frame : List ℕ) (result : Result T StoreFault) (old new : View) : Type 0 where
@@ -77,6 +107,14 @@ module _ {D J T : Type 0} (view : D → View) (old new : PlainStore D J) (result
         → HasKeptTo (acts f) (view old.file.disk) (view new.file.disk)
     pub file : (f : FileOf J) → HasFile K f old.file.places old.spelled → IsHonest (view old.file.disk)
         → went_well (HasFile K (next f) new.file.places new.spelled)
+
+-- A batch whose frame has n bytes was taken: the records move the state on, unless the call failed; the places take the frame; and the mark has
+-- the last command's number and the disk's clock at the return.
+pub record TakesBatch {D J : Type 0} (view : D → View) (K : Kind J) (records : List (Recorded J)) (n : ℕ) (old new : PlainStore D J)
+    (result : Result Mark StoreFault) : Type 0 where
+  pub state : MovesBy K records result old.state new.state
+  pub place : OnOk result (TakesFrame n old.file.places new.file.places)
+  pub mark : IfOk result (λ mark. (mark.number ≡ new.state.number) × (mark.clock ≡ (view new.file.disk).clock))
 
 -- Why no store was made of a set for m workers: what each fault means, and what it leaves of the disk.
 pub record IsUnmade {D : Type 0} (view : D → View) (m segment : ℕ) (disk : D) (e : InitFault × D) : Type 0 where
@@ -151,10 +189,9 @@ pub record Turns {D J : Type 0} (old new : PlainStore D J) (result : Result Bool
   pub refused : result ≡ Ok false → (new.file ≡ old.file) × (new.spelled ≡ old.spelled)
   pub turned : result ≡ Ok true → IsTurned new.file.places
 
--- The state stays. If a frame of n bytes had room nothing is done. Else the checkpoint in progress was ended, and the file is ready for a
+-- If a frame of n bytes had room nothing is done. Else the checkpoint in progress was ended, and the file is ready for a
 -- turn; what is left of the append's calls is those after it.
 pub record MakesRoom {D J T : Type 0} (K : Kind J) (n : ℕ) (old new : PlainStore D J) (result : Result T StoreFault) : Type 0 where
-  pub state : new.state ≡ old.state
   pub there : HasRoom n old.file.places → new.file.places ≡ old.file.places
   pub same : HasRoom n old.file.places → new.spelled ≡ old.spelled
   pub full : HasRoom n new.file.places → HasRoom n old.file.places
@@ -168,9 +205,10 @@ pub record Finds {D J : Type 0} (view : D → View) (K : Kind J) (bytes : List �
   pub stands : Stands K store.file.places store.state store.spelled (view store.file.disk)
   pub file : (f : FileOf J) × (recovered_file K bytes ≡ Some (store.state, f)) × HasFile K f store.file.places store.spelled
 
--- A store that stands for its state goes on so once the call succeeds; and at every moment of it, whatever it answers, what survived
+-- The state stays. A store that stands for it goes on so once the call succeeds; and at every moment of it, whatever it answers, what survived
 -- before survives.
 pub record StandsOn {D J T : Type 0} (view : D → View) (K : Kind J) (old new : PlainStore D J) (result : Result T StoreFault) : Type 0 where
+  pub state : new.state ≡ old.state
   pub goes_on : Stands K old.file.places old.state old.spelled (view old.file.disk)
       → OnOk result (Stands K new.file.places new.state new.spelled (view new.file.disk))
   pub keeps : Stands K old.file.places old.state old.spelled (view old.file.disk)

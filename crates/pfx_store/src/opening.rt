@@ -1,19 +1,17 @@
 // Opening a store.
-ghost use Rattle.std.specs.Prelude.{◌≡◌, ◌≤◌, ◌+◌, ◌*◌, ℕ, List, length, if◌then◌else◌, false, Vec, Some, Ok, Err, IfOk, IfErr, MatchResult};
-ghost use Rattle.std.specs.declared.alloc.Global.{Global};
+ghost use Rattle.std.specs.Prelude.{◌≡◌, ◌≤◌, ◌+◌, ◌*◌, ℕ, List, if◌then◌else◌, false, Ok, Err, IfOk, IfErr, MatchResult};
 ghost use Rattle.pfx_disk.specs.Disk.{IsHonest, HasFailed};
-ghost use Rattle.pfx_format.specs.Format.{format, layout};
+ghost use Rattle.pfx_format.specs.Format.{format, IsSetOf};
 ghost use Rattle.pfx_header.specs.Headers.{Header};
 ghost use Rattle.pfx_machine.specs.Plain.{Plain};
 ghost use Rattle.pfx_recover.specs.Answers.{IsRefusal};
-ghost use Rattle.pfx_recover.specs.Finding.{IsOpened};
+ghost use Rattle.pfx_recover.specs.Finding.{CanGoOn, IsOpened};
 ghost use Rattle.pfx_recover.specs.Looking.{Looks};
 ghost use Rattle.pfx_recovery.specs.Recovery.{Found, found, recovered};
 ghost use Rattle.pfx_store_file.specs.Checkpoints.{is_begun};
-ghost use Rattle.pfx_store_file.specs.Sizes.{HasSizes};
 ghost use Rattle.pfx_store_file.specs.Tending.{pieces, steps_left};
 ghost use Rattle.pfx_store.specs.Stores.{stored};
-ghost use Rattle.pfx_store.specs.Working.{Finds, IsDurable, Opens};
+ghost use Rattle.pfx_store.specs.Working.{Finds, IsBody, IsDurable, Opens};
 
 use crate::format::{FileFormat, FileHeader};
 use crate::journal::Journal;
@@ -35,8 +33,7 @@ pub(crate) fn longest_frame(workers: u32) -> usize
 
 // The body of the checkpoint in progress, or room for one.
 fn body_of(alloc: Global, middle: Option<Vec<u8>>, len: usize) -> Result<Vec<u8>, AllocError>
-    ensures long { IfOk result (λ body. length body.items ≡ len) }
-    ensures kept { (v : Vec ℕ Global) → middle ≡ Some v → length v.items ≡ len → IfOk result (λ body. body.items ≡ v.items) }
+    ensures { IfOk result (λ body. IsBody middle len body.items) }
 {
     match middle {
         Some(body) if body.len() == len => Ok(body),
@@ -52,8 +49,7 @@ fn furnished<D: Disk, J: Job>(
     state: State<J>,
     middle: Option<Vec<u8>>,
 ) -> Result<Journal<D, J>, (OpenFault, D)>
-    requires sized { HasSizes (layout header.now) file.places.sizes }
-    requires set { state.ledger.set ≡ header.now.set }
+    requires { CanGoOn (format J.kind) IsSetOf header.now file.broken file.places state }
     ensures file { IfOk result (λ store. store.file ≡ file) }
     ensures state { IfOk result (λ store. store.state ≡ state) }
     ensures found { (bytes : List ℕ) → IsOpened (format J.kind) header.now bytes file.places state middle (D.view file.disk)

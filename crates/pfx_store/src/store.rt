@@ -1,16 +1,16 @@
 // Appending to a journal.
-ghost use Rattle.std.specs.Prelude.{◌≡◌, ◌≤◌, ◌<◌, ◌+◌, ◌*◌, ◌^◌, ◌++◌, ◌∷◌, [], length, map, vec_capacity, Some, OnOk, false};
-ghost use Rattle.std.specs.Prelude.{IfOk};
-ghost use Rattle.pfx_checkpoint.specs.Spelling.{state_bytes, state_len};
+ghost use Rattle.std.specs.Prelude.{◌≡◌, ◌<◌, ◌+◌, ◌*◌, ◌^◌, length, map, vec_capacity, Some, OnOk, false};
+ghost use Rattle.pfx_checkpoint.specs.Spelling.{state_len};
 ghost use Rattle.pfx_redo.specs.Applying.{applied};
-ghost use Rattle.pfx_machine.specs.Plain.{Plain, IsState};
-ghost use Rattle.pfx_record.specs.Batches.{batch_bytes, batch_most, batch_of};
+ghost use Rattle.pfx_machine.specs.Plain.{Plain};
+ghost use Rattle.pfx_record.specs.Batches.{batch_bytes, batch_of};
 ghost use Rattle.pfx_record.specs.Records.{plain};
-ghost use Rattle.pfx_store_file.specs.Tending.{TakesFrame, append_calls, room_calls};
+ghost use Rattle.pfx_store_file.specs.Tending.{append_calls, room_calls};
 ghost use Rattle.pfx_store.specs.Files.{appending, appended, ending, ended};
 ghost use Rattle.pfx_store.specs.Standing.{IsBehind};
 ghost use Rattle.pfx_store.specs.Stores.{stored};
-ghost use Rattle.pfx_store.specs.Working.{BeginsBehind, IsCall, IsNext, Makes, MakesRoom, MovesBy, StandsAfter, StandsOn};
+ghost use Rattle.pfx_store.specs.Working.{BeginsBehind, IsCall, IsEncoded, IsFrameOf, IsNext, IsSpelled, LeadsOn, Makes, MakesRoom};
+ghost use Rattle.pfx_store.specs.Working.{StandsAfter, StandsOn, TakesBatch};
 
 use crate::format::FileHeader;
 use crate::journal::Journal;
@@ -45,9 +45,7 @@ pub(crate) fn start_behind(number: u64) -> [u8; 9]
 // Encodes a state over the encoding of another one.
 pub(crate) fn encode<J: Job>(state: &State<J>, spelled: &mut Vec<u8>)
     requires { length spelled.old.items ≡ state_len state.now.ledger.set }
-    ensures spelled { spelled.new.items ≡ state_bytes J.kind state.now }
-    ensures long { length spelled.new.items ≡ length spelled.old.items }
-    ensures state { IsState state.now }
+    ensures { IsEncoded J.kind state.now spelled.old.items spelled.new.items }
 {
     let _number = state.number();
     freeze(state, spelled);
@@ -56,8 +54,8 @@ pub(crate) fn encode<J: Job>(state: &State<J>, spelled: &mut Vec<u8>)
 // Encodes a frame, with the closed gate of the next one behind it.
 fn encode_frame<J: Job>(batch: &Batch<J>, frame: &mut Vec<u8>)
     requires { length (batch_bytes J.kind (batch_of batch.now.first batch.now.records.items)) < vec_capacity frame.old }
-    ensures items { frame.new.items ≡ batch_bytes J.kind (batch_of batch.now.first batch.now.records.items) ++ 0 ∷ [] }
-    ensures room { vec_capacity frame.old ≤ vec_capacity frame.new }
+    ensures { IsSpelled (batch_bytes J.kind (batch_of batch.now.first batch.now.records.items)) frame.new.items
+        (vec_capacity frame.old) (vec_capacity frame.new) }
 {
     frame.clear();
     write_batch(batch, frame);
@@ -66,8 +64,7 @@ fn encode_frame<J: Job>(batch: &Batch<J>, frame: &mut Vec<u8>)
 
 // What stands behind a frame's gate: the rest of its encoding, and the closed gate of the next one.
 fn behind_gate<'a, J: Job>(batch: &Batch<J>, frame: &'a [u8]) -> &'a [u8]
-    requires spelled { frame.now ≡ batch_bytes J.kind (batch_of batch.now.first batch.now.records.items) ++ 0 ∷ [] }
-    requires short { length (batch_bytes J.kind (batch_of batch.now.first batch.now.records.items)) ≤ batch_most batch.now.workers }
+    requires { IsFrameOf batch.now.workers (batch_bytes J.kind (batch_of batch.now.first batch.now.records.items)) frame.now }
     ensures { IsBehind (batch_bytes J.kind (batch_of batch.now.first batch.now.records.items)) result.now }
 {
     &frame[1..]
@@ -76,8 +73,7 @@ fn behind_gate<'a, J: Job>(batch: &Batch<J>, frame: &'a [u8]) -> &'a [u8]
 // Takes a batch over that is right at the state.
 fn take_over<J: Job>(state: &mut State<J>, batch: &Batch<J>)
     requires { (t : Plain J) × (applied J.kind state.old (map plain batch.now.records.items) ≡ Some t) }
-    ensures taken { applied J.kind state.old (map plain batch.now.records.items) ≡ Some state.new }
-    ensures set { state.new.ledger.set ≡ state.old.ledger.set }
+    ensures { LeadsOn J.kind state.old (map plain batch.now.records.items) state.new }
 {
     let _taken = apply_all(state, &batch.records);
 }
@@ -91,7 +87,7 @@ impl<D: Disk, J: Job> Journal<D, J> {
         ensures frame { self.new.frame ≡ self.old.frame }
         ensures room { MakesRoom J.kind n (stored self.old) (stored self.new) result }
 
-        // The store goes on. At every moment of the call, whatever it answers, what survived before survives.
+        // The state stays, and the store goes on. At every moment of the call, whatever it answers, what survived before survives.
         ensures stands { StandsOn D.view J.kind (stored self.old) (stored self.new) result }
 
         // These calls of the disk, and the file after them.
@@ -111,11 +107,8 @@ impl<D: Disk, J: Job> Journal<D, J> {
         requires next { IsNext J.kind self.old.state batch.now.workers batch.now.first (map plain batch.now.records.items) }
         ensures call { let n = length (batch_bytes J.kind (batch_of batch.now.first batch.now.records.items)) in
             IsCall D.view (stored self.old) (stored self.new) result (append_calls n self.old.file.places) }
-        ensures state { MovesBy J.kind (map plain batch.now.records.items) result self.old.state self.new.state }
-        ensures place { let n = length (batch_bytes J.kind (batch_of batch.now.first batch.now.records.items)) in
-            OnOk result (TakesFrame n self.old.file.places self.new.file.places) }
-        ensures mark { IfOk result (λ mark. (mark.number ≡ self.new.state.number)
-            × (mark.clock ≡ (D.view self.new.file.disk).clock)) }
+        ensures moves { let n = length (batch_bytes J.kind (batch_of batch.now.first batch.now.records.items)) in
+            TakesBatch D.view J.kind (map plain batch.now.records.items) n (stored self.old) (stored self.new) result }
 
         // The store goes on after the batch. At every moment what survived before survives, with the batch or without; from the
         // return on each image has the batch.

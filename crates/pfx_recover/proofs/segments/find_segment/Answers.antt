@@ -1,5 +1,7 @@
-use Rattle.std.proofs.Common.{◌∙◌, ap, sym, refl, rules, Ok}
+use Rattle.std.proofs.Common.{◌∙◌, ap, ap₂, cond, sym, refl, rules, Ok}
+use Rattle.pfx_recovery.specs.Recovery.{begun}
 use Rattle.pfx_recover.specs.Choosing.{IsSegment}
+use Rattle.pfx_recover.specs.declared.choosing.Numbered.{Numbered}
 use Rattle.pfx_recover.proofs.Giving.{gives_refused}
 use Rattle.pfx_recover.proofs.Looking.{kept_after, looks_then}
 use Rattle.pfx_recover.proofs.Numbers.{segment_begun_by, segment_open_by, segment_number_by}
@@ -24,9 +26,9 @@ returns g c = record {
       let high_bytes = (c.in_ok-high_gate.ensures.read bytes then).behind in
       let same = segment_begun_by K file.header bytes c.args.number _ _ _ _ _ _ _ _ low high low_open high_open low_bytes high_bytes c.segment_number.ensures c.segment_number-2.ensures in
       record {
-        chosen = sym same ∙ c.in_ok-is_second.ensures ∙ ap Ok (sym c.of.ensures.chosen.second);
-        other = segment_open_by K file.header bytes _ _ _ _ _ _ _ low high low_open high_open c.of.ensures.chosen.second c.of.ensures.chosen.open_other;
-        number = segment_number_by K file.header bytes _ _ _ _ _ _ _ _ _ low high low_bytes high_bytes c.segment_number.ensures c.segment_number-2.ensures c.of.ensures.chosen.second c.of.ensures.chosen.number;
+        chosen = sym same ∙ sym (ap₂ (λ (x y : Numbered). begun x.at y.at x.open y.open c.args.number x.number y.number) c.numbered-first.ensures c.numbered-second.ensures) ∙ c.in_ok-is_second.ensures ∙ ap Ok (sym c.of.ensures.chosen.second);
+        other = segment_open_by K file.header bytes _ _ _ _ _ _ _ low high low_open high_open c.of.ensures.chosen.second (c.of.ensures.chosen.open_other ∙ ap₂ (λ (x y : Numbered). cond c.in_ok-is_second.is_second x.open y.open) c.numbered-first.ensures c.numbered-second.ensures);
+        number = segment_number_by K file.header bytes _ _ _ _ _ _ _ _ _ low high low_bytes high_bytes c.segment_number.ensures c.segment_number-2.ensures c.of.ensures.chosen.second (c.of.ensures.chosen.number ∙ ap₂ (λ (x y : Numbered). cond c.in_ok-is_second.is_second x.number y.number) c.numbered-first.ensures c.numbered-second.ensures);
       };
 }
 
@@ -40,7 +42,7 @@ returns-in_err-is_second g c = record {
       let same = segment_begun_by K file.header bytes c.args.number _ _ _ _ _ _ _ _
       (c.segment_at-low.ensures.at _ file.sized) (c.segment_at-high.ensures.at _ file.sized) (c.in_ok-low_gate.ensures.read bytes kept).gate (c.in_ok-high_gate.ensures.read bytes then).gate
       (c.in_ok-low_gate.ensures.read bytes kept).behind (c.in_ok-high_gate.ensures.read bytes then).behind c.segment_number.ensures c.segment_number-2.ensures in
-      gives_refused (IsSegment K file.header bytes) _ _ _ (sym same ∙ c.in_err-is_second.ensures) c.from_residual-in_err-is_second.ensures.1;
+      gives_refused (IsSegment K file.header bytes) _ _ _ (sym same ∙ sym (ap₂ (λ (x y : Numbered). begun x.at y.at x.open y.open c.args.number x.number y.number) c.numbered-first.ensures c.numbered-second.ensures) ∙ c.in_err-is_second.ensures) c.from_residual-in_err-is_second.ensures.1;
 }
 
 pub returns-in_err-low_gate : goal.returns-in_err-low_gate

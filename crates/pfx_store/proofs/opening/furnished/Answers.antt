@@ -11,7 +11,7 @@ returns-clause-found g c bytes opened =
     record {
       recovers = found_recovered K c.args.header.now bytes opened.parts c.args.state opened.found;
       turned = λ f is. opened_turned K c.args.header.now bytes c.args.file.places c.args.state c.args.middle disk opened f is;
-      stands = opened_stands K c.args.header.now bytes c.args.file.places c.args.state c.args.middle c.in-Ok.spelled.items disk opened c.requires.set
+      stands = opened_stands K c.args.header.now bytes c.args.file.places c.args.state c.args.middle c.in-Ok.spelled.items disk opened c.requires.fits
           (λ v is long. c.in-Ok.ensures.kept v is (long ∙ (ap state_len (sym c.set-set.ensures.set) ∙ sym c.state_len.ensures)));
       file = opened_file K c.args.header.now bytes c.args.file.places c.args.state c.args.middle c.in-Ok.spelled.items disk opened
           (middle_spelled K c.args.header.now opened.parts c.args.middle c.in-Ok.spelled.items opened.between

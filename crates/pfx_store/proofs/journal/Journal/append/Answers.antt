@@ -54,7 +54,7 @@ returns-in_err-append_or_turn-clause-stands g c = record {
       let V = g.D.Disk.view in
       let b : PlainBatch g.row.J.Denot = batch_of c.args.batch.now.first c.args.batch.now.records.items in
       let mid = c.make_room.new.self in
-      let same : mid.state ≡ c.args.self.now.state = c.make_room.ensures.room.state in
+      let same : mid.state ≡ c.args.self.now.state = c.make_room.ensures.stands.state in
       let standing : Stands K mid.file.places mid.state c.deref.result.now (V mid.file.disk) = subst (λ (l : List ℕ). Stands K mid.file.places mid.state l (V mid.file.disk)) (sym c.deref.ensures.value) (c.in_ok-make_room.ensures.stands.goes_on stands) in
       let body = c.behind_gate.ensures.0 in
       let opens : batch_bytes K b ≡ GATE_OPEN ∷ body = c.behind_gate.ensures.1 in
@@ -78,7 +78,7 @@ returns-clause-stands g c = record {
       let V = g.D.Disk.view in
       let b : PlainBatch g.row.J.Denot = batch_of c.args.batch.now.first c.args.batch.now.records.items in
       let mid = c.make_room.new.self in
-      let same : mid.state ≡ c.args.self.now.state = c.make_room.ensures.room.state in
+      let same : mid.state ≡ c.args.self.now.state = c.make_room.ensures.stands.state in
       let standing : Stands K mid.file.places mid.state c.deref.result.now (V mid.file.disk) = subst (λ (l : List ℕ). Stands K mid.file.places mid.state l (V mid.file.disk)) (sym c.deref.ensures.value) (c.in_ok-make_room.ensures.stands.goes_on stands) in
       let body = c.behind_gate.ensures.0 in
       let opens : batch_bytes K b ≡ GATE_OPEN ∷ body = c.behind_gate.ensures.1 in
@@ -96,7 +96,7 @@ returns-clause-stands g c = record {
       let V = g.D.Disk.view in
       let b : PlainBatch g.row.J.Denot = batch_of c.args.batch.now.first c.args.batch.now.records.items in
       let mid = c.make_room.new.self in
-      let same : mid.state ≡ c.args.self.now.state = c.make_room.ensures.room.state in
+      let same : mid.state ≡ c.args.self.now.state = c.make_room.ensures.stands.state in
       let standing : Stands K mid.file.places mid.state c.deref.result.now (V mid.file.disk) = subst (λ (l : List ℕ). Stands K mid.file.places mid.state l (V mid.file.disk)) (sym c.deref.ensures.value) (c.in_ok-make_room.ensures.stands.goes_on stands) in
       let body = c.behind_gate.ensures.0 in
       let opens : batch_bytes K b ≡ GATE_OPEN ∷ body = c.behind_gate.ensures.1 in
@@ -154,11 +154,15 @@ returns-clause-call g c =
       parts = search rules;
     }
 
-pub returns-clause-place : goal.returns-clause-place
-returns-clause-place g c =
-    takes_frame (length (batch_bytes g.J.Job.kind (batch_of c.args.batch.now.first c.args.batch.now.records.items))) c.batch_len-len.result (length c.behind_gate.result.now)
-    c.args.self.now.file.places c.make_room.new.self.file.places c.append_or_turn.new.self.places c.batch_len-len.ensures.value (behind_len _ _ c.behind_gate.ensures)
-    c.make_room.ensures.room.there c.make_room.ensures.room.full c.in_ok-append_or_turn.ensures.place
+pub returns-clause-moves : goal.returns-clause-moves
+returns-clause-moves g c = record {
+  state = search rules;
+  place =
+      takes_frame (length (batch_bytes g.J.Job.kind (batch_of c.args.batch.now.first c.args.batch.now.records.items))) c.batch_len-len.result (length c.behind_gate.result.now)
+      c.args.self.now.file.places c.make_room.new.self.file.places c.append_or_turn.new.self.places c.batch_len-len.ensures.value (behind_len _ _ c.behind_gate.ensures)
+      c.make_room.ensures.room.there c.make_room.ensures.room.full c.in_ok-append_or_turn.ensures.place;
+  mark = search rules;
+}
 
 pub returns-in_err-make_room-clause-acts : goal.returns-in_err-make_room-clause-acts
 returns-in_err-make_room-clause-acts g c =
@@ -194,7 +198,7 @@ returns-in_err-append_or_turn-clause-acts g c =
     let a = V old.file.disk in
     let b = V c.make_room.new.self.file.disk in
     let mid = c.make_room.new.self in
-    let same : mid.state ≡ s = c.make_room.ensures.room.state in
+    let same : mid.state ≡ s = c.make_room.ensures.stands.state in
     let start = c.start_behind-start.result in
     let starts : start ≡ start_of s = c.start_behind-start.ensures.bytes ∙ ap (λ k. number_bytes 8 (k + 1) ++ 0 ∷ []) (c.number.ensures.number ∙ ap (λ (t : Plain g.row.J.Denot). t.number) same) in
     let bytes = c.behind_gate.result.now in
@@ -230,7 +234,7 @@ returns-clause-acts g c =
     let a = V old.file.disk in
     let b = V c.make_room.new.self.file.disk in
     let mid = c.make_room.new.self in
-    let same : mid.state ≡ s = c.make_room.ensures.room.state in
+    let same : mid.state ≡ s = c.make_room.ensures.stands.state in
     let start = c.start_behind-start.result in
     let starts : start ≡ start_of s = c.start_behind-start.ensures.bytes ∙ ap (λ k. number_bytes 8 (k + 1) ++ 0 ∷ []) (c.number.ensures.number ∙ ap (λ (t : Plain g.row.J.Denot). t.number) same) in
     let bytes = c.behind_gate.result.now in

@@ -17,6 +17,7 @@ returns-in_err-end_checkpoint-clause-stands g c =
     let K = g.J.Job.kind in
     let s = c.args.self.now.state in
     record {
+      state = search rules;
       goes_on = search rules;
       keeps = λ stands start all replays.
           let same : Stands K c.args.self.now.file.places s c.deref.result.now (g.D.Disk.view c.args.self.now.file.disk) = subst (λ (l : List ℕ). Stands K c.args.self.now.file.places s l (g.D.Disk.view c.args.self.now.file.disk)) (sym c.deref.ensures.value) stands in
@@ -28,6 +29,7 @@ returns-clause-stands g c =
     let K = g.J.Job.kind in
     let s = c.args.self.now.state in
     record {
+      state = search rules;
       goes_on = λ stands.
           let same : Stands K c.args.self.now.file.places s c.deref.result.now (g.D.Disk.view c.args.self.now.file.disk) = subst (λ (l : List ℕ). Stands K c.args.self.now.file.places s l (g.D.Disk.view c.args.self.now.file.disk)) (sym c.deref.ensures.value) stands in
           stands_settled K same.header c.end_checkpoint.new.self.places same.parts s c.deref.result.now _ _ ((c.in_ok-end_checkpoint.ensures.keeps (format K) (format_laws K g.met.J.Job.laws) same.header same.parts s same.holds same.middle).holds) same.set;
@@ -95,7 +97,6 @@ returns-clause-acts g c =
 
 pub returns-clause-room : goal.returns-clause-room
 returns-clause-room g c = record {
-  state = search rules;
   there = search rules;
   same = λ room. absurd (false≢true (sym c.if-has_room.false ∙ c.has_room.ensures.1 room));
   full = search rules;

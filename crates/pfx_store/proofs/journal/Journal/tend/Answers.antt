@@ -13,6 +13,7 @@ returns-clause-stands g c =
     let K = g.J.Job.kind in
     let s = c.args.self.now.state in
     record {
+      state = refl;
       goes_on = λ stands.
           let same : Stands K c.args.self.now.file.places s c.deref.result.now (g.D.Disk.view c.args.self.now.file.disk) = subst (λ (l : List ℕ). Stands K c.args.self.now.file.places s l (g.D.Disk.view c.args.self.now.file.disk)) (sym c.deref.ensures.value) stands in
           on_ok_then c.tend.result (stands_tended K same.header c.tend.new.self.places same.parts s c.deref.result.now c.args.self.now.spelled.items (g.D.Disk.view c.tend.new.self.disk) c.deref.ensures.value same.set same.middle)

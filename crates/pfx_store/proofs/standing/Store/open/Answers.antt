@@ -72,11 +72,8 @@ returns-clause-acts g c = λ honest.
       file = tt;
     })
 
-pub furnished-requires-clause-sized : goal.furnished-requires-clause-sized
-furnished-requires-clause-sized g c = c.in-Ok.ensures.going.sized
-
-pub furnished-requires-clause-set : goal.furnished-requires-clause-set
-furnished-requires-clause-set g c = c.in-Ok.ensures.going.fits
+pub furnished-requires : goal.furnished-requires
+furnished-requires g c = c.in-Ok.ensures.going
 
 pub returns-in-Ok-furnished-clause-fresh : goal.returns-in-Ok-furnished-clause-fresh
 returns-in-Ok-furnished-clause-fresh g c = (

@@ -17,7 +17,7 @@ returns-clause-marks g c = rw (← c.self.view_is) (λ honest start all marks co
     let a : View = g.D.Disk.view j.file.disk in
     let keeps = by_broken j.file.broken (λ whole. c.tend.ensures.stands.keeps (c.self.invariant whole honest) start all (covers.leads whole))
     (λ broken. subst (λ i. KeepsAll (format K) start all all a (g.D.Disk.view i.file.disk)) (sym (c.tend.ensures.call.broken (c.tend.ensures.call.works.broken.1 broken))) (keeps_still K start all a)) in
-    covers_on K start all marks a (g.D.Disk.view c.tend.new.self.file.disk) j.file.broken c.tend.new.self.file.broken j.state c.tend.new.self.state c.tend.ensures.state
+    covers_on K start all marks a (g.D.Disk.view c.tend.new.self.file.disk) j.file.broken c.tend.new.self.file.broken j.state c.tend.new.self.state c.tend.ensures.stands.state
     (whole_before _ _ j.file.broken c.tend.new.self.file.broken c.tend.result c.tend.ensures.call.works (λ is. ap (λ i. i.file.broken) (c.tend.ensures.call.broken is))) c.tend.ensures.call.takes.later keeps covers))
 
 pub returns-clause-keeps : goal.returns-clause-keeps
@@ -30,6 +30,9 @@ returns-clause-keeps g c = rw (← c.self.view_is) (λ honest start all replays.
 
 pub returns-clause-call : goal.returns-clause-call
 returns-clause-call g c = rw (← c.self.view_is) c.tend.ensures.call
+
+pub returns-clause-state : goal.returns-clause-state
+returns-clause-state g c = rw (← c.self.view_is) c.tend.ensures.stands.state
 
 pub returns-clause-acts : goal.returns-clause-acts
 returns-clause-acts g c = rw (← c.self.view_is) c.tend.ensures.acts
