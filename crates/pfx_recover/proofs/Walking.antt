@@ -1,5 +1,5 @@
 -- Loops that read frames and test their heads, and what a run over the frames' bytes finds.
-use Rattle.std.proofs.Common.{◌≡◌, ◌≢◌, ℕ, suc, ◌+◌, ◌-◌, ◌<◌, ◌≤◌, List, [], ◌∷◌, ◌++◌, length, get_or, take, drop, refl, sym, ◌∙◌, ap, arith, length-append, length-take, length-drop, Some, None, Ok, Err, Result, ◌⊎◌, inl, inr}
+use Rattle.std.proofs.Common.{◌≡◌, ◌≢◌, ℕ, zero, suc, ◌+◌, ◌-◌, ◌<◌, ◌≤◌, List, [], ◌∷◌, ◌++◌, length, get_or, take, drop, refl, sym, ◌∙◌, ap, arith, length-append, length-take, length-drop, Some, None, Ok, Err, Result, ◌⊎◌, inl, inr}
 use Rattle.std.specs.List.{concat}
 use Rattle.std.proofs.lemmas.List.{length_push, append-nil, get_or-take, get_or-drop, take-take, drop-drop, drop-take}
 use Rattle.std.proofs.lemmas.Bool.{cases_lt}
@@ -37,13 +37,24 @@ walk_push (e ∷ frames) f read = ap (λ r. on_ok r (λ w. Ok (e ∷ w.0, w.1)))
 
 -- numbers of four bytes, which are the same in both
 pub number_same : (p q : ℕ) (x y : List ℕ) → ((i : ℕ) → i < 4 → get_or x (p + i) 0 ≡ get_or y (q + i) 0) → number_4 p x ≡ number_4 q y
-number_same p q x y same = omega (arith, first (same 0 (omega arith)), same 1 (omega arith), same 2 (omega arith), same 3 (omega arith))
+number_same p q x y same = omega (arith, first (same 0 (omega arith)), next 1 (same 1 (omega arith)), next 2 (same 2 (omega arith)), next 3 (same 3 (omega arith)))
   where
     none : (n : ℕ) → n ≡ n + 0
     none n = omega arith
 
     first : get_or x (p + 0) 0 ≡ get_or y (q + 0) 0 → get_or x p 0 ≡ get_or y q 0
     first is = ap (λ (k : ℕ). get_or x k 0) (none p) ∙ is ∙ ap (λ (k : ℕ). get_or y k 0) (sym (none q))
+
+    beyond : ℕ → ℕ → ℕ
+    beyond zero n = n
+    beyond (suc i) n = beyond i (suc n)
+
+    beyond_is : (i n : ℕ) → beyond i n ≡ n + i
+    beyond_is zero n = omega arith
+    beyond_is (suc i) n = omega (arith, beyond_is i (suc n))
+
+    next : (i : ℕ) → get_or x (p + i) 0 ≡ get_or y (q + i) 0 → get_or x (beyond i p) 0 ≡ get_or y (beyond i q) 0
+    next i is = ap (λ (k : ℕ). get_or x k 0) (beyond_is i p) ∙ is ∙ ap (λ (k : ℕ). get_or y k 0) (sym (beyond_is i q))
 
 -- a part that is as long as the head within it says, by itself
 pub part_len : (gate : ℕ) (f bytes : List ℕ) → f ≡ take (frame_len gate bytes) (drop gate bytes) → length f ≡ frame_len gate bytes → length f ≡ frame_len 0 f

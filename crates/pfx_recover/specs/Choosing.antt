@@ -6,6 +6,11 @@ use Rattle.pfx_recovery.specs.Recovery.{segment_first, on_some}
 use Rattle.pfx_recovery.specs.Refusals.{Refusal, Damaged, Checkpoint}
 use Rattle.pfx_recover.specs.declared.choosing.Choice.{Choice}
 use Rattle.pfx_recover.specs.declared.choosing.Numbered.{Numbered}
+use Rattle.pfx_recover.specs.declared.gates.GateHead.{GateHead}
+
+-- the gate, which stands here, with this number after it
+abbrev pub with_number : GateHead → ℕ → ℕ → Numbered
+with_number head place n = record { at = place; «open» = head.open; number = n }
 
 -- the second was chosen, or the first, and of the other it says how its gate stands and its number
 pub record IsChoice (is_second : Bool) (low high : Numbered) (choice : Choice) : Type 0 where

@@ -1,5 +1,6 @@
 // The gates of checkpoint areas and segments, and the numbers after them.
 ghost use Rattle.std.specs.Prelude.{◌≡◌, ◌≤◌, ◌+◌, ℕ, List};
+ghost use Rattle.pfx_recover.specs.Choosing.{with_number};
 ghost use Rattle.pfx_recover.specs.Looking.{IsGateHead, IsKept, LooksAt, Reaches};
 
 use crate::choosing::Numbered;
@@ -15,7 +16,7 @@ pub(crate) struct GateHead {
 impl GateHead {
     /// The gate, which stands here, with the number that its bytes spell.
     pub(crate) fn numbered(&self, at: usize, number: u64) -> Numbered
-        ensures { result ≡ record { at = at; «open» = self.now.open; number = number } }
+        ensures { result ≡ with_number self.now at number }
     {
         Numbered {
             at,
