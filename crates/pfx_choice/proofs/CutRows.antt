@@ -46,7 +46,7 @@ cut_row g c places new o h at is p long marks = record {
   is = ap (λ n. members n (marked_in new)) long ∙ members-same (total g) (marked_in new) (cut_set g (place g) c.place o) marks;
 }
 
-cut_none : (n d : ℕ) → cut n d false ≡ nat_lt n d
+pub cut_none : (n d : ℕ) → cut n d false ≡ nat_lt n d
 cut_none n d = elim (cases_lt n d) [
   | inl less ↦ rw (lt_yes n d less) refl
   | inr not ↦ elim (cases_eq n d) [
@@ -55,12 +55,12 @@ cut_none n d = elim (cases_lt n d) [
   ]
 ]
 
-or_false : (b : Bool) → (b || false) ≡ b
+pub or_false : (b : Bool) → (b || false) ≡ b
 or_false true = refl
 or_false false = refl
 
 -- with no worker left they are those before the cut
-no_place : (rs : List Parts) (k : ℕ) (o : Option Parts) (p : IsPivotFor rs k o) → k ≡ 0 → (x : ℕ) → id_in (top rs k o p) x ≡ false
+pub no_place : (rs : List Parts) (k : ℕ) (o : Option Parts) (p : IsPivotFor rs k o) → k ≡ 0 → (x : ℕ) → id_in (top rs k o p) x ≡ false
 no_place rs k None p none x = refl
 no_place rs k (Some r) p none x = absurd (let s = p.size in omega (arith, s, none))
 
@@ -74,7 +74,7 @@ row_before g c places old new rs h at is none long before placed =
     ∙ or_false (marked_in old x)
     ∙ before x (omega (arith, n, l)) ∙ ap (λ k. nat_lt k c.place) (at.at x l) ∙ sym (cut_none (place g x) c.place))
 
-cut_or : (a b r : Bool) → (a || (if b then r else false)) ≡ (if a then true else (if b then r else false))
+pub cut_or : (a b r : Bool) → (a || (if b then r else false)) ≡ (if a then true else (if b then r else false))
 cut_or true b r = refl
 cut_or false b r = refl
 

@@ -31,7 +31,7 @@ by_end e p a t k = (let z : k + 1 - 1 ≡ k = omega arith in ap (place_by e p a 
 at_place : (g : Ledger) (x : ℕ) → place_of (task g x).e (task g x).p (task g x).alloc g.slot (lead (task g x).e (task g x).p (task g x).alloc g.slot + 1) ≡ place g x
 at_place g x = by_end (task g x).e (task g x).p (task g x).alloc g.slot (lead (task g x).e (task g x).p (task g x).alloc g.slot)
 
-first_greater : (o u : Ordering) → o ≡ Greater → ordering_then o u ≡ Greater
+pub first_greater : (o u : Ordering) → o ≡ Greater → ordering_then o u ≡ Greater
 first_greater Less u e = cc
 first_greater Equal u e = cc
 first_greater Greater u e = refl

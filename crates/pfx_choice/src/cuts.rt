@@ -11,10 +11,12 @@ pub struct Cut {
     pub place: u8,
     /// How many workers the tasks at lesser places leave.
     pub left: usize,
+    /// How many tasks are at it.
+    pub tasks: usize,
 }
 
 /// How many places are below one.
-fn count_below(places: &[u8], d: u8) -> usize
+pub fn count_below(places: &[u8], d: u8) -> usize
     requires { length places.now ≤ 1152 }
     ensures number { result ≡ below places.now d }
     ensures within { result ≤ length places.now }
@@ -79,6 +81,7 @@ fn cut_between(places: &[u8], first: usize, next: usize, workers: usize, d: u8) 
         Some(Cut {
             place: d,
             left: workers - first,
+            tasks: next.saturating_sub(first),
         })
     } else {
         None
@@ -109,5 +112,6 @@ fn bisect(places: &[u8], workers: usize, urgent: usize) -> Cut
     Cut {
         place: low,
         left: workers - first,
+        tasks: count_below(places, low + 1).saturating_sub(first),
     }
 }

@@ -9,6 +9,7 @@ ghost use Rattle.pfx_columns.specs.Ledgers.{total};
 ghost use Rattle.pfx_choice.specs.Places.{near, AreLeadsIn, AreNear};
 
 use pfx_columns::Columns;
+use pfx_weights::first_from;
 use std::alloc::AllocError;
 
 /// What stands for each greater lead too.
@@ -48,10 +49,10 @@ fn divide_leads(leads: &mut [u8], ledger: &Columns)
     ensures { AreLeadsIn ledger.now leads.new }
 {
     let _total = ledger.total();
-    for x in 0..leads.len() {
-        if leads[x] == UNKNOWN {
-            leads[x] = divided(ledger, x);
-        }
+    let mut x = first_from(leads, UNKNOWN, 0);
+    'unknown: while x < leads.len() {
+        leads[x] = divided(ledger, x);
+        x = first_from(leads, UNKNOWN, x + 1);
     }
 }
 

@@ -1,54 +1,135 @@
-//! The tasks of a row, marked by their places.
+//! The tasks of a row, marked by their places, and at the place where the workers run out by their keys.
 
-ghost use Rattle.std.specs.Prelude.{◌≡◌, ℕ, ◌<◌, ◌==◌, nat_lt, length, slice_index_or, OnOk};
+ghost use Rattle.std.specs.Prelude.{◌≡◌, ℕ, ◌<◌, ◌==◌, nat_lt, length, slice_index_or, IfSome, IfOk, OnOk, IsTrue};
 ghost use Rattle.pfx_weights.specs.Rows.{marked_in};
 ghost use Rattle.pfx_columns.specs.Ledgers.{total};
 ghost use Rattle.pfx_choice.specs.Cuts.{IsCut};
 ghost use Rattle.pfx_choice.specs.Picks.{ranks_if, IsReady};
 ghost use Rattle.pfx_choice.specs.Places.{place, ArePlacesIn};
+ghost use Rattle.pfx_choice.specs.Refined.{AreSplit};
 
-use crate::cuts::Cut;
+use crate::cuts::{Cut, count_below};
+use crate::keys::Keys;
 use pfx_columns::Columns;
-use pfx_symbols::{Keyed, LastKey};
+use pfx_symbols::{Key, Rank};
+use pfx_weights::first_from;
 use std::alloc::AllocError;
 
-/// Marks the tasks before the cut in place of all places, and gathers those at it, if workers are left for some. `last` are the
-/// keys that were found last, of as many tasks as there happen to be; the keys tell so many rounds.
+/// How many tasks are few: for so many at a place keys cost more than they spare.
+const FEW: usize = 8;
+
+/// Marks the tasks before the cut in place of all places, and of those at it such as the keys tell, and gathers those that are to be
+/// compared, if workers are left for some. It says for how many, or `None` if the keys don't tell. These tell so many rounds.
 pub fn mark_before(
     places: &mut [u8],
-    found: &mut Vec<Keyed>,
-    last: &mut Vec<LastKey>,
+    found: &mut Vec<Rank>,
+    keys: &mut Keys,
     ledger: &Columns,
     cut: Cut,
     rounds: u32,
-) -> Result<(), AllocError>
+) -> Option<usize>
     requires places { ArePlacesIn ledger.now places.old }
     requires cut { IsCut places.old ledger.now.set.workers cut }
-    ensures { OnOk result (IsReady ledger.now cut.left places.new found.new.items) }
+    ensures { IfSome result (λ k. IsReady ledger.now k places.new found.new.items) }
 {
-    let total = ledger.total();
+    if cut.left > 0 && cut.tasks > FEW {
+        return mark_by_keys(places, found, keys, ledger, cut, rounds);
+    }
+    let _total = ledger.total();
     found.clear();
     if cut.left > 0 {
-        if last.len() != total {
-            last.resize(total, LastKey::none())?;
-        }
-        gather_at(found, last, ledger, places, cut.place, rounds)?;
+        let Ok(()) = gather_at(found, ledger, places, cut.place) else {
+            return None;
+        };
     }
     mark_below(places, cut.place);
-    Ok(())
+    Some(cut.left)
 }
 
-/// Gathers the ranks of the tasks at a place. Its tasks have that many slots before the end of their next subtasks.
+/// Marks the tasks before the cut, and of those at it such as have lesser keys than the last ones that run, and gathers these.
+fn mark_by_keys(
+    places: &mut [u8],
+    found: &mut Vec<Rank>,
+    keys: &mut Keys,
+    ledger: &Columns,
+    cut: Cut,
+    rounds: u32,
+) -> Option<usize>
+    requires places { ArePlacesIn ledger.now places.old }
+    requires cut { IsCut places.old ledger.now.set.workers cut }
+    ensures { IfSome result (λ k. IsReady ledger.now k places.new found.new.items) }
+{
+    let m = ledger.workers() as usize;
+    let _total = ledger.total();
+    let Ok(()) = keys.take(ledger, places, cut.place, rounds) else {
+        return None;
+    };
+    let (key, end) = keys.guess_cut(places, cut.place, cut.left);
+    let Ok(true) = split(
+        places,
+        found,
+        &keys.of_tasks,
+        ledger,
+        cut.place,
+        key.number,
+        end,
+    ) else {
+        return None;
+    };
+    let marked = count_below(places, cut.place);
+    mark_below(places, cut.place);
+    if marked <= m && m - marked <= found.len() {
+        Some(m - marked)
+    } else {
+        None
+    }
+}
+
+/// Puts the tasks at place `d` that have a lesser key than this number at the first place, and of those that have it the ones before `end`,
+/// or gathers these if `end` is 0. It says whether that can be told.
+fn split(
+    places: &mut [u8],
+    found: &mut Vec<Rank>,
+    keys: &[Key],
+    ledger: &Columns,
+    d: u8,
+    number: u64,
+    end: usize,
+) -> Result<bool, AllocError>
+    requires places { ArePlacesIn ledger.now places.old }
+    requires keys { length keys.now ≡ total ledger.now }
+    requires d { 0 < d }
+    ensures { IfOk result (λ told. IsTrue told → AreSplit ledger.now keys.now d number end places.new found.new.items) }
+{
+    let _total = ledger.total();
+    found.clear();
+    let mut x = first_from(places, d, 0);
+    'tasks: while x < places.len() {
+        let key = keys[x];
+        if key.number < number {
+            places[x] = 0;
+        } else if key.number == number {
+            if end == 0 {
+                found.push(ledger.rank(x))?;
+            } else if !key.whole {
+                return Ok(false);
+            } else if x < end {
+                places[x] = 0;
+            }
+        }
+        x = first_from(places, d, x + 1);
+    }
+    Ok(true)
+}
+
+/// Gathers the ranks of the tasks at a place.
 fn gather_at(
-    found: &mut Vec<Keyed>,
-    last: &mut [LastKey],
+    found: &mut Vec<Rank>,
     ledger: &Columns,
     places: &[u8],
     d: u8,
-    rounds: u32,
 ) -> Result<(), AllocError>
     requires places { ArePlacesIn ledger.now places.now }
-    requires last { length last.old ≡ total ledger.now }
     ensures { OnOk result (found.new.items ≡ ranks_if (λ x. place ledger.now x == d) (total ledger.now) ledger.now) }
 {
     let _total = ledger.total();
@@ -57,7 +138,7 @@ fn gather_at(
         if *place != d {
             continue;
         }
-        found.push(Keyed::new(ledger.rank(x), u32::from(d), rounds, &mut last[x]))?;
+        found.push(ledger.rank(x))?;
     }
     Ok(())
 }

@@ -3,8 +3,8 @@
 ghost use Rattle.std.specs.Prelude.{◌<◌, ◌≤◌, ◌^◌};
 
 use pfx_symbols::{
-    Class, Keyed, LastKey, Rank, Symbol, class, compare, compare_by_symbols, compare_in_rounds,
-    symbol,
+    Class, Key, LastKey, Rank, Symbol, class, compare, compare_by_symbols, compare_in_rounds,
+    rank_key, symbol,
 };
 use std::cmp::Ordering;
 
@@ -160,21 +160,63 @@ fn agree(slot: u64, a: (u32, u32), b: (u32, u32)) -> bool
     compare(&a, &b) == order && agree_by_keys(a, b, order)
 }
 
-/// The order of two ranks by keys of few rounds, of many, of none, and of different numbers of rounds.
+/// The keys of two ranks, by one guess and as many rounds, found with nothing kept and with what was kept of the other one.
+fn keys_of(a: &Rank, b: &Rank, guess: u32, rounds: u32) -> [(Key, Key); 2] {
+    let mut last = LastKey::none();
+    let x = rank_key(a, guess, rounds, &mut last);
+    let y = rank_key(b, guess, rounds, &mut last);
+    let z = rank_key(a, guess, rounds, &mut last);
+    [(x, y), (z, y)]
+}
+
+/// Whether the keys of two ranks, by two guesses and by few rounds, many and none, say no more than their order.
 fn agree_by_keys(a: Rank, b: Rank, order: Ordering) -> bool {
-    for (m, n) in [(0, 0), (1, 1), (3, 3), (24, 24), (3, 24)] {
-        let (mut of_a, mut of_b) = (LastKey::none(), LastKey::none());
-        let x = Keyed::new(a, 1, m, &mut of_a);
-        let y = Keyed::new(b, 2, n, &mut of_b);
-        if x.cmp(&y) != order || y.cmp(&x) != order.reverse() {
-            return false;
-        }
-        // Of equal substrings the lower number is greater, and that is the first one's.
-        if x.is_told_same(&y) && order != Ordering::Greater {
-            return false;
+    for (guess, rounds) in [(1, 0), (1, 3), (2, 1), (2, 24)] {
+        for (x, y) in keys_of(&a, &b, guess, rounds) {
+            let told = y.number.cmp(&x.number);
+            if told.is_ne() && told != order {
+                return false;
+            }
+            // Of equal substrings the lower number is greater, and that is the first one's.
+            if told.is_eq() && x.whole && y.whole && order != Ordering::Greater {
+                return false;
+            }
         }
     }
     true
+}
+
+#[test]
+fn keys_tell_worked_ranks_apart(rt: HostRuntime) {
+    // At slot 3 the substrings of 1/3 and of 1/6 are `-0` both, and at slot 1 that of 2/5 is `+-0` and that of 2/3 is `0`.
+    let same = (Rank::at_slot(3, 1, 3, 1), Rank::at_slot(3, 1, 6, 2));
+    let apart = (Rank::at_slot(1, 2, 5, 1), Rank::at_slot(1, 2, 3, 0));
+    for (x, y) in keys_of(&same.0, &same.1, 2, 3) {
+        assert!(rt;
+            x.number == y.number && x.whole && y.whole,
+            "told to be the same"
+        );
+    }
+    for (x, y) in keys_of(&same.0, &same.1, 1, 3) {
+        assert!(rt;
+            x.number == y.number && !x.whole && !y.whole,
+            "not told, where the gap is another one"
+        );
+    }
+    for (x, y) in keys_of(&apart.0, &apart.1, 1, 3) {
+        assert!(rt; x.number < y.number, "the greater has the lesser key");
+    }
+    // The keys of 3/7 and of 2/5 at slot 0 are told apart by a round, and aren't by none.
+    let later = (Rank::at_slot(0, 3, 7, 0), Rank::at_slot(0, 2, 5, 1));
+    for (x, y) in keys_of(&later.0, &later.1, 2, 0) {
+        assert!(rt;
+            x.number == y.number && !x.whole && !y.whole,
+            "no round tells"
+        );
+    }
+    for (x, y) in keys_of(&later.0, &later.1, 2, 1) {
+        assert!(rt; x.number != y.number, "a round tells");
+    }
 }
 
 /// Both comparisons of two tasks at six slots.

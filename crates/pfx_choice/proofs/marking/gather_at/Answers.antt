@@ -23,5 +23,5 @@ loop-x-preserved c =
     let long = c.requires.places.long in
     let at : get_or c.args.places.now x 0 ≡ place g x = c.requires.places.at x (omega (arith, long, c.loop-x-test.true)) in
     let same : (place g x == d) ≡ true = eq_yes (place g x) d (sym at ∙ c.if-place-d.false) in
-    c.in_ok-push.ensures.items ∙ ap (λ r. c.loop-x.found.items ++ (r ∷ [])) (c.new.ensures ∙ c.rank.ensures)
+    c.in_ok-push.ensures.items ∙ ap (λ r. c.loop-x.found.items ++ (r ∷ [])) c.rank.ensures
     ∙ ranks_more_if (λ y. place g y == d) x g true c.loop-x.found.items c.loop-x.invariant (sym same)

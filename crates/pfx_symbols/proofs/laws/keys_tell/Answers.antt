@@ -1,4 +1,4 @@
-use Rattle.pfx_symbols.proofs.KeyedOrder.{keys_tell}
+use Rattle.pfx_symbols.proofs.RankKeyOrder.{keys_tell}
 use Rattle.pfx_symbols.proofs.laws.keys_tell.Goals as goal
 
 pub returns : goal.returns
