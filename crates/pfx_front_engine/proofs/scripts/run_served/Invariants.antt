@@ -1,4 +1,4 @@
-use Rattle.pfx_front_engine.proofs.scripts.serve_named.Given as goal
+use Rattle.pfx_front_engine.proofs.scripts.run_served.Given as goal
 
 abbrev pub ghosts-serve-B-Room : goal.ghosts-serve-B-Room
 ghosts-serve-B-Room g a = record { table = a.names.tokens.table.shared.table_id }
