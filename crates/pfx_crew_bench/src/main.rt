@@ -9,9 +9,10 @@
 mod busy;
 mod rounds;
 
-use crate::busy::BusyDesk;
+use crate::busy::Busy;
 use crate::rounds::{Bench, crew, rounds_alone};
 use pfx_crew::channel::ChannelDesk;
+use pfx_kit::watched::WatchedDesk;
 use std::alloc::Global;
 use std::env;
 use std::process::ExitCode;
@@ -40,7 +41,7 @@ fn measure<R: Threads + Wait + Clock + Sync>(
     let sum = if mode.as_str() == "alone" {
         rounds_alone(&mut bench, rounds, number(words, 4)?).ok_or("a round")?
     } else {
-        let desk = BusyDesk::new(ChannelDesk::new(alloc)?, number(words, 5)?);
+        let desk = WatchedDesk::new(ChannelDesk::new(alloc)?, Busy::new(number(words, 5)?));
         crew(rt, alloc, &desk, &mut bench, rounds, number(words, 4)?).ok_or("a round")?
     };
     Ok((sum, start.elapsed(rt)?.as_nanos()))

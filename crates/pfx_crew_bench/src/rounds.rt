@@ -1,7 +1,7 @@
 //! Rounds of quanta: dealt to a crew, or run by the calling thread, and gathered.
 ghost use Rattle.std.specs.Prelude.{◌≡◌};
 
-use crate::busy::{BusyDesk, turned};
+use crate::busy::{Busy, turned};
 use pfx_crew::channel::{ChannelDesk, ChannelSeat};
 use pfx_crew::desk::Desk;
 use pfx_crew::gathering::gather;
@@ -9,13 +9,14 @@ use pfx_crew::work::worker;
 use pfx_jobs::job::Job;
 use pfx_jobs::quantum::{Done, Quantum};
 use pfx_kinds::any::AnyJob;
+use pfx_kit::watched::WatchedDesk;
 use std::alloc::Global;
 use std::sync::Wait;
 use std::thread;
 use std::thread::Threads;
 
 /// The desk that is measured.
-pub type JobDesk = BusyDesk<ChannelDesk<Quantum<AnyJob>, Done<AnyJob>>>;
+pub type JobDesk = WatchedDesk<ChannelDesk<Quantum<AnyJob>, Done<AnyJob>>, Busy>;
 
 type JobSeat = ChannelSeat<Quantum<AnyJob>, Done<AnyJob>>;
 

@@ -68,9 +68,13 @@ area s ink base path = say phrase.PathBegin ++ path ++ down_to base ++ across_to
 abbrev pub lag_line : Sizes → List ℕ → List ℕ
 lag_line s path = say phrase.PathBegin ++ path ++ (if nat_lt 4 s.widths.slot then say phrase.ThickEnd else say phrase.ThinEnd)
 
+-- a name left of the slots, in one of two sizes
+abbrev pub named : ℕ → Phrase → List ℕ → List ℕ
+named y size name = say_number phrase.NameY y ++ say size ++ name ++ say phrase.TextEnd
+
 -- left of the slots the name and the weight, right of them the lag at the end
 abbrev pub name_label : ℕ → List ℕ → List ℕ
-name_label y name = say_number phrase.NameY y ++ say phrase.NameEnd ++ name ++ say phrase.TextEnd
+name_label y name = named y phrase.NameEnd name
 
 abbrev pub weight_label : Sizes → ℕ → Course → List ℕ
 weight_label s y c =
@@ -109,7 +113,7 @@ abbrev pub all_cells : Sizes → ℕ → List ℕ → List ℕ
 all_cells s y marks = cells s y marks 1 ++ cells s y marks 2 ++ cells s y marks 3 ++ cells s y marks 4 ++ cells s y marks 5 ++ cells s y marks 6
 
 abbrev pub small_name : ℕ → List ℕ → List ℕ
-small_name y name = say_number phrase.NameY y ++ say phrase.SmallEnd ++ name ++ say phrase.TextEnd
+small_name y name = named y phrase.SmallEnd name
 
 -- a low lane: cells coloured by the lag before the slot, and the bars on them
 abbrev pub low_lane : Sizes → ℕ → List ℕ → Course → List ℕ → List ℕ

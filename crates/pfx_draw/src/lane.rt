@@ -2,9 +2,9 @@
 
 ghost use Rattle.std.specs.Prelude.{◌≡◌, ◌++◌, ◌≤◌, ◌<◌, OnOk, length};
 ghost use Rattle.pfx_draw.specs.Lags.{runs_in, IsCourse};
-ghost use Rattle.pfx_draw.specs.Lane.{hue, colour, task_words, lag_words, shade, stroke, bars, across, bounds, base_line, area, lag_line, name_label};
-ghost use Rattle.pfx_draw.specs.Lane.{weight_label, lag_label, tall_drawn, words_y, tall_written, level_ink, cells, all_cells, small_name, low_lane, lane_body};
-ghost use Rattle.pfx_draw.specs.Lane.{lane_by, lane};
+ghost use Rattle.pfx_draw.specs.Lane.{hue, colour, task_words, lag_words, shade, stroke, bars, across, bounds, base_line, area, lag_line, named};
+ghost use Rattle.pfx_draw.specs.Lane.{weight_label, lag_label, tall_drawn, words_y, tall_written, level_ink, cells, all_cells, low_lane, lane_body};
+ghost use Rattle.pfx_draw.specs.Lane.{lane};
 ghost use Rattle.pfx_draw.specs.Sizes.{IsDrawable};
 
 use crate::bars::{cell_track, put_bars, run_track};
@@ -177,11 +177,17 @@ fn put_lag_line(text: &mut Vec<u8>, s: Sizes, path: &[u8]) -> Result<(), AllocEr
     }
 }
 
-fn put_name_label(alloc: Global, text: &mut Vec<u8>, y: u64, name: &[u8]) -> Result<(), AllocError>
-    ensures { OnOk result (text.new.items ≡ text.old.items ++ name_label y name.now) }
+fn put_name(
+    alloc: Global,
+    text: &mut Vec<u8>,
+    y: u64,
+    size: Phrase,
+    name: &[u8],
+) -> Result<(), AllocError>
+    ensures { OnOk result (text.new.items ≡ text.old.items ++ named y size name.now) }
 {
     put_phrase_number(alloc, text, Phrase::NameY, y)?;
-    put_phrase(text, Phrase::NameEnd)?;
+    put_phrase(text, size)?;
     put_bytes(text, name)?;
     put_phrase(text, Phrase::TextEnd)
 }
@@ -267,14 +273,14 @@ fn put_tall_written(
     c: Course,
     runs: u64,
 ) -> Result<(), AllocError>
+    requires few { runs ≤ 1440 }
+    requires course { IsCourse c }
     requires drawable { IsDrawable s }
     requires within { x ≤ 1152 }
-    requires course { IsCourse c }
-    requires few { runs ≤ 1440 }
     ensures { OnOk result (text.new.items ≡ text.old.items ++ tall_written s x name.now c runs) }
 {
     let y = words_y(s, x);
-    put_name_label(alloc, text, y, name)?;
+    put_name(alloc, text, y, Phrase::NameEnd, name)?;
     put_weight_label(alloc, text, s, y, c)?;
     put_lag_label(alloc, text, s, y, c, runs)
 }
@@ -330,15 +336,6 @@ fn put_all_cells(
     put_cells(alloc, text, s, y, marks, 6)
 }
 
-fn put_small_name(alloc: Global, text: &mut Vec<u8>, y: u64, name: &[u8]) -> Result<(), AllocError>
-    ensures { OnOk result (text.new.items ≡ text.old.items ++ small_name y name.now) }
-{
-    put_phrase_number(alloc, text, Phrase::NameY, y)?;
-    put_phrase(text, Phrase::SmallEnd)?;
-    put_bytes(text, name)?;
-    put_phrase(text, Phrase::TextEnd)
-}
-
 fn put_low_lane(
     alloc: Global,
     text: &mut Vec<u8>,
@@ -348,17 +345,17 @@ fn put_low_lane(
     c: Course,
     marks: &[u64],
 ) -> Result<(), AllocError>
+    requires limit { length marks.now ≤ 1440 }
+    requires course { IsCourse c }
     requires drawable { IsDrawable s }
     requires within { x ≤ 1152 }
-    requires course { IsCourse c }
-    requires limit { length marks.now ≤ 1440 }
     ensures { OnOk result (text.new.items ≡ text.old.items ++ low_lane s x name.now c marks.now) }
 {
     let top = y_at(s, x);
     let levels = levels(alloc, c, marks)?;
     put_all_cells(alloc, text, s, top, levels.as_slice())?;
     put_run_bars(alloc, text, s, Phrase::Dark, top, marks)?;
-    put_small_name(alloc, text, top + 7, name)
+    put_name(alloc, text, top + 7, Phrase::SmallEnd, name)
 }
 
 #[tactic(auto, unfolding(crate::specs::Lane::lane_body))]
@@ -389,31 +386,6 @@ fn put_body(
     }
 }
 
-fn put_lane_by(
-    alloc: Global,
-    text: &mut Vec<u8>,
-    s: Sizes,
-    real: u64,
-    x: u64,
-    name: &[u8],
-    c: Course,
-    marks: &[u64],
-    m: Summary,
-) -> Result<(), AllocError>
-    requires drawable { IsDrawable s }
-    requires within { x ≤ 1152 }
-    requires course { IsCourse c }
-    requires limit { length marks.now ≤ 1440 }
-    requires few { m.runs ≤ 1440 }
-    requires runs { m.runs ≡ runs_in marks.now (length marks.now) }
-    ensures { OnOk result (text.new.items ≡ text.old.items ++ lane_by s real x name.now c marks.now m) }
-{
-    put_task_words(alloc, text, s, name, c, m)?;
-    put_lag_words(alloc, text, s, c, m)?;
-    put_body(alloc, text, s, real, x, name, c, marks, m)?;
-    put_phrase(text, Phrase::LaneEnd)
-}
-
 /// Puts the lane of task `x` of a set with `real` real tasks: of this name and course, and with the mark 1 for each slot in
 /// which it runs.
 #[tactic(auto, unfolding(crate::specs::Lane::lane))]
@@ -433,5 +405,9 @@ pub(crate) fn put_lane(
     requires limit { length marks.now ≤ 1440 }
     ensures { OnOk result (text.new.items ≡ text.old.items ++ lane s real x name.now c marks.now) }
 {
-    put_lane_by(alloc, text, s, real, x, name, c, marks, summed(c, marks))
+    let m = summed(c, marks);
+    put_task_words(alloc, text, s, name, c, m)?;
+    put_lag_words(alloc, text, s, c, m)?;
+    put_body(alloc, text, s, real, x, name, c, marks, m)?;
+    put_phrase(text, Phrase::LaneEnd)
 }

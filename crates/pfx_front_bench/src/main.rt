@@ -29,7 +29,6 @@ use crate::stores::{JobDesk, made, opened};
 use crate::words::{Words, read_words, session_file};
 use pfx_crew::channel::ChannelDesk;
 use pfx_disk::FileDisk;
-use pfx_front::name::Names;
 use std::alloc::Global;
 use std::env;
 use std::io::Print;
@@ -55,8 +54,7 @@ fn work<R: Threads + Wait + Clock + Print + Copy + Drop + Send + Sync + 'static>
         made(alloc, disk)?
     };
     let desk: JobDesk = ChannelDesk::new(alloc)?;
-    let names = Names::new(alloc)?;
-    Ok(serve_file(rt, alloc, names, store, desk, words.plan)?)
+    Ok(serve_file(rt, alloc, store, desk, words.plan)?)
 }
 
 fn main(rt: HostRuntime) -> Result<ExitCode, Fail> {

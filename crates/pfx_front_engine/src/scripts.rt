@@ -63,8 +63,8 @@ fn serve<
 >(
     rt: R,
     alloc: Global,
-    names: Names<AnyJob>,
     store: Store<D, AnyJob>,
+    names: Names<AnyJob>,
     desk: K,
     workers: u32,
     script: &mut Script<I>,
@@ -74,8 +74,8 @@ fn serve<
 ) -> Served<D>
 where
     K::Seat: Drop + Send + 'static,
-    requires some { 0 < window }
     requires named { (names.tokens.table.shared.table_id ≡ B.table) × (names.list.seen.book ≡ B.book) × (B.origin ≡ B.start) }
+    requires some { 0 < window }
     requires begins { Begins any_kind B.start B.failures B.clock store.file.broken store.state (D.view store.file.disk) }
     ensures { IsServedRun form B.start script.old script.new.failed (W.contents output.old) (W.contents output.new)
         (D.view result.store.file.disk) result.result }
@@ -111,38 +111,6 @@ where
             never(&rt)
         }
     }
-}
-
-/// Runs a script through a front that is named here.
-fn serve_named<
-    I: Read + Drop,
-    W: Write,
-    D: Disk + Drop + Send + 'static,
-    K: Desk<Quantum<AnyJob>, Done<AnyJob>> + Drop + Send + Sync + 'static,
-    R: Threads + Wait + Clock + Copy + Drop + Send + Sync + 'static,
->(
-    rt: R,
-    alloc: Global,
-    names: Names<AnyJob>,
-    store: Store<D, AnyJob>,
-    desk: K,
-    workers: u32,
-    script: &mut Script<I>,
-    window: u32,
-    form: Form,
-    output: &mut W,
-) -> Served<D>
-where
-    K::Seat: Drop + Send + 'static,
-    requires some { 0 < window }
-    requires begins { Begins any_kind store.state (D.view store.file.disk).failures
-        (D.view store.file.disk).clock store.file.broken store.state (D.view store.file.disk) }
-    ensures { IsServedRun form store.state script.old script.new.failed (W.contents output.old) (W.contents output.new)
-        (D.view result.store.file.disk) result.result }
-{
-    serve::<I, W, D, Brand, K, R>(
-        rt, alloc, names, store, desk, workers, script, window, form, output,
-    )
 }
 
 /// Runs the records of a script that are left on a store, as `run_script` does over any engine, through a front that is started
@@ -181,8 +149,8 @@ where
         (D.view result.store.file.disk) result.result }
 {
     match Names::new(alloc) {
-        Ok(names) => serve_named(
-            rt, alloc, names, store, desk, workers, script, window, form, output,
+        Ok(names) => serve::<I, W, D, Brand, K, R>(
+            rt, alloc, store, names, desk, workers, script, window, form, output,
         ),
         Err(_) => Served {
             store,

@@ -23,8 +23,8 @@ impl AnyJob {
 
     /// The job of the kind `count`, `rule` or `scan` at its start, of its goal and its data.
     ///
-    /// A kind of another name is refused first, then a goal out of the kind's range, then data that is not in the
-    /// kind's form, as `Count::start`, `Rule::start` and `Scan::start` say.
+    /// A kind of another name is refused first (`BadKind`), then a goal out of the kind's range (`BadGoal`), then data that is not
+    /// in the kind's form (`BadData`), as `Count::start`, `Rule::start` and `Scan::start` say.
     pub fn start(kind: &str, goal: u64, text: &[u8]) -> Result<AnyJob, StartFault>
         ensures { MatchResult result (λ job. any_start kind.now goal text.now ≡ Ok (fields_of job)) (λ fault. any_start kind.now goal text.now ≡ Err fault) }
     {

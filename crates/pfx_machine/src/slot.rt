@@ -28,7 +28,8 @@ fn deal_one<J: Job>(number: u64, slot: u64, task: u16, jobs: &[Option<J>]) -> Op
     }
 }
 
-/// The quanta of a row's slot, in rising task order.
+/// The quanta of a row's slot, in rising task order: of each task of the row that has an unfinished job, with a copy of that job.
+/// `AllocError` only if an allocation failed.
 pub fn deal_all<J: Job>(
     alloc: Global,
     number: u64,
@@ -47,7 +48,8 @@ pub fn deal_all<J: Job>(
     Ok(quanta)
 }
 
-/// Runs the quanta, one after the other, and gives their results in the same order.
+/// Runs the quanta, one after the other, and gives their results in the same order. `AllocError` only if an allocation
+/// failed.
 pub fn run_all<J: Job>(alloc: Global, quanta: Vec<Quantum<J>>) -> Result<Vec<Done<J>>, AllocError>
     ensures { IfOk result
         (λ dones. map (λ d. deal d.number d.slot d.task d.before) dones.items ≡ map (λ q. deal q.number q.slot q.task q.before) quanta.items) }

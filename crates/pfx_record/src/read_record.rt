@@ -116,7 +116,8 @@ fn read_withdraw<J: Job>(bytes: &[u8]) -> Option<(Record<J>, usize)>
     Some((Record::Withdraw { task }, 3))
 }
 
-/// The record that the bytes begin with, if rows have so many tasks, and how many bytes it takes.
+/// The record that the bytes begin with, if rows have so many tasks, 64 at the most, and how many bytes it takes. `None` if they
+/// begin with none; `AllocError` only if an allocation failed.
 pub fn read_record<J: Job>(
     alloc: Global,
     workers: u32,

@@ -2,6 +2,8 @@
 
 use pfx_columns::Columns;
 use pfx_kinds::any::AnyJob;
+use pfx_kit::states;
+use pfx_kit::states::state_at;
 use pfx_machine::{Command, State};
 use pfx_weights::TaskSet;
 use std::alloc::Global;
@@ -29,24 +31,6 @@ pub fn later(alloc: Global) -> Option<State<AnyJob>> {
     Some(state)
 }
 
-/// The state of a ledger, if only task 0 may have a job.
-fn state_at(
-    alloc: Global,
-    number: u64,
-    ledger: Columns,
-    first: Option<AnyJob>,
-) -> Option<State<AnyJob>> {
-    let mut jobs = Vec::new(alloc);
-    jobs.push(first).ok()?;
-    for _task in 1..ledger.real() {
-        jobs.push(None).ok()?;
-    }
-    if number >= 1 << 48 || jobs.len() != ledger.real() {
-        return None;
-    }
-    Some(State::from_parts(alloc, number, ledger, jobs))
-}
-
 /// The ledger of a set with these allocations.
 fn ledger_at(
     alloc: Global,
@@ -56,10 +40,7 @@ fn ledger_at(
     allocs: &[u64],
 ) -> Option<Columns> {
     let set = TaskSet::new(alloc, m, tasks).ok()?;
-    if allocs.len() != set.total() || slot >= 1 << 40 {
-        return None;
-    }
-    Columns::from_allocations(alloc, &set, slot, allocs).ok()
+    states::ledger_at(alloc, &set, slot, allocs)
 }
 
 /// One task of 1/2 with a job, at the last slot and before the last number.

@@ -1,16 +1,17 @@
-use crate::holding::HoldingDesk;
+use crate::holding::Holding;
 use crate::quanta::quantum;
 use pfx_crew::channel::{ChannelDesk, ChannelSeat};
 use pfx_crew::desk::Desk;
 use pfx_crew::work::worker;
 use pfx_jobs::quantum::{Done, Quantum};
 use pfx_kinds::any::AnyJob;
+use pfx_kit::watched::WatchedDesk;
 use std::alloc::Global;
 use std::sync::Wait;
 use std::thread;
 use std::thread::Threads;
 
-type JobDesk = HoldingDesk<ChannelDesk<Quantum<AnyJob>, Done<AnyJob>>>;
+type JobDesk = WatchedDesk<ChannelDesk<Quantum<AnyJob>, Done<AnyJob>>, Holding>;
 
 type JobSeat = ChannelSeat<Quantum<AnyJob>, Done<AnyJob>>;
 
@@ -29,7 +30,7 @@ fn call<R: Wait>(rt: &R, desk: &JobDesk, mut seat: JobSeat) -> Option<(u16, u16)
 /// One caller and two workers. Whether both results came, task 1's first, before the limit. The second worker's count may
 /// come after the caller's last look, so it is read once all threads have ended.
 fn two_workers<R: Threads + Wait + Sync>(rt: &R, alloc: Global) -> Option<bool> {
-    let desk: JobDesk = HoldingDesk::new(ChannelDesk::new(alloc).ok()?);
+    let desk: JobDesk = WatchedDesk::new(ChannelDesk::new(alloc).ok()?, Holding::new());
     let mine: JobSeat = desk.seat(rt).ok()?;
     let first: JobSeat = desk.seat(rt).ok()?;
     let second: JobSeat = desk.seat(rt).ok()?;
@@ -45,12 +46,12 @@ fn two_workers<R: Threads + Wait + Sync>(rt: &R, alloc: Global) -> Option<bool> 
             )
         },
     );
-    Some(got == Some((1, 0)) && !desk.is_late() && desk.backs() == 2)
+    Some(got == Some((1, 0)) && !desk.watch().is_late() && desk.watch().backs() == 2)
 }
 
 /// The same by the calling thread alone, which reaches the limit.
 fn one_thread<R: Wait>(rt: &R, alloc: Global) -> Option<bool> {
-    let desk: JobDesk = HoldingDesk::new(ChannelDesk::new(alloc).ok()?);
+    let desk: JobDesk = WatchedDesk::new(ChannelDesk::new(alloc).ok()?, Holding::new());
     let mut seat: JobSeat = desk.seat(rt).ok()?;
     for task in 0..2 {
         desk.deal(rt, &mut seat, quantum(1, 0, task, b"20")?).ok()?;
@@ -59,7 +60,7 @@ fn one_thread<R: Wait>(rt: &R, alloc: Global) -> Option<bool> {
         let one = desk.next(rt, &mut seat)?;
         desk.hand_back(rt, &mut seat, one.run()).ok()?;
     }
-    Some(desk.is_late() && desk.backs() == 2)
+    Some(desk.watch().is_late() && desk.watch().backs() == 2)
 }
 
 #[test]

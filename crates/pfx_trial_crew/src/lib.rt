@@ -8,7 +8,7 @@
 //! | `quanta` | what the modules below deal |
 //! | `gathering` | `pfx_crew`: results in every order, and the results that are refused |
 //! | `desk` | `pfx_crew`: a desk of channels, and what a closed one answers |
-//! | `holding` | a desk that holds a result back |
+//! | `holding` | a watch over a desk that holds a result back |
 //! | `crew` | `pfx_crew`: two workers at a desk that wants both |
 #![tactic(auto)]
 

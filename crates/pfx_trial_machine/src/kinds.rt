@@ -180,69 +180,76 @@ fn is_answered(kind: &str, goal: u64, text: &[u8], want: Option<StartFault>) -> 
     }
 }
 
-/// A kind's name, a goal, the data, and why no job is started with them, if none is.
-type Start = (&'static str, u64, &'static [u8], Option<StartFault>);
+/// A kind's name, a goal and the data.
+type Start = (&'static str, u64, &'static [u8]);
 
-const BAD_KIND: Option<StartFault> = Some(StartFault::BadKind);
+/// Starts that give a job.
+const STARTED: [Start; 5] = [
+    ("count", 4294967295, b"4294967295"),
+    ("count", 1, b"0000000007"),
+    ("rule", 4294967295, b"255:000"),
+    ("rule", 1, b"000:010"),
+    ("scan", 0, b" :~ ~"),
+];
 
-const BAD_GOAL: Option<StartFault> = Some(StartFault::BadGoal);
-
-const BAD_DATA: Option<StartFault> = Some(StartFault::BadData);
-
+/// Starts of no kind, whatever goal and data they have.
 const NO_KINDS: [Start; 4] = [
-    ("sum", 0, b"x", BAD_KIND),
-    ("", 1, b"", BAD_KIND),
-    ("Count", 1, b"", BAD_KIND),
-    ("counts", 1, b"", BAD_KIND),
+    ("sum", 0, b"x"),
+    ("", 1, b""),
+    ("Count", 1, b""),
+    ("counts", 1, b""),
 ];
 
-const COUNTS: [Start; 8] = [
-    ("count", 0, b"x", BAD_GOAL),
-    ("count", 4294967295, b"4294967295", None),
-    ("count", 4294967296, b"4294967295", BAD_GOAL),
-    ("count", 1, b"4294967296", BAD_DATA),
-    ("count", 1, b"0000000007", None),
-    ("count", 1, b"00000000007", BAD_DATA),
-    ("count", 1, b"+7", BAD_DATA),
-    ("count", 1, b"7 ", BAD_DATA),
+/// Starts with a goal that the kind hasn't, whatever data they have.
+const BAD_GOALS: [Start; 5] = [
+    ("count", 0, b"x"),
+    ("count", 4294967296, b"4294967295"),
+    ("rule", 0, b"x"),
+    ("rule", 4294967296, b"255:000"),
+    ("scan", 1, b"x"),
 ];
 
-const RULES: [Start; 10] = [
-    ("rule", 0, b"x", BAD_GOAL),
-    ("rule", 4294967295, b"255:000", None),
-    ("rule", 4294967296, b"255:000", BAD_GOAL),
-    ("rule", 1, b"256:000", BAD_DATA),
-    ("rule", 1, b"000:010", None),
-    ("rule", 1, b"0000:010", BAD_DATA),
-    ("rule", 1, b":010", BAD_DATA),
-    ("rule", 1, b"1:01", BAD_DATA),
-    ("rule", 1, b"1:012", BAD_DATA),
-    ("rule", 1, b"1010", BAD_DATA),
-];
-
-const SCANS: [Start; 8] = [
-    ("scan", 1, b"x", BAD_GOAL),
-    ("scan", 0, b"abc:ab", BAD_DATA),
-    ("scan", 0, b":ab", BAD_DATA),
-    ("scan", 0, b"ab", BAD_DATA),
-    ("scan", 0, b" :~ ~", None),
-    ("scan", 0, b"a:b\x1fa", BAD_DATA),
-    ("scan", 0, b"a:b\x7fa", BAD_DATA),
-    ("scan", 0, b"\x1f:ba", BAD_DATA),
+/// A kind's name, a goal that it has, and data that it hasn't.
+const BAD_DATA: [(&str, u64, &[&[u8]]); 3] = [
+    ("count", 1, &[b"4294967296", b"00000000007", b"+7", b"7 "]),
+    (
+        "rule",
+        1,
+        &[b"256:000", b"0000:010", b":010", b"1:01", b"1:012", b"1010"],
+    ),
+    (
+        "scan",
+        0,
+        &[
+            b"abc:ab",
+            b":ab",
+            b"ab",
+            b"a:b\x1fa",
+            b"a:b\x7fa",
+            b"\x1f:ba",
+        ],
+    ),
 ];
 
 #[test]
 fn refuses_in_order(rt: HostRuntime) {
-    for starts in [
-        NO_KINDS.as_slice(),
-        COUNTS.as_slice(),
-        RULES.as_slice(),
-        SCANS.as_slice(),
+    for (starts, want) in [
+        (STARTED.as_slice(), None),
+        (NO_KINDS.as_slice(), Some(StartFault::BadKind)),
+        (BAD_GOALS.as_slice(), Some(StartFault::BadGoal)),
     ] {
-        for (at, (kind, goal, text, want)) in starts.iter().enumerate() {
+        for (at, (kind, goal, text)) in starts.iter().enumerate() {
             assert!(rt;
-                is_answered(kind, *goal, text, *want),
+                is_answered(kind, *goal, text, want),
                 "row {at}, {kind} {goal}"
+            );
+        }
+    }
+    for (kind, goal, texts) in BAD_DATA.as_slice() {
+        for (at, text) in texts.iter().enumerate() {
+            assert!(rt;
+                is_answered(kind, *goal, text, Some(StartFault::BadData)),
+                "{kind} {goal}, data {at}"
             );
         }
     }

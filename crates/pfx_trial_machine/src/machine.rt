@@ -1,10 +1,10 @@
 //! Worked rows of commands, slots in parts, and boards.
 
 use pfx_choice::ChoiceFault;
-use pfx_columns::Columns;
 use pfx_jobs::job::{Job, are_same};
 use pfx_jobs::quantum::{Done, Quantum};
 use pfx_kinds::any::AnyJob;
+use pfx_kit::states::{ledger_at, state_at};
 use pfx_machine::{Answer, Board, Command, JobStatus, MachineFault, Reply, State, run, run_all};
 use pfx_weights::TaskSet;
 use std::alloc::Global;
@@ -63,32 +63,6 @@ fn job_byte(state: &State<AnyJob>, task: u16, at: usize) -> u8 {
         Some(byte) => *byte,
         None => 0,
     }
-}
-
-/// The ledger of these allocations.
-pub fn ledger_at(alloc: Global, set: &TaskSet, slot: u64, allocs: &[u64]) -> Option<Columns> {
-    if allocs.len() != set.total() || slot >= 1 << 40 {
-        return None;
-    }
-    Columns::from_allocations(alloc, set, slot, allocs).ok()
-}
-
-/// The state of a ledger, if only task 0 may have a job.
-fn state_at(
-    alloc: Global,
-    number: u64,
-    ledger: Columns,
-    first: Option<AnyJob>,
-) -> Option<State<AnyJob>> {
-    let mut jobs = Vec::new(alloc);
-    jobs.push(first).ok()?;
-    for _task in 1..ledger.real() {
-        jobs.push(None).ok()?;
-    }
-    if number >= 1 << 48 || jobs.len() != ledger.real() {
-        return None;
-    }
-    Some(State::from_parts(alloc, number, ledger, jobs))
 }
 
 /// The row of a reply to a slot.

@@ -1,9 +1,9 @@
 //! The machine beside the plain programs, on many lists.
 
-use crate::machine::ledger_at;
 use pfx_choice::choose;
 use pfx_jobs::job::{Job, are_same};
 use pfx_kinds::any::AnyJob;
+use pfx_kit::states::ledger_at;
 use pfx_machine::{Command, Happening, Reply, State, plain_job, plain_slots};
 use pfx_weights::{Row, TaskSet};
 use std::alloc::Global;

@@ -4,7 +4,7 @@ use pfx_fault::{Cause, Fault, Part, Refused, put_fault};
 use std::alloc::Global;
 
 /// A refusal, the exit status and the text, as the table of refusals has them.
-const ROWS: [(Fault, u8, &str); 40] = [
+const ROWS: [(Fault, u8, &str); 35] = [
     (Fault::BadSet, 3, "10 BadSet"),
     (Fault::NoTasks, 3, "11 NoTasks"),
     (Fault::TooManyTasks, 3, "12 TooManyTasks"),
@@ -51,30 +51,6 @@ const ROWS: [(Fault, u8, &str); 40] = [
     (Fault::BadGoal, 4, "42 BadGoal"),
     (Fault::BadData, 4, "43 BadData"),
     (Fault::NotAStore, 4, "51 NotAStore"),
-    (
-        Fault::Damaged {
-            at: 906,
-            what: Part::Frame,
-        },
-        4,
-        "52 Damaged at=906 what=Frame",
-    ),
-    (
-        Fault::Damaged {
-            at: 0,
-            what: Part::Header,
-        },
-        4,
-        "52 Damaged at=0 what=Header",
-    ),
-    (
-        Fault::Damaged {
-            at: 17280,
-            what: Part::Length,
-        },
-        4,
-        "52 Damaged at=17280 what=Length",
-    ),
     (Fault::Device, 4, "53 Device"),
     (Fault::Broken, 4, "54 Broken"),
     (
@@ -85,22 +61,6 @@ const ROWS: [(Fault, u8, &str); 40] = [
     (Fault::NotEmpty, 4, "56 NotEmpty"),
     (Fault::NoRoom, 4, "57 NoRoom"),
     (Fault::Busy, 4, "58 Busy"),
-    (
-        Fault::StoreFailed {
-            marked: 4,
-            cause: Cause::Device,
-        },
-        4,
-        "61 StoreFailed marked=4 cause=Device",
-    ),
-    (
-        Fault::StoreFailed {
-            marked: 0,
-            cause: Cause::Memory,
-        },
-        4,
-        "61 StoreFailed marked=0 cause=Memory",
-    ),
     (Fault::SessionFull, 4, "64 SessionFull"),
     (Fault::NoThread, 4, "68 NoThread"),
     (
@@ -113,6 +73,19 @@ const ROWS: [(Fault, u8, &str); 40] = [
     (Fault::InputFailed, 8, "72 InputFailed"),
     (Fault::OutputFailed, 8, "73 OutputFailed"),
     (Fault::NoMemory, 5, "90 NoMemory"),
+];
+
+/// Where a store is damaged, in which part, and the text. The status is 4.
+const DAMAGES: [(u64, Part, &str); 3] = [
+    (906, Part::Frame, "52 Damaged at=906 what=Frame"),
+    (0, Part::Header, "52 Damaged at=0 what=Header"),
+    (17280, Part::Length, "52 Damaged at=17280 what=Length"),
+];
+
+/// What a store that fails has marked, why it fails, and the text. The status is 4.
+const FAILURES: [(u64, Cause, &str); 2] = [
+    (4, Cause::Device, "61 StoreFailed marked=4 cause=Device"),
+    (0, Cause::Memory, "61 StoreFailed marked=0 cause=Memory"),
 ];
 
 /// Whether a refusal's line is this text after `pfx: error`.
@@ -154,6 +127,14 @@ fn is_right(alloc: Global, fault: Fault, status: u8, text: &str) -> bool {
 fn prints_each_refusal(rt: HostRuntime) {
     for (fault, status, text) in ROWS.as_slice() {
         assert!(rt; is_right(rt.alloc(), *fault, *status, text), "{text}");
+    }
+    for (at, what, text) in DAMAGES {
+        let fault = Fault::Damaged { at, what };
+        assert!(rt; is_right(rt.alloc(), fault, 4, text), "{text}");
+    }
+    for (marked, cause, text) in FAILURES {
+        let fault = Fault::StoreFailed { marked, cause };
+        assert!(rt; is_right(rt.alloc(), fault, 4, text), "{text}");
     }
 }
 

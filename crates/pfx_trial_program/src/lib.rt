@@ -13,7 +13,7 @@
 //! - `jobs`: scripts that show what jobs have computed.
 //! - `long`: long scripts and plans, a slow writer, and the reading of a store's set.
 //! - `windows`: scripts whose slots are run several at once, up to a refusal or a writer that fails.
-//! - `torn`: a reader that fails, for the others.
+//! - `refused_sets`, `torn`: set files that are refused, and a reader that fails, for the others.
 #![tactic(auto)]
 
 #[cfg(test)]
@@ -28,6 +28,8 @@ mod notes;
 mod numerals;
 #[cfg(test)]
 mod program;
+#[cfg(test)]
+mod refused_sets;
 #[cfg(test)]
 mod script;
 #[cfg(test)]

@@ -1,5 +1,6 @@
 //! Long scripts and plans, a slow writer, and the reading of a store's set.
 
+use crate::refused_sets::REFUSED_SETS;
 use crate::scripts::thirds;
 use crate::torn::Torn;
 use pfx_fault::Fault;
@@ -211,33 +212,9 @@ fn reads_a_set(rt: HostRuntime) {
 #[test]
 fn refuses_sets_by_name(rt: HostRuntime) {
     let alloc = rt.alloc();
-    let rows = [
-        ("workers 2\n", Fault::BadSet),
-        ("workers = 2\n", Fault::NoTasks),
-        (
-            "workers = 0\ntask = [{name = \"x\", e = 1, p = 2}]\n",
-            Fault::BadWorkers,
-        ),
-        (
-            "workers = 65\ntask = [{name = \"x\", e = 1, p = 2}]\n",
-            Fault::BadWorkers,
-        ),
-        (
-            "workers = 1\ntask = [{name = \"x\", e = 1, p = 2}, {name = \"y\", e = 3, p = 3}]\n",
-            Fault::BadWeight { task: 1 },
-        ),
-        (
-            "workers = 1\ntask = [{name = \"x\", e = 1, p = 1024}, {name = \"y\", e = 1, p = 1025}]\n",
-            Fault::HyperperiodTooLarge { task: 1 },
-        ),
-        (
-            "workers = 1\ntask = [{name = \"x\", e = 1, p = 2}, {name = \"y\", e = 2, p = 3}]\n",
-            Fault::Overload,
-        ),
-    ];
-    for (text, want) in rows {
+    for (text, want) in REFUSED_SETS.as_slice() {
         let got = set_fault_of(alloc, text.as_bytes());
-        assert!(rt; got == Some(want), "{text}");
+        assert!(rt; got == Some(*want), "{text}");
     }
     let most = many_tasks(alloc, 1024).unwrap_or(Vec::new(alloc));
     assert!(rt; set_fault_of(alloc, &most).is_none(), "1,024 tasks");

@@ -1,5 +1,6 @@
 //! Plans of whole set files, and what a failing reader or writer leaves.
 
+use crate::refused_sets::REFUSED_SETS;
 use crate::torn::Torn;
 use pfx_fault::Fault;
 use pfx_program::{Form, run_plan};
@@ -206,32 +207,8 @@ fn refuses_a_ledger(rt: HostRuntime) {
 
 #[test]
 fn refuses_with_no_line(rt: HostRuntime) {
-    let rows = [
-        ("workers = 1 2", Fault::BadSet),
-        ("workers = 1", Fault::NoTasks),
-        (
-            "workers = 65\ntask = [{name = \"x\", e = 1, p = 2}]",
-            Fault::BadWorkers,
-        ),
-        (
-            "workers = -1\ntask = [{name = \"x\", e = 1, p = 2}]",
-            Fault::BadWorkers,
-        ),
-        (
-            "workers = 1\ntask = [{name = \"x\", e = 1, p = 2}, {name = \"y\", e = 2, p = 2}]",
-            Fault::BadWeight { task: 1 },
-        ),
-        (
-            "workers = 1\ntask = [{name = \"x\", e = 1, p = 1048576}, {name = \"y\", e = 1, p = 3}]",
-            Fault::HyperperiodTooLarge { task: 1 },
-        ),
-        (
-            "workers = 1\ntask = [{name = \"x\", e = 1, p = 2}, {name = \"y\", e = 2, p = 3}]",
-            Fault::Overload,
-        ),
-    ];
-    for (set, fault) in rows {
-        assert!(rt; plans(rt.alloc(), set, None, 3, "", Err(fault)), "{set}");
+    for (set, fault) in REFUSED_SETS.as_slice() {
+        assert!(rt; plans(rt.alloc(), set, None, 3, "", Err(*fault)), "{set}");
     }
 }
 

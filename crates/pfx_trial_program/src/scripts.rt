@@ -4,6 +4,7 @@ use crate::torn::Torn;
 use csv::StringRecord;
 use pfx_fault::Fault;
 use pfx_kinds::any::AnyJob;
+use pfx_kit::week::{FIRST_WEEK, SECOND_WEEK, WEEK};
 use pfx_machine::State;
 use pfx_program::{Form, run_record, run_script};
 use pfx_script::Script;
@@ -95,33 +96,6 @@ fn prints_objects(alloc: Global) -> bool {
 fn runs_a_script_as_objects(rt: HostRuntime) {
     assert!(rt; prints_objects(rt.alloc()));
 }
-
-const WEEK: &str = "submit,0,rule,3,110:00000001
-slot,,,3,
-status,,,,
-";
-
-const FIRST_WEEK: &str = "1 submitted 0
-2 ran 0: 0 1
-3 ran 1: 0 2
-4 ran 2: 1 2
-board 4 slot 3
-0 alloc=2 lag=0/3 job=open
-1 alloc=2 lag=0/3 job=none
-2 alloc=2 lag=0/3 job=none
-closed 4
-";
-
-const SECOND_WEEK: &str = "refused 32 TaskBusy task=0
-5 ran 3: 0 1
-6 ran 4: 0 2
-7 ran 5: 1 2
-board 7 slot 6
-0 alloc=4 lag=0/3 job=done
-1 alloc=4 lag=0/3 job=none
-2 alloc=4 lag=0/3 job=none
-closed 7
-";
 
 /// How many of two weeks are printed as expected, up to the first that isn't.
 fn prints_two_weeks(alloc: Global) -> u32 {

@@ -5,6 +5,7 @@ use crate::engines::{begun, empty, in_memory, opened};
 use pfx_disk::{Disk, FaultDisk, FileDisk, MemoryDisk};
 use pfx_engine::{DurableEngine, laws};
 use pfx_fault::{Cause, Fault};
+use pfx_kit::week::{FIRST_WEEK, SECOND_WEEK, WEEK};
 use pfx_machine::{Command, Reply};
 use pfx_program::{CallFault, Engine, Form, run_script};
 use pfx_script::Script;
@@ -33,43 +34,20 @@ fn prints<D: Disk>(
     answer.err() == end && written.as_slice() == wanted.as_bytes()
 }
 
-const WEEK: &str = "submit,0,rule,3,110:00000001
-slot,,,3,
-status,,,,
-";
-
-const FIRST: &str = "1 submitted 0
-2 ran 0: 0 1
-3 ran 1: 0 2
-4 ran 2: 1 2
-board 4 slot 3
-0 alloc=2 lag=0/3 job=open
-1 alloc=2 lag=0/3 job=none
-2 alloc=2 lag=0/3 job=none
-closed 4
-";
-
-const SECOND: &str = "refused 32 TaskBusy task=0
-5 ran 3: 0 1
-6 ran 4: 0 2
-7 ran 5: 1 2
-board 7 slot 6
-0 alloc=4 lag=0/3 job=done
-1 alloc=4 lag=0/3 job=none
-2 alloc=4 lag=0/3 job=none
-closed 7
-";
-
 #[test]
 fn a_second_run_goes_on(rt: HostRuntime) {
     let alloc = rt.alloc();
     let Some(mut engine) = in_memory(alloc, 200) else {
         return check(&rt, false, "an engine");
     };
-    check(&rt, prints(alloc, WEEK, &mut engine, FIRST, None), "first");
     check(
         &rt,
-        prints(alloc, WEEK, &mut engine, SECOND, None),
+        prints(alloc, WEEK, &mut engine, FIRST_WEEK, None),
+        "first",
+    );
+    check(
+        &rt,
+        prints(alloc, WEEK, &mut engine, SECOND_WEEK, None),
         "second",
     );
     laws::frames_lead_to_outcomes();
@@ -81,11 +59,19 @@ fn a_run_goes_on_after_the_store_is_opened_again(rt: HostRuntime) {
     let Some(mut engine) = in_memory(alloc, 300) else {
         return check(&rt, false, "an engine");
     };
-    check(&rt, prints(alloc, WEEK, &mut engine, FIRST, None), "first");
+    check(
+        &rt,
+        prints(alloc, WEEK, &mut engine, FIRST_WEEK, None),
+        "first",
+    );
     let Some(mut again) = opened(alloc, engine.into_store().into_disk()) else {
         return check(&rt, false, "opened again");
     };
-    check(&rt, prints(alloc, WEEK, &mut again, SECOND, None), "second");
+    check(
+        &rt,
+        prints(alloc, WEEK, &mut again, SECOND_WEEK, None),
+        "second",
+    );
 }
 
 const SHOW: &str = "submit,0,rule,3,110:00000001
@@ -138,7 +124,7 @@ fn file_at(rt: &HostRuntime, path: &PathBuf) -> Option<File> {
 /// Whether the first run over a new store in the file prints what is wanted.
 fn first_runs(alloc: Global, file: File) -> bool {
     match begun(alloc, FileDisk::new(file)) {
-        Some(mut engine) => prints(alloc, WEEK, &mut engine, FIRST, None),
+        Some(mut engine) => prints(alloc, WEEK, &mut engine, FIRST_WEEK, None),
         None => false,
     }
 }
@@ -146,7 +132,7 @@ fn first_runs(alloc: Global, file: File) -> bool {
 /// Whether the second run over the store in the file does.
 fn second_runs(alloc: Global, file: File) -> bool {
     match opened(alloc, FileDisk::new(file)) {
-        Some(mut engine) => prints(alloc, WEEK, &mut engine, SECOND, None),
+        Some(mut engine) => prints(alloc, WEEK, &mut engine, SECOND_WEEK, None),
         None => false,
     }
 }
@@ -311,7 +297,7 @@ fn no_call_of_the_run_is_left_out(rt: HostRuntime) {
     };
     check(
         &rt,
-        prints(alloc, WEEK, &mut engine, FIRST, None),
+        prints(alloc, WEEK, &mut engine, FIRST_WEEK, None),
         "the run",
     );
     let end = Some(Fault::StoreFailed {

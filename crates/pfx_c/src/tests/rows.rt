@@ -3,6 +3,7 @@ use crate::checks::pfx_check;
 use crate::nexts::pfx_next;
 use crate::plans::pfx_plan;
 use crate::sets::{PfxSet, pfx_set, pfx_total};
+use crate::weights::PfxWeight;
 use std::alloc::Global;
 
 /// Whether a set is shown with this hyperperiod, so many idle tasks and this load, and has so many tasks in all.
@@ -41,65 +42,52 @@ fn goes_round(alloc: Global) -> bool {
     true
 }
 
-/// Whether four rows of them are laid one behind the other, with the place behind them left, and the ledger is taken along.
-fn plans_four(alloc: Global) -> bool {
-    let (mut slot, mut made) = (0, 9);
-    let mut allocs = [0; 3];
-    let mut rows = [9; 9];
+/// A slot and the allocations of the slots before it.
+type At<const TASKS: usize> = (u64, [u64; TASKS]);
+
+/// What is answered when so many slots are planned from there: the number and how many rows were made, the ledger after them, and
+/// the places, each of which was 9.
+fn plan<const TASKS: usize, const PLACES: usize>(
+    alloc: Global,
+    workers: u32,
+    weights: &[PfxWeight; TASKS],
+    slots: usize,
+    at: At<TASKS>,
+) -> ((u32, usize), At<TASKS>, [u16; PLACES]) {
+    let (mut slot, mut allocs) = at;
+    let (mut rows, mut made) = ([9; PLACES], 9);
     let number = pfx_plan(
         alloc,
-        2,
-        &thirds(),
-        4,
+        workers,
+        weights,
+        slots,
         &mut slot,
         &mut allocs,
         &mut rows,
         &mut made,
     );
-    number == 0
-        && made == 4
-        && slot == 4
-        && allocs == [3, 3, 2]
-        && rows == [0, 1, 0, 2, 1, 2, 0, 1, 9]
+    ((number, made), (slot, allocs), rows)
+}
+
+/// Whether four rows of them are laid one behind the other, with the place behind them left, and the ledger is taken along.
+fn plans_four(alloc: Global) -> bool {
+    let (answer, (slot, allocs), rows) = plan::<3, 9>(alloc, 2, &thirds(), 4, (0, [0; 3]));
+    let is_after = slot == 4 && allocs == [3, 3, 2];
+    answer == (0, 4) && is_after && rows == [0, 1, 0, 2, 1, 2, 0, 1, 9]
 }
 
 /// Whether no rows at all are planned if none are asked for.
 fn plans_none(alloc: Global) -> bool {
-    let (mut slot, mut made) = (1, 9);
-    let mut allocs = [1, 1, 0];
-    let number = pfx_plan(
-        alloc,
-        2,
-        &thirds(),
-        0,
-        &mut slot,
-        &mut allocs,
-        &mut [],
-        &mut made,
-    );
-    number == 0 && made == 0 && slot == 1 && allocs == [1, 1, 0]
+    let (answer, (slot, allocs), _rows) = plan::<3, 0>(alloc, 2, &thirds(), 0, (1, [1, 1, 0]));
+    answer == (0, 0) && slot == 1 && allocs == [1, 1, 0]
 }
 
 /// Whether a plan that ends early has its first row, and the ledger after it.
 fn ends_behind_one_row(alloc: Global) -> bool {
-    let (mut slot, mut made) = (2, 9);
-    let mut allocs = [0, 0, 0, 1, 1];
-    let mut rows = [9; 6];
-    let number = pfx_plan(
-        alloc,
-        1,
-        &endings(),
-        6,
-        &mut slot,
-        &mut allocs,
-        &mut rows,
-        &mut made,
-    );
-    number == 21
-        && made == 1
-        && slot == 3
-        && allocs == [1, 0, 0, 1, 1]
-        && rows == [0, 9, 9, 9, 9, 9]
+    let begun = (2, [0, 0, 0, 1, 1]);
+    let (answer, (slot, allocs), rows) = plan::<5, 6>(alloc, 1, &endings(), 6, begun);
+    let is_after = slot == 3 && allocs == [1, 0, 0, 1, 1];
+    answer == (21, 1) && is_after && rows == [0, 9, 9, 9, 9, 9]
 }
 
 #[test]

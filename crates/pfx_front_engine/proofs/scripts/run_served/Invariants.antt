@@ -1,5 +1,4 @@
-use Rattle.pfx_disk.specs.File.{file_view}
-use Rattle.pfx_front_bench.proofs.serve.serve_file.Given as goal
+use Rattle.pfx_front_engine.proofs.scripts.run_served.Given as goal
 
 abbrev pub ghosts-serve-B-Room : goal.ghosts-serve-B-Room
 ghosts-serve-B-Room g a = record { table = a.names.tokens.table.shared.table_id }
@@ -14,4 +13,4 @@ abbrev pub ghosts-serve-B-Named : goal.ghosts-serve-B-Named
 ghosts-serve-B-Named g a = record { start = a.store.state }
 
 abbrev pub ghosts-serve-B-Since : goal.ghosts-serve-B-Since
-ghosts-serve-B-Since g a = record { failures = (file_view a.store.file.disk).failures; clock = (file_view a.store.file.disk).clock }
+ghosts-serve-B-Since g a = record { failures = (g.D.Disk.view a.store.file.disk).failures; clock = (g.D.Disk.view a.store.file.disk).clock }
