@@ -26,7 +26,7 @@ use std::marker::Model;
 use std::sync::Wait;
 use std::time::Clock;
 
-/// What the flusher's thread owns: its share of the book, the store, the board's writer, and room for the records of a batch.
+/// What the flusher's thread owns: room for the records of a batch, its share of the book, the store, and the board's writer.
 /// Contracts see it as the share's notes, the store and what is published, which are in step.
 #[derive(Drop)]
 pub struct Flusher<
@@ -36,10 +36,10 @@ pub struct Flusher<
     T: Absorb<T, State = [Batch<J>; 0]> + Drop,
     R: Wait + Drop,
 > {
+    pub(crate) room: Vec<Record<J>>,
     pub(crate) share: Share<J, B>,
     pub(crate) store: Store<D, J>,
     pub(crate) publisher: BoardWriter<J, B, T, R>,
-    pub(crate) room: Vec<Record<J>>,
 }
 
 impl<J: Job, B: Since<J>, D: Disk, T: Absorb<T, State = [Batch<J>; 0]> + Drop, R: Wait + Drop> Model

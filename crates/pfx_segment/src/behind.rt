@@ -8,6 +8,7 @@ ghost use Rattle.pfx_segment.specs.Turning.{Closing, Prepared};
 use pfx_disk::{DeviceFailed, Disk, GATE_OPEN};
 
 /// Puts bytes behind a closed gate, and opens it, by four calls: the bytes and a sync, the gate and a sync.
+/// `gate` is its place in bytes. `DeviceFailed` comes only if a call of the disk failed; no call is made after that.
 ///
 /// The bytes end before the disk does, if it is honest, and below 2^63. It is a run of four calls, and these four; after
 /// success a stop leaves what a read gives. At every moment, whatever it answers, the gate is as it was, or the bytes stand
@@ -30,6 +31,7 @@ pub fn put_behind<D: Disk>(disk: &mut D, gate: usize, bytes: &[u8]) -> Result<()
 }
 
 /// Closes a gate that stands open, or reads one that stands closed, and syncs: two calls.
+/// `gate` is its place in bytes. `DeviceFailed` comes only if a call of the disk failed; no call is made after that.
 ///
 /// A closed gate isn't written closed again, since a stop within that write could leave it open. The gate lies before
 /// the end, if the disk is honest. It is a run of two calls, and these two; after success a stop leaves what a read gives.
@@ -57,6 +59,7 @@ pub fn close<D: Disk>(disk: &mut D, gate: usize, is_open: bool) -> Result<(), De
 }
 
 /// Closes the gate, if it is open, and then puts bytes behind it and opens it: six calls, by `close` and `put_behind`.
+/// `gate` is its place in bytes. `DeviceFailed` comes only if a call of the disk failed; no call is made after that.
 ///
 /// The bytes end before the disk does, if it is honest, and below 2^63. It is a run of six calls, and these six; after
 /// success a stop leaves what a read gives. At every moment, whatever it answers, all is as before, or the gate is closed,
@@ -84,6 +87,7 @@ pub fn prepare<D: Disk>(
 }
 
 /// Opens the gate before bytes that were written behind it, by three calls: a sync, the gate and a sync.
+/// `gate` is its place in bytes. `DeviceFailed` comes only if a call of the disk failed; no call is made after that.
 ///
 /// The gate lies before the end, if the disk is honest, and below 2^63. It is a run of three calls, and these three; after
 /// success a stop leaves what a read gives. At every moment, whatever it answers, the gate is as it was, or the bytes stand
