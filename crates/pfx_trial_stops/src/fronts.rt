@@ -24,7 +24,7 @@ use std::thread::Threads;
 use std::time::Clock;
 
 /// The desk of the front, which has no workers.
-type JobDesk = ChannelDesk<Quantum<AnyJob>, Done<AnyJob>>;
+pub type JobDesk = ChannelDesk<Quantum<AnyJob>, Done<AnyJob>>;
 
 /// What a client came to.
 #[derive(Drop)]
@@ -229,7 +229,7 @@ impl<
 }
 
 /// A new store on a disk, with segments of the least length.
-fn store_on<D: Disk + Drop>(alloc: Global, disk: D) -> Option<Store<D, AnyJob>>
+pub fn store_on<D: Disk + Drop>(alloc: Global, disk: D) -> Option<Store<D, AnyJob>>
     ensures { IfSome result (λ s. Begins any_kind s.state (D.view s.file.disk).failures (D.view s.file.disk).clock s.file.broken s.state (D.view s.file.disk)) }
 {
     let set = thirds(alloc)?;

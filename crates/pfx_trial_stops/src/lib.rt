@@ -9,6 +9,7 @@
 //! | `failing` | each call of a store's run fails in turn, and each call of its opening |
 //! | `fronts` | the run through a front, asked by two clients |
 //! | `through` | the same two trials through the front |
+//! | `weeks` | a script through a front, by none, one and two workers |
 //!
 //! A case is a plain `bool`; `check` and `check_at` name the one that doesn't hold.
 #![tactic(auto)]
@@ -27,3 +28,5 @@ mod stopped;
 mod through;
 #[cfg(test)]
 mod twice;
+#[cfg(test)]
+mod weeks;
