@@ -79,6 +79,6 @@ fn prints_two_weeks<R: Threads + Wait + Clock + Copy + Drop + Send + Sync + 'sta
 fn a_script_prints_the_same_by_any_number_of_workers(rt: HostRuntime) {
     for workers in 0..=2 {
         let holds = prints_two_weeks(rt, rt.alloc(), workers) == Some(true);
-        check_at(&rt, holds, "workers", workers as usize);
+        check_at(&rt, holds, "workers", u64::from(workers));
     }
 }
