@@ -22,7 +22,7 @@ use Rattle.pfx_recovery.specs.Store.{Replays}
 use Rattle.pfx_engine.specs.Surviving.{Survives, frames_of}
 
 -- one command
-pub one_record : (s : Plain AnyJob) (c : Command AnyJob) (records : List (recorded.Plain AnyJob)) → refusal any_kind s c ≡ None → records ≡ record_of any_kind s c ∷ [] → AreRecordsOf any_kind s (c ∷ []) records
+pub one_record : (s : Plain AnyJob) (c : Command AnyJob) (records : List (recorded.Recorded AnyJob)) → refusal any_kind s c ≡ None → records ≡ record_of any_kind s c ∷ [] → AreRecordsOf any_kind s (c ∷ []) records
 one_record s c records accepted is = record { accepted = (subst (λ (t : Plain AnyJob). refusal any_kind t c ≡ None) (sym (outcome-none any_kind s)) accepted, tt); of = is }
 
 pub all_in : (s : Plain AnyJob) (H : List (Command AnyJob)) → IsAcceptable any_kind s H → IsAcceptable any_kind s (joined (alone H))

@@ -75,7 +75,7 @@ one_recovered s t frame image leads v =
     v.recovered ∙ ap Ok (replays_same (format any_kind) (frame ∷ []) s v.state t (subst (λ (n : ℕ). Replays (format any_kind) s (take n (frame ∷ [])) v.state) one v.replays) (t, leads, refl))
 
 -- A batch with the records of accepted commands.
-module _ (s : Plain AnyJob) (G : List (Command AnyJob)) (records : List (recorded.Plain AnyJob)) where
+module _ (s : Plain AnyJob) (G : List (Command AnyJob)) (records : List (recorded.Recorded AnyJob)) where
   pub state_with : (t : Plain AnyJob) → IsState s → AreRecordsOf any_kind s G records → applied any_kind s records ≡ Some t → t ≡ outcome any_kind s G
   state_with t h is taken = some_same t (outcome any_kind s G) (sym taken ∙ records_lead any_kind any_laws s G records h is)
 
@@ -95,7 +95,7 @@ module _ (s : Plain AnyJob) (G : List (Command AnyJob)) (records : List (recorde
       keeps_commands start s H G (batch_bytes any_kind (record { first = first; records = records })) old new h all at is.accepted some few (frame_is first h_s is next) keeps
 
 -- how many commands the records are of
-pub length_of : (s : Plain AnyJob) (G : List (Command AnyJob)) (records : List (recorded.Plain AnyJob)) → AreRecordsOf any_kind s G records → length G ≡ length records
+pub length_of : (s : Plain AnyJob) (G : List (Command AnyJob)) (records : List (recorded.Recorded AnyJob)) → AreRecordsOf any_kind s G records → length G ≡ length records
 length_of s G records is = sym (length-records any_kind s G) ∙ ap length (sym is.of)
 
 -- the frames of commands lead to their outcome

@@ -24,7 +24,7 @@ pub none_recorded : (s : Plain AnyJob) → AreRecordsOf any_kind s [] []
 none_recorded s = record { accepted = tt; of = refl }
 
 -- one Slot more
-pub recorded_more : (s : Plain AnyJob) (said : List (ℕ × Reply)) (x : ℕ × Reply) (records : List (recorded.Plain AnyJob)) (done : recorded.Plain AnyJob) → AreRecordsOf any_kind s (slots_for said) records
+pub recorded_more : (s : Plain AnyJob) (said : List (ℕ × Reply)) (x : ℕ × Reply) (records : List (recorded.Recorded AnyJob)) (done : recorded.Recorded AnyJob) → AreRecordsOf any_kind s (slots_for said) records
     → refusal any_kind (outcome any_kind s (slots_for said)) Slot ≡ None → done ≡ record_of any_kind (outcome any_kind s (slots_for said)) Slot → AreRecordsOf any_kind s (slots_for (said ++ x ∷ [])) (records ++ done ∷ [])
 recorded_more s said x records done is accepted kept =
     subst (λ (G : List (Command AnyJob)). AreRecordsOf any_kind s G (records ++ done ∷ [])) (sym (slots_more said x)) (record {
@@ -33,5 +33,5 @@ recorded_more s said x records done is accepted kept =
     })
 
 -- as many records as Slots
-pub run_long : {R : Type 0} (view : R → recorded.Plain AnyJob) (s new : Plain AnyJob) (count : ℕ) (said : List (ℕ × Reply)) (records : List R) → AreRun s count said (map view records) new → length records ≡ length said
+pub run_long : {R : Type 0} (view : R → recorded.Recorded AnyJob) (s new : Plain AnyJob) (count : ℕ) (said : List (ℕ × Reply)) (records : List R) → AreRun s count said (map view records) new → length records ≡ length said
 run_long view s new count said records h = sym (length-map records view) ∙ sym (length_of s (slots_for said) (map view records) h.recorded) ∙ length_slots said

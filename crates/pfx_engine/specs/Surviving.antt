@@ -13,7 +13,7 @@ use Rattle.pfx_program.specs.Promises.{AreAnswered, slots_for}
 use Rattle.pfx_record.specs.Records as recorded
 
 -- these Slots were run one after the other from the state on, so many at the most, and these are their records
-pub record AreRun (s : Plain AnyJob) (count : ℕ) (said : List (ℕ × Reply)) (records : List (recorded.Plain AnyJob)) (new : Plain AnyJob) : Type 0 where
+pub record AreRun (s : Plain AnyJob) (count : ℕ) (said : List (ℕ × Reply)) (records : List (recorded.Recorded AnyJob)) (new : Plain AnyJob) : Type 0 where
   pub some : 0 < length said
   pub few : length said ≤ count
   pub answered : AreAnswered s said

@@ -37,7 +37,7 @@ frames_of K s (group ∷ groups) = frame_of K s group ∷ frames_of K (outcome K
 
 module _ {J : Type 0} (K : Kind J) where
   -- the commands are accepted one after the other from the state on, and these are their records
-  pub record AreRecordsOf (s : Plain J) (H : List (Command J)) (records : List (recorded.Plain J)) : Type 0 where
+  pub record AreRecordsOf (s : Plain J) (H : List (Command J)) (records : List (recorded.Recorded J)) : Type 0 where
     pub accepted : IsAcceptable K s H
     pub of : records ≡ records_of K s H
 

@@ -87,7 +87,7 @@ loop-preserved c =
       records_room = omega (arith, c.push_reserved-in-Ok-run_recorded.ensures.capacity, c.loop.invariant.records_room);
       answered = rw c.push_reserved.ensures.items (answered_more s said x c.loop.invariant.answered (subst (λ (t : Plain AnyJob). answer any_kind t Slot ≡ Ok x.1) at accepted)
           (subst (λ (t : Plain AnyJob). x.0 ≡ t.number + 1) at next));
-      recorded = rw c.push_reserved.ensures.items (subst (λ (l : List (recorded.Plain AnyJob)). AreRecordsOf any_kind s (slots_for (said ++ x ∷ [])) l) (sym pushed)
+      recorded = rw c.push_reserved.ensures.items (subst (λ (l : List (recorded.Recorded AnyJob)). AreRecordsOf any_kind s (slots_for (said ++ x ∷ [])) l) (sym pushed)
           (recorded_more s said x (map plain c.loop.records.items) (plain c.in-Ok-run_recorded.field-0.entry) c.loop.invariant.recorded (subst (λ (t : Plain AnyJob). refusal any_kind t Slot ≡ None) at done.exact)
           (done.kept_as ∙ ap (λ (t : Plain AnyJob). record_of any_kind t Slot) at)));
       state = rw c.push_reserved.ensures.items (done.outcome s (slots_for said) at ∙ ap (outcome any_kind s) (sym (slots_more said x)));
