@@ -50,9 +50,9 @@ fn walk_after(number: u64) -> Option<(u32, u64, u64)> {
 
 /// Whether the state has the walk as its number says.
 fn has_walk(state: &State<Walk>) -> bool {
-    let found = match state.job(0) {
-        Some(walk) => Some((walk.left, walk.seed, walk.place)),
-        None => None,
+    let found = match state.jobs().first() {
+        Some(Some(walk)) => Some((walk.left, walk.seed, walk.place)),
+        _ => None,
     };
     found == walk_after(state.number())
 }
@@ -74,13 +74,11 @@ fn recovered(alloc: Global, disk: &MemoryDisk, calls: u64, fate: Fate) -> Option
 
 /// How many commands had returned by so many calls.
 fn returned(clocks: [u64; 5], calls: u64) -> u64 {
-    let mut number = 0;
-    for clock in &clocks[1..] {
-        if *clock <= calls {
-            number += 1;
-        }
-    }
-    number
+    let [_, submit, first, second, third] = clocks;
+    u64::from(submit <= calls)
+        + u64::from(first <= calls)
+        + u64::from(second <= calls)
+        + u64::from(third <= calls)
 }
 
 #[test]
