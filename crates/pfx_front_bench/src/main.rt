@@ -29,6 +29,7 @@ use crate::stores::{JobDesk, made, opened};
 use crate::words::{Words, read_words, session_file};
 use pfx_crew::channel::ChannelDesk;
 use pfx_disk::FileDisk;
+use pfx_front::name::Names;
 use std::alloc::Global;
 use std::env;
 use std::io::Print;
@@ -54,7 +55,8 @@ fn work<R: Threads + Wait + Clock + Print + Copy + Drop + Send + Sync + 'static>
         made(alloc, disk)?
     };
     let desk: JobDesk = ChannelDesk::new(alloc)?;
-    Ok(serve_file(rt, alloc, store, desk, words.plan)?)
+    let names = Names::new(alloc)?;
+    Ok(serve_file(rt, alloc, names, store, desk, words.plan)?)
 }
 
 fn main(rt: HostRuntime) -> Result<ExitCode, Fail> {

@@ -1,4 +1,5 @@
 //! A front over a store, its clients at once, and its end.
+ghost use Rattle.std.specs.Prelude.{◌≡◌};
 ghost use Rattle.pfx_disk.specs.File.{file_view};
 ghost use Rattle.pfx_kinds.specs.AnyKind.{any_kind};
 ghost use Rattle.pfx_front.specs.Starting.{Begins};
@@ -7,19 +8,20 @@ use crate::clients::{Visit, client, furnish};
 use crate::failures::Failure;
 use crate::stores::JobDesk;
 use crate::words::Plan;
+use pfx_board::reader::Reader;
 use pfx_book::book::Pass;
 use pfx_crew::desk::Desk;
 use pfx_disk::{Disk, FileDisk};
 use pfx_front::calls::Front;
-use pfx_front::closing::Closed;
-use pfx_front::name::Since;
+use pfx_front::closing::{Closed, Given};
+use pfx_front::name::{Names, Since};
+use pfx_front::start::Crew;
 use pfx_jobs::quantum::{Done, Quantum};
 use pfx_kinds::any::AnyJob;
-use pfx_sessions::served::{Served, admit, end};
-use pfx_sessions::sessions::{Session, hold};
 use pfx_store::Store;
 use std::alloc::Global;
 use std::io::Print;
+use std::marker::Brand;
 use std::sync::Wait;
 use std::thread;
 use std::thread::Threads;
@@ -36,8 +38,69 @@ pub struct Outcome {
     pub nanos: u128,
 }
 
+/// A front, its threads, which are to be joined, and a reader.
+type Served<B, D, K, R> = (
+    Front<AnyJob, B, K>,
+    Crew<AnyJob, B, D, K, R>,
+    Vec<Reader<AnyJob, B>>,
+);
+
+/// Starts a front.
+fn begin<
+    B: Since<AnyJob> + Send + Sync + 'static,
+    K: Desk<Quantum<AnyJob>, Done<AnyJob>> + Drop + Send + Sync + 'static,
+    D: Disk + Drop + Send + 'static,
+    R: Threads + Wait + Clock + Copy + Drop + Send + Sync + 'static,
+>(
+    rt: R,
+    alloc: Global,
+    names: Names<AnyJob>,
+    store: Store<D, AnyJob>,
+    desk: K,
+    workers: u16,
+) -> Result<Served<B, D, K, R>, Failure>
+where
+    K::Seat: Drop + Send + 'static,
+    requires named { (names.tokens.table.shared.table_id ≡ B.table) × (names.list.seen.book ≡ B.book) × (B.origin ≡ B.start) }
+    requires begins { Begins any_kind B.start B.failures B.clock store.file.broken store.state (D.view store.file.disk) }
+{
+    match Front::<AnyJob, B, K>::start::<D, R>(
+        rt,
+        alloc,
+        names,
+        store,
+        desk,
+        u32::from(workers),
+        1,
+    ) {
+        Ok(served) => Ok(served),
+        Err((fault, _store)) => Err(Failure::NotStarted(fault)),
+    }
+}
+
+/// Ends a front.
+fn end<
+    B: Since<AnyJob>,
+    K: Desk<Quantum<AnyJob>, Done<AnyJob>> + Drop,
+    D: Disk + Drop,
+    R: Threads + Wait + Drop,
+>(
+    rt: &R,
+    served: Served<B, D, K, R>,
+    passes: Vec<Pass<AnyJob, B>>,
+) -> Result<Closed<AnyJob, B, D>, Failure>
+where
+    K::Seat: Drop,
+{
+    let (front, crew, readers) = served;
+    match front.close(rt, crew, Given { passes, readers }) {
+        Ok(closed) => Ok(closed),
+        Err(_) => Err(Failure::NotClosed),
+    }
+}
+
 /// A pass for each client.
-fn passes_for<B: Since<AnyJob>, K: Desk<Quantum<AnyJob>, Done<AnyJob>> + Drop, R: Wait>(
+fn admit<B: Since<AnyJob>, K: Desk<Quantum<AnyJob>, Done<AnyJob>> + Drop, R: Wait>(
     rt: &R,
     alloc: Global,
     front: &Front<AnyJob, B, K>,
@@ -46,11 +109,16 @@ fn passes_for<B: Since<AnyJob>, K: Desk<Quantum<AnyJob>, Done<AnyJob>> + Drop, R
 where
     K::Seat: Drop,
 {
-    match admit(rt, alloc, front, u64::from(clients)) {
-        Some(passes) if passes.len() == usize::from(clients) => Ok(passes),
-        Some(_) => Err(Failure::NoPass),
-        None => Err(Failure::NoMemory),
+    let mut passes = Vec::new(alloc);
+    for _client in 0..clients {
+        let Some(pass) = front.pass(rt) else {
+            return Err(Failure::NoPass);
+        };
+        if passes.push(pass).is_err() {
+            return Err(Failure::NoMemory);
+        }
     }
+    Ok(passes)
 }
 
 /// What all clients came to: their passes, and how many receipts they have.
@@ -96,47 +164,43 @@ fn examined<B: Since<AnyJob>, D: Disk + Drop>(
     Ok(outcome)
 }
 
-/// The clients of a plan, at a front of a store whose last number is this.
-#[derive(Drop)]
-struct Clients {
-    began: u64,
+/// Serves all clients of a plan, and ends the front after them.
+fn serve<
+    B: Since<AnyJob> + Send + Sync + 'static,
+    K: Desk<Quantum<AnyJob>, Done<AnyJob>> + Drop + Send + Sync + 'static,
+    D: Disk + Drop + Send + 'static,
+    R: Threads + Wait + Clock + Print + Copy + Drop + Send + Sync + 'static,
+>(
+    rt: R,
+    alloc: Global,
+    names: Names<AnyJob>,
+    store: Store<D, AnyJob>,
+    desk: K,
     plan: Plan,
-}
-
-impl<R: Threads + Wait + Clock + Print + Copy + Drop + Send + Sync + 'static> Session<
-    FileDisk,
-    JobDesk,
-    R,
-> for Clients {
-    type Outcome = Result<Outcome, Failure>;
-
-    fn serve<B: Since<AnyJob> + Send + Sync + 'static>(
-        self,
-        rt: R,
-        alloc: Global,
-        served: Served<B, FileDisk, JobDesk, R>,
-    ) -> Result<Outcome, Failure> {
-        let Clients { began, plan } = self;
-        let front = &served.0;
-        let Some(mut first) = front.pass(&rt) else {
-            return Err(Failure::NoPass);
-        };
-        let given = furnish(&rt, front, &mut first)?;
-        let passes = passes_for(&rt, alloc, front, plan.clients)?;
-        let (visits, nanos) = visited(&rt, alloc, front, passes, plan)?;
-        let (passes, receipts) = gathered(alloc, first, visits)?;
-        let wanted = u64::from(plan.clients).saturating_mul(plan.commands);
-        let number = began.saturating_add(given).saturating_add(wanted);
-        let outcome = Outcome {
-            number,
-            receipts,
-            nanos,
-        };
-        match end(&rt, served, passes) {
-            Some(closed) => examined(closed, outcome, wanted),
-            None => Err(Failure::NotClosed),
-        }
-    }
+) -> Result<Outcome, Failure>
+where
+    K::Seat: Drop + Send + 'static,
+    requires named { (names.tokens.table.shared.table_id ≡ B.table) × (names.list.seen.book ≡ B.book) × (B.origin ≡ B.start) }
+    requires begins { Begins any_kind B.start B.failures B.clock store.file.broken store.state (D.view store.file.disk) }
+{
+    let began = store.state().number();
+    let served = begin::<B, K, D, R>(rt, alloc, names, store, desk, plan.workers)?;
+    let front = &served.0;
+    let Some(mut first) = front.pass(&rt) else {
+        return Err(Failure::NoPass);
+    };
+    let given = furnish(&rt, front, &mut first)?;
+    let passes = admit(&rt, alloc, front, plan.clients)?;
+    let (visits, nanos) = visited(&rt, alloc, front, passes, plan)?;
+    let (passes, receipts) = gathered(alloc, first, visits)?;
+    let wanted = u64::from(plan.clients).saturating_mul(plan.commands);
+    let number = began.saturating_add(given).saturating_add(wanted);
+    let outcome = Outcome {
+        number,
+        receipts,
+        nanos,
+    };
+    examined(end(&rt, served, passes)?, outcome, wanted)
 }
 
 /// All clients at once, and how many nanoseconds they took.
@@ -171,10 +235,11 @@ where
     }
 }
 
-/// Serves all clients of a plan over a store in a file, and ends the front after them.
+/// Serves all clients of a plan over a store in a file.
 pub fn serve_file<R: Threads + Wait + Clock + Print + Copy + Drop + Send + Sync + 'static>(
     rt: R,
     alloc: Global,
+    names: Names<AnyJob>,
     store: Store<FileDisk, AnyJob>,
     desk: JobDesk,
     plan: Plan,
@@ -182,10 +247,5 @@ pub fn serve_file<R: Threads + Wait + Clock + Print + Copy + Drop + Send + Sync 
     requires { Begins any_kind store.state (file_view store.file.disk).failures
         (file_view store.file.disk).clock store.file.broken store.state (file_view store.file.disk) }
 {
-    let began = store.state().number();
-    let clients = Clients { began, plan };
-    match hold(rt, alloc, store, desk, u32::from(plan.workers), clients) {
-        Ok(outcome) => outcome,
-        Err((fault, _store)) => Err(Failure::NotStarted(fault)),
-    }
+    serve::<Brand, JobDesk, FileDisk, R>(rt, alloc, names, store, desk, plan)
 }

@@ -3,7 +3,7 @@
 //!
 //! A line of standard output says what each call was answered: a number or `ok`, `90` if an allocation fails, `61` and the
 //! number of the last mark if the store has failed, and `other`.
-ghost use Rattle.std.specs.Prelude.{◌≡◌, ◌≤◌, [], IfErr, IfSome, vec_capacity};
+ghost use Rattle.std.specs.Prelude.{◌≡◌, IfErr, IfSome};
 ghost use Rattle.pfx_disk.specs.File.{file_view};
 ghost use Rattle.pfx_kinds.specs.AnyKind.{any_kind};
 ghost use Rattle.pfx_front.specs.Starting.{Begins};
@@ -18,19 +18,18 @@ use pfx_crew::desk::Desk;
 use pfx_disk::{Disk, FileDisk};
 use pfx_fault::Cause;
 use pfx_front::calls::Front;
-use pfx_front::closing::Closed;
+use pfx_front::closing::{Closed, Given};
 use pfx_front::faults::{CallFault, StartFault};
-use pfx_front::name::Since;
+use pfx_front::name::{Names, Since};
 use pfx_jobs::quantum::{Done, Quantum};
 use pfx_kinds::any::AnyJob;
 use pfx_machine::{Board, Command, JobStatus, MachineFault, Reply};
 use pfx_recover::OpenFault;
-use pfx_sessions::served::{Served, end};
-use pfx_sessions::sessions::{Session, hold};
 use pfx_store::{InitFault, Store};
 use pfx_weights::TaskSet;
 use std::alloc::Global;
 use std::io::Print;
+use std::marker::Brand;
 use std::sync::Wait;
 use std::thread::Threads;
 use std::time::Clock;
@@ -302,56 +301,67 @@ fn left<B: Since<AnyJob>, D: Disk + Drop, R: Print>(rt: &R, closed: Closed<AnyJo
     let _said = println!(rt; "closed {number} {marked} {cause} {has_looked}");
 }
 
-/// Room for both passes.
-fn room<B: Since<AnyJob>, R: Print>(rt: &R, alloc: Global) -> Option<Vec<Pass<AnyJob, B>>>
-    ensures { IfSome result (λ passes. (passes.items ≡ []) × (2 ≤ vec_capacity passes)) }
+/// The session over a front of a store. The store comes back if the front doesn't start.
+fn serve<
+    B: Since<AnyJob> + Send + Sync + 'static,
+    K: Desk<Quantum<AnyJob>, Done<AnyJob>> + Drop + Send + Sync + 'static,
+    D: Disk + Drop + Send + 'static,
+    R: Threads + Wait + Clock + Print + Copy + Drop + Send + Sync + 'static,
+>(
+    rt: R,
+    alloc: Global,
+    names: Names<AnyJob>,
+    store: Store<D, AnyJob>,
+    desk: K,
+) -> Result<bool, Store<D, AnyJob>>
+where
+    K::Seat: Drop + Send + 'static,
+    requires named { (names.tokens.table.shared.table_id ≡ B.table) × (names.list.seen.book ≡ B.book) × (B.origin ≡ B.start) }
+    requires begins { Begins any_kind B.start B.failures B.clock store.file.broken store.state (D.view store.file.disk) }
+    ensures back { IfErr result (λ s. s ≡ store) }
 {
-    for _try in 0..2 {
-        match Vec::with_capacity(alloc, 2) {
-            Ok(passes) => return Some(passes),
-            Err(_) => say(rt, "passes", "90"),
+    let Ok(mut passes) = Vec::with_capacity(alloc, 2) else {
+        say(&rt, "passes", "90");
+        return Err(store);
+    };
+    let started = Front::<AnyJob, B, K>::start::<D, R>(rt, alloc, names, store, desk, WORKERS, 1);
+    let (front, crew, mut readers) = match started {
+        Ok(served) => served,
+        Err((fault, store)) => {
+            say(&rt, "start", unstarted(fault));
+            return Err(store);
         }
+    };
+    say(&rt, "start", "ok");
+    let (Some(mut first), Some(mut second)) = (front.pass(&rt), front.pass(&rt)) else {
+        return Ok(false);
+    };
+    visit(&rt, alloc, &front, &mut first, &mut second, &mut readers);
+    passes.push_reserved(first);
+    passes.push_reserved(second);
+    match front.close(&rt, crew, Given { passes, readers }) {
+        Ok(closed) => left(&rt, closed),
+        Err(_) => return Ok(false),
     }
-    None
+    Ok(true)
 }
 
-/// All calls of a front, and its end. Whether it came to that.
-#[derive(Drop)]
-struct Calls;
-
-impl<R: Threads + Wait + Clock + Print + Copy + Drop + Send + Sync + 'static> Session<
-    FileDisk,
-    JobDesk,
-    R,
-> for Calls {
-    type Outcome = bool;
-
-    fn serve<B: Since<AnyJob> + Send + Sync + 'static>(
-        self,
-        rt: R,
-        alloc: Global,
-        served: Served<B, FileDisk, JobDesk, R>,
-    ) -> bool {
-        say(&rt, "start", "ok");
-        let (front, crew, mut readers) = served;
-        let Some(mut passes) = room(&rt, alloc) else {
-            return false;
-        };
-        let (Some(mut first), Some(mut second)) = (front.pass(&rt), front.pass(&rt)) else {
-            return false;
-        };
-        visit(&rt, alloc, &front, &mut first, &mut second, &mut readers);
-        passes.push_reserved(first);
-        passes.push_reserved(second);
-        match end(&rt, (front, crew, readers), passes) {
-            Some(closed) => left(&rt, closed),
-            None => return false,
-        }
-        true
-    }
+/// The session over a store in a file, by a name of its own. The store comes back if the front doesn't start.
+fn serve_file<R: Threads + Wait + Clock + Print + Copy + Drop + Send + Sync + 'static>(
+    rt: R,
+    alloc: Global,
+    store: Store<FileDisk, AnyJob>,
+    desk: JobDesk,
+    names: Names<AnyJob>,
+) -> Result<bool, Store<FileDisk, AnyJob>>
+    requires { Begins any_kind store.state (file_view store.file.disk).failures
+        (file_view store.file.disk).clock store.file.broken store.state (file_view store.file.disk) }
+    ensures back { IfErr result (λ s. s ≡ store) }
+{
+    serve::<Brand, JobDesk, FileDisk, R>(rt, alloc, names, store, desk)
 }
 
-/// The session over a store in a file, or the store again if no front starts.
+/// The same with a desk and lists of its own, or the store again.
 fn start<R: Threads + Wait + Clock + Print + Copy + Drop + Send + Sync + 'static>(
     rt: R,
     alloc: Global,
@@ -361,14 +371,10 @@ fn start<R: Threads + Wait + Clock + Print + Copy + Drop + Send + Sync + 'static
         (file_view store.file.disk).clock store.file.broken store.state (file_view store.file.disk) }
     ensures back { IfErr result (λ s. s ≡ store) }
 {
-    let Ok(desk) = ChannelDesk::new(alloc) else {
-        say(&rt, "desk", "90");
-        return Err(store);
-    };
-    match hold::<Calls, FileDisk, JobDesk, R>(rt, alloc, store, desk, WORKERS, Calls) {
-        Ok(is_ended) => Ok(is_ended),
-        Err((fault, store)) => {
-            say(&rt, "start", unstarted(fault));
+    match (ChannelDesk::new(alloc), Names::new(alloc)) {
+        (Ok(desk), Ok(names)) => serve_file(rt, alloc, store, desk, names),
+        _ => {
+            say(&rt, "desk", "90");
             Err(store)
         }
     }

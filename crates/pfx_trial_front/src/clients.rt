@@ -1,6 +1,6 @@
 //! Two clients in threads of their own, and two workers: what was answered is in the store.
 
-use crate::fronts::is_kept;
+use crate::fronts::{Served, end, is_kept};
 use crate::sessions::{Session, in_memory};
 use crate::stores::{is_settled, submit};
 use pfx_book::book::Pass;
@@ -11,7 +11,6 @@ use pfx_front::name::Since;
 use pfx_jobs::quantum::{Done, Quantum};
 use pfx_kinds::any::AnyJob;
 use pfx_machine::Command;
-use pfx_sessions::served::{Served, end};
 use std::alloc::Global;
 use std::sync::Wait;
 use std::thread;

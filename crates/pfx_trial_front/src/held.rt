@@ -1,6 +1,6 @@
 //! A flusher that is held in its first sync. Calls are answered meanwhile, and receipts come once it goes on.
 
-use crate::fronts::end_alone;
+use crate::fronts::{Served, end_alone};
 use crate::sessions::{Session, is_right};
 use crate::stores::{SEGMENT, desk, have_looked, is_number, is_shown, is_told_and_shown, memory};
 use pfx_book::book::Pass;
@@ -11,7 +11,6 @@ use pfx_front::name::Since;
 use pfx_jobs::quantum::{Done, Quantum};
 use pfx_kinds::any::AnyJob;
 use pfx_machine::Command;
-use pfx_sessions::served::Served;
 use std::alloc::Global;
 use std::sync::Wait;
 use std::thread::Threads;

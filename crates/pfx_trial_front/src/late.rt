@@ -1,12 +1,12 @@
-//! A watch over a desk that holds the first result that is handed back until quanta are dealt again or the desk is closed, and
-//! meanwhile hides once that there is a result.
+//! A desk that holds the first result that is handed back until quanta are dealt again or the desk is closed, and meanwhile
+//! answers once that there is no result.
 
-use pfx_jobs::quantum::Done;
+use pfx_crew::desk::Desk;
+use pfx_jobs::quantum::{Done, Quantum};
 use pfx_kinds::any::AnyJob;
-use pfx_kit::watched::Watch;
 use std::alloc::{AllocError, Global};
-use std::sync::Arc;
 use std::sync::atomic::{AtomicBool, AtomicU64, Ordering};
+use std::sync::{Arc, Wait};
 use std::thread;
 
 /// How many turns it holds a result at the most; in each it yields to other threads.
@@ -57,43 +57,82 @@ impl Marks {
     }
 }
 
-/// Such a watch.
+/// Such a desk, over another one.
 #[derive(Drop)]
-pub struct Late {
+pub struct LateDesk<K: Drop> {
+    desk: K,
     marks: Arc<Marks, Global>,
 }
 
-impl Late {
-    /// With what is to happen there.
-    pub fn new(alloc: Global) -> Result<(Late, Arc<Marks, Global>), AllocError> {
+impl<K: Drop> LateDesk<K> {
+    /// Over this desk, with what is to happen there.
+    pub fn new(alloc: Global, desk: K) -> Result<(LateDesk<K>, Arc<Marks, Global>), AllocError> {
         let marks = Arc::new(alloc, Marks::new())?;
         let theirs = Arc::try_clone(&marks)?;
-        Ok((Late { marks: theirs }, marks))
+        Ok((
+            LateDesk {
+                desk,
+                marks: theirs,
+            },
+            marks,
+        ))
     }
 }
 
-impl Watch<Done<AnyJob>> for Late {
-    fn deals(&self) {
+impl<K: Desk<Quantum<AnyJob>, Done<AnyJob>> + Drop> Desk<Quantum<AnyJob>, Done<AnyJob>>
+    for LateDesk<K> {
+    type Seat = K::Seat;
+
+    ghost dealt = { K.dealt };
+
+    ghost took = { K.took };
+
+    ghost handed = { K.handed };
+
+    ghost collected = { K.collected };
+
+    fn seat<R: Wait>(&self, rt: &R) -> Result<K::Seat, AllocError> {
+        self.desk.seat(rt)
+    }
+
+    fn deal<R: Wait>(
+        &self,
+        rt: &R,
+        seat: &mut K::Seat,
+        quantum: Quantum<AnyJob>,
+    ) -> Result<(), Quantum<AnyJob>> {
         if self.marks.missed.load(Ordering::SeqCst) {
             self.marks.released.store(true, Ordering::SeqCst);
         }
+        self.desk.deal(rt, seat, quantum)
     }
 
-    fn hands_back(&self, _done: &Done<AnyJob>) {
+    fn next<R: Wait>(&self, rt: &R, seat: &mut K::Seat) -> Option<Quantum<AnyJob>> {
+        self.desk.next(rt, seat)
+    }
+
+    fn hand_back<R: Wait>(
+        &self,
+        rt: &R,
+        seat: &mut K::Seat,
+        done: Done<AnyJob>,
+    ) -> Result<(), Done<AnyJob>> {
         if !self.marks.held.swap(true, Ordering::SeqCst) {
             self.marks.hold();
         }
+        self.desk.hand_back(rt, seat, done)
     }
 
-    fn hides(&self) -> bool {
-        let is_second = self.marks.collected.fetch_add(1, Ordering::SeqCst) == 1;
-        if is_second {
+    fn collect<R: Wait>(&self, rt: &R, seat: &mut K::Seat) -> Option<Done<AnyJob>> {
+        if self.marks.collected.fetch_add(1, Ordering::SeqCst) == 1 {
             self.marks.missed.store(true, Ordering::SeqCst);
+            return None;
         }
-        is_second
+        self.desk.collect(rt, seat)
     }
 
-    fn closes(&self) {
+    fn close<R: Wait>(&self, rt: &R, seat: &mut K::Seat) {
         self.marks.released.store(true, Ordering::SeqCst);
+        self.desk.close(rt, seat)
     }
 }

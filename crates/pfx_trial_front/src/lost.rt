@@ -1,6 +1,6 @@
 //! A device that fails in the first append: clients are told, and the store has what it had.
 
-use crate::fronts::end_alone;
+use crate::fronts::{Served, end_alone};
 use crate::sessions::{Session, is_right};
 use crate::stores::{SEGMENT, desk, have_looked, is_number, is_refused, memory, settle_last};
 use pfx_book::book::Pass;
@@ -14,7 +14,6 @@ use pfx_front::name::Since;
 use pfx_jobs::quantum::{Done, Quantum};
 use pfx_kinds::any::AnyJob;
 use pfx_machine::Command;
-use pfx_sessions::served::Served;
 use std::alloc::Global;
 use std::sync::Wait;
 use std::thread::Threads;

@@ -1,7 +1,7 @@
 //! Two workers, one of whom is late: the front makes what is missing by itself, and drops the result that comes after it.
 
-use crate::fronts::{end_alone, is_kept};
-use crate::late::Late;
+use crate::fronts::{Served, end_alone, is_kept};
+use crate::late::LateDesk;
 use crate::sessions::{Session, is_right};
 use crate::stores::{SEGMENT, desk, is_first_slot, is_number, is_settled, memory, submit};
 use pfx_book::book::Pass;
@@ -11,9 +11,7 @@ use pfx_front::calls::Front;
 use pfx_front::name::Since;
 use pfx_jobs::quantum::{Done, Quantum};
 use pfx_kinds::any::AnyJob;
-use pfx_kit::watched::WatchedDesk;
 use pfx_machine::Command;
-use pfx_sessions::served::Served;
 use std::alloc::Global;
 use std::sync::Wait;
 use std::thread::Threads;
@@ -63,8 +61,7 @@ fn is_made_again<R: Threads + Wait + Clock + Copy + Drop + Send + Sync + 'static
     rt: R,
     alloc: Global,
 ) -> Option<bool> {
-    let (late, marks) = Late::new(alloc).ok()?;
-    let desk = WatchedDesk::new(desk(alloc)?, late);
+    let (desk, marks) = LateDesk::new(alloc, desk(alloc)?).ok()?;
     let served = is_right(rt, alloc, memory(alloc)?, SEGMENT, desk, Session::Missed)?;
     Some(served && marks.is_made_again() && marks.collected() > 2)
 }

@@ -1,6 +1,6 @@
 //! All passes that there are.
 
-use crate::fronts::is_kept;
+use crate::fronts::{Served, admit, end, is_kept};
 use crate::sessions::{Session, in_memory};
 use crate::stores::is_settled;
 use pfx_crew::desk::Desk;
@@ -9,7 +9,6 @@ use pfx_front::name::Since;
 use pfx_jobs::quantum::{Done, Quantum};
 use pfx_kinds::any::AnyJob;
 use pfx_machine::Command;
-use pfx_sessions::served::{Served, admit, end};
 use std::alloc::Global;
 use std::sync::Wait;
 use std::thread::Threads;

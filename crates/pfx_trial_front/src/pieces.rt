@@ -1,6 +1,6 @@
 //! A checkpoint whose first piece is held, or fails: calls are answered meanwhile, and what was marked before stays so.
 
-use crate::fronts::{end_alone, is_kept};
+use crate::fronts::{Served, end_alone, is_kept};
 use crate::sessions::{Session, is_right};
 use crate::stores::{desk, is_number, is_settled, memory};
 use pfx_book::book::Pass;
@@ -13,7 +13,6 @@ use pfx_front::name::Since;
 use pfx_jobs::quantum::{Done, Quantum};
 use pfx_kinds::any::AnyJob;
 use pfx_machine::Command;
-use pfx_sessions::served::Served;
 use std::alloc::Global;
 use std::sync::Wait;
 use std::thread::Threads;
@@ -29,7 +28,7 @@ const TURNING: u64 = 192;
 const FIRST_PIECE: u64 = 9 + 4 * TURNING + 6;
 
 /// Whether slots are answered up to the one with which the file turns, each with its receipt.
-fn turns<B: Since<AnyJob>, K: Desk<Quantum<AnyJob>, Done<AnyJob>> + Drop, R: Wait>(
+fn is_turned<B: Since<AnyJob>, K: Desk<Quantum<AnyJob>, Done<AnyJob>> + Drop, R: Wait>(
     rt: &R,
     front: &Front<AnyJob, B, K>,
     pass: &mut Pass<AnyJob, B>,
@@ -66,27 +65,37 @@ fn is_failed<B: Since<AnyJob>, D: Disk + Drop>(closed: &Closed<AnyJob, B, D>) ->
     failed && closed.book.marked() == TURNING && closed.store.state().number() == TURNING
 }
 
-/// Whether all slots up to the turn are answered, and behind it one more while the first piece of a checkpoint is held, or the
-/// device fails at that piece if there is no gate.
-pub fn is_turned<
+/// Whether a slot more is answered while the first piece of a checkpoint is held, and all of them are kept.
+pub fn is_held<
     B: Since<AnyJob>,
     K: Desk<Quantum<AnyJob>, Done<AnyJob>> + Drop,
     D: Disk + Drop,
     R: Threads + Wait + Drop,
->(rt: &R, alloc: Global, served: Served<B, D, K, R>, gate: Option<Gate>) -> Option<bool>
+>(rt: &R, alloc: Global, served: Served<B, D, K, R>, gate: Gate) -> Option<bool>
 where
     K::Seat: Drop,
 {
     let mut pass = served.0.pass(rt)?;
-    if !turns(rt, &served.0, &mut pass) {
-        return None;
-    }
-    let Some(gate) = gate else {
-        return Some(is_failed(&end_alone(rt, alloc, served, pass)?));
-    };
+    let turned = is_turned(rt, &served.0, &mut pass);
     let answered = is_answered(rt, &served.0, &mut pass, gate);
     let closed = end_alone(rt, alloc, served, pass)?;
-    Some(answered && is_kept(&closed, TURNING + 1))
+    Some(turned && answered && is_kept(&closed, TURNING + 1))
+}
+
+/// Whether the device fails at the first piece of a checkpoint, behind all slots up to the turn.
+pub fn is_left<
+    B: Since<AnyJob>,
+    K: Desk<Quantum<AnyJob>, Done<AnyJob>> + Drop,
+    D: Disk + Drop,
+    R: Threads + Wait + Drop,
+>(rt: &R, alloc: Global, served: Served<B, D, K, R>) -> Option<bool>
+where
+    K::Seat: Drop,
+{
+    let mut pass = served.0.pass(rt)?;
+    let turned = is_turned(rt, &served.0, &mut pass);
+    let closed = end_alone(rt, alloc, served, pass)?;
+    Some(turned && is_failed(&closed))
 }
 
 /// Whether a slot is answered while a checkpoint's piece is held.
@@ -95,7 +104,7 @@ fn holds_a_piece<R: Threads + Wait + Clock + Copy + Drop + Send + Sync + 'static
     alloc: Global,
 ) -> Option<bool> {
     let (disk, gate) = GateDisk::new(rt, alloc, memory(alloc)?, FIRST_PIECE).ok()?;
-    let session = Session::Piece { gate: Some(gate) };
+    let session = Session::HeldPiece { gate };
     is_right(rt, alloc, disk, SEGMENT, desk(alloc)?, session)
 }
 
@@ -105,8 +114,7 @@ fn fails_at_a_piece<R: Threads + Wait + Clock + Copy + Drop + Send + Sync + 'sta
     alloc: Global,
 ) -> Option<bool> {
     let disk = FaultDisk::new(memory(alloc)?, FIRST_PIECE);
-    let session = Session::Piece { gate: None };
-    is_right(rt, alloc, disk, SEGMENT, desk(alloc)?, session)
+    is_right(rt, alloc, disk, SEGMENT, desk(alloc)?, Session::LostPiece)
 }
 
 #[test]

@@ -1,5 +1,6 @@
 //! One client of a front, with no worker, one and two.
 
+use crate::fronts::Served;
 use crate::sessions::{Session, in_memory};
 use crate::stores::{have_looked, is_first_slot, is_number, is_refused, is_told_and_shown, submit};
 use pfx_board::reader::Reader;
@@ -15,7 +16,6 @@ use pfx_front::start::Crew;
 use pfx_jobs::quantum::{Done, Quantum};
 use pfx_kinds::any::AnyJob;
 use pfx_machine::{Command, MachineFault};
-use pfx_sessions::served::Served;
 use pfx_store::Store;
 use std::alloc::Global;
 use std::sync::Wait;

@@ -1,16 +1,19 @@
 //! What the clients of a front do in each test, and the front of a new store at which they do it.
+ghost use Rattle.std.specs.Prelude.{◌≡◌};
+ghost use Rattle.pfx_kinds.specs.AnyKind.{any_kind};
+ghost use Rattle.pfx_front.specs.Starting.{Begins};
 
+use crate::fronts::begin;
 use crate::stores::{SEGMENT, desk, memory, thirds_by};
 use crate::{clients, held, lost, many, missed, passes, pieces, served, sole};
 use pfx_crew::desk::Desk;
 use pfx_disk::{Disk, Gate};
-use pfx_front::name::Since;
+use pfx_front::name::{Names, Since};
 use pfx_jobs::quantum::{Done, Quantum};
 use pfx_kinds::any::AnyJob;
-use pfx_sessions::served::Served;
-use pfx_sessions::sessions;
-use pfx_sessions::sessions::hold;
+use pfx_store::Store;
 use std::alloc::Global;
+use std::marker::Brand;
 use std::sync::Wait;
 use std::thread::Threads;
 use std::time::Clock;
@@ -34,8 +37,10 @@ pub enum Session {
     Held { gate: Gate },
     /// `lost`.
     Lost,
-    /// `pieces`, with the gate of the disk, or where it fails.
-    Piece { gate: Option<Gate> },
+    /// `pieces`, with the gate of the disk.
+    HeldPiece { gate: Gate },
+    /// `pieces`, where the disk fails.
+    LostPiece,
 }
 
 /// How many workers there are.
@@ -48,35 +53,60 @@ fn workers_of(session: &Session) -> u32 {
     }
 }
 
-impl<
-    D: Disk + Drop + Send + 'static,
+/// Whether all is as it should be in a session at a front of this store.
+fn serve<
+    B: Since<AnyJob> + Send + Sync + 'static,
     K: Desk<Quantum<AnyJob>, Done<AnyJob>> + Drop + Send + Sync + 'static,
+    D: Disk + Drop + Send + 'static,
     R: Threads + Wait + Clock + Copy + Drop + Send + Sync + 'static,
-> sessions::Session<D, K, R> for Session {
-    /// Whether all is as it should be.
-    type Outcome = Option<bool>;
-
-    fn serve<B: Since<AnyJob> + Send + Sync + 'static>(
-        self,
-        rt: R,
-        alloc: Global,
-        served: Served<B, D, K, R>,
-    ) -> Option<bool>
-    where
-        K::Seat: Drop + Send + 'static,
-    {
-        match self {
-            Session::Served { .. } => served::is_served(&rt, alloc, served),
-            Session::Passes => passes::are_few(&rt, alloc, served),
-            Session::Sole => sole::is_served(&rt, alloc, served),
-            Session::Many => many::are_served(&rt, alloc, served),
-            Session::Missed => missed::are_answered(&rt, alloc, served),
-            Session::Clients => clients::are_served(&rt, alloc, served),
-            Session::Held { gate } => held::is_answered(&rt, alloc, served, gate),
-            Session::Lost => lost::is_lost(&rt, alloc, served),
-            Session::Piece { gate } => pieces::is_turned(&rt, alloc, served, gate),
-        }
+>(
+    rt: R,
+    alloc: Global,
+    names: Names<AnyJob>,
+    store: Store<D, AnyJob>,
+    desk: K,
+    session: Session,
+) -> Option<bool>
+where
+    K::Seat: Drop + Send + 'static,
+    requires named { (names.tokens.table.shared.table_id ≡ B.table) × (names.list.seen.book ≡ B.book) × (B.origin ≡ B.start) }
+    requires begins { Begins any_kind B.start B.failures B.clock store.file.broken store.state (D.view store.file.disk) }
+{
+    let workers = workers_of(&session);
+    let served = begin::<B, K, D, R>(rt, alloc, names, store, desk, workers)?;
+    match session {
+        Session::Served { .. } => served::is_served(&rt, alloc, served),
+        Session::Passes => passes::are_few(&rt, alloc, served),
+        Session::Sole => sole::is_served(&rt, alloc, served),
+        Session::Many => many::are_served(&rt, alloc, served),
+        Session::Missed => missed::are_answered(&rt, alloc, served),
+        Session::Clients => clients::are_served(&rt, alloc, served),
+        Session::Held { gate } => held::is_answered(&rt, alloc, served, gate),
+        Session::Lost => lost::is_lost(&rt, alloc, served),
+        Session::HeldPiece { gate } => pieces::is_held(&rt, alloc, served, gate),
+        Session::LostPiece => pieces::is_left(&rt, alloc, served),
     }
+}
+
+/// The same by a name of its own.
+fn serve_named<
+    K: Desk<Quantum<AnyJob>, Done<AnyJob>> + Drop + Send + Sync + 'static,
+    D: Disk + Drop + Send + 'static,
+    R: Threads + Wait + Clock + Copy + Drop + Send + Sync + 'static,
+>(
+    rt: R,
+    alloc: Global,
+    names: Names<AnyJob>,
+    store: Store<D, AnyJob>,
+    desk: K,
+    session: Session,
+) -> Option<bool>
+where
+    K::Seat: Drop + Send + 'static,
+    requires { Begins any_kind store.state (D.view store.file.disk).failures
+        (D.view store.file.disk).clock store.file.broken store.state (D.view store.file.disk) }
+{
+    serve::<Brand, K, D, R>(rt, alloc, names, store, desk, session)
 }
 
 /// Whether all is as it should be in a session at a front of a new store on this disk, with segments of this length in bytes.
@@ -89,11 +119,7 @@ where
     K::Seat: Drop + Send + 'static,
 {
     let store = thirds_by(alloc, disk, segment)?;
-    let workers = workers_of(&session);
-    match hold(rt, alloc, store, desk, workers, session) {
-        Ok(is_right) => is_right,
-        Err(_) => None,
-    }
+    serve_named(rt, alloc, Names::new(alloc).ok()?, store, desk, session)
 }
 
 /// The same of a store in memory, with segments that hold what the tests do.

@@ -1,6 +1,6 @@
 //! A client that is the only one: the board and a copy of the state after its commands.
 
-use crate::fronts::is_kept;
+use crate::fronts::{Served, end, is_kept};
 use crate::sessions::{Session, in_memory};
 use crate::stores::submit;
 use pfx_book::book::Pass;
@@ -12,7 +12,6 @@ use pfx_jobs::job::Job;
 use pfx_jobs::quantum::{Done, Quantum};
 use pfx_kinds::any::AnyJob;
 use pfx_machine::{Command, JobStatus, State};
-use pfx_sessions::served::{Served, end};
 use std::alloc::Global;
 use std::sync::Wait;
 use std::thread::Threads;

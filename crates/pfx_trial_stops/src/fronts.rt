@@ -1,30 +1,38 @@
 //! The run of the trials through a front, asked by two clients in turn: each waits for each receipt, or all is asked first.
-ghost use Rattle.std.specs.Prelude.{IfSome};
+ghost use Rattle.std.specs.Prelude.{◌≡◌, IfSome};
 ghost use Rattle.pfx_kinds.specs.AnyKind.{any_kind};
 ghost use Rattle.pfx_front.specs.Starting.{Begins};
 
 use crate::folds::{COMMANDS, MADE, SEGMENT, command, thirds};
+use pfx_board::reader::Reader;
 use pfx_book::book::Pass;
 use pfx_crew::channel::ChannelDesk;
 use pfx_crew::desk::Desk;
 use pfx_disk::{Disk, FaultDisk, Gate, GateDisk, MemoryDisk};
 use pfx_fault::Cause;
 use pfx_front::calls::Front;
-use pfx_front::closing::Closed;
+use pfx_front::closing::{Closed, Given};
 use pfx_front::faults::CallFault;
-use pfx_front::name::Since;
+use pfx_front::name::{Names, Since};
+use pfx_front::start::Crew;
 use pfx_jobs::quantum::{Done, Quantum};
 use pfx_kinds::any::AnyJob;
-use pfx_sessions::served::{Served, end};
-use pfx_sessions::sessions::{Session, hold};
 use pfx_store::Store;
 use std::alloc::Global;
+use std::marker::Brand;
 use std::sync::Wait;
 use std::thread::Threads;
 use std::time::Clock;
 
 /// The desk of the front, which has no workers.
 pub type JobDesk = ChannelDesk<Quantum<AnyJob>, Done<AnyJob>>;
+
+/// A front, its threads, which are to be joined, and its reader.
+type Served<B, D, K, R> = (
+    Front<AnyJob, B, K>,
+    Crew<AnyJob, B, D, K, R>,
+    Vec<Reader<AnyJob, B>>,
+);
 
 /// What a client came to.
 #[derive(Drop)]
@@ -165,7 +173,7 @@ fn merged(first: Vec<(u64, u64)>, second: Vec<(u64, u64)>) -> Option<Vec<(u64, u
 }
 
 /// Ends the front of two clients.
-fn finish<
+fn end<
     B: Since<AnyJob>,
     K: Desk<Quantum<AnyJob>, Done<AnyJob>> + Drop,
     D: Disk + Drop,
@@ -180,18 +188,20 @@ fn finish<
 where
     K::Seat: Drop,
 {
+    let (front, crew, readers) = served;
     let faults = [one.fault, two.fault];
     let stay = one.stays && two.stays;
     let mut passes = Vec::new(alloc);
     passes.push(two.pass).ok()?;
     passes.push(one.pass).ok()?;
     let receipts = merged(one.receipts, two.receipts)?;
+    let closed = front.close(rt, crew, Given { passes, readers }).ok()?;
     let Closed {
         store,
         book,
         looked,
         ..
-    } = end(rt, served, passes)?;
+    } = closed;
     let outcome = Outcome {
         numbers: (store.state().number(), book.marked()),
         failure: book.failure(),
@@ -203,29 +213,31 @@ where
     Some((outcome, store.into_disk()))
 }
 
-/// The run, on a disk that is held by the gate if there is one.
-#[derive(Drop)]
-struct Run {
-    gate: Option<Gate>,
-}
-
-impl<
+/// The run on a front over a store, on a disk that is held by the gate if there is one.
+fn serve<
+    B: Since<AnyJob> + Send + Sync + 'static,
+    K: Desk<Quantum<AnyJob>, Done<AnyJob>> + Drop + Send + Sync + 'static,
     D: Disk + Drop + Send + 'static,
     R: Threads + Wait + Clock + Copy + Drop + Send + Sync + 'static,
-> Session<D, JobDesk, R> for Run {
-    type Outcome = Option<(Outcome, D)>;
-
-    fn serve<B: Since<AnyJob> + Send + Sync + 'static>(
-        self,
-        rt: R,
-        alloc: Global,
-        served: Served<B, D, JobDesk, R>,
-    ) -> Option<(Outcome, D)> {
-        let mut one = visitor(alloc, served.0.pass(&rt)?);
-        let mut two = visitor(alloc, served.0.pass(&rt)?);
-        ask_all(&rt, &served.0, &mut one, &mut two, self.gate);
-        finish(&rt, alloc, served, one, two)
-    }
+>(
+    rt: R,
+    alloc: Global,
+    names: Names<AnyJob>,
+    store: Store<D, AnyJob>,
+    desk: K,
+    gate: Option<Gate>,
+) -> Option<(Outcome, D)>
+where
+    K::Seat: Drop + Send + 'static,
+    requires named { (names.tokens.table.shared.table_id ≡ B.table) × (names.list.seen.book ≡ B.book) × (B.origin ≡ B.start) }
+    requires begins { Begins any_kind B.start B.failures B.clock store.file.broken store.state (D.view store.file.disk) }
+{
+    let started = Front::<AnyJob, B, K>::start::<D, R>(rt, alloc, names, store, desk, 0, 1);
+    let served = started.ok()?;
+    let mut one = visitor(alloc, served.0.pass(&rt)?);
+    let mut two = visitor(alloc, served.0.pass(&rt)?);
+    ask_all(&rt, &served.0, &mut one, &mut two, gate);
+    end(&rt, alloc, served, one, two)
 }
 
 /// A new store on a disk, with segments of the least length.
@@ -239,17 +251,32 @@ pub fn store_on<D: Disk + Drop>(alloc: Global, disk: D) -> Option<Store<D, AnyJo
     }
 }
 
+/// The same by a name of its own.
+fn serve_named<
+    D: Disk + Drop + Send + 'static,
+    R: Threads + Wait + Clock + Copy + Drop + Send + Sync + 'static,
+>(
+    rt: R,
+    alloc: Global,
+    names: Names<AnyJob>,
+    store: Store<D, AnyJob>,
+    desk: JobDesk,
+    gate: Option<Gate>,
+) -> Option<(Outcome, D)>
+    requires { Begins any_kind store.state (D.view store.file.disk).failures
+        (D.view store.file.disk).clock store.file.broken store.state (D.view store.file.disk) }
+{
+    serve::<Brand, JobDesk, D, R>(rt, alloc, names, store, desk, gate)
+}
+
 /// The run over an empty disk, held by the gate if there is one.
 fn run_on<
     D: Disk + Drop + Send + 'static,
     R: Threads + Wait + Clock + Copy + Drop + Send + Sync + 'static,
 >(rt: R, alloc: Global, disk: D, gate: Option<Gate>) -> Option<(Outcome, D)> {
     let store = store_on(alloc, disk)?;
-    let desk: JobDesk = ChannelDesk::new(alloc).ok()?;
-    match hold(rt, alloc, store, desk, 0, Run { gate }) {
-        Ok(outcome) => outcome,
-        Err(_) => None,
-    }
+    let desk = ChannelDesk::new(alloc).ok()?;
+    serve_named(rt, alloc, Names::new(alloc).ok()?, store, desk, gate)
 }
 
 /// The run over a disk in memory, each of whose frames has one command, since each client waits for each receipt.

@@ -1,0 +1,17 @@
+use Rattle.pfx_disk.specs.File.{file_view}
+use Rattle.pfx_front_bench.proofs.serve.serve_file.Given as goal
+
+abbrev pub ghosts-serve-B-Room : goal.ghosts-serve-B-Room
+ghosts-serve-B-Room g a = record { table = a.names.tokens.table.shared.table_id }
+
+abbrev pub ghosts-serve-B-Naming : goal.ghosts-serve-B-Naming
+ghosts-serve-B-Naming g a = record { book = a.names.list.seen.book }
+
+abbrev pub ghosts-serve-B-Begun : goal.ghosts-serve-B-Begun
+ghosts-serve-B-Begun g a = record { origin = a.store.state }
+
+abbrev pub ghosts-serve-B-Named : goal.ghosts-serve-B-Named
+ghosts-serve-B-Named g a = record { start = a.store.state }
+
+abbrev pub ghosts-serve-B-Since : goal.ghosts-serve-B-Since
+ghosts-serve-B-Since g a = record { failures = (file_view a.store.file.disk).failures; clock = (file_view a.store.file.disk).clock }

@@ -1,0 +1,16 @@
+use Rattle.pfx_trial_stops.proofs.fronts.serve_named.Given as goal
+
+abbrev pub ghosts-serve-B-Room : goal.ghosts-serve-B-Room
+ghosts-serve-B-Room g a = record { table = a.names.tokens.table.shared.table_id }
+
+abbrev pub ghosts-serve-B-Naming : goal.ghosts-serve-B-Naming
+ghosts-serve-B-Naming g a = record { book = a.names.list.seen.book }
+
+abbrev pub ghosts-serve-B-Begun : goal.ghosts-serve-B-Begun
+ghosts-serve-B-Begun g a = record { origin = a.store.state }
+
+abbrev pub ghosts-serve-B-Named : goal.ghosts-serve-B-Named
+ghosts-serve-B-Named g a = record { start = a.store.state }
+
+abbrev pub ghosts-serve-B-Since : goal.ghosts-serve-B-Since
+ghosts-serve-B-Since g a = record { failures = (g.D.Disk.view a.store.file.disk).failures; clock = (g.D.Disk.view a.store.file.disk).clock }
