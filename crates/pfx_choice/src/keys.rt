@@ -6,9 +6,12 @@ ghost use Rattle.pfx_choice.specs.Places.{ArePlacesIn};
 ghost use Rattle.pfx_choice.specs.Refined.{AreKeysAt};
 
 use pfx_columns::Columns;
-use pfx_symbols::{Key, LastKey, rank_key};
+use pfx_symbols::{KeptKey, Key, rank_key};
 use pfx_weights::first_from;
 use std::alloc::{AllocError, Global};
+
+/// How many keys are kept at the most.
+const KEPT: usize = 1024;
 
 /// The keys of the tasks at one place, and the room that they take.
 #[derive(Drop)]
@@ -17,8 +20,8 @@ pub struct Keys {
     pub of_tasks: Vec<Key>,
     /// The keys of the tasks at the place, as numbers, in any order.
     order: Vec<u64>,
-    /// The last key that was found for each task; any serve.
-    last: Vec<LastKey>,
+    /// Keys that were found; any serve.
+    kept: Vec<KeptKey>,
 }
 
 impl Keys {
@@ -27,7 +30,7 @@ impl Keys {
         Keys {
             of_tasks: Vec::new(alloc),
             order: Vec::new(alloc),
-            last: Vec::new(alloc),
+            kept: Vec::new(alloc),
         }
     }
 
@@ -43,8 +46,8 @@ impl Keys {
         ensures { OnOk result (AreKeysAt ledger.now d rounds self.new.of_tasks.items) }
     {
         let total = ledger.total();
-        if self.last.len() != total {
-            self.last.resize(total, LastKey::none())?;
+        if self.kept.len() != KEPT {
+            self.kept.resize(KEPT, KeptKey::none())?;
         }
         if self.of_tasks.len() != total {
             self.of_tasks.resize(total, no_key())?;
@@ -52,7 +55,7 @@ impl Keys {
         put_keys(
             &mut self.of_tasks,
             &mut self.order,
-            &mut self.last,
+            &mut self.kept,
             ledger,
             places,
             d,
@@ -122,7 +125,7 @@ fn end_of(keys: &[Key], places: &[u8], d: u8, number: u64, k: usize) -> usize {
 fn put_keys(
     of_tasks: &mut [Key],
     order: &mut Vec<u64>,
-    last: &mut [LastKey],
+    kept: &mut [KeptKey],
     ledger: &Columns,
     places: &[u8],
     d: u8,
@@ -130,14 +133,13 @@ fn put_keys(
 ) -> Result<(), AllocError>
     requires places { ArePlacesIn ledger.now places.now }
     requires of_tasks { length of_tasks.old ≡ total ledger.now }
-    requires last { length last.old ≡ total ledger.now }
     ensures { OnOk result (AreKeysAt ledger.now d rounds of_tasks.new) }
 {
     let _total = ledger.total();
     order.clear();
     let mut x = first_from(places, d, 0);
     'tasks: while x < places.len() {
-        let key = rank_key(&ledger.rank(x), u32::from(d), rounds, &mut last[x]);
+        let key = rank_key(&ledger.rank(x), u32::from(d), rounds, kept);
         of_tasks[x] = key;
         order.push(
             key.number

@@ -18,41 +18,52 @@ const FAR: u8 = 254;
 /// What stands for no lead.
 const UNKNOWN: u8 = 255;
 
-/// Takes the lead of each task, or 254 if it is more, guessed by what stands there.
-pub fn take_leads(leads: &mut Vec<u8>, ledger: &Columns) -> Result<(), AllocError>
+/// Takes the lead of each task, or 254 if it is more, guessed by what stands there. `guesses` is room for what is guessed: where it is
+/// searched nothing is written, so that a search needn't wait for a division.
+pub fn take_leads(
+    leads: &mut Vec<u8>,
+    guesses: &mut Vec<u8>,
+    ledger: &Columns,
+) -> Result<(), AllocError>
     ensures { OnOk result (AreLeadsIn ledger.now leads.new.items) }
 {
     let total = ledger.total();
     if leads.len() != total {
         leads.resize(total, 0)?;
     }
-    guess_leads(leads, ledger);
-    divide_leads(leads, ledger);
+    if guesses.len() != total {
+        guesses.resize(total, 0)?;
+    }
+    guess_leads(guesses, leads, ledger);
+    leads.copy_from_slice(guesses);
+    divide_leads(leads, guesses, ledger);
     Ok(())
 }
 
 /// Guesses each lead by the last one; 255 stands if the guess is wrong.
-fn guess_leads(leads: &mut [u8], ledger: &Columns)
-    requires { length leads.old ≡ total ledger.now }
-    ensures { AreNear ledger.now leads.new }
+fn guess_leads(guesses: &mut [u8], last: &[u8], ledger: &Columns)
+    requires guesses { length guesses.old ≡ total ledger.now }
+    requires last { length last.now ≡ total ledger.now }
+    ensures { AreNear ledger.now guesses.new }
 {
     let _total = ledger.total();
     let (lags, es, ps) = (ledger.lags(), ledger.es(), ledger.ps());
-    for x in 0..leads.len() {
-        leads[x] = guessed(ledger, x, lags[x], es[x], ps[x], leads[x]);
+    for x in 0..guesses.len() {
+        guesses[x] = guessed(ledger, x, lags[x], es[x], ps[x], last[x]);
     }
 }
 
-/// Divides out the leads that aren't known.
-fn divide_leads(leads: &mut [u8], ledger: &Columns)
-    requires { AreNear ledger.now leads.old }
+/// Divides out the leads that weren't guessed.
+fn divide_leads(leads: &mut [u8], guesses: &[u8], ledger: &Columns)
+    requires guesses { AreNear ledger.now guesses.now }
+    requires leads { leads.old ≡ guesses.now }
     ensures { AreLeadsIn ledger.now leads.new }
 {
     let _total = ledger.total();
-    let mut x = first_from(leads, UNKNOWN, 0);
-    'unknown: while x < leads.len() {
+    let mut x = first_from(guesses, UNKNOWN, 0);
+    'unknown: while x < guesses.len() {
         leads[x] = divided(ledger, x);
-        x = first_from(leads, UNKNOWN, x + 1);
+        x = first_from(guesses, UNKNOWN, x + 1);
     }
 }
 

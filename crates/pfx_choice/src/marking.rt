@@ -134,11 +134,10 @@ fn gather_at(
 {
     let _total = ledger.total();
     found.clear();
-    for (x, place) in places.iter().enumerate() {
-        if *place != d {
-            continue;
-        }
+    let mut x = first_from(places, d, 0);
+    'gathered: while x < places.len() {
         found.push(ledger.rank(x))?;
+        x = first_from(places, d, x + 1);
     }
     Ok(())
 }

@@ -6,18 +6,19 @@ ghost use Rattle.pfx_symbols.specs.Ranges.{HasGaps};
 ghost use Rattle.pfx_symbols.specs.RankKeys.{by_gap, rank_key};
 
 use crate::gaps::steps;
+use crate::kept_key::KeptKey;
 use crate::keys::{KEYS, Key, key_of_gaps};
-use crate::last_key::LastKey;
 use crate::ranks::{Rank, next_phase};
 
 /// The key of a rank's substring, of which the greater one has the lesser key.
 ///
-/// The key is found from the last one if the task has rested since. `guess` is the number of slots before the one at whose end
-/// the task's next subtask ends, if that is known: keys of one guess and as many rounds of Euclid's algorithm stand in the order
-/// of the substrings. Those whose next subtasks end where it was guessed are told best. The more rounds, the longer a key takes to
-/// find, and the seldomer two are equal.
+/// `guess` is the number of slots before the one at whose end the task's next subtask ends, if that is known: keys of one guess and
+/// as many rounds of Euclid's algorithm stand in the order of the substrings. Those whose next subtasks end where it was guessed are
+/// told best. The more rounds, the longer a key takes to find, and the seldomer two are equal. So keys that were found are kept, each
+/// at one of up to 1,024 places, and serve a task as long as it rests, and other tasks of its weight. Whatever is kept, the key is the
+/// same.
 #[inline(always)]
-pub fn rank_key(rank: &Rank, guess: u32, rounds: u32, last: &mut LastKey) -> Key
+pub fn rank_key(rank: &Rank, guess: u32, rounds: u32, kept: &mut [KeptKey]) -> Key
     ensures { result ≡ rank_key guess rounds rank.now }
 {
     let (e, p) = rank.weight();
@@ -30,7 +31,7 @@ pub fn rank_key(rank: &Rank, guess: u32, rounds: u32, last: &mut LastKey) -> Key
             whole: true,
         }
     } else {
-        key_at(last, e, p, v, rounds)
+        key_at(kept, e, p, v, rounds)
     };
     by_gap(guess, gap, behind)
 }
@@ -75,20 +76,34 @@ fn first_gap(e: u32, p: u32, r: u32, guess: u32) -> u32
     }
 }
 
+/// At which of 1,024 places the key of the string of e/p from phase v on is kept.
+#[inline(always)]
+fn place_of(e: u32, p: u32, v: u32) -> usize {
+    let mixed = (v ^ p.wrapping_mul(0x85EB_CA6B) ^ e).wrapping_mul(0x9E37_79B1);
+    (mixed >> 22) as usize
+}
+
 /// The key of the string of e/p from phase v on, which is kept in place of another one.
-fn key_at(last: &mut LastKey, e: u32, p: u32, v: u32, rounds: u32) -> Key
+fn key_at(kept: &mut [KeptKey], e: u32, p: u32, v: u32, rounds: u32) -> Key
     requires { HasGaps e p v }
     ensures key { result ≡ key_behind rounds e p v }
     ensures most { result.number ≤ 2 ^ 62 }
 {
-    if last.v != v || last.e != e || last.p != p || last.rounds != rounds {
-        *last = LastKey {
-            e,
-            p,
-            v,
-            rounds,
-            key: key_of_gaps(e, p, v, rounds),
-        };
+    let at = place_of(e, p, v);
+    if at >= kept.len() {
+        return key_of_gaps(e, p, v, rounds);
     }
-    last.key
+    let last = kept[at];
+    if last.v == v && last.e == e && last.p == p && last.rounds == rounds {
+        return last.key;
+    }
+    let key = key_of_gaps(e, p, v, rounds);
+    kept[at] = KeptKey {
+        e,
+        p,
+        v,
+        rounds,
+        key,
+    };
+    key
 }

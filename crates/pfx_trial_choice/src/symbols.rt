@@ -3,9 +3,10 @@
 ghost use Rattle.std.specs.Prelude.{◌<◌, ◌≤◌, ◌^◌};
 
 use pfx_symbols::{
-    Class, Key, LastKey, Rank, Symbol, class, compare, compare_by_symbols, compare_in_rounds,
+    Class, KeptKey, Key, Rank, Symbol, class, compare, compare_by_symbols, compare_in_rounds,
     rank_key, symbol,
 };
+use std::alloc::Global;
 use std::cmp::Ordering;
 
 /// The symbol of a sign.
@@ -149,7 +150,7 @@ fn counts_the_rounds_of_worked_pairs(rt: HostRuntime) {
 }
 
 /// Both comparisons of two tasks at a slot.
-fn agree(slot: u64, a: (u32, u32), b: (u32, u32)) -> bool
+fn agree(slot: u64, a: (u32, u32), b: (u32, u32), kept: &mut [KeptKey]) -> bool
     requires slot { slot < 2 ^ 40 }
     requires a_weight { (1 ≤ a.0) × (a.0 < a.1) × (a.1 ≤ 2 ^ 20) }
     requires b_weight { (1 ≤ b.0) × (b.0 < b.1) × (b.1 ≤ 2 ^ 20) }
@@ -157,22 +158,27 @@ fn agree(slot: u64, a: (u32, u32), b: (u32, u32)) -> bool
     let a = Rank::at_slot(slot, a.0, a.1, 3);
     let b = Rank::at_slot(slot, b.0, b.1, 4);
     let order = compare_by_symbols(&a, &b);
-    compare(&a, &b) == order && agree_by_keys(a, b, order)
+    compare(&a, &b) == order && agree_by_keys(a, b, order, kept)
 }
 
-/// The keys of two ranks, by one guess and as many rounds, found with nothing kept and with what was kept of the other one.
-fn keys_of(a: &Rank, b: &Rank, guess: u32, rounds: u32) -> [(Key, Key); 2] {
-    let mut last = LastKey::none();
-    let x = rank_key(a, guess, rounds, &mut last);
-    let y = rank_key(b, guess, rounds, &mut last);
-    let z = rank_key(a, guess, rounds, &mut last);
-    [(x, y), (z, y)]
+/// Room for keys, with none kept yet; no room at all if memory is lacking.
+fn room_for_keys(alloc: Global) -> Vec<KeptKey> {
+    Vec::from_elem(alloc, KeptKey::none(), 1024).unwrap_or(Vec::new(alloc))
+}
+
+/// The keys of two ranks, by one guess and as many rounds, found with what was kept, and the first one with nothing kept.
+fn keys_of(a: &Rank, b: &Rank, guess: u32, rounds: u32, kept: &mut [KeptKey]) -> [(Key, Key); 2] {
+    let x = rank_key(a, guess, rounds, kept);
+    let y = rank_key(b, guess, rounds, kept);
+    let z = rank_key(a, guess, rounds, &mut []);
+    let w = rank_key(b, guess, rounds, kept);
+    [(x, y), (z, w)]
 }
 
 /// Whether the keys of two ranks, by two guesses and by few rounds, many and none, say no more than their order.
-fn agree_by_keys(a: Rank, b: Rank, order: Ordering) -> bool {
+fn agree_by_keys(a: Rank, b: Rank, order: Ordering, kept: &mut [KeptKey]) -> bool {
     for (guess, rounds) in [(1, 0), (1, 3), (2, 1), (2, 24)] {
-        for (x, y) in keys_of(&a, &b, guess, rounds) {
+        for (x, y) in keys_of(&a, &b, guess, rounds, kept) {
             let told = y.number.cmp(&x.number);
             if told.is_ne() && told != order {
                 return false;
@@ -188,44 +194,45 @@ fn agree_by_keys(a: Rank, b: Rank, order: Ordering) -> bool {
 
 #[test]
 fn keys_tell_worked_ranks_apart(rt: HostRuntime) {
+    let mut kept = room_for_keys(rt.alloc());
     // At slot 3 the substrings of 1/3 and of 1/6 are `-0` both, and at slot 1 that of 2/5 is `+-0` and that of 2/3 is `0`.
     let same = (Rank::at_slot(3, 1, 3, 1), Rank::at_slot(3, 1, 6, 2));
     let apart = (Rank::at_slot(1, 2, 5, 1), Rank::at_slot(1, 2, 3, 0));
-    for (x, y) in keys_of(&same.0, &same.1, 2, 3) {
+    for (x, y) in keys_of(&same.0, &same.1, 2, 3, &mut kept) {
         assert!(rt;
             x.number == y.number && x.whole && y.whole,
             "told to be the same"
         );
     }
-    for (x, y) in keys_of(&same.0, &same.1, 1, 3) {
+    for (x, y) in keys_of(&same.0, &same.1, 1, 3, &mut kept) {
         assert!(rt;
             x.number == y.number && !x.whole && !y.whole,
             "not told, where the gap is another one"
         );
     }
-    for (x, y) in keys_of(&apart.0, &apart.1, 1, 3) {
+    for (x, y) in keys_of(&apart.0, &apart.1, 1, 3, &mut kept) {
         assert!(rt; x.number < y.number, "the greater has the lesser key");
     }
     // The keys of 3/7 and of 2/5 at slot 0 are told apart by a round, and aren't by none.
     let later = (Rank::at_slot(0, 3, 7, 0), Rank::at_slot(0, 2, 5, 1));
-    for (x, y) in keys_of(&later.0, &later.1, 2, 0) {
+    for (x, y) in keys_of(&later.0, &later.1, 2, 0, &mut kept) {
         assert!(rt;
             x.number == y.number && !x.whole && !y.whole,
             "no round tells"
         );
     }
-    for (x, y) in keys_of(&later.0, &later.1, 2, 1) {
+    for (x, y) in keys_of(&later.0, &later.1, 2, 1, &mut kept) {
         assert!(rt; x.number != y.number, "a round tells");
     }
 }
 
 /// Both comparisons of two tasks at six slots.
-fn agree_at_slots(a: (u32, u32), b: (u32, u32)) -> bool
+fn agree_at_slots(a: (u32, u32), b: (u32, u32), kept: &mut [KeptKey]) -> bool
     requires a_weight { (1 ≤ a.0) × (a.0 < a.1) × (a.1 ≤ 2 ^ 20) }
     requires b_weight { (1 ≤ b.0) × (b.0 < b.1) × (b.1 ≤ 2 ^ 20) }
 {
     for slot in 0..6u64 {
-        if !agree(slot * 5, a, b) {
+        if !agree(slot * 5, a, b, kept) {
             return false;
         }
     }
@@ -234,11 +241,15 @@ fn agree_at_slots(a: (u32, u32), b: (u32, u32)) -> bool
 
 #[test]
 fn gaps_agree_with_the_walk_on_small_periods(rt: HostRuntime) {
+    let mut kept = room_for_keys(rt.alloc());
     for p in 2..25u32 {
         for e in 1..p {
             for q in 2..25u32 {
                 for f in 1..q {
-                    assert!(rt; agree_at_slots((e, p), (f, q)), "{e}/{p} {f}/{q}");
+                    assert!(rt;
+                        agree_at_slots((e, p), (f, q), &mut kept),
+                        "{e}/{p} {f}/{q}"
+                    );
                 }
             }
         }
@@ -253,18 +264,19 @@ fn next(seed: u64) -> u64 {
 
 /// Both comparisons of a drawn pair of tasks, and of the first of them with a weight next to its own: weights that differ by
 /// little have long equal substrings.
-fn agree_on_drawn(drawn: [u32; 4], seed: u64) -> bool {
+fn agree_on_drawn(drawn: [u32; 4], seed: u64, kept: &mut [KeptKey]) -> bool {
     let [a, b, c, d] = drawn;
     let p = 2 + a % 1048575;
     let q = if c % 3 == 0 { p } else { 2 + c % 1048575 };
     let (e, f) = (1 + b % (p - 1), 1 + d % (q - 1));
     let slot = seed % 1000000;
     let near = if e > 1 { e - 1 } else { e };
-    agree(slot, (e, p), (f, q)) && agree(slot, (e, p), (near, p))
+    agree(slot, (e, p), (f, q), kept) && agree(slot, (e, p), (near, p), kept)
 }
 
 #[test]
 fn gaps_agree_with_the_walk_on_large_periods(rt: HostRuntime) {
+    let mut kept = room_for_keys(rt.alloc());
     let mut seed = 88172645463325252u64;
     for pair in 0..4000u32 {
         let mut parts = [0u32; 4];
@@ -272,6 +284,9 @@ fn gaps_agree_with_the_walk_on_large_periods(rt: HostRuntime) {
             seed = next(seed);
             *part = (seed >> 44) as u32;
         }
-        assert!(rt; agree_on_drawn(parts, seed), "pair {pair}, seed {seed}");
+        assert!(rt;
+            agree_on_drawn(parts, seed, &mut kept),
+            "pair {pair}, seed {seed}"
+        );
     }
 }

@@ -22,7 +22,6 @@ tasks-preserved c =
     c.rank_key-key.ensures ∙ ap (λ n. rank_key n c.args.rounds c.rank.result) c.from.ensures ∙ ap (λ r. rank_key d c.args.rounds r) c.rank.ensures in
     record {
       keys = length-set keys x key ∙ h.keys;
-      last = length-set c.tasks.last x c.rank_key-key.new.last ∙ h.last;
       within = omega (arith, next.high, long);
       done = λ y l at. elim (cases_eq y x) [
         | inl same ↦

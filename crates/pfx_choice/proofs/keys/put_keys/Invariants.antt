@@ -8,7 +8,6 @@ use Rattle.pfx_choice.proofs.keys.put_keys.Given as goal
 abbrev pub invariant-tasks : goal.invariant-tasks
 invariant-tasks l = record {
   keys : length l.of_tasks ≡ total l.ledger;
-  last : length l.last ≡ total l.ledger;
   within : l.x ≤ total l.ledger;
   done : (y : ℕ) → y < l.x → place l.ledger y ≡ l.d → key_in l.of_tasks y ≡ rank_key l.d l.rounds (rank l.ledger y);
 }

@@ -4,4 +4,4 @@ use Rattle.pfx_choice.specs.Places.{near}
 use Rattle.pfx_choice.proofs.leads.guess_leads.Given as goal
 
 abbrev pub invariant-loop-x : goal.invariant-loop-x
-invariant-loop-x l = (length l.leads ≡ total l.ledger) × ((y : ℕ) → y < l.x → slice_index_or l.leads y 0 ≢ 255 → slice_index_or l.leads y 0 ≡ near l.ledger y)
+invariant-loop-x l = (length l.guesses ≡ total l.ledger) × ((y : ℕ) → y < l.x → slice_index_or l.guesses y 0 ≢ 255 → slice_index_or l.guesses y 0 ≡ near l.ledger y)

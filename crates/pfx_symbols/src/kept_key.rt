@@ -1,14 +1,14 @@
-//! The last key that was found for a task.
+//! A key that was found, kept.
 
 ghost use Rattle.std.specs.Prelude.{◌≡◌, ◌<◌};
 ghost use Rattle.pfx_symbols.specs.Keys.{key_behind};
 
 use crate::keys::Key;
 
-/// The last key that was found for a task: that of what is behind the end of its next subtask, which stays the same while the task
-/// rests. Any one serves any task.
+/// A key that was found: that of what is behind the end of a task's next subtask, which stays the same while the task rests. It is
+/// kept with what it is of, so that any one serves any task.
 #[derive(Clone, Copy)]
-pub struct LastKey {
+pub struct KeptKey {
     pub(crate) e: u32,
     pub(crate) p: u32,
     pub(crate) v: u32,
@@ -17,10 +17,10 @@ pub struct LastKey {
     ghost is: { 0 < v → key ≡ key_behind rounds e p v },
 }
 
-impl LastKey {
+impl KeptKey {
     /// The one of no task.
-    pub fn none() -> LastKey {
-        LastKey {
+    pub fn none() -> KeptKey {
+        KeptKey {
             e: 0,
             p: 0,
             v: 0,
