@@ -36,6 +36,27 @@ crates_above() {
 # The names of all crates.
 all_crates() { sed -n 's/^\([a-z0-9_]\{1,\}\)[^:]*:.*/\1/p' "$top/crates.txt"; }
 
+# The names of the crates for measuring, which the gate leaves out: no other crate stands on one.
+measuring='_bench$'
+
+# Takes the crates for measuring from the copy $1.
+drop_measuring() {
+  local name
+  for name in $(all_crates | grep "$measuring"); do
+    rm -rf "$1/crates/$name" && sed -i "/^$name[ :]/d" "$1/crates.txt" || return
+  done
+}
+
+# Says when what the gate leaves out was last tried whole.
+last_of_more() {
+  local date commit _
+  if read -r date commit _ 2>/dev/null <"$top/.ci/more"; then
+    echo "check: further wrong bodies and the programs for measuring are tried by ./check-more, whole last on $date at commit $commit"
+  else
+    echo "check: further wrong bodies and the programs for measuring are tried by ./check-more, which hasn't been run whole"
+  fi
+}
+
 # A sum of the sources of a crate ($2): of it and the crates below without out/ and the wrong bodies, of their lines in crates.txt,
 # and of the toolchain's line ($1).
 sources_sum() {
