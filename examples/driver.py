@@ -3,8 +3,9 @@
 
 driver.py SET STORE IN OUT [--chunk BYTES]: for each task NAME of the set, chunk K of the file IN/NAME is hashed in the K-th slot
 that the task gets, and OUT/NAME/K is its hash. It ends once all chunks are hashed. Whatever is killed, start it again with the
-same words: it goes on where it was. STORE and OUT are made where they are missing; they belong together. The variable PFX names the
-program pfx. docs/DRIVERS.md says why it is right.
+same words: it goes on where it was. STORE and OUT are made where they are missing; they belong together. SET's weights and names are
+compared with the store's: the names with those that the first run leaves in STORE.names. The variable PFX names the program pfx.
+docs/DRIVERS.md says why it is right.
 
 It takes a unit's effect for granted once it is there: the file OUT/NAME/K, made whole by one link. To drive work of your own,
 replace `Units`."""
@@ -12,6 +13,7 @@ import argparse
 import concurrent.futures
 import hashlib
 import os
+import re
 import shutil
 import subprocess
 import sys
@@ -19,6 +21,7 @@ import time
 import tomllib
 
 BUSY = "pfx: error 58 Busy"
+NO_SUCH_TASK = "refused 31 "
 FULL = "refused 64 SessionFull"
 PATIENCE = 60           # seconds
 
@@ -32,6 +35,13 @@ def lives(process):
     except PermissionError:
         pass
     return True
+
+
+def synced(path):
+    """Has a folder's entries on the disk."""
+    there = os.open(path, os.O_RDONLY)
+    os.fsync(there)
+    os.close(there)
 
 
 class Gone(Exception):
@@ -72,13 +82,19 @@ class Pfx:
             raise Busy
         sys.exit(fault or f"pfx ended with status {status}")
 
-    def allocations(self):
-        """How many slots each task was ever given, idle tasks behind the others."""
+    def board(self):
+        """The slot, and of each task how many it was ever given, its lag in parts of its period, and that; idle tasks behind the others."""
         self.ask(b"status,,,,\nsettle,,,,\n")
         lines = [self.line()]
         while not lines[-1].startswith("settled "):
             lines.append(self.line())
-        return [int(line.split()[1].removeprefix("alloc=")) for line in lines[1:-1]]
+        rows = [re.fullmatch(r"\d+ alloc=(\d+) lag=(-?\d+)/(\d+) job=\w+", line).groups() for line in lines[1:-1]]
+        return int(lines[0].split()[3]), [tuple(map(int, row)) for row in rows]
+
+    def has_task(self, task):
+        """Whether the store has a task of this number that isn't an idle one."""
+        self.ask(b"show,%d,,,\n" % task)
+        return not self.line().startswith(NO_SUCH_TASK)
 
     def slot(self):
         """The tasks of the next slot; None where this run takes no more commands."""
@@ -145,14 +161,54 @@ class Units:
         except FileExistsError:
             pass
         os.unlink(draft)
-        there = os.open(folder, os.O_RDONLY)
-        os.fsync(there)
-        os.close(there)
+        synced(folder)
 
 
-def drive(pfx, units, pool):
+class Tasks:
+    """What SET says of the tasks, to be compared with the store, whose file has their weights and not their names."""
+
+    def __init__(self, tasks, store):
+        self.weights = [(task["e"], task["p"]) for task in tasks]
+        self.text = "".join(f"{task['name']} {task['p']}\n" for task in tasks)
+        self.store, self.path = store, f"{store}.names"
+
+    def compare(self, pfx, slot, rows):
+        """Ends the driver where the store has other tasks, or these in another order. A lag is e * slot - p * alloc, in parts of p."""
+        number = len(self.weights)
+        if not pfx.has_task(number - 1) or pfx.has_task(number):
+            sys.exit(f"driver.py: SET has {number} tasks, and {self.store} another number of them")
+        for task, ((e, p), (alloc, lag, period)) in enumerate(zip(self.weights, rows)):
+            if p != period or e * slot != lag + p * alloc:
+                sys.exit(f"driver.py: the weight of task {task} in SET, {e}/{p}, isn't the one that it has in {self.store}")
+        self.compare_names()
+
+    def compare_names(self):
+        if not os.path.exists(self.path):
+            self.keep_names()
+        with open(self.path) as it:
+            found = it.read()
+        if found != self.text:
+            sys.exit(f"driver.py: SET's names and periods aren't those of the first run, which are in {self.path}")
+
+    def keep_names(self):
+        draft = f"{self.path}.{os.getpid()}"
+        with open(draft, "w") as it:
+            it.write(self.text)
+            it.flush()
+            os.fsync(it.fileno())
+        os.rename(draft, self.path)
+        synced(os.path.dirname(os.path.abspath(self.path)))
+
+
+def drive(pfx, tasks, units, pool):
     """Does what is owed, and then slot after slot, until every task has all its units. Whether it has come to that end."""
-    alloc = pfx.allocations()
+    slot, rows = pfx.board()
+    if slot == 0 and any(units.most):                # only behind a slot do the lags tell each weight
+        tasks.compare(pfx, slot, rows)
+        pfx.slot()
+        slot, rows = pfx.board()
+    tasks.compare(pfx, slot, rows)
+    alloc = [row[0] for row in rows]
     tasks = range(len(units.names))
     list(pool.map(units.do, [unit for task in tasks for unit in units.missing(task, alloc[task])]))
     while any(alloc[task] < units.most[task] for task in tasks):
@@ -180,6 +236,7 @@ def main():
     if program is None:
         sys.exit("driver.py: no program pfx: put it on the PATH, or have the variable PFX name it")
     units = Units([task["name"] for task in it["task"]], given.IN, given.OUT, given.chunk)
+    tasks = Tasks(it["task"], given.STORE)
     if not os.path.exists(given.STORE):
         subprocess.run([program, "init", given.SET, given.STORE], check=True, stdout=subprocess.DEVNULL)
     until = None
@@ -187,7 +244,7 @@ def main():
         while True:
             try:
                 with Pfx(program, given.STORE) as pfx:
-                    if drive(pfx, units, pool):
+                    if drive(pfx, tasks, units, pool):
                         pfx.close()
                         return
             except Gone:
