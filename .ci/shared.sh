@@ -57,15 +57,18 @@ last_of_more() {
   fi
 }
 
-# A sum of the sources of a crate ($2): of it and the crates below without out/ and the wrong bodies, of their lines in crates.txt,
-# and of the toolchain's line ($1).
+# What find is told so that it leaves out what editors put beside a file.
+not_of_editors=(! -name '.*' ! -name '*~' ! -name '#*')
+
+# A sum of the sources of a crate ($2): of it and the crates below without out/, the wrong bodies and what editors leave, of their lines
+# in crates.txt, and of the toolchain's line ($1).
 sources_sum() {
   local crates
   crates=$(crates_below "$2")
   {
     printf '%s\n' "$1"
     grep -E "^($(tr '\n' '|' <<<"$crates")-)[ :]" "$top/crates.txt" | LC_ALL=C sort
-    cd "$top/crates" && find $crates \( -name out -o -name 'must-fail*' \) -prune -o -type f -print0 | LC_ALL=C sort -z | xargs -0 sha256sum
+    cd "$top/crates" && find $crates \( -name out -o -name 'must-fail*' \) -prune -o -type f "${not_of_editors[@]}" -print0 | LC_ALL=C sort -z | xargs -0 sha256sum
   } | sha256sum | cut -d' ' -f1
 }
 
@@ -76,7 +79,7 @@ program_sum() { sources_sum "$1" pfx; }
 gate_sum() {
   {
     printf '%s\n' "$1"
-    cd "$top" && find crates crates.txt HANDLES \( -name out -o -name must-fail-more \) -prune -o -type f -print0 | LC_ALL=C sort -z | xargs -0 sha256sum
+    cd "$top" && find crates crates.txt HANDLES \( -name out -o -name must-fail-more \) -prune -o -type f "${not_of_editors[@]}" -print0 | LC_ALL=C sort -z | xargs -0 sha256sum
   } | sha256sum | cut -d' ' -f1
 }
 
@@ -87,13 +90,21 @@ value_in() { sed -n "s/^$2 //p" "$1" 2>/dev/null; }
 
 # Whether the release is of these sources. Sets `kit`, the toolchain that built it.
 release_fits() {
-  [ -x "$top/release/pfx" ] && [ -f "$top/release/SUM" ] || return 1
+  [ -f "$top/release/pfx" ] && [ -f "$top/release/SUM" ] || return 1
   kit=$(value_in "$top/release/SUM" kit)
   [ "$(program_sum "$kit")" = "$(value_in "$top/release/SUM" sources)" ]
 }
 
 # Whether the release's program is the one that was released.
 release_is_whole() { [ "$(sum_of_file "$top/release/pfx")" = "$(value_in "$top/release/SUM" program)" ]; }
+
+# Whether the program in crates/pfx/out/ is of these sources. Sets `kit`, the toolchain that built it.
+is_built() {
+  local sources=$top/crates/pfx/out/sources
+  [ -x "$top/crates/pfx/out/pfx" ] && [ -f "$sources" ] || return 1
+  kit=$(value_in "$sources" kit)
+  [ "$(program_sum "$kit")" = "$(value_in "$sources" sources)" ]
+}
 
 # Whether the library in the folder $1 is of these sources, and as it was built from them.
 library_fits() {
