@@ -106,12 +106,20 @@ is_built() {
   [ "$(program_sum "$kit")" = "$(value_in "$sources" sources)" ]
 }
 
-# Whether the library in the folder $1 is of these sources, and as it was built from them.
+# Whether the library in the folder $1 is of these sources, and as it was built from them by the script at hand.
 library_fits() {
   [ -f "$1/LIBRARY" ] || return 1
   [ "$(sources_sum "$(value_in "$1/LIBRARY" kit)" pfx_c)" = "$(value_in "$1/LIBRARY" sources)" ] &&
+    [ "$(value_in "$1/LIBRARY" build)" = "$(sum_of_file "$top/examples/embed/build")" ] &&
     [ "$(sum_of_file "$1/libpfx.a")" = "$(value_in "$1/LIBRARY" archive)" ] &&
     [ "$(sum_of_file "$1/libpfx.so")" = "$(value_in "$1/LIBRARY" shared)" ]
+}
+
+# The program as rt links it, with the machine's C library beside it, so that another library can be preloaded into it: the release's is
+# static. It is built where it isn't there ($1: the script's name).
+dynamic_path() {
+  is_built || { need_rt "$1" && (cd "$top/crates/pfx" && "$rt" run -- --version) >&2; } || return
+  echo "$top/crates/pfx/out/pfx"
 }
 
 # The path of the program that ./pfx starts: the release where it is of these sources, else the one that was built here.

@@ -8,7 +8,7 @@ on from it:
     [[0, 1], [0, 2], [1, 2]]
 
 A number that isn't below the number of weights is an idle task's. The library is libpfx.so, in the folder that the variable
-PFX_LIB names, or else in examples/embed/out, where examples/embed/build puts it, or in release.
+PFX_LIB names, or else beside this file, or in examples/embed/out, where examples/embed/build puts it, or in release.
 """
 
 import ctypes
@@ -55,8 +55,9 @@ class _Set(ctypes.Structure):
 
 
 def _load():
-    top = os.path.join(os.path.dirname(os.path.abspath(__file__)), "..")
-    folders = [os.environ.get("PFX_LIB"), os.path.join(top, "examples", "embed", "out"), os.path.join(top, "release")]
+    here = os.path.dirname(os.path.abspath(__file__))
+    top = os.path.join(here, "..")
+    folders = [os.environ.get("PFX_LIB"), here, os.path.join(top, "examples", "embed", "out"), os.path.join(top, "release")]
     paths = [os.path.join(folder, "libpfx.so") for folder in folders if folder]
     library = ctypes.CDLL(next((path for path in paths if os.path.exists(path)), paths[0]))
     weights = [c_uint32, POINTER(_Weight), c_size_t]
