@@ -10,6 +10,13 @@ import sys
 import tomllib
 
 HUES = ["#0072B2", "#E69F00", "#009E73", "#CC79A7", "#56B4E9", "#D55E00", "#000000", "#A08000"]
+DARK = (
+    "<style>@media (prefers-color-scheme:dark){svg[fill='#222222']{fill:#E4E4E4}[stroke='#222222']{stroke:#E4E4E4}\n"
+    "[fill='#FFFFFF']{fill:#16191D}[fill='#000000']{fill:#FFFFFF}[stroke='#000000']{stroke:#FFFFFF}\n"
+    "[fill='#555555']{fill:#A8ADB3}[stroke='#666666']{stroke:#9AA0A6}[stroke='#E0E0E0'],[stroke='#C8C8C8']{stroke:#41474E}\n"
+    "[stroke='#CFE3F2']{stroke:#173A52}[stroke='#8FBFE0']{stroke:#2A6A97}[stroke='#4A94C9']{stroke:#5AAEE6}\n"
+    "[stroke='#FBE0C4']{stroke:#4A2F12}[stroke='#F4B77A']{stroke:#8F5A1E}}</style>\n"
+)
 LEVELS = [("#CFE3F2", 1), ("#8FBFE0", 2), ("#4A94C9", 3), ("#FBE0C4", -1), ("#F4B77A", -2), ("#E08A2E", -3)]
 
 
@@ -76,11 +83,11 @@ def picture(name, workers, real, tasks, hyper, first, got, rows):
     n, slots = len(tasks), len(rows)
     wide, tick = next((w, k) for most, w, k in [(24, 36, 2), (60, 18, 5), (120, 9, 10), (360, 4, 20), (1440, 2, 50)] if slots <= most)
     low = n > 48
-    lane, bar, middle, one, zero = (48, 12, 10, 13, 32) if n <= 16 else (26, 7, 7, 7, 16) if not low else (8, 4, 4, 0, 4)
+    lane, bar, middle, one, zero = (48, 12, 10, 13, 32) if n <= 16 else (28, 7, 7, 7, 19) if not low else (10, 4, 5, 0, 5)
     letters = max(len(t[0]) for t in tasks)
     digits = max(len(str(t[2])) for t in tasks)
     left = 24 + 6 * letters if low else 39 + 7 * letters + 14 * digits
-    right = 20 if low else 34 + 14 * digits
+    right = 20 if low else 78 + 14 * digits
     x = lambda i: left + i * wide
     end, bottom = x(slots), 64 + n * lane
     width, height = max(720, end + right), bottom + 34
@@ -92,12 +99,13 @@ def picture(name, workers, real, tasks, hyper, first, got, rows):
         f"<title id='t'>{title}</title>\n",
         "<desc id='d'>A lane for each task: a bar in each slot in which it runs, and the lag behind each slot, what it is due"
         " less what it got.</desc>\n",
+        DARK,
         f"<rect width='{width}' height='{height}' fill='#FFFFFF'/>\n",
         f"<text x='12' y='22' font-size='14' font-weight='bold'>{title}</text>\n",
         "<text x='12' y='40' font-size='11' fill='#555555'>",
     ]
     if low:
-        out.append("dark: runs in that slot; ground: by 3/4, 1/2, 1/4 of a slot behind</text>\n")
+        out.append("bar: runs in that slot; ground: by 3/4, 1/2, 1/4 of a slot behind</text>\n")
         for i, colour in enumerate(["#4A94C9", "#8FBFE0", "#CFE3F2", "#FBE0C4", "#F4B77A", "#E08A2E"]):
             out.append(f"<path d='M{480 + 20 * i} 36h20' stroke='{colour}' stroke-width='12'/>")
         out.append("<text x='608' y='40' font-size='11' fill='#555555'>and ahead</text>\n")
@@ -108,6 +116,9 @@ def picture(name, workers, real, tasks, hyper, first, got, rows):
     out.append("<path d='" + "".join(map(upright, ticks)) + "' stroke='#E0E0E0' fill='none'/>\n")
     for i in ticks:
         out.append(f"<text x='{x(i)}' y='58' text-anchor='middle' font-size='11' fill='#555555'>{first + i}</text>\n")
+    if not low:
+        for at, word in [(left - 10, "weight"), (end + right - 6, "lag")]:
+            out.append(f"<text x='{at}' y='58' text-anchor='end' font-size='11' fill='#555555'>{word}</text>\n")
     turns = [i for i in range(1, slots + 1) if (first + i) % hyper == 0]
     if 0 < len(turns) <= 40:
         out.append("<path d='" + "".join(map(upright, turns)) + "' stroke='#666666' stroke-dasharray='4 3' fill='none'/>\n")
@@ -127,8 +138,8 @@ def picture(name, workers, real, tasks, hyper, first, got, rows):
         if low:
             level = [4 * abs(g) // p * (1 if g > 0 else -1) for g in lags[:-1]]
             for colour, k in LEVELS:
-                out.append(f"<path d='{bars(level, k, x, 0, False, top + 4)}' stroke='{colour}' stroke-width='8' fill='none'/>\n")
-            out += [run, f"<text x='12' y='{top + 7}' font-size='8'>{label}</text>\n"]
+                out.append(f"<path d='{bars(level, k, x, 0, False, top + middle)}' stroke='{colour}' stroke-width='{lane}' fill='none'/>\n")
+            out += [run, f"<text x='12' y='{top + 8}' font-size='8'>{label}</text>\n"]
         else:
             if t % 2 == 0:
                 out.append(f"<rect x='0' y='{top}' width='{width}' height='{lane}' fill='#000000' fill-opacity='0.03'/>\n")
@@ -143,9 +154,13 @@ def picture(name, workers, real, tasks, hyper, first, got, rows):
             at = top + 4 + lane // 2
             out.append(f"<text x='12' y='{at}'>{label}</text>\n")
             out.append(f"<text x='{left - 10}' y='{at}' text-anchor='end' fill='#555555'>{e}/{p}</text>\n")
-            out.append(f"<text x='{end + 8}' y='{at}' fill='#555555'>{lag}</text>\n")
+            points = 100 * abs(lags[-1]) // p
+            sign = "-" if lags[-1] < 0 else ""
+            out.append(f"<text x='{end + 8}' y='{at}' fill='#555555'>{lag} {sign}{points // 100}.{points % 100:02}</text>\n")
         out.append("</g>\n")
-    out.append(f"<text x='12' y='{bottom + 22}' font-size='11' fill='#555555'>dashed: hyperperiod, {hyper} slots, where every lag is 0</text>\n</svg>\n")
+    if 0 < len(turns) <= 40:
+        out.append(f"<text x='12' y='{bottom + 22}' font-size='11' fill='#555555'>dashed: hyperperiod, {hyper} slots, where every lag is 0</text>\n")
+    out.append("</svg>\n")
     return "".join(out)
 
 

@@ -1,10 +1,10 @@
 -- What stands round the lanes: the title, what the marks mean, the slots' numbers and the hyperperiods.
-use Rattle.std.specs.Prelude.{ℕ, ◌+◌, ◌-◌, ◌*◌, ◌/◌, ◌==◌, ◌&&◌, nat_lt, nat_le, if◌then◌else◌, List, [], ◌++◌}
+use Rattle.std.specs.Prelude.{ℕ, Bool, ◌+◌, ◌-◌, ◌*◌, ◌/◌, ◌==◌, ◌&&◌, nat_lt, nat_le, if◌then◌else◌, List, [], ◌++◌}
 use Rattle.std.specs.Fmt.{decimal}
 use Rattle.pfx_set_file.specs.SetFile.{is_name}
 use Rattle.pfx_draw.specs.Each.{each}
 use Rattle.pfx_draw.specs.Phrases.{say, say_number}
-use Rattle.pfx_draw.specs.Sizes.{x_at, lanes_end, width, height}
+use Rattle.pfx_draw.specs.Sizes.{x_at, slots_end, lanes_end, width, height}
 use Rattle.pfx_draw.specs.Text.{move_to, down_to}
 use Rattle.pfx_draw.specs.declared.phrases.Phrase.{Phrase}
 use Rattle.pfx_draw.specs.declared.phrases.Phrase.TheVariants as phrase
@@ -34,6 +34,10 @@ opening s =
 abbrev pub spoken : List ℕ → List ℕ
 spoken words = say phrase.Title ++ words ++ say phrase.Desc ++ say phrase.DescEnd
 
+-- other colours where the reader asks for a dark page
+abbrev pub dark : List ℕ
+dark = say phrase.DarkBegin ++ say phrase.DarkGround ++ say phrase.DarkLines ++ say phrase.DarkBehind ++ say phrase.DarkAhead
+
 -- a white ground, and the title again
 abbrev pub heading : Sizes → List ℕ → List ℕ
 heading s words = say_number phrase.GroundWidth (width s) ++ say_number phrase.Height (height s) ++ say phrase.GroundEnd ++ words ++ say phrase.TextEnd
@@ -46,7 +50,7 @@ abbrev pub key : ℕ → List ℕ
 key lanes = say phrase.KeyBegin ++ (if nat_le lanes 48 then say phrase.LineKey else level_key)
 
 unfoldable pub head : Sizes → List ℕ → List ℕ
-head s words = opening s ++ spoken words ++ heading s words ++ key s.lanes
+head s words = opening s ++ spoken words ++ dark ++ heading s words ++ key s.lanes
 
 -- a line from the lanes' top to their end
 abbrev pub upright : Sizes → ℕ → List ℕ
@@ -70,8 +74,15 @@ grid_lines s = each (grid_piece s) (ticks s)
 abbrev pub numbers : Sizes → List ℕ
 numbers s = each (number_piece s) (ticks s)
 
+-- what stands in the columns beside lanes with a line of lag
+abbrev pub columns : Sizes → List ℕ
+columns s =
+    if nat_le s.lanes 48
+    then say_number phrase.TextX (s.left - 10) ++ say phrase.WeightHead ++ say_number phrase.TextX (slots_end s + s.right - 6) ++ say phrase.LagHead
+    else []
+
 unfoldable pub grid : Sizes → List ℕ
-grid s = say phrase.PathBegin ++ grid_lines s ++ say phrase.GridEnd ++ numbers s
+grid s = say phrase.PathBegin ++ grid_lines s ++ say phrase.GridEnd ++ numbers s ++ columns s
 
 -- how far after the first slot the k-th one lies that begins a hyperperiod of l slots
 abbrev pub hyper_slot : Sizes → ℕ → ℕ → ℕ
@@ -86,11 +97,21 @@ hyper_count s l = (s.first + s.slots) / l - s.first / l
 abbrev pub hyper_lines : Sizes → ℕ → List ℕ
 hyper_lines s l = each (hyper_piece s l) (hyper_count s l)
 
--- a dashed line at each, if there are 40 at the most
+-- whether they are drawn: if there is one, and 40 at the most
+abbrev pub is_dashed : Sizes → ℕ → Bool
+is_dashed s l = nat_lt 0 (hyper_count s l) && nat_le (hyper_count s l) 40
+
+-- a dashed line at each
 unfoldable pub dashes : Sizes → ℕ → List ℕ
 dashes s l =
-    if nat_lt 0 (hyper_count s l) && nat_le (hyper_count s l) 40
+    if is_dashed s l
     then say phrase.PathBegin ++ hyper_lines s l ++ say phrase.DashEnd else []
 
+-- what the dashed lines mean, if there are some
+abbrev pub hyper_key : Sizes → ℕ → List ℕ
+hyper_key s l =
+    if is_dashed s l
+    then say_number phrase.NameY (lanes_end s + 22) ++ say_number phrase.FootHyper l ++ say phrase.FootEnd else []
+
 unfoldable pub foot : Sizes → ℕ → List ℕ
-foot s l = say_number phrase.NameY (lanes_end s + 22) ++ say_number phrase.FootHyper l ++ say phrase.FootEnd
+foot s l = hyper_key s l ++ say phrase.SvgClose

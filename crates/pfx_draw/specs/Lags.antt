@@ -1,5 +1,5 @@
 -- Lags along the slots that are drawn: what a task is due less what it got, exactly, over its period.
-use Rattle.std.specs.Prelude.{codes, ℕ, ◌+◌, ◌-◌, ◌*◌, ◌/◌, ◌≤◌, ◌^◌, nat_lt, if◌then◌else◌, List, [], ◌∷◌, ◌++◌, length}
+use Rattle.std.specs.Prelude.{codes, ℕ, ◌+◌, ◌-◌, ◌*◌, ◌/◌, ◌%◌, ◌≤◌, ◌^◌, nat_lt, if◌then◌else◌, List, [], ◌∷◌, ◌++◌, length}
 use Rattle.std.specs.Fmt.{decimal}
 use Rattle.pfx_weights.specs.Rows.{count}
 use Rattle.pfx_draw.specs.Bars.{has}
@@ -22,6 +22,18 @@ signed behind ahead = if nat_lt 0 ahead then with_number (codes "-") ahead else 
 
 abbrev pub lag_text : Course → ℕ → ℕ → List ℕ
 lag_text c i k = signed (behind_by c i k) (ahead_by c i k) ++ with_number (codes "/") c.p
+
+-- so many p-ths as a decimal number, with two digits behind the point, rounded down: `0.66`
+abbrev pub hundredths : ℕ → ℕ → ℕ
+hundredths n p = n % p * 100 / p
+
+abbrev pub point_text : ℕ → ℕ → List ℕ
+point_text n p = decimal (n / p) ++ with_number (codes ".") (hundredths n p / 10) ++ decimal (hundredths n p % 10)
+
+-- a lag so, as `-0.33`
+abbrev pub point_lag : Course → ℕ → ℕ → List ℕ
+point_lag c i k =
+    if nat_lt 0 (ahead_by c i k) then codes "-" ++ point_text (ahead_by c i k) c.p else point_text (behind_by c i k) c.p
 
 -- quarters of a slot, rounded down: 1, 2 and 3 behind, 4, 5 and 6 for as many ahead
 abbrev pub level_by : ℕ → ℕ → ℕ

@@ -2,7 +2,7 @@
 use Rattle.std.specs.Prelude.{ℕ, ◌+◌, ◌-◌, ◌/◌, ◌%◌, ◌==◌, nat_lt, nat_le, if◌then◌else◌, List, [], ◌++◌, length}
 use Rattle.std.specs.Fmt.{decimal}
 use Rattle.pfx_draw.specs.Bars.{bars_path, run_track, cell_track}
-use Rattle.pfx_draw.specs.Lags.{lag_text, levels, runs_in, summed}
+use Rattle.pfx_draw.specs.Lags.{lag_text, point_lag, levels, runs_in, summed}
 use Rattle.pfx_draw.specs.Line.{lag_path}
 use Rattle.pfx_draw.specs.Phrases.{say, say_number}
 use Rattle.pfx_draw.specs.Sizes.{y_at, slots_end, width}
@@ -72,7 +72,7 @@ lag_line s path = say phrase.PathBegin ++ path ++ (if nat_lt 4 s.widths.slot the
 abbrev pub named : ℕ → Phrase → List ℕ → List ℕ
 named y size name = say_number phrase.NameY y ++ say size ++ name ++ say phrase.TextEnd
 
--- left of the slots the name and the weight, right of them the lag at the end
+-- left of the slots the name and the weight, right of them the lag at the end, as a fraction and as a decimal number
 abbrev pub name_label : ℕ → List ℕ → List ℕ
 name_label y name = named y phrase.NameEnd name
 
@@ -83,7 +83,8 @@ weight_label s y c =
 
 abbrev pub lag_label : Sizes → ℕ → Course → ℕ → List ℕ
 lag_label s y c runs =
-    say_number phrase.TextX (slots_end s + 8) ++ say_number phrase.TextY y ++ say phrase.LagEnd ++ lag_text c s.slots runs ++ say phrase.TextEnd
+    say_number phrase.TextX (slots_end s + 8) ++ say_number phrase.TextY y ++ say phrase.LagEnd ++ lag_text c s.slots runs ++ say phrase.Space
+    ++ point_lag c s.slots runs ++ say phrase.TextEnd
 
 -- a lane with a line of lag: what is drawn, and what is written
 abbrev pub tall_drawn : Sizes → Phrase → ℕ → Course → List ℕ → List ℕ
@@ -118,7 +119,7 @@ small_name y name = named y phrase.SmallEnd name
 -- a low lane: cells coloured by the lag before the slot, and the bars on them
 abbrev pub low_lane : Sizes → ℕ → List ℕ → Course → List ℕ → List ℕ
 low_lane s x name c marks =
-    all_cells s (y_at s x) (levels c marks) ++ bars s phrase.Dark (y_at s x) marks ++ small_name (y_at s x + 7) name
+    all_cells s (y_at s x) (levels c marks) ++ bars s phrase.Dark (y_at s x) marks ++ small_name (y_at s x + 8) name
 
 unfoldable pub lane_body : Sizes → ℕ → ℕ → List ℕ → Course → List ℕ → List ℕ
 lane_body s real x name c marks =

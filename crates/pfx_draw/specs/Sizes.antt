@@ -16,16 +16,16 @@ widths_for slots =
 abbrev pub heights_for : ℕ → Heights
 heights_for lanes =
     if nat_le lanes 16 then record { lane = 48; bar = 12; middle = 10; lag = 13; zero = 32 } else
-    (if nat_le lanes 48 then record { lane = 26; bar = 7; middle = 7; lag = 7; zero = 16 } else
-    record { lane = 8; bar = 4; middle = 4; lag = 0; zero = 4 })
+    (if nat_le lanes 48 then record { lane = 28; bar = 7; middle = 7; lag = 7; zero = 19 } else
+    record { lane = 10; bar = 4; middle = 5; lag = 0; zero = 5 })
 
 -- the room left of the slots, for names of so many letters and weights e/p of numbers of so many digits
 abbrev pub left_for : ℕ → ℕ → ℕ → ℕ
 left_for lanes letters digits = if nat_le lanes 48 then 39 + 7 * letters + 14 * digits else 24 + 6 * letters
 
--- the room right of them, for lags
+-- the room right of them, for lags and their decimals
 abbrev pub right_for : ℕ → ℕ → ℕ
-right_for lanes digits = if nat_le lanes 48 then 34 + 14 * digits else 20
+right_for lanes digits = if nat_le lanes 48 then 78 + 14 * digits else 20
 
 abbrev pub sizes_for : ℕ → ℕ → ℕ → ℕ → ℕ → Sizes
 sizes_for first slots lanes letters digits = record {

@@ -1,12 +1,12 @@
 //! What stands round the lanes.
 
 ghost use Rattle.std.specs.Prelude.{◌≡◌, ◌++◌, ◌≤◌, ◌<◌, ◌/◌, ◌*◌, OnOk, IfOk};
-ghost use Rattle.pfx_draw.specs.Frame.{named, counted, title, opening, spoken, heading, level_key, key, head, upright, grid_piece, number_piece, ticks};
-ghost use Rattle.pfx_draw.specs.Frame.{grid_lines, numbers, grid, hyper_slot, hyper_piece, hyper_count, hyper_lines, dashes, foot};
+ghost use Rattle.pfx_draw.specs.Frame.{named, counted, title, opening, spoken, dark, heading, level_key, key, head, upright, grid_piece, number_piece, ticks};
+ghost use Rattle.pfx_draw.specs.Frame.{grid_lines, numbers, columns, grid, hyper_slot, hyper_piece, hyper_count, hyper_lines, is_dashed, dashes, hyper_key, foot};
 ghost use Rattle.pfx_draw.specs.Sizes.{IsDrawable};
 
 use crate::phrases::{Phrase, put_phrase, put_phrase_number};
-use crate::sizes::{Sizes, height, lanes_end, width, x_at};
+use crate::sizes::{Sizes, height, lanes_end, slots_end, width, x_at};
 use crate::text::{put_bytes, put_down, put_move, put_number};
 use pfx_set_file::is_name;
 use std::alloc::{AllocError, Global};
@@ -75,6 +75,16 @@ fn put_spoken(text: &mut Vec<u8>, words: &[u8]) -> Result<(), AllocError>
     put_phrase(text, Phrase::DescEnd)
 }
 
+fn put_dark(text: &mut Vec<u8>) -> Result<(), AllocError>
+    ensures { OnOk result (text.new.items ≡ text.old.items ++ dark) }
+{
+    put_phrase(text, Phrase::DarkBegin)?;
+    put_phrase(text, Phrase::DarkGround)?;
+    put_phrase(text, Phrase::DarkLines)?;
+    put_phrase(text, Phrase::DarkBehind)?;
+    put_phrase(text, Phrase::DarkAhead)
+}
+
 fn put_heading(alloc: Global, text: &mut Vec<u8>, s: Sizes, words: &[u8]) -> Result<(), AllocError>
     requires { IsDrawable s }
     ensures { OnOk result (text.new.items ≡ text.old.items ++ heading s words.now) }
@@ -120,6 +130,7 @@ pub(crate) fn put_head(
 {
     put_opening(alloc, text, s)?;
     put_spoken(text, words)?;
+    put_dark(text)?;
     put_heading(alloc, text, s, words)?;
     put_key(text, s.lanes)
 }
@@ -192,7 +203,21 @@ fn put_numbers(alloc: Global, text: &mut Vec<u8>, s: Sizes) -> Result<(), AllocE
     Ok(())
 }
 
-/// Puts the slots' numbers, and the lines below them.
+fn put_columns(alloc: Global, text: &mut Vec<u8>, s: Sizes) -> Result<(), AllocError>
+    requires { IsDrawable s }
+    ensures { OnOk result (text.new.items ≡ text.old.items ++ columns s) }
+{
+    if s.lanes <= 48 {
+        put_phrase_number(alloc, text, Phrase::TextX, s.left.saturating_sub(10))?;
+        put_phrase(text, Phrase::WeightHead)?;
+        let right = (slots_end(s) + s.right).saturating_sub(6);
+        put_phrase_number(alloc, text, Phrase::TextX, right)?;
+        put_phrase(text, Phrase::LagHead)?;
+    }
+    Ok(())
+}
+
+/// Puts the slots' numbers, the lines below them, and what stands in the columns beside the lanes.
 #[tactic(auto, unfolding(crate::specs::Frame::grid))]
 pub(crate) fn put_grid(alloc: Global, text: &mut Vec<u8>, s: Sizes) -> Result<(), AllocError>
     requires { IsDrawable s }
@@ -201,7 +226,8 @@ pub(crate) fn put_grid(alloc: Global, text: &mut Vec<u8>, s: Sizes) -> Result<()
     put_phrase(text, Phrase::PathBegin)?;
     put_grid_lines(alloc, text, s)?;
     put_phrase(text, Phrase::GridEnd)?;
-    put_numbers(alloc, text, s)
+    put_numbers(alloc, text, s)?;
+    put_columns(alloc, text, s)
 }
 
 fn hyper_count(s: Sizes, hyper: u64) -> u64
@@ -258,6 +284,15 @@ fn put_hyper_lines(
     Ok(())
 }
 
+fn is_dashed(s: Sizes, hyper: u64) -> bool
+    requires drawable { IsDrawable s }
+    requires some { 1 ≤ hyper }
+    ensures { result ≡ is_dashed s hyper }
+{
+    let count = hyper_count(s, hyper);
+    0 < count && count <= 40
+}
+
 /// Puts a dashed line at each multiple of the hyperperiod, if there are few.
 #[tactic(auto, unfolding(crate::specs::Frame::dashes))]
 pub(crate) fn put_dashes(
@@ -270,11 +305,23 @@ pub(crate) fn put_dashes(
     requires some { 1 ≤ hyper }
     ensures { OnOk result (text.new.items ≡ text.old.items ++ dashes s hyper) }
 {
-    let count = hyper_count(s, hyper);
-    if 0 < count && count <= 40 {
+    if is_dashed(s, hyper) {
         put_phrase(text, Phrase::PathBegin)?;
         put_hyper_lines(alloc, text, s, hyper)?;
         put_phrase(text, Phrase::DashEnd)?;
+    }
+    Ok(())
+}
+
+fn put_hyper_key(alloc: Global, text: &mut Vec<u8>, s: Sizes, hyper: u64) -> Result<(), AllocError>
+    requires drawable { IsDrawable s }
+    requires some { 1 ≤ hyper }
+    ensures { OnOk result (text.new.items ≡ text.old.items ++ hyper_key s hyper) }
+{
+    if is_dashed(s, hyper) {
+        put_phrase_number(alloc, text, Phrase::NameY, lanes_end(s) + 22)?;
+        put_phrase_number(alloc, text, Phrase::FootHyper, hyper)?;
+        put_phrase(text, Phrase::FootEnd)?;
     }
     Ok(())
 }
@@ -287,10 +334,10 @@ pub(crate) fn put_foot(
     s: Sizes,
     hyper: u64,
 ) -> Result<(), AllocError>
-    requires { IsDrawable s }
+    requires drawable { IsDrawable s }
+    requires some { 1 ≤ hyper }
     ensures { OnOk result (text.new.items ≡ text.old.items ++ foot s hyper) }
 {
-    put_phrase_number(alloc, text, Phrase::NameY, lanes_end(s) + 22)?;
-    put_phrase_number(alloc, text, Phrase::FootHyper, hyper)?;
-    put_phrase(text, Phrase::FootEnd)
+    put_hyper_key(alloc, text, s, hyper)?;
+    put_phrase(text, Phrase::SvgClose)
 }

@@ -3,10 +3,10 @@
 ghost use Rattle.std.specs.Prelude.{◌≡◌, ◌++◌, ◌≤◌, ◌<◌, ◌+◌, ◌*◌, ◌^◌, OnOk, IfOk, length, max};
 ghost use Rattle.pfx_weights.specs.Rows.{one};
 ghost use Rattle.pfx_draw.specs.Bars.{has};
-ghost use Rattle.pfx_draw.specs.Lags.{behind_by, ahead_by, signed, lag_text, level_by, level, levels, summed, IsCourse};
+ghost use Rattle.pfx_draw.specs.Lags.{behind_by, ahead_by, signed, lag_text, hundredths, point_text, point_lag, level_by, level, levels, summed, IsCourse};
 
 use crate::bars::has;
-use crate::text::{put_number, put_with_number};
+use crate::text::{put_bytes, put_number, put_with_number};
 use std::alloc::{AllocError, Global};
 
 /// A task of weight e/p, which got `alloc` of the slots before the first that is drawn.
@@ -102,6 +102,47 @@ pub(crate) fn put_lag(
 {
     put_signed(alloc, text, behind_by(c, i, k), ahead_by(c, i, k))?;
     put_with_number(alloc, text, "/", c.p)
+}
+
+fn hundredths(n: u64, p: u64) -> u64
+    requires some { 1 ≤ p }
+    requires small { p ≤ 2 ^ 20 }
+    ensures { result ≡ hundredths n p }
+{
+    n % p * 100 / p
+}
+
+fn put_point(alloc: Global, text: &mut Vec<u8>, n: u64, p: u64) -> Result<(), AllocError>
+    requires some { 1 ≤ p }
+    requires small { p ≤ 2 ^ 20 }
+    ensures { OnOk result (text.new.items ≡ text.old.items ++ point_text n p) }
+{
+    let behind = hundredths(n, p);
+    put_number(alloc, text, n / p)?;
+    put_with_number(alloc, text, ".", behind / 10)?;
+    put_number(alloc, text, behind % 10)
+}
+
+/// Puts the lag after `i` slots, of which the task got `k`, as `-0.33`.
+pub(crate) fn put_point_lag(
+    alloc: Global,
+    text: &mut Vec<u8>,
+    c: Course,
+    i: u64,
+    k: u64,
+) -> Result<(), AllocError>
+    requires course { IsCourse c }
+    requires slots { i ≤ 1440 }
+    requires runs { k ≤ 1440 }
+    ensures { OnOk result (text.new.items ≡ text.old.items ++ point_lag c i k) }
+{
+    let ahead = ahead_by(c, i, k);
+    if ahead > 0 {
+        put_bytes(text, "-".as_bytes())?;
+        put_point(alloc, text, ahead, c.p)
+    } else {
+        put_point(alloc, text, behind_by(c, i, k), c.p)
+    }
 }
 
 fn level_by(behind: u64, ahead: u64) -> u64

@@ -8,7 +8,7 @@ ghost use Rattle.pfx_draw.specs.Lane.{lane};
 ghost use Rattle.pfx_draw.specs.Sizes.{IsDrawable};
 
 use crate::bars::{cell_track, put_bars, run_track};
-use crate::lags::{Course, Summary, levels, put_lag, summed};
+use crate::lags::{Course, Summary, levels, put_lag, put_point_lag, summed};
 use crate::line::put_lag_path;
 use crate::phrases::{Phrase, put_phrase, put_phrase_number};
 use crate::sizes::{Sizes, slots_end, width, y_at};
@@ -226,6 +226,8 @@ fn put_lag_label(
     put_phrase_number(alloc, text, Phrase::TextY, y)?;
     put_phrase(text, Phrase::LagEnd)?;
     put_lag(alloc, text, c, s.slots, runs)?;
+    put_phrase(text, Phrase::Space)?;
+    put_point_lag(alloc, text, c, s.slots, runs)?;
     put_phrase(text, Phrase::TextEnd)
 }
 
@@ -355,7 +357,7 @@ fn put_low_lane(
     let levels = levels(alloc, c, marks)?;
     put_all_cells(alloc, text, s, top, levels.as_slice())?;
     put_run_bars(alloc, text, s, Phrase::Dark, top, marks)?;
-    put_name(alloc, text, top + 7, Phrase::SmallEnd, name)
+    put_name(alloc, text, top + 8, Phrase::SmallEnd, name)
 }
 
 #[tactic(auto, unfolding(crate::specs::Lane::lane_body))]

@@ -24,6 +24,11 @@ pub enum Phrase {
     To,
     Desc,
     DescEnd,
+    DarkBegin,
+    DarkGround,
+    DarkLines,
+    DarkBehind,
+    DarkAhead,
     GroundWidth,
     GroundEnd,
     TextEnd,
@@ -38,10 +43,13 @@ pub enum Phrase {
     GridEnd,
     TextX,
     NumberEnd,
+    WeightHead,
+    LagHead,
     DashEnd,
     NameY,
     FootHyper,
     FootEnd,
+    SvgClose,
     LaneTitle,
     Comma,
     Of,
@@ -110,6 +118,21 @@ fn words_of(phrase: Phrase) -> &'static str
             "</title>\n<desc id='d'>A lane for each task: a bar in each slot in which it runs, ",
         Phrase::DescEnd =>
             "and the lag behind each slot, what it is due less what it got.</desc>\n",
+        Phrase::DarkBegin => {
+            "<style>@media (prefers-color-scheme:dark){svg[fill='#222222']{fill:#E4E4E4}[stroke='#222222']{stroke:#E4E4E4}\n"
+        }
+        Phrase::DarkGround => {
+            "[fill='#FFFFFF']{fill:#16191D}[fill='#000000']{fill:#FFFFFF}[stroke='#000000']{stroke:#FFFFFF}\n"
+        }
+        Phrase::DarkLines => {
+            "[fill='#555555']{fill:#A8ADB3}[stroke='#666666']{stroke:#9AA0A6}[stroke='#E0E0E0'],[stroke='#C8C8C8']{stroke:#41474E}\n"
+        }
+        Phrase::DarkBehind => {
+            "[stroke='#CFE3F2']{stroke:#173A52}[stroke='#8FBFE0']{stroke:#2A6A97}[stroke='#4A94C9']{stroke:#5AAEE6}\n"
+        }
+        Phrase::DarkAhead => {
+            "[stroke='#FBE0C4']{stroke:#4A2F12}[stroke='#F4B77A']{stroke:#8F5A1E}}</style>\n"
+        }
         Phrase::GroundWidth => "<rect width='",
         Phrase::GroundEnd =>
             "' fill='#FFFFFF'/>\n<text x='12' y='22' font-size='14' font-weight='bold'>",
@@ -119,7 +142,7 @@ fn words_of(phrase: Phrase) -> &'static str
             "bar: runs in that slot; line: lag, due less got; dots: one slot behind (above), one ahead (below)</text>\n"
         }
         Phrase::LevelKey =>
-            "dark: runs in that slot; ground: by 3/4, 1/2, 1/4 of a slot behind</text>\n",
+            "bar: runs in that slot; ground: by 3/4, 1/2, 1/4 of a slot behind</text>\n",
         Phrase::KeyBehind => {
             "<path d='M480 36h20' stroke='#4A94C9' stroke-width='12'/><path d='M500 36h20' stroke='#8FBFE0' stroke-width='12'/>"
         }
@@ -134,10 +157,14 @@ fn words_of(phrase: Phrase) -> &'static str
         Phrase::GridEnd => "' stroke='#E0E0E0' fill='none'/>\n",
         Phrase::TextX => "<text x='",
         Phrase::NumberEnd => "' y='58' text-anchor='middle' font-size='11' fill='#555555'>",
+        Phrase::WeightHead =>
+            "' y='58' text-anchor='end' font-size='11' fill='#555555'>weight</text>\n",
+        Phrase::LagHead => "' y='58' text-anchor='end' font-size='11' fill='#555555'>lag</text>\n",
         Phrase::DashEnd => "' stroke='#666666' stroke-dasharray='4 3' fill='none'/>\n",
         Phrase::NameY => "<text x='12' y='",
         Phrase::FootHyper => "' font-size='11' fill='#555555'>dashed: hyperperiod, ",
-        Phrase::FootEnd => " slots, where every lag is 0</text>\n</svg>\n",
+        Phrase::FootEnd => " slots, where every lag is 0</text>\n",
+        Phrase::SvgClose => "</svg>\n",
         Phrase::LaneTitle => "<g><title>",
         Phrase::Comma => ", ",
         Phrase::Of => " of ",

@@ -75,19 +75,19 @@ fn heights_for(lanes: u64) -> Heights
         }
     } else if lanes <= 48 {
         Heights {
-            lane: 26,
+            lane: 28,
             bar: 7,
             middle: 7,
             lag: 7,
-            zero: 16,
+            zero: 19,
         }
     } else {
         Heights {
-            lane: 8,
+            lane: 10,
             bar: 4,
-            middle: 4,
+            middle: 5,
             lag: 0,
-            zero: 4,
+            zero: 5,
         }
     }
 }
@@ -108,7 +108,7 @@ fn right_for(lanes: u64, digits: u64) -> u64
     requires { digits ≤ 64 }
     ensures { result ≡ right_for lanes digits }
 {
-    if lanes <= 48 { 34 + 14 * digits } else { 20 }
+    if lanes <= 48 { 78 + 14 * digits } else { 20 }
 }
 
 /// The sizes of a picture of so many slots and lanes, whose names have so many letters and whose weights' numbers so many
