@@ -80,9 +80,9 @@ impl<J: Job, B: Begun<J>, R: Wait + Drop> BoardWriter<J, B, Shown<J, B>, R> {
         Ok((BoardWriter { end, word, writer }, given))
     }
 
-    /// The batch, which is durable now, is the next one of the durable list, and the state that it leads to is shown. It waits
-    /// for readers that still look at the board of the publication before the last. `AllocError` if an allocation fails: then
-    /// the list has the batch, and what was shown is shown.
+    /// The batch is the next one of the durable list, and the state that it leads to is shown. That the batch is durable is its
+    /// caller's to know: no clause asks for it. It waits for readers that still look at the board of the publication before the
+    /// last. `AllocError` if an allocation fails: then the list has the batch, and what was shown is shown.
     pub fn publish<W: Wait>(
         &mut self,
         rt: &W,

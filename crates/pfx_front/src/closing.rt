@@ -170,7 +170,8 @@ where
     /// each image that a stop may leave since a receipt's moment is recovered to the outcome of first commands, the receipt's
     /// among them; and what a reader that looked has seen are first commands that the store has.
     ///
-    /// `PassOut` says that a pass is missing, or is another front's; then nothing has changed.
+    /// `PassOut` says that a pass is missing, or is another front's; then nothing has ended, and all comes back, the passes perhaps
+    /// in another order. Of the front's book no clause says that it is as it was.
     pub fn close<D: Disk + Drop, R: Threads + Wait + Drop>(
         self,
         rt: &R,

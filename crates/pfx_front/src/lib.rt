@@ -18,7 +18,8 @@
 //!
 //! What tokens carry: clients know what happened to their pass, and the flusher what happened to its share. The lists that they
 //! prove against are the book's, so `close` can say of the whole session what its calls had answered, and of the store what its
-//! receipts had promised. No thread spins or polls, and no lock is held during a call of the disk or a step of a job.
+//! receipts had promised. Who waits sleeps, but for a seat of the crew, which looks for a message for some turns before, and no
+//! lock is held during a call of the disk or a step of a job.
 #![tactic(auto)]
 
 pub mod calls;

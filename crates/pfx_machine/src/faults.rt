@@ -21,7 +21,8 @@ pub enum MachineFault {
     /// The task has no job.
     #[error("task {task} has no job")]
     NoJob { task: u16 },
-    /// A Slot has no row, or an allocation failed before it was run. Only a Slot is refused so.
+    /// A Slot has no row, or an allocation failed before it was run. The machine refuses only a Slot so; a book, each command
+    /// for which it finds no memory.
     #[error("{0}")]
     NoRow(ChoiceFault),
 }
