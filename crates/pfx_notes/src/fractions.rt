@@ -1,5 +1,7 @@
 //! Sums of weights, as fractions.
 
+use pfx_set_file::NamedTask;
+
 /// The greatest common divisor; of 0 and a number that number.
 fn greatest_common_divisor(a: u64, b: u64) -> u64 {
     let mut large = a;
@@ -42,16 +44,16 @@ impl Fraction {
     }
 }
 
-/// The sum of weights (e, p), if their common multiple and it fit 64 bits.
-pub(crate) fn sum_of(weights: &[(u32, u32)]) -> Option<Fraction> {
+/// The sum of the tasks' weights, if their common multiple and it fit 64 bits.
+pub(crate) fn sum_of(tasks: &[NamedTask]) -> Option<Fraction> {
     let mut whole: u64 = 1;
-    for weight in weights {
-        whole = common_multiple(whole, u64::from(weight.1))?;
+    for task in tasks {
+        whole = common_multiple(whole, u64::from(task.p))?;
     }
     let mut parts: u64 = 0;
-    for weight in weights {
-        let each = whole.checked_div(u64::from(weight.1))?;
-        parts = parts.checked_add(u64::from(weight.0).checked_mul(each)?)?;
+    for task in tasks {
+        let each = whole.checked_div(u64::from(task.p))?;
+        parts = parts.checked_add(u64::from(task.e).checked_mul(each)?)?;
     }
     Some(Fraction { parts, whole })
 }

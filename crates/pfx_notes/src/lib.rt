@@ -7,14 +7,15 @@ mod files;
 mod forms;
 mod fractions;
 mod ledgers;
-mod lines;
 mod members;
 mod places;
 mod refusals;
 mod scripts;
 mod sets;
+mod texts;
 mod warnings;
 mod weights;
+mod words;
 
 pub use files::{Named, input_note, output_note, store_note};
 pub use refusals::refused_note;

@@ -1,6 +1,9 @@
 //! Notes of records of a script whose commands were refused.
 
-use crate::places::{Place, line_behind, located, without_mark};
+use crate::places::{Place, without_mark};
+use crate::scripts::line_of;
+use crate::texts;
+use crate::words::{Texts, Word, note_of, said_with};
 use csv::{ByteRecord, ReaderBuilder};
 use pfx_decimal::number_in;
 use pfx_explain::Note;
@@ -16,11 +19,6 @@ fn answers_of(row: &ByteRecord) -> u64 {
         Some(count) => number_in(10, count).unwrap_or(1),
         None => 1,
     }
-}
-
-fn line_of(text: &[u8], row: &ByteRecord) -> Option<Place> {
-    let byte = usize::try_from(row.position()?.byte()).ok()?;
-    Some(line_behind(text, byte))
 }
 
 // Whether a record shows jobs.
@@ -123,57 +121,46 @@ fn record_behind(
     found
 }
 
-// What to do about a refusal of this name.
+// What is said of a refusal of this name: what to do about it.
 fn change_of(refusal: &str) -> &'static str {
-    if refusal.contains("NoSuchTask") {
-        "Tasks are numbered from 0 in the order of the set: pfx status has a line for each."
-    } else if refusal.contains("TaskBusy") {
-        "Run more slots until its job is done, or take the job away first: withdraw,TASK,,,"
-    } else if refusal.contains("NoJob") {
-        "Take away or show only what is there: pfx status says job=open or job=done of a task that has one."
-    } else if refusal.contains("BadKind") {
-        "The kinds are count, rule and scan."
-    } else if refusal.contains("BadGoal") {
-        "Give a count or a rule 1 step or more as the fourth field, and leave it empty for a scan."
-    } else if refusal.contains("BadData") {
-        "A count has digits or nothing, a rule RULE:CELLS as 110:00000001, a scan NEEDLE:TEXT as ab:abcab."
-    } else if refusal.contains("SessionFull") {
-        "Run the rest of the script as another one."
-    } else {
-        "The store has come to its end: make a new one."
+    for (name, change) in texts::REFUSALS {
+        if refusal.contains(name) {
+            return change;
+        }
     }
+    texts::AT_ITS_END
 }
 
 /// The note of the first refused record of a script: where it stands, how it was refused, what to change, and how many more records were.
 /// `answers` are the answers that were printed before it, `shown` those of them that show jobs, `refusal` is what its line says after
 /// `refused`, `refused` how many records were refused in all. If two records may be the one, no place is told. Fails only if
 /// memory runs out.
-pub fn refused_note(
+pub fn refused_note<'a>(
     alloc: Global,
-    file: &str,
+    file: &'a str,
     text: &[u8],
     answers: u64,
     shown: u64,
-    refusal: &[u8],
+    refusal: &'a [u8],
     refused: u64,
 ) -> Result<Note, AllocError> {
     let refusal = from_utf8(refusal).unwrap_or("");
-    let what = match record_behind(alloc, without_mark(text), answers, shown) {
-        Some((place, line)) => {
-            let what = format!(in alloc; "record {place} was refused: {refusal}")?;
-            located(alloc, file, line, what.as_str())?
-        }
-        None => {
-            let what = format!(in alloc; "a record was refused: {refusal}")?;
-            located(alloc, file, None, what.as_str())?
-        }
+    let (what, place, line) = match record_behind(alloc, without_mark(text), answers, shown) {
+        Some((place, line)) => (texts::REFUSED, place, line),
+        None => (texts::SOME_REFUSED, 0, None),
     };
-    let change = Some(String::from_str(alloc, change_of(refusal))?);
     let others = refused.saturating_sub(1);
+    let words = [
+        Word::At(file, line),
+        Word::Number(place),
+        Word::Text(refusal),
+        Word::Number(others),
+    ];
+    let change = change_of(refusal);
     let more = match others {
-        0 => None,
-        1 => Some(String::from_str(alloc, "One more record was refused.")?),
-        _ => Some(format!(in alloc; "{others} more records were refused.")?),
+        0 => "",
+        1 => "One more record was refused.",
+        _ => "{3} more records were refused.",
     };
-    Ok(Note { what, change, more })
+    note_of(alloc, said_with(Texts { what, change }, more, &words))
 }

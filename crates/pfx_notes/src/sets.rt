@@ -6,25 +6,33 @@ use crate::members::SetSource;
 use crate::weights::{
     load_note, multiple_note, no_tasks, segment_note, too_many, weight_note, workers_note,
 };
+use crate::words::{Said, written};
 use pfx_explain::Note;
 use pfx_fault::Fault;
 use pfx_set_file::{SetText, read_set};
 use std::alloc::{AllocError, Global};
 use std::str::from_utf8;
 
-// The note of a set that is none, by its tables alone.
-fn table_note(
-    alloc: Global,
-    source: &SetSource<'_>,
-    fault: Fault,
-) -> Result<Option<Note>, AllocError> {
+// What is said of a set that is none, by its tables alone.
+fn said_of_table<'a>(source: &SetSource<'a>, fault: Fault) -> Option<Said<'a>> {
     match fault {
-        Fault::BadSet => form_note(alloc, source),
-        Fault::NoTasks => no_tasks(alloc, source),
-        Fault::TooManyTasks => too_many(alloc, source),
-        Fault::BadWorkers => workers_note(alloc, source),
-        Fault::BadWeight { task } => weight_note(alloc, source, usize::from(task)),
-        _ => Ok(None),
+        Fault::BadSet => form_note(source),
+        Fault::NoTasks => no_tasks(source),
+        Fault::TooManyTasks => too_many(source),
+        Fault::BadWorkers => workers_note(source),
+        Fault::BadWeight { task } => weight_note(source, usize::from(task)),
+        _ => None,
+    }
+}
+
+// What is said of a set whose numbers don't fit together.
+fn said_of_numbers<'a>(source: &SetSource<'a>, set: &SetText, fault: Fault) -> Option<Said<'a>> {
+    match fault {
+        Fault::HyperperiodTooLarge { task } => multiple_note(source, set, usize::from(task)),
+        Fault::Overload => load_note(source, set),
+        Fault::SegmentTooSmall { least } => segment_note(source, set, Some(least)),
+        Fault::SegmentTooLarge => segment_note(source, set, None),
+        _ => None,
     }
 }
 
@@ -36,17 +44,10 @@ fn numbers_note(
     at: Option<&str>,
     fault: Fault,
 ) -> Result<Option<Note>, AllocError> {
-    match fault {
-        Fault::HyperperiodTooLarge { task } => {
-            multiple_note(alloc, source, set, usize::from(task))
-        }
-        Fault::Overload => load_note(alloc, source, set),
-        Fault::SegmentTooSmall { least } => segment_note(alloc, source, set, Some(least)),
-        Fault::SegmentTooLarge => segment_note(alloc, source, set, None),
-        _ => match at {
-            Some(at) => ledger_fault_note(alloc, set, at, fault),
-            None => Ok(None),
-        },
+    let said = said_of_numbers(source, set, fault);
+    match at {
+        Some(at) if said.is_none() => ledger_fault_note(alloc, set, at, fault),
+        _ => written(alloc, said),
     }
 }
 
@@ -63,7 +64,10 @@ pub fn set_note(
     let table = match toml::table_from_slice(alloc, text) {
         Ok(table) => table,
         Err(e) if e.is_memory() => return Err(AllocError),
-        Err(e) if matches!(fault, Fault::BadSet) => return syntax_note(alloc, file, text, &e),
+        Err(e) if matches!(fault, Fault::BadSet) => return written(
+            alloc,
+            syntax_note(file, text, &e),
+        ),
         Err(_) => return Ok(None),
     };
     let Ok(text) = from_utf8(text) else {
@@ -74,9 +78,9 @@ pub fn set_note(
         text: text.strip_prefix('\u{feff}').unwrap_or(text),
         table: &table,
     };
-    let found = table_note(alloc, &source, fault)?;
-    if found.is_some() {
-        return Ok(found);
+    let said = said_of_table(&source, fault);
+    if said.is_some() {
+        return written(alloc, said);
     }
     match read_set(alloc, text.as_bytes()) {
         Ok(set) => numbers_note(alloc, &source, &set, at, fault),
