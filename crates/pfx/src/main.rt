@@ -168,9 +168,8 @@ fn done<R: Threads + Wait + Clock + Copy + Drop + Send + Sync + 'static>(
         }
         Err(fault) if is_closed(&traces, fault) => fault.status(),
         Err(fault) => {
-            let status = failed(rt, fault);
             tell(rt, alloc, &request, &traces, fault);
-            status
+            fault.status()
         }
     }
 }

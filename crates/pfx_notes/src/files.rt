@@ -1,7 +1,7 @@
 //! Notes of files that can't be opened, and of stores.
 
 use crate::texts;
-use crate::words::{Said, Word, say, written};
+use crate::words::{Said, Texts, Word, say, written};
 use pfx_explain::Note;
 use pfx_fault::{Fault, Part};
 use std::alloc::{AllocError, Global};
@@ -15,6 +15,8 @@ pub enum Named {
     Script,
     /// A store.
     Store,
+    /// A store that is only read.
+    ReadStore,
     /// A store that is to be made.
     NewStore,
 }
@@ -23,7 +25,7 @@ fn noun(named: Named) -> &'static str {
     match named {
         Named::Set => "set",
         Named::Script => "script",
-        Named::Store | Named::NewStore => "store",
+        Named::Store | Named::ReadStore | Named::NewStore => "store",
     }
 }
 
@@ -37,8 +39,9 @@ pub fn input_note<'a>(
     missing: bool,
 ) -> Result<Option<Note>, AllocError> {
     let texts = match named {
-        Named::Store if missing => texts::STORE_MISSING,
+        Named::Store | Named::ReadStore if missing => texts::STORE_MISSING,
         Named::Store => texts::STORE,
+        Named::ReadStore => texts::READ_STORE,
         Named::NewStore => texts::NEW_STORE,
         _ => texts::INPUT,
     };
@@ -51,19 +54,101 @@ pub fn input_note<'a>(
     written(alloc, say(texts, &words))
 }
 
+/// What of a command stands, though its output failed.
+#[derive(Clone, Copy, Debug, PartialEq, Eq)]
+pub enum Stands {
+    /// Nothing that is kept.
+    Nothing,
+    /// The store that was made.
+    NewStore,
+    /// What a run has carried out.
+    Run,
+}
+
 /// The note of an output that can't be written: why. Fails only if memory runs out.
-pub fn output_note(alloc: Global, why: &str) -> Result<Option<Note>, AllocError> {
-    written(alloc, say(texts::OUTPUT, &[Word::Text(why)]))
+pub fn output_note(alloc: Global, why: &str, stands: Stands) -> Result<Option<Note>, AllocError> {
+    let texts = match stands {
+        Stands::Nothing => texts::PLAIN_OUTPUT,
+        Stands::NewStore => texts::NEW_OUTPUT,
+        Stands::Run => texts::OUTPUT,
+    };
+    written(alloc, say(texts, &[Word::Text(why)]))
+}
+
+/// What is wrong with a file.
+#[derive(Clone, Copy, Debug, PartialEq, Eq)]
+pub enum Trouble<'a> {
+    /// Its name is empty, where a word names a set or a script.
+    NoName(Named),
+    /// It is longer than sets are.
+    Long,
+    /// The directory in which it is to be made isn't there.
+    NoDirectory(&'a str),
+    /// It may not be made in its directory.
+    NoPermission,
+    /// Its file system can't be written.
+    ReadOnly,
+    /// There is no room for so many bytes.
+    NoSpace(u64),
+    /// It couldn't be written for this reason, and is left where that is so.
+    Unmade(&'a str, bool),
+    /// It would be standard input.
+    Dash,
+    /// A run has it open.
+    Held,
+    /// The disk has failed, as the system says.
+    Device(&'a str),
+    /// There is no thread to work on it.
+    Threads,
+}
+
+fn texts_of(trouble: Trouble<'_>) -> Texts {
+    match trouble {
+        Trouble::NoName(Named::Set | Named::Script) => texts::NO_NAME,
+        Trouble::NoName(_) => texts::NO_STORE_NAME,
+        Trouble::Long => texts::SET_LONG,
+        Trouble::NoDirectory(_) => texts::NO_DIRECTORY,
+        Trouble::NoPermission => texts::NO_PERMISSION,
+        Trouble::ReadOnly => texts::READ_ONLY,
+        Trouble::NoSpace(_) => texts::NO_SPACE,
+        Trouble::Unmade(_, false) => texts::UNMADE,
+        Trouble::Unmade(_, true) => texts::UNMADE_LEFT,
+        Trouble::Dash => texts::DASH,
+        Trouble::Held => texts::HELD,
+        Trouble::Device(_) => texts::DEVICE,
+        Trouble::Threads => texts::THREADS,
+    }
+}
+
+fn word_of<'a>(trouble: Trouble<'a>) -> Word<'a> {
+    match trouble {
+        Trouble::NoName(named) => Word::Text(noun(named)),
+        Trouble::NoDirectory(directory) => Word::Text(directory),
+        Trouble::Unmade(why, _) => Word::Text(why),
+        Trouble::Device(why) => Word::Text(why),
+        Trouble::NoSpace(len) => Word::Number(len),
+        _ => Word::Text(""),
+    }
+}
+
+/// The note of what is wrong with the file of this path. Fails only if memory runs out.
+pub fn trouble_note<'a>(
+    alloc: Global,
+    path: &'a str,
+    trouble: Trouble<'a>,
+) -> Result<Option<Note>, AllocError> {
+    let words = [Word::At(path, None), word_of(trouble), Word::Text(path)];
+    written(alloc, say(texts_of(trouble), &words))
 }
 
 fn part_text(part: Part) -> &'static str {
     match part {
-        Part::Header => "the header",
-        Part::Length => "the file's length",
-        Part::Checkpoint => "a checkpoint",
-        Part::Segment => "the start of a segment",
-        Part::Frame => "the head of a batch of commands",
-        Part::Record => "a command's record",
+        Part::Header => "the header at",
+        Part::Length => "the file's length at",
+        Part::Checkpoint => "the checkpoint at",
+        Part::Segment => "the start of the segment at",
+        Part::Frame => "the head of the batch of commands at",
+        Part::Record => "a command of the batch that begins at",
     }
 }
 

@@ -4,18 +4,38 @@ use crate::members::{SetSource, kind_of, other_set_key, other_task_key};
 use crate::places::{header_place, place_at};
 use crate::texts;
 use crate::words::{Said, Texts, Word, is_in_names, say};
+use std::str::from_utf8;
 use toml::{Table, Value};
+
+// The key that stands twice, if that is the error.
+fn doubled<'a>(text: &'a [u8], error: &toml::de::Error) -> Option<&'a str> {
+    if error.message() != "duplicate key" {
+        return None;
+    }
+    let span = error.span()?;
+    let found = from_utf8(text.get(span.start..span.end)?).ok()?;
+    match found.split_once('=') {
+        Some((key, _)) => Some(key.trim()),
+        None => Some(found),
+    }
+}
 
 /// The note of a text that isn't TOML.
 pub(crate) fn syntax_note<'a>(
     file: &'a str,
-    text: &[u8],
+    text: &'a [u8],
     error: &'a toml::de::Error,
 ) -> Option<Said<'a>> {
     let place = match error.span() {
         Some(span) => Some(place_at(text, span.start)),
         None => None,
     };
+    if from_utf8(text).is_err() {
+        return say(texts::NO_UTF8, &[Word::At(file, place)]);
+    }
+    if let Some(key) = doubled(text, error) {
+        return say(texts::KEY_TWICE, &[Word::At(file, place), Word::Front(key)]);
+    }
     let why = Word::Text(error.message());
     say(texts::NO_TOML, &[Word::At(file, place), why])
 }

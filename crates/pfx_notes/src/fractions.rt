@@ -31,6 +31,17 @@ pub(crate) struct Fraction {
 }
 
 impl Fraction {
+    // The sum of it and another one.
+    fn plus(self, parts: u64, whole: u64) -> Option<Fraction> {
+        let both = common_multiple(self.whole, whole)?;
+        let own = self.parts.checked_mul(both.checked_div(self.whole)?)?;
+        let other = parts.checked_mul(both.checked_div(whole)?)?;
+        Some(Fraction {
+            parts: own.checked_add(other)?,
+            whole: both,
+        })
+    }
+
     /// The same number in the smallest parts.
     pub(crate) fn reduced(self) -> Fraction {
         let divisor = greatest_common_divisor(self.parts, self.whole);
@@ -44,16 +55,18 @@ impl Fraction {
     }
 }
 
-/// The sum of the tasks' weights, if their common multiple and it fit 64 bits.
-pub(crate) fn sum_of(tasks: &[NamedTask]) -> Option<Fraction> {
-    let mut whole: u64 = 1;
-    for task in tasks {
-        whole = common_multiple(whole, u64::from(task.p))?;
+/// Whether a task is one of those that are left out.
+pub(crate) fn is_out(task: usize, out: &[u16]) -> bool {
+    out.iter().any(|other| usize::from(*other) == task)
+}
+
+/// The sum of the tasks' weights but for those left out, if their common multiple and it fit 64 bits.
+pub(crate) fn sum_of(tasks: &[NamedTask], out: &[u16]) -> Option<Fraction> {
+    let mut sum = Fraction { parts: 0, whole: 1 };
+    for (x, task) in tasks.iter().enumerate() {
+        if !is_out(x, out) {
+            sum = sum.plus(u64::from(task.e), u64::from(task.p))?;
+        }
     }
-    let mut parts: u64 = 0;
-    for task in tasks {
-        let each = whole.checked_div(u64::from(task.p))?;
-        parts = parts.checked_add(u64::from(task.e).checked_mul(each)?)?;
-    }
-    Some(Fraction { parts, whole })
+    Some(sum)
 }

@@ -3,7 +3,7 @@
 use crate::places::{Place, without_mark};
 use crate::scripts::line_of;
 use crate::texts;
-use crate::words::{Texts, Word, note_of, said_with};
+use crate::words::{Said, Texts, Word, note_of, said_with};
 use csv::{ByteRecord, ReaderBuilder};
 use pfx_decimal::number_in;
 use pfx_explain::Note;
@@ -83,14 +83,17 @@ impl Passed {
     }
 }
 
-// The place and the line of the record that was refused first, after so many answers, of which `shown` were jobs that were shown;
+// The record that was refused first: its place, its line, and its fields.
+#[derive(Drop)]
+struct Found {
+    place: u64,
+    line: Option<Place>,
+    row: ByteRecord,
+}
+
+// The record that was refused first, after so many answers, of which `shown` were jobs that were shown;
 // none if two records may be the one.
-fn record_behind(
-    alloc: Global,
-    text: &[u8],
-    answers: u64,
-    shown: u64,
-) -> Option<(u64, Option<Place>)> {
+fn record_behind(alloc: Global, text: &[u8], answers: u64, shown: u64) -> Option<Found> {
     let mut reader = ReaderBuilder::new()
         .has_headers(false)
         .flexible(true)
@@ -112,7 +115,11 @@ fn record_behind(
             if found.is_some() {
                 return None;
             }
-            found = Some((place.saturating_add(1), line_of(text, &row)));
+            found = Some(Found {
+                place: place.saturating_add(1),
+                line: line_of(text, &row),
+                row: row.clone().ok()?,
+            });
         }
         if !passed.pass(&row) {
             return found;
@@ -131,36 +138,71 @@ fn change_of(refusal: &str) -> &'static str {
     texts::AT_ITS_END
 }
 
-/// The note of the first refused record of a script: where it stands, how it was refused, what to change, and how many more records were.
-/// `answers` are the answers that were printed before it, `shown` those of them that show jobs, `refusal` is what its line says after
-/// `refused`, `refused` how many records were refused in all. If two records may be the one, no place is told. Fails only if
-/// memory runs out.
-pub fn refused_note<'a>(
-    alloc: Global,
-    file: &'a str,
-    text: &[u8],
-    answers: u64,
-    shown: u64,
-    refusal: &'a [u8],
-    refused: u64,
-) -> Result<Note, AllocError> {
-    let refusal = from_utf8(refusal).unwrap_or("");
-    let (what, place, line) = match record_behind(alloc, without_mark(text), answers, shown) {
-        Some((place, line)) => (texts::REFUSED, place, line),
-        None => (texts::SOME_REFUSED, 0, None),
+// The word of a record that such a refusal is about; empty if it is about none.
+fn word_of<'a>(row: &'a ByteRecord, refusal: &str) -> &'a str {
+    let place = if refusal.contains("BadKind") {
+        2
+    } else if refusal.contains("BadGoal") {
+        3
+    } else if refusal.contains("BadData") {
+        4
+    } else {
+        return "";
     };
-    let others = refused.saturating_sub(1);
+    match row.get(place) {
+        Some(bytes) => from_utf8(bytes).unwrap_or(""),
+        None => "",
+    }
+}
+
+// What is said of the record that was refused first, if it is known.
+fn said_of<'a>(
+    file: &'a str,
+    refusal: &'a str,
+    found: &'a Option<Found>,
+    refused: u64,
+) -> Said<'a> {
+    let (place, line, word) = match found {
+        Some(found) => (found.place, found.line, word_of(&found.row, refusal)),
+        None => (0, None, ""),
+    };
+    let what = if found.is_none() {
+        texts::SOME_REFUSED
+    } else if word.is_empty() {
+        texts::REFUSED
+    } else {
+        texts::REFUSED_WORD
+    };
+    let more = match refused {
+        0 | 1 => "",
+        2 => "One more record was refused.",
+        _ => "{3} more records were refused.",
+    };
     let words = [
         Word::At(file, line),
         Word::Number(place),
         Word::Text(refusal),
-        Word::Number(others),
+        Word::Number(refused.saturating_sub(1)),
+        Word::Front(word),
     ];
     let change = change_of(refusal);
-    let more = match others {
-        0 => "",
-        1 => "One more record was refused.",
-        _ => "{3} more records were refused.",
-    };
-    note_of(alloc, said_with(Texts { what, change }, more, &words))
+    said_with(Texts { what, change }, more, &words)
+}
+
+/// The note of the first refused record of a script: where it stands, how it was refused, what to change, and how many more records were.
+/// `answers` are the answers that were printed before it, `shown` those of them that show jobs, `refusal` is what its line says after
+/// `refused`, `refused` how many records were refused in all. If two records may be the one, no place is told. Fails only if
+/// memory runs out.
+pub fn refused_note(
+    alloc: Global,
+    file: &str,
+    text: &[u8],
+    answers: u64,
+    shown: u64,
+    refusal: &[u8],
+    refused: u64,
+) -> Result<Note, AllocError> {
+    let refusal = from_utf8(refusal).unwrap_or("");
+    let found = record_behind(alloc, without_mark(text), answers, shown);
+    note_of(alloc, said_of(file, refusal, &found, refused))
 }

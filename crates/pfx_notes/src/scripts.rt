@@ -6,8 +6,13 @@ use crate::words::{Said, Texts, Word, say, written};
 use csv::{ByteRecord, ReaderBuilder};
 use pfx_decimal::number_in;
 use pfx_explain::Note;
+use pfx_script::Whole;
 use std::alloc::{AllocError, Global};
+use std::io::Read;
 use std::str::from_utf8;
+
+/// How many bytes a record has at the most.
+const LONGEST: usize = 1 << 20;
 
 // A record, its place in the script and its line.
 #[derive(Clone, Copy)]
@@ -140,6 +145,50 @@ fn read_to(alloc: Global, text: &[u8], place: u64, row: &mut ByteRecord) -> bool
     place > 0
 }
 
+// How many bytes of a text are whole, where not all are.
+fn whole_len(alloc: Global, text: &[u8]) -> Option<usize> {
+    let mut bytes = Vec::new(alloc);
+    Whole::new(text).read_to_end(&mut bytes).ok()?;
+    let len = bytes.len().checked_sub(1)?;
+    if bytes.len() <= text.len() && bytes[len] == text[len] {
+        None
+    } else {
+        Some(len)
+    }
+}
+
+// What isn't whole of the record that ends a text's whole bytes.
+fn broken_texts(text: &[u8], len: usize, begin: usize) -> Texts {
+    if len.saturating_sub(begin) >= LONGEST {
+        texts::RECORD_LONG
+    } else if len < text.len() {
+        texts::QUOTE_TEXT
+    } else {
+        texts::QUOTE_OPEN
+    }
+}
+
+// What is said of the record at this place, where it isn't whole.
+fn broken_note<'a>(alloc: Global, file: &'a str, text: &[u8], place: u64) -> Option<Said<'a>> {
+    let len = whole_len(alloc, text)?;
+    let whole = &text[..len.min(text.len())];
+    let mut row = ByteRecord::new(alloc);
+    if read_to(alloc, whole, place.saturating_add(1), &mut row)
+        || !read_to(alloc, whole, place, &mut row)
+    {
+        return None;
+    }
+    let begin = usize::try_from(row.position()?.byte()).ok()?;
+    let words = [
+        Word::At(file, line_of(text, &row)),
+        Word::Number(place),
+        Word::Text(""),
+        Word::Text(""),
+        Word::Number(row.len() as u64),
+    ];
+    say(broken_texts(text, len, begin), &words)
+}
+
 /// The note of the record at this place of a script whose text isn't at hand. Fails only if memory runs out.
 pub fn record_note(alloc: Global, file: &str, place: u64) -> Result<Option<Note>, AllocError> {
     let words = [Word::At(file, None), Word::Number(place)];
@@ -156,6 +205,10 @@ pub fn script_note(
     place: u64,
 ) -> Result<Option<Note>, AllocError> {
     let text = without_mark(text);
+    let broken = broken_note(alloc, file, text, place);
+    if broken.is_some() {
+        return written(alloc, broken);
+    }
     let mut row = ByteRecord::new(alloc);
     if !read_to(alloc, text, place, &mut row) {
         return Ok(None);

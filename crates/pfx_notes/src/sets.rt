@@ -26,10 +26,15 @@ fn said_of_table<'a>(source: &SetSource<'a>, fault: Fault) -> Option<Said<'a>> {
 }
 
 // What is said of a set whose numbers don't fit together.
-fn said_of_numbers<'a>(source: &SetSource<'a>, set: &SetText, fault: Fault) -> Option<Said<'a>> {
+fn said_of_numbers<'a>(
+    source: &SetSource<'a>,
+    set: &SetText,
+    out: &[u16],
+    fault: Fault,
+) -> Option<Said<'a>> {
     match fault {
-        Fault::HyperperiodTooLarge { task } => multiple_note(source, set, usize::from(task)),
-        Fault::Overload => load_note(source, set),
+        Fault::HyperperiodTooLarge { task } => multiple_note(source, set, usize::from(task), out),
+        Fault::Overload => load_note(source, set, out),
         Fault::SegmentTooSmall { least } => segment_note(source, set, Some(least)),
         Fault::SegmentTooLarge => segment_note(source, set, None),
         _ => None,
@@ -42,9 +47,10 @@ fn numbers_note(
     source: &SetSource<'_>,
     set: &SetText,
     at: Option<&str>,
+    out: &[u16],
     fault: Fault,
 ) -> Result<Option<Note>, AllocError> {
-    let said = said_of_numbers(source, set, fault);
+    let said = said_of_numbers(source, set, out, fault);
     match at {
         Some(at) if said.is_none() => ledger_fault_note(alloc, set, at, fault),
         _ => written(alloc, said),
@@ -59,6 +65,28 @@ pub fn set_note(
     file: &str,
     text: &[u8],
     at: Option<&str>,
+    fault: Fault,
+) -> Result<Option<Note>, AllocError> {
+    note_without(alloc, file, text, at, &[], fault)
+}
+
+/// The same of a set's fault that comes once these tasks are taken out of it.
+pub fn further_note(
+    alloc: Global,
+    file: &str,
+    text: &[u8],
+    out: &[u16],
+    fault: Fault,
+) -> Result<Option<Note>, AllocError> {
+    note_without(alloc, file, text, None, out, fault)
+}
+
+fn note_without(
+    alloc: Global,
+    file: &str,
+    text: &[u8],
+    at: Option<&str>,
+    out: &[u16],
     fault: Fault,
 ) -> Result<Option<Note>, AllocError> {
     let table = match toml::table_from_slice(alloc, text) {
@@ -83,7 +111,7 @@ pub fn set_note(
         return written(alloc, said);
     }
     match read_set(alloc, text.as_bytes()) {
-        Ok(set) => numbers_note(alloc, &source, &set, at, fault),
+        Ok(set) => numbers_note(alloc, &source, &set, at, out, fault),
         Err(_) => Ok(None),
     }
 }

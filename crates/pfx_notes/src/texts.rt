@@ -27,6 +27,16 @@ pub(crate) const NO_TOML: Texts = Texts {
     change: SET,
 };
 
+pub(crate) const KEY_TWICE: Texts = Texts {
+    what: "{0}: the key `{1}` stands twice",
+    change: "Leave one of the two lines out; each task's keys stand below a [[task]] of its own.",
+};
+
+pub(crate) const NO_UTF8: Texts = Texts {
+    what: "{0}: the set isn't UTF-8 text",
+    change: "Save the set as UTF-8.",
+};
+
 pub(crate) const WORKERS_MISSING: Texts = Texts {
     what: "{0}: `workers` is missing",
     change: WORKERS,
@@ -128,6 +138,11 @@ pub(crate) const WEIGHT_WHOLE: Texts = Texts {
     change: "A weight e/p is below 1: make e smaller than p, or take the task and one worker out of the set.",
 };
 
+pub(crate) const WEIGHT_PERIOD: Texts = Texts {
+    what: HAS_WEIGHT,
+    change: "A weight e/p is between 0 and 1, so p is at least 2: a task due every second slot has e = 1, p = 2.",
+};
+
 pub(crate) const WEIGHT_LARGE: Texts = Texts {
     what: HAS_WEIGHT,
     change: "Numbers are at most 4294967295: write the weight by smaller ones.",
@@ -179,6 +194,12 @@ pub(crate) const LOAD_LARGE: Texts = Texts {
     change: "Lower the weights by {5} in all.",
 };
 
+/// The weights, and the most workers that there can be.
+pub(crate) const LOAD_OF_MOST: Texts = Texts {
+    what: "{0}: the weights sum to {1}, and there are at most 64 workers",
+    change: "Lower the weights by {5} in all.",
+};
+
 /// How a ledger is written.
 const LEDGER: &str =
     "The form is T:A,A,..: a slot below 1099511627776, and the slots that each task got before it, as digits alone.";
@@ -213,12 +234,12 @@ pub(crate) const COUNT_OF_MANY: Texts = Texts {
 };
 
 pub(crate) const LAG: Texts = Texts {
-    what: "--at {0}: {1} is due {2} slots before slot {3}, and is say to have got {4}",
+    what: "--at {0}: {1} is due {2} slots before slot {3}, and is said to have got {4}",
     change: "A lag is above -1 and below 1: give it {5}.",
 };
 
 pub(crate) const SUM: Texts = Texts {
-    what: "--at {0}: the tasks are say to have got {1} slots",
+    what: "--at {0}: the tasks are said to have got {1} slots",
     change: "Before slot {2} all tasks, idle ones too, got {3} times {2}, which is {4}.",
 };
 
@@ -243,14 +264,33 @@ const VERBS: &str =
 /// How a record of this form is written.
 const FIELDS: &str = "Write it as {2} and leave fields that aren't used empty, with their commas.";
 
+/// How a record is written.
+const RECORD_FORM: &str =
+    "A record has five fields, VERB,TASK,KIND,GOAL,DATA, as submit,0,count,5, or slot,,,3, with unused ones empty.";
+
 pub(crate) const RECORD: Texts = Texts {
     what: "{0}: record {1} has no form of a record",
-    change: "A record has five fields, VERB,TASK,KIND,GOAL,DATA, as submit,0,count,5, or slot,,,3, with unused ones empty.",
+    change: RECORD_FORM,
 };
 
 pub(crate) const RECORD_BYTES: Texts = Texts {
     what: "{0}: record {1} isn't UTF-8 text",
     change: "Save the script as UTF-8.",
+};
+
+pub(crate) const QUOTE_OPEN: Texts = Texts {
+    what: "{0}: record {1} opens field {4} with a quote that nothing closes",
+    change: "Close it behind the field's text; a quote within the text is written twice, as \"\".",
+};
+
+pub(crate) const QUOTE_TEXT: Texts = Texts {
+    what: "{0}: record {1} has more text behind the quote that closes field {4}",
+    change: "End the field there; a quote within the text is written twice, as \"\".",
+};
+
+pub(crate) const RECORD_LONG: Texts = Texts {
+    what: "{0}: record {1} has more than 1048576 bytes",
+    change: RECORD_FORM,
 };
 
 pub(crate) const ONE_FIELD: Texts = Texts {
@@ -313,14 +353,97 @@ pub(crate) const STORE_MISSING: Texts = Texts {
     change: "Make it by pfx init SET {3}, or name one that is there.",
 };
 
+pub(crate) const READ_STORE: Texts = Texts {
+    what: "{1} {0}: {2}",
+    change: "Name a store that pfx init has made, and that may be read.",
+};
+
 pub(crate) const NEW_STORE: Texts = Texts {
     what: "{1} {0}: {2}",
     change: "Name a file that may be written, in a directory that is there.",
 };
 
+pub(crate) const NO_NAME: Texts = Texts {
+    what: "the {1} has an empty name",
+    change: "Name a file, or - for standard input; in a shell an unset variable gives an empty word.",
+};
+
+pub(crate) const NO_STORE_NAME: Texts = Texts {
+    what: "the {1} has an empty name",
+    change: "Name a file; in a shell an unset variable gives an empty word.",
+};
+
+pub(crate) const SET_LONG: Texts = Texts {
+    what: "set {0}: it has more than 16777216 bytes",
+    change: "Name a set file: TOML, with the workers and for each task its name, e and p.",
+};
+
+pub(crate) const NO_DIRECTORY: Texts = Texts {
+    what: "store {2}: there is no directory {1}",
+    change: "Make it by mkdir -p {1}, or name a file in a directory that is there.",
+};
+
+pub(crate) const NO_PERMISSION: Texts = Texts {
+    what: "store {2}: no permission to make a file in its directory",
+    change: "Name a file in a directory that you may write.",
+};
+
+pub(crate) const READ_ONLY: Texts = Texts {
+    what: "store {2}: its file system is read only",
+    change: "Name a file on a file system that can be written.",
+};
+
+pub(crate) const NO_SPACE: Texts = Texts {
+    what: "store {2}: no space is left for its {1} bytes",
+    change: "Make room there, or name a file on another file system. Nothing is left of this one.",
+};
+
+pub(crate) const UNMADE: Texts = Texts {
+    what: "store {2}: it can't be written: {1}",
+    change: "Look to the disk, or name a file on another one. Nothing is left of this one.",
+};
+
+pub(crate) const UNMADE_LEFT: Texts = Texts {
+    what: "store {2}: it can't be written: {1}",
+    change: "Look to the disk, and delete what is left of the file before the next init.",
+};
+
+pub(crate) const DASH: Texts = Texts {
+    what: "store {2}: a store is a file, and isn't read from standard input",
+    change: "Name its file, as pfx status night.pfx; a file of this name is ./-.",
+};
+
+pub(crate) const HELD: Texts = Texts {
+    what: "store {2}: a run, or a driver by its run, has it open",
+    change: "Wait until that ends, or ask it: the record status,,,, on its script's pipe prints the same board.",
+};
+
+pub(crate) const DEVICE: Texts = Texts {
+    what: "store {2}: {1}",
+    change: "Look to the disk and to the space on it, and run again; after a failed sync restart the machine first.",
+};
+
+pub(crate) const THREADS: Texts = Texts {
+    what: "the system gives no thread for a worker or for what keeps the slots",
+    change: "Ask for fewer by --workers N; with --workers 0 one thread does everything.",
+};
+
+/// What is wrong with standard output.
+const STANDARD_OUTPUT: &str = "standard output: {0}";
+
 pub(crate) const OUTPUT: Texts = Texts {
-    what: "standard output: {0}",
+    what: STANDARD_OUTPUT,
     change: "What was carried out stands: pfx status says how far a store has come.",
+};
+
+pub(crate) const PLAIN_OUTPUT: Texts = Texts {
+    what: STANDARD_OUTPUT,
+    change: "Send it to a file that has room, or to a program that reads it.",
+};
+
+pub(crate) const NEW_OUTPUT: Texts = Texts {
+    what: STANDARD_OUTPUT,
+    change: "The store is made: pfx status shows it.",
 };
 
 /// What to do about a file that was damaged.
@@ -328,7 +451,7 @@ const COPY: &str =
     "Take a copy of the file from elsewhere: it was cut or overwritten. Nothing is changed in it.";
 
 pub(crate) const DAMAGED: Texts = Texts {
-    what: "store {0}: {2} at byte {1} isn't as pfx writes it",
+    what: "store {0}: {2} byte {1} isn't as pfx writes it",
     change: COPY,
 };
 
@@ -377,6 +500,9 @@ pub(crate) const NO_JOB: Texts = Texts {
 
 /// The record that was refused first.
 pub(crate) const REFUSED: &str = "{0}: record {1} was refused: {2}";
+
+/// The same with the word that it was refused for.
+pub(crate) const REFUSED_WORD: &str = "{0}: record {1} was refused: {2}, for `{4}`";
 
 /// The same where it isn't known.
 pub(crate) const SOME_REFUSED: &str = "{0}: a record was refused: {2}";

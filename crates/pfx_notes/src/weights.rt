@@ -1,6 +1,6 @@
 //! Notes of sets that are no task sets.
 
-use crate::fractions::{Fraction, common_multiple, sum_of};
+use crate::fractions::{Fraction, common_multiple, is_out, sum_of};
 use crate::members::SetSource;
 use crate::places::header_place;
 use crate::texts;
@@ -35,7 +35,9 @@ pub(crate) fn workers_note<'a>(set: &SetSource<'a>) -> Option<Said<'a>> {
 pub(crate) fn weight_note<'a>(set: &SetSource<'a>, task: usize) -> Option<Said<'a>> {
     let e = set.number(task, "e")?;
     let p = set.number(task, "p")?;
-    let (texts, key) = if e < 1 {
+    let (texts, key) = if p < 2 {
+        (texts::WEIGHT_PERIOD, "p")
+    } else if e < 1 {
         (texts::WEIGHT_NONE, "e")
     } else if e >= p {
         (texts::WEIGHT_WHOLE, "e")
@@ -48,9 +50,12 @@ pub(crate) fn weight_note<'a>(set: &SetSource<'a>, task: usize) -> Option<Said<'
 }
 
 // The common multiple of the periods before a task, and with it.
-fn multiples(set: &SetText, task: usize) -> Option<(u64, u64)> {
+fn multiples(set: &SetText, task: usize, out: &[u16]) -> Option<(u64, u64)> {
     let mut multiple: u64 = 1;
     for (x, one) in set.tasks.iter().enumerate() {
+        if is_out(x, out) {
+            continue;
+        }
         let with = common_multiple(multiple, u64::from(one.p))?;
         if x == task {
             return Some((multiple, with));
@@ -65,8 +70,9 @@ pub(crate) fn multiple_note<'a>(
     source: &SetSource<'a>,
     set: &SetText,
     task: usize,
+    out: &[u16],
 ) -> Option<Said<'a>> {
-    let (before, with) = multiples(set, task)?;
+    let (before, with) = multiples(set, task, out)?;
     let texts = if before == 1 {
         texts::PERIOD_LONG
     } else {
@@ -92,21 +98,36 @@ fn wanted(sum: Fraction) -> Option<u64> {
     }
 }
 
+// The workers that the weights are compared with: 64 of a set that has no lawful number of them.
+fn workers_of(set: &SetText) -> u64 {
+    if set.workers >= 1 && set.workers <= 64 {
+        u64::from(set.workers)
+    } else {
+        64
+    }
+}
+
 /// Weights that sum to more than the workers.
-pub(crate) fn load_note<'a>(source: &SetSource<'a>, set: &SetText) -> Option<Said<'a>> {
-    let sum = sum_of(set.tasks.as_slice())?;
+pub(crate) fn load_note<'a>(
+    source: &SetSource<'a>,
+    set: &SetText,
+    out: &[u16],
+) -> Option<Said<'a>> {
+    let sum = sum_of(set.tasks.as_slice(), out)?;
     let wanted = wanted(sum)?;
-    let taken = u64::from(set.workers).checked_mul(sum.whole)?;
+    let workers = workers_of(set);
+    let taken = workers.checked_mul(sum.whole)?;
     let beyond = Fraction {
         parts: sum.parts.saturating_sub(taken),
         whole: sum.whole,
     };
-    let texts = if wanted <= 64 {
+    let texts = if workers != u64::from(set.workers) {
+        texts::LOAD_OF_MOST
+    } else if wanted <= 64 {
         texts::LOAD
     } else {
         texts::LOAD_LARGE
     };
-    let workers = u64::from(set.workers);
     let words = [
         Word::At(source.file, source.top_place("workers")),
         Word::Fraction(sum.reduced()),

@@ -200,6 +200,9 @@ fn put_word(alloc: Global, text: &mut String, word: Word<'_>) -> Result<(), Allo
         Word::Are(count) => text.push_str(if count == 1 { "is" } else { "are" }),
         Word::Fraction(Fraction { parts, whole }) => {
             put_number(alloc, text, parts)?;
+            if whole == 1 {
+                return Ok(());
+            }
             text.push('/')?;
             put_number(alloc, text, whole)
         }
