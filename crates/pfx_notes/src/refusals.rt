@@ -181,7 +181,7 @@ fn said_of<'a>(
     let words = [
         Word::At(file, line),
         Word::Number(place),
-        Word::Text(refusal),
+        Word::Refusal(refusal),
         Word::Number(refused.saturating_sub(1)),
         Word::Front(word),
     ];
