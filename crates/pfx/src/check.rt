@@ -1,11 +1,10 @@
 //! `pfx check SET`.
 
-use crate::failed;
 use crate::files::{fault_of, input};
-use crate::notes::{is_closed, tell};
+use crate::notes::{is_closed, tell, tell_all};
 use crate::traces::{Traces, output_of, set_source};
 use pfx_args::Request;
-use pfx_check::{Refusal, put_also, run_check};
+use pfx_check::{Refusal, run_check};
 use pfx_fault::Fault;
 use std::alloc::Global;
 use std::io::Write;
@@ -40,11 +39,12 @@ pub(crate) fn refused_by_all(
     if is_closed(traces, refusal.first) {
         return refusal.first.status();
     }
-    let status = failed(rt, refusal.first);
-    tell(rt, alloc, request, traces, refusal.first);
-    for fault in refusal.further.iter() {
-        let _ = put_also(&mut rt.stderr(), *fault);
-        tell(rt, alloc, request, traces, *fault);
+    match request {
+        Request::Check { set } if !refusal.further.is_empty() => {
+            let further = refusal.further.as_slice();
+            tell_all(rt, alloc, set, traces, refusal.first, further);
+        }
+        _ => tell(rt, alloc, request, traces, refusal.first),
     }
-    status
+    refusal.first.status()
 }

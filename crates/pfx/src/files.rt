@@ -6,9 +6,10 @@ use pfx_disk::FileDisk;
 use pfx_fault::Fault;
 use std::fs::{File, OpenOptions, TryLockError};
 use std::io::{Read, Stdin};
+use std::os::unix::fs::FileExt;
 use std::path::Path;
 use std::time::Duration;
-use std::{io, thread};
+use std::{fs, io, thread};
 
 /// How often a reader tries to lock a store's file, with a pause after each try: a second in all.
 const TRIES: u32 = 100;
@@ -65,9 +66,7 @@ pub(crate) fn taken_streams(rt: &HostRuntime) -> [io::Result<File>; 3] {
     ]
 }
 
-fn opened(rt: &HostRuntime, path: &str, create: bool) -> Result<File, Fault> {
-    let mut options = OpenOptions::new();
-    options.read(true).write(true).create(create);
+fn opened(rt: &HostRuntime, path: &str, options: &OpenOptions) -> Result<File, Fault> {
     match options.open(rt, path) {
         Ok(file) => Ok(file),
         Err(error) => Err(fault_of(&error, Fault::InputFailed)),
@@ -84,13 +83,54 @@ fn lock_fault(error: TryLockError) -> Fault
     }
 }
 
-/// A store's file for its one writer, made if it is missing and `create` says so. `Busy` comes if another process has
-/// it open: the file is locked before anything of it is read, as long as it is open.
-pub(crate) fn disk(rt: &HostRuntime, path: &str, create: bool) -> Result<FileDisk, Fault> {
-    let file = opened(rt, path, create)?;
+// A file that no other process has.
+fn locked(file: File) -> Result<FileDisk, Fault> {
     match file.try_lock() {
         Ok(()) => Ok(FileDisk::new(file)),
         Err(error) => Err(lock_fault(error)),
+    }
+}
+
+/// A store's file for its one writer. `Busy` comes if another process has it open: the file is locked before anything of it is
+/// read, as long as it is open.
+pub(crate) fn disk(rt: &HostRuntime, path: &str) -> Result<FileDisk, Fault> {
+    let mut options = OpenOptions::new();
+    options.read(true).write(true);
+    locked(opened(rt, path, &options)?)
+}
+
+/// The same of a file in which a store is made, and whether it is new, so that it is taken away where that fails.
+pub(crate) fn new_disk(rt: &HostRuntime, path: &str) -> Result<(FileDisk, bool), Fault> {
+    let mut options = OpenOptions::new();
+    options.read(true).write(true).create_new(true);
+    if let Ok(file) = options.open(rt, path) {
+        return Ok((locked(file)?, true));
+    }
+    let mut options = OpenOptions::new();
+    options.read(true).write(true).create(true);
+    Ok((locked(opened(rt, path, &options)?)?, false))
+}
+
+// Why so many bytes can't be written to a file, as the system says.
+fn unwritten_by(file: &File, len: u64) -> io::Result<()> {
+    let zeros = [0u8; 4096];
+    for i in 0..len.div_ceil(4096) {
+        file.write_all_at(&zeros, i.saturating_mul(4096))?;
+    }
+    file.sync_all()
+}
+
+/// Why so many bytes can't be written to a file and synced, if they can't now.
+pub(crate) fn unwritten(rt: &HostRuntime, path: &str, len: u64) -> Option<io::ErrorKind> {
+    let mut options = OpenOptions::new();
+    options.write(true);
+    let written = match options.open(rt, path) {
+        Ok(file) => unwritten_by(&file, len),
+        Err(error) => Err(error),
+    };
+    match written {
+        Ok(()) => None,
+        Err(error) => Some(error.kind()),
     }
 }
 
@@ -112,9 +152,20 @@ pub(crate) fn sync_directory(rt: &HostRuntime, path: &str) -> Result<(), Fault>
     }
 }
 
-/// A store's file for a reader, one of any number. `Busy` comes if a writer has had it open for a second.
+/// Whether a path leads to a plain file. Only such a one is opened for reading alone: a pipe would wait for its writer.
+fn is_plain(rt: &HostRuntime, path: &str) -> bool {
+    match fs::metadata(rt, path) {
+        Ok(found) => found.is_file(),
+        Err(_) => false,
+    }
+}
+
+/// A store's file for a reader, one of any number, who needn't be allowed to write it. `Busy` comes if a writer has had it open for
+/// a second.
 pub(crate) fn shared_disk(rt: &HostRuntime, path: &str) -> Result<FileDisk, Fault> {
-    let file = opened(rt, path, false)?;
+    let mut options = OpenOptions::new();
+    options.read(true).write(!is_plain(rt, path));
+    let file = opened(rt, path, &options)?;
     for _ in 0..TRIES {
         match file.try_lock_shared() {
             Ok(()) => return Ok(FileDisk::new(file)),

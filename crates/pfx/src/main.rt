@@ -21,6 +21,7 @@ mod progress;
 mod replay;
 mod run;
 mod store;
+mod tips;
 mod traces;
 
 use crate::check::{check, refused_by_all};
@@ -32,6 +33,7 @@ use crate::plan::plan;
 use crate::replay::replay;
 use crate::run::run;
 use crate::store::{init, show, status};
+use crate::tips::{of_fault, of_words};
 use crate::traces::Traces;
 use clap::Error;
 use clap::error::ErrorKind;
@@ -39,6 +41,7 @@ use pfx_args::{Request, read_words};
 use pfx_fault::{Fault, put_fault};
 use pfx_program::Form;
 use std::alloc::Global;
+use std::io::Write;
 use std::process::ExitCode;
 use std::sync::Wait;
 use std::thread::Threads;
@@ -67,17 +70,38 @@ fn failed(rt: &HostRuntime, fault: Fault) -> u8
 }
 
 // Says what is wrong with the words, where no parse does.
-fn refused(rt: &HostRuntime, why: &str) -> u8
+fn refused(rt: &HostRuntime, alloc: Global, why: &str) -> u8
     ensures { result ≡ 2 }
 {
-    let _ = eprintln!(rt; "error: {why}\n\nFor more information, try '--help'.");
+    let said = format!(in alloc; "error: {why}\n\nFor more information, try '--help'.\n");
+    let _ = match &said {
+        Ok(said) => rt.stderr().write_all(said.as_bytes()),
+        Err(_) => rt.stderr().write_all(b"error: no memory\n"),
+    };
     USAGE
 }
 
+// The same of a word that names no fault.
+fn unexplained(rt: &HostRuntime, alloc: Global, word: &str) -> u8
+    ensures { result ≡ 2 }
+{
+    match of_fault(alloc, word) {
+        Ok(why) => refused(rt, alloc, why.as_str()),
+        Err(_) => refused(rt, alloc, "no fault has this number or name"),
+    }
+}
+
 // Answers words that ask for nothing to be done: by the help, the version or what was expected.
-fn answered(rt: &HostRuntime, error: &Error) -> u8 {
+fn answered(rt: &HostRuntime, alloc: Global, words: &[&str], error: &Error) -> u8 {
     if error.kind() == ErrorKind::OutOfMemory {
         return failed(rt, Fault::NoMemory);
+    }
+    if error.use_stderr()
+        && let Ok(message) = error.to_string(alloc)
+        && let Ok(said) = of_words(alloc, words, message.as_str())
+    {
+        let _ = rt.stderr().write_all(said.as_bytes());
+        return error.exit_code() as u8;
     }
     match error.print(rt) {
         Err(gone) if gone.kind() == io::ErrorKind::BrokenPipe =>
@@ -132,7 +156,7 @@ fn carried_out<R: Threads + Wait + Clock + Copy + Drop + Send + Sync + 'static>(
         Request::Show { file, task, json } => show(rt, alloc, file, task, form_of(json), traces)?,
         Request::Draw { set, slots, at } => {
             if !draw(rt, alloc, set, at, slots, traces)? {
-                return Ok(refused(rt, TOO_LARGE));
+                return Ok(refused(rt, alloc, TOO_LARGE));
             }
         }
         Request::Check { set } => {
@@ -142,7 +166,7 @@ fn carried_out<R: Threads + Wait + Clock + Copy + Drop + Send + Sync + 'static>(
         }
         Request::Explain { fault } => {
             if !explain(rt, fault, traces)? {
-                return Ok(refused(rt, "no fault has this number or name"));
+                return Ok(unexplained(rt, alloc, fault));
             }
         }
     }
@@ -157,8 +181,8 @@ fn done<R: Threads + Wait + Clock + Copy + Drop + Send + Sync + 'static>(
 ) -> u8 {
     let request = match read_words(alloc, words) {
         Ok(Some(request)) => request,
-        Ok(None) => return refused(rt, "the words ask for nothing"),
-        Err(error) => return answered(rt, &error),
+        Ok(None) => return refused(rt, alloc, "the words ask for nothing"),
+        Err(error) => return answered(rt, alloc, words, &error),
     };
     let mut traces = Traces::new(alloc);
     match carried_out(rt, threads, alloc, request, &mut traces) {
@@ -168,9 +192,8 @@ fn done<R: Threads + Wait + Clock + Copy + Drop + Send + Sync + 'static>(
         }
         Err(fault) if is_closed(&traces, fault) => fault.status(),
         Err(fault) => {
-            let status = failed(rt, fault);
             tell(rt, alloc, &request, &traces, fault);
-            status
+            fault.status()
         }
     }
 }
@@ -189,7 +212,7 @@ fn main(rt: HostRuntime) -> ExitCode {
         Err(error) if error.kind() == io::ErrorKind::OutOfMemory => {
             return ExitCode::from(failed(&rt, Fault::NoMemory));
         }
-        Err(_) => return ExitCode::from(refused(&rt, "a word isn't UTF-8 text")),
+        Err(_) => return ExitCode::from(refused(&rt, alloc, "a word isn't UTF-8 text")),
     };
     let mut words = Vec::new(alloc);
     for word in given.iter() {

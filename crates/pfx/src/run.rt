@@ -18,7 +18,7 @@ use pfx_front_engine::scripts::run_served;
 use pfx_jobs::quantum::{Done, Quantum};
 use pfx_kinds::any::AnyJob;
 use pfx_program::Form;
-use pfx_script::Script;
+use pfx_script::{Script, Whole};
 use pfx_store::Store;
 use std::alloc::Global;
 use std::sync::Wait;
@@ -30,7 +30,7 @@ fn run_alone(
     rt: &HostRuntime,
     alloc: Global,
     store: Store<FileDisk, AnyJob>,
-    script: &mut Script<Lines<'_>>,
+    script: &mut Script<Whole<Lines<'_>>>,
     window: u32,
     form: Form,
     traces: &Traces,
@@ -51,7 +51,7 @@ fn run_by<R: Threads + Wait + Clock + Copy + Drop + Send + Sync + 'static>(
     alloc: Global,
     store: Store<FileDisk, AnyJob>,
     workers: u32,
-    script: &mut Script<Lines<'_>>,
+    script: &mut Script<Whole<Lines<'_>>>,
     window: u32,
     form: Form,
     traces: &Traces,
@@ -92,8 +92,11 @@ pub(crate) fn run<R: Threads + Wait + Clock + Copy + Drop + Send + Sync + 'stati
     form: Form,
     traces: &Traces,
 ) -> Result<(), Fault> {
-    let mut script = Script::new(alloc, script_of(input(rt, script)?, &traces.seen));
-    let store = opened(alloc, disk(rt, file, false)?)?;
+    let mut script = Script::new(
+        alloc,
+        Whole::new(script_of(input(rt, script)?, &traces.seen)),
+    );
+    let store = opened(alloc, disk(rt, file)?)?;
     let workers = workers.unwrap_or(store.state().columns().workers());
     if workers == 0 {
         let window = window.unwrap_or(1).max(1);

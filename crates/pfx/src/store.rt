@@ -5,8 +5,9 @@ ghost use Rattle.pfx_disk.specs.File.{file_view};
 ghost use Rattle.pfx_front.specs.Starting.{Begins};
 ghost use Rattle.pfx_kinds.specs.AnyKind.{any_kind};
 
-use crate::files::{disk, fault_of, input, shared_disk, sync_directory};
-use crate::traces::{Traces, output_of, set_source};
+use crate::files::{fault_of, input, new_disk, shared_disk, sync_directory, unwritten};
+use crate::traces::{Traces, Unmade, output_of, set_source};
+use pfx_check::store_len;
 use pfx_disk::FileDisk;
 use pfx_engine::DurableEngine;
 use pfx_engine::faults::{init_fault, open_fault, size_fault};
@@ -16,10 +17,26 @@ use pfx_kinds::any::AnyJob;
 use pfx_program::{Form, created_line, read_task_set, run_show, run_status};
 use pfx_store::Store;
 use std::alloc::Global;
+use std::fs;
 use std::io::{BufWriter, Write};
 
+// Takes away the file in which no store could be made, if it is new, and says why.
+fn taken_away(rt: &HostRuntime, file: &str, is_new: bool, needed: u64) -> Option<Unmade> {
+    if !is_new {
+        return None;
+    }
+    let why = unwritten(rt, file, needed);
+    let is_left = fs::remove_file(rt, file).is_err();
+    Some(Unmade {
+        why,
+        needed,
+        is_left,
+    })
+}
+
 /// Makes a store of a set in a file, which is made if it is missing, and prints its line. The set's refusals and the
-/// segment's come before the file is touched. The file's directory is synced before the line is printed.
+/// segment's come before the file is touched. The file's directory is synced before the line is printed. A new file is taken away if no
+/// store is made in it.
 pub(crate) fn init(
     rt: &HostRuntime,
     alloc: Global,
@@ -32,11 +49,19 @@ pub(crate) fn init(
     if let Err(fault) = check_segment(&set, segment) {
         return Err(size_fault(fault));
     }
-    let store = match Store::<FileDisk, AnyJob>::init(alloc, disk(rt, file, true)?, &set, segment) {
+    let needed = store_len(&set, segment);
+    let (disk, is_new) = new_disk(rt, file)?;
+    let store = match Store::<FileDisk, AnyJob>::init(alloc, disk, &set, segment) {
         Ok(store) => store,
-        Err((fault, _disk)) => return Err(init_fault(fault)),
+        Err((fault, _disk)) => {
+            traces.unmade = taken_away(rt, file, is_new, needed);
+            return Err(init_fault(fault));
+        }
     };
-    sync_directory(rt, file)?;
+    if let Err(fault) = sync_directory(rt, file) {
+        traces.unmade = taken_away(rt, file, is_new, needed);
+        return Err(fault);
+    }
     let Ok(line) = created_line(alloc, &set, store.places().sizes.file_len()) else {
         return Err(Fault::NoMemory);
     };

@@ -11,6 +11,9 @@ use std::io::{Error, ErrorKind, Printer, Read, Write};
 /// How many bytes of a refusal are kept.
 const KEPT: usize = 96;
 
+/// How many bytes a set has at the most.
+const LONGEST_SET: u64 = 1 << 24;
+
 /// How many bytes of a script are read at once, if each line of it is given alone.
 const ROOM: usize = 4096;
 
@@ -115,11 +118,33 @@ impl Seen {
     }
 }
 
+/// A store that wasn't made, whose file was new.
+#[derive(Clone, Copy)]
+pub(crate) struct Unmade {
+    /// Why its file can't be written, if that is known.
+    pub(crate) why: Option<ErrorKind>,
+    /// How many bytes it needs.
+    pub(crate) needed: u64,
+    /// Whether the file couldn't be taken away.
+    pub(crate) is_left: bool,
+}
+
+/// What was read of a set.
+#[derive(Drop)]
+pub(crate) struct SetRead {
+    /// Its text; empty if there was no room for it.
+    pub(crate) text: Vec<u8>,
+    /// Whether it is longer than sets are.
+    pub(crate) is_long: bool,
+}
+
 /// What a command leaves.
 #[derive(Drop)]
 pub(crate) struct Traces {
-    /// The text of its set.
-    pub(crate) set: Vec<u8>,
+    /// What was read of its set.
+    pub(crate) set: SetRead,
+    /// The store that wasn't made.
+    pub(crate) unmade: Option<Unmade>,
     /// What was seen of its output.
     pub(crate) seen: Cell<Seen>,
 }
@@ -127,7 +152,11 @@ pub(crate) struct Traces {
 impl Traces {
     pub(crate) fn new(alloc: Global) -> Traces {
         Traces {
-            set: Vec::new(alloc),
+            set: SetRead {
+                text: Vec::new(alloc),
+                is_long: false,
+            },
+            unmade: None,
             seen: Cell::new(Seen::new()),
         }
     }
@@ -182,19 +211,21 @@ impl Write for Watched<'_> {
     }
 }
 
-/// A set's source, whose bytes are kept as they are read. If there is no room for all of them, none are.
+/// A set's source, whose bytes are kept as they are read. If there is no room for all of them, none are. One that is too long fails.
 #[derive(Drop)]
 pub(crate) struct Kept<'a> {
     source: Source,
-    text: &'a mut Vec<u8>,
+    read: &'a mut SetRead,
+    len: u64,
     whole: bool,
 }
 
-/// A source whose bytes come to stand in the text.
-pub(crate) fn set_source(source: Source, text: &mut Vec<u8>) -> Kept<'_> {
+/// A source whose bytes come to stand there.
+pub(crate) fn set_source(source: Source, read: &mut SetRead) -> Kept<'_> {
     Kept {
         source,
-        text,
+        read,
+        len: 0,
         whole: true,
     }
 }
@@ -202,8 +233,13 @@ pub(crate) fn set_source(source: Source, text: &mut Vec<u8>) -> Kept<'_> {
 impl Read for Kept<'_> {
     fn read(&mut self, bytes: &mut [u8]) -> io::Result<usize> {
         let count = self.source.read(bytes)?;
-        if self.whole && self.text.extend_from_slice(&bytes[..count]).is_err() {
-            self.text.clear();
+        self.len = self.len.saturating_add(count as u64);
+        if self.len > LONGEST_SET {
+            self.read.is_long = true;
+            return Err(Error::new(ErrorKind::FileTooLarge, "the set is too long"));
+        }
+        if self.whole && self.read.text.extend_from_slice(&bytes[..count]).is_err() {
+            self.read.text.clear();
             self.whole = false;
         }
         Ok(count)

@@ -18,3 +18,4 @@ mod text;
 
 pub use also::put_also;
 pub use run::{Refusal, run_check};
+pub use text::store_len;

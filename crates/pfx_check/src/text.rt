@@ -98,7 +98,7 @@ fn put_tasks(
 }
 
 /// How many bytes the file of a store of the set has.
-fn store_len(set: &TaskSet, segment: u32) -> u64
+pub fn store_len(set: &TaskSet, segment: u32) -> u64
     requires { IsSegmentSize set.now.workers segment }
     ensures { result ≡ file_len (layout (record { set = set.now; segment = segment })) }
 {

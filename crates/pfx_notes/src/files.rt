@@ -1,7 +1,7 @@
 //! Notes of files that can't be opened, and of stores.
 
-use crate::lines::{of_lines, two_lines};
-use crate::places::shown_path;
+use crate::texts;
+use crate::words::{Said, Texts, Word, say, written};
 use pfx_explain::Note;
 use pfx_fault::{Fault, Part};
 use std::alloc::{AllocError, Global};
@@ -15,6 +15,8 @@ pub enum Named {
     Script,
     /// A store.
     Store,
+    /// A store that is only read.
+    ReadStore,
     /// A store that is to be made.
     NewStore,
 }
@@ -23,95 +25,161 @@ fn noun(named: Named) -> &'static str {
     match named {
         Named::Set => "set",
         Named::Script => "script",
-        Named::Store | Named::NewStore => "store",
+        Named::Store | Named::ReadStore | Named::NewStore => "store",
     }
 }
 
 /// The note of a file that can't be opened or read: which one, why, what to do. `missing` says that it isn't there. Fails only if
 /// memory runs out.
-pub fn input_note(
+pub fn input_note<'a>(
     alloc: Global,
     named: Named,
-    path: &str,
-    why: &str,
+    path: &'a str,
+    why: &'a str,
     missing: bool,
 ) -> Result<Option<Note>, AllocError> {
-    let noun = noun(named);
-    let file = shown_path(path);
-    let what = format!(in alloc; "{noun} {file}: {why}")?;
-    if missing && named == Named::Store {
-        let change = format!(in alloc;
-            "Make it by pfx init SET {path}, or name one that is there."
-        )?;
-        return Ok(of_lines(what, change));
-    }
-    let change = match named {
-        Named::Store => "Name a store that pfx init has made, and that may be read and written.",
-        Named::NewStore => "Name a file that may be written, in a directory that is there.",
-        _ => "Name a file that can be read, or - for standard input.",
+    let texts = match named {
+        Named::Store | Named::ReadStore if missing => texts::STORE_MISSING,
+        Named::Store => texts::STORE,
+        Named::ReadStore => texts::READ_STORE,
+        Named::NewStore => texts::NEW_STORE,
+        _ => texts::INPUT,
     };
-    two_lines(alloc, what, change)
+    let words = [
+        Word::At(path, None),
+        Word::Text(noun(named)),
+        Word::Text(why),
+        Word::Text(path),
+    ];
+    written(alloc, say(texts, &words))
+}
+
+/// What of a command stands, though its output failed.
+#[derive(Clone, Copy, Debug, PartialEq, Eq)]
+pub enum Stands {
+    /// Nothing that is kept.
+    Nothing,
+    /// The store that was made.
+    NewStore,
+    /// What a run has carried out.
+    Run,
 }
 
 /// The note of an output that can't be written: why. Fails only if memory runs out.
-pub fn output_note(alloc: Global, why: &str) -> Result<Option<Note>, AllocError> {
-    let what = format!(in alloc; "standard output: {why}")?;
-    two_lines(
-        alloc,
-        what,
-        "What was carried out stands: pfx status says how far a store has come.",
-    )
+pub fn output_note(alloc: Global, why: &str, stands: Stands) -> Result<Option<Note>, AllocError> {
+    let texts = match stands {
+        Stands::Nothing => texts::PLAIN_OUTPUT,
+        Stands::NewStore => texts::NEW_OUTPUT,
+        Stands::Run => texts::OUTPUT,
+    };
+    written(alloc, say(texts, &[Word::Text(why)]))
+}
+
+/// What is wrong with a file.
+#[derive(Clone, Copy, Debug, PartialEq, Eq)]
+pub enum Trouble<'a> {
+    /// Its name is empty, where a word names a set or a script.
+    NoName(Named),
+    /// It is longer than sets are.
+    Long,
+    /// The directory in which it is to be made isn't there.
+    NoDirectory(&'a str),
+    /// It may not be made in its directory.
+    NoPermission,
+    /// Its file system can't be written.
+    ReadOnly,
+    /// There is no room for so many bytes.
+    NoSpace(u64),
+    /// It couldn't be written for this reason, and is left where that is so.
+    Unmade(&'a str, bool),
+    /// It would be standard input.
+    Dash,
+    /// A run has it open.
+    Held,
+    /// The disk has failed, as the system says.
+    Device(&'a str),
+    /// There is no thread to work on it.
+    Threads,
+}
+
+fn texts_of(trouble: Trouble<'_>) -> Texts {
+    match trouble {
+        Trouble::NoName(Named::Set | Named::Script) => texts::NO_NAME,
+        Trouble::NoName(_) => texts::NO_STORE_NAME,
+        Trouble::Long => texts::SET_LONG,
+        Trouble::NoDirectory(_) => texts::NO_DIRECTORY,
+        Trouble::NoPermission => texts::NO_PERMISSION,
+        Trouble::ReadOnly => texts::READ_ONLY,
+        Trouble::NoSpace(_) => texts::NO_SPACE,
+        Trouble::Unmade(_, false) => texts::UNMADE,
+        Trouble::Unmade(_, true) => texts::UNMADE_LEFT,
+        Trouble::Dash => texts::DASH,
+        Trouble::Held => texts::HELD,
+        Trouble::Device(_) => texts::DEVICE,
+        Trouble::Threads => texts::THREADS,
+    }
+}
+
+fn word_of<'a>(trouble: Trouble<'a>) -> Word<'a> {
+    match trouble {
+        Trouble::NoName(named) => Word::Text(noun(named)),
+        Trouble::NoDirectory(directory) => Word::Text(directory),
+        Trouble::Unmade(why, _) => Word::Text(why),
+        Trouble::Device(why) => Word::Text(why),
+        Trouble::NoSpace(len) => Word::Number(len),
+        _ => Word::Text(""),
+    }
+}
+
+/// The note of what is wrong with the file of this path. Fails only if memory runs out.
+pub fn trouble_note<'a>(
+    alloc: Global,
+    path: &'a str,
+    trouble: Trouble<'a>,
+) -> Result<Option<Note>, AllocError> {
+    let words = [Word::At(path, None), word_of(trouble), Word::Text(path)];
+    written(alloc, say(texts_of(trouble), &words))
 }
 
 fn part_text(part: Part) -> &'static str {
     match part {
-        Part::Header => "the header",
-        Part::Length => "the file's length",
-        Part::Checkpoint => "a checkpoint",
-        Part::Segment => "the start of a segment",
-        Part::Frame => "the head of a batch of commands",
-        Part::Record => "a command's record",
+        Part::Header => "the header at",
+        Part::Length => "the file's length at",
+        Part::Checkpoint => "the checkpoint at",
+        Part::Segment => "the start of the segment at",
+        Part::Frame => "the head of the batch of commands at",
+        Part::Record => "a command of the batch that begins at",
     }
 }
 
-fn damage_note(alloc: Global, path: &str, at: u64, part: Part) -> Result<Option<Note>, AllocError> {
-    let text = part_text(part);
-    let what = match part {
-        Part::Length => {
-            format!(in alloc;
-                "store {path}: it has {at} bytes, and its header says another number"
-            )?
+// What is said of a fault of a store's file.
+fn said_of<'a>(path: &'a str, script: Option<&'a str>, fault: Fault) -> Option<Said<'a>> {
+    let file = Word::Text(path);
+    match fault {
+        Fault::NotAStore => match script {
+            Some(script) => say(texts::NO_STORE_FIRST, &[file, Word::Text(script)]),
+            None => say(texts::NO_STORE, &[file]),
+        },
+        Fault::Damaged { at, what } => {
+            let texts = if what == Part::Length {
+                texts::DAMAGED_LENGTH
+            } else {
+                texts::DAMAGED
+            };
+            let part = Word::Text(part_text(what));
+            say(texts, &[file, Word::Number(at), part])
         }
-        _ => format!(in alloc; "store {path}: {text} at byte {at} isn't as pfx writes it")?,
-    };
-    let change =
-        "Take a copy of the file from elsewhere: it was cut or overwritten. Nothing is changed in it.";
-    two_lines(alloc, what, change)
-}
-
-// The note of a file that isn't a store; `script` is a word behind it that names one.
-fn no_store(alloc: Global, path: &str, script: Option<&str>) -> Result<Option<Note>, AllocError> {
-    let what = format!(in alloc; "store {path}: it doesn't begin as a store")?;
-    let Some(script) = script else {
-        let change = "Make a store by pfx init SET FILE; delete first what a stopped init left.";
-        return two_lines(alloc, what, change);
-    };
-    let change = format!(in alloc;
-        "{script} is one: the store comes first, as in pfx run {script} {path}."
-    )?;
-    Ok(of_lines(what, change))
-}
-
-fn task_note(alloc: Global, path: &str, task: u16, job: bool) -> Result<Option<Note>, AllocError> {
-    let what = if job {
-        format!(in alloc; "store {path}: task {task} has no job")?
-    } else {
-        format!(in alloc; "store {path}: it has no task {task} of its set")?
-    };
-    let change = format!(in alloc;
-        "pfx status {path} has a line for each task, with its number and its job."
-    )?;
-    Ok(of_lines(what, change))
+        Fault::WrongVersion { version } => {
+            say(texts::VERSION, &[file, Word::Number(u64::from(version))])
+        }
+        Fault::NotEmpty => say(texts::NOT_EMPTY, &[file]),
+        Fault::Busy => say(texts::BUSY, &[file]),
+        Fault::NoSuchTask { task } => {
+            say(texts::NO_SUCH_TASK, &[file, Word::Number(u64::from(task))])
+        }
+        Fault::NoJob { task } => say(texts::NO_JOB, &[file, Word::Number(u64::from(task))]),
+        _ => None,
+    }
 }
 
 /// The note of a fault of a store's file. `script` is the word behind the store's, if that file is a store. `None` if the fault
@@ -122,32 +190,5 @@ pub fn store_note(
     script: Option<&str>,
     fault: Fault,
 ) -> Result<Option<Note>, AllocError> {
-    match fault {
-        Fault::NotAStore => no_store(alloc, path, script),
-        Fault::Damaged { at, what } => damage_note(alloc, path, at, what),
-        Fault::WrongVersion { version } => {
-            let what = format!(in alloc;
-                "store {path}: it is of version {version}, and this program reads version 1"
-            )?;
-            two_lines(
-                alloc,
-                what,
-                "Use the program that made it. Nothing is changed in it.",
-            )
-        }
-        Fault::NotEmpty => {
-            let what = format!(in alloc; "store {path}: the file isn't empty")?;
-            let change = "Name another file; or delete this one, if nothing in it is wanted.";
-            two_lines(alloc, what, change)
-        }
-        Fault::Busy => {
-            let what = format!(in alloc; "store {path}: another process has it open")?;
-            let change =
-                "Wait until that ends: a run has the store as long as it reads its script.";
-            two_lines(alloc, what, change)
-        }
-        Fault::NoSuchTask { task } => task_note(alloc, path, task, false),
-        Fault::NoJob { task } => task_note(alloc, path, task, true),
-        _ => Ok(None),
-    }
+    written(alloc, said_of(path, script, fault))
 }

@@ -1,269 +1,191 @@
 //! Notes of texts that aren't set files.
 
-use crate::lines::{of_lines, two_lines};
 use crate::members::{SetSource, kind_of, other_set_key, other_task_key};
-use crate::places::{Place, Within, header_place, located, place_at, places_of};
-use pfx_explain::Note;
-use std::alloc::{AllocError, Global};
+use crate::places::{header_place, place_at};
+use crate::texts;
+use crate::words::{Said, Texts, Word, is_in_names, say};
+use std::str::from_utf8;
 use toml::{Table, Value};
 
-const WORKERS: &str =
-    "Write workers = N above the first [[task]]: how many tasks run at once, 1 to 64.";
-
-const SEGMENT: &str = "Write a number of bytes, as segment = 1048576, or leave the line out.";
-
-const TASKS: &str =
-    "Write each task as [[task]], with two brackets, and name, e and p in the lines below.";
-
-const WEIGHT: &str =
-    "A weight is e/p, two integers: a half is e = 1 and p = 2, two thirds are e = 2 and p = 3.";
-
-const NAME: &str = "Give each task a name of its own: 1 to 32 ASCII letters, digits, _ or -.";
-
-const FORM: &str =
-    "A set is TOML: workers = N, then for each task a line [[task]] and lines name = \"a\", e = 1, p = 2.";
+// The key that stands twice, if that is the error.
+fn doubled<'a>(text: &'a [u8], error: &toml::de::Error) -> Option<&'a str> {
+    if error.message() != "duplicate key" {
+        return None;
+    }
+    let span = error.span()?;
+    let found = from_utf8(text.get(span.start..span.end)?).ok()?;
+    match found.split_once('=') {
+        Some((key, _)) => Some(key.trim()),
+        None => Some(found),
+    }
+}
 
 /// The note of a text that isn't TOML.
-pub(crate) fn syntax_note(
-    alloc: Global,
-    file: &str,
-    text: &[u8],
-    error: &toml::de::Error,
-) -> Result<Option<Note>, AllocError> {
+pub(crate) fn syntax_note<'a>(
+    file: &'a str,
+    text: &'a [u8],
+    error: &'a toml::de::Error,
+) -> Option<Said<'a>> {
     let place = match error.span() {
         Some(span) => Some(place_at(text, span.start)),
         None => None,
     };
-    let what = located(alloc, file, place, error.message())?;
-    two_lines(alloc, what, FORM)
-}
-
-fn said(
-    alloc: Global,
-    set: &SetSource<'_>,
-    place: Option<Place>,
-    what: String,
-    change: &str,
-) -> Result<Option<Note>, AllocError> {
-    let what = located(alloc, set.file, place, what.as_str())?;
-    two_lines(alloc, what, change)
+    if from_utf8(text).is_err() {
+        return say(texts::NO_UTF8, &[Word::At(file, place)]);
+    }
+    if let Some(key) = doubled(text, error) {
+        return say(texts::KEY_TWICE, &[Word::At(file, place), Word::Front(key)]);
+    }
+    let why = Word::Text(error.message());
+    say(texts::NO_TOML, &[Word::At(file, place), why])
 }
 
 // `workers` isn't there.
-fn no_workers(alloc: Global, set: &SetSource<'_>) -> Result<Option<Note>, AllocError> {
+fn no_workers<'a>(set: &SetSource<'a>) -> Option<Said<'a>> {
     let Some(key) = other_set_key(set.table) else {
-        let what = String::from_str(alloc, "`workers` is missing")?;
-        return said(alloc, set, None, what, WORKERS);
+        let at = Word::At(set.file, None);
+        return say(texts::WORKERS_MISSING, &[at]);
     };
-    let place = match places_of(set.text, Within::Top, key) {
-        Some((place, _)) => Some(place),
-        None => header_place(set.text, key, 0),
-    };
-    let what = format!(in alloc; "`workers` is missing, and `{key}` is no key of a set")?;
-    said(alloc, set, place, what, WORKERS)
+    let at = Word::At(set.file, set.key_place(key));
+    say(texts::WORKERS_MISNAMED, &[at, Word::Text(key)])
 }
 
-fn bad_workers(
-    alloc: Global,
-    set: &SetSource<'_>,
-    value: &Value,
-) -> Result<Option<Note>, AllocError> {
-    let kind = kind_of(value);
-    let what = format!(in alloc; "`workers` is {kind}, and has to be an integer")?;
-    said(alloc, set, set.top_place("workers"), what, WORKERS)
+// A value under a key of the set isn't what it has to be.
+fn bad_top<'a>(set: &SetSource<'a>, key: &str, value: &Value, texts: Texts) -> Option<Said<'a>> {
+    let at = Word::At(set.file, set.top_place(key));
+    say(texts, &[at, Word::Text(kind_of(value))])
 }
 
-fn bad_segment(
-    alloc: Global,
-    set: &SetSource<'_>,
-    value: &Value,
-) -> Result<Option<Note>, AllocError> {
-    let kind = kind_of(value);
-    let what = format!(in alloc; "`segment` is {kind}, and has to be an integer")?;
-    said(alloc, set, set.top_place("segment"), what, SEGMENT)
-}
-
-fn bad_tasks(
-    alloc: Global,
-    set: &SetSource<'_>,
-    value: &Value,
-) -> Result<Option<Note>, AllocError> {
-    let kind = kind_of(value);
+fn bad_tasks<'a>(set: &SetSource<'a>, value: &Value) -> Option<Said<'a>> {
     let place = match header_place(set.text, "task", 0) {
         Some(place) => Some(place),
         None => set.top_place("task"),
     };
-    let what = format!(in alloc; "`task` is {kind}, and has to be an array of tables")?;
-    said(alloc, set, place, what, TASKS)
+    let at = Word::At(set.file, place);
+    let kind = Word::Text(kind_of(value));
+    say(texts::TASKS_KIND, &[at, kind])
+}
+
+// What a key of a task has to be, and what to change.
+fn wanted(key: &str) -> (&'static str, &'static str) {
+    if key == "name" {
+        ("a string", texts::NAME)
+    } else {
+        ("an integer", texts::WEIGHT)
+    }
 }
 
 // A key of a task isn't there, or isn't what it has to be.
-fn bad_member(
-    alloc: Global,
-    set: &SetSource<'_>,
-    task: usize,
-    key: &str,
-    change: &str,
-) -> Result<Option<Note>, AllocError> {
-    let named = set.named(alloc, task)?;
-    let named = named.as_str();
+fn bad_member<'a>(set: &SetSource<'a>, task: usize, key: &'a str) -> Option<Said<'a>> {
+    let named = set.named(task);
+    let (kind, change) = wanted(key);
     let Some(table) = set.task(task) else {
-        let what = format!(in alloc; "{named} is no table")?;
-        return said(alloc, set, set.task_place(task), what, TASKS);
-    };
-    let wanted = if key == "name" {
-        "a string"
-    } else {
-        "an integer"
+        let at = Word::At(set.file, set.task_place(task));
+        return say(texts::TASK_KIND, &[at, named]);
     };
     if let Some(value) = table.get(key) {
-        let kind = kind_of(value);
-        let what = format!(in alloc; "{named} has as `{key}` {kind}, and it has to be {wanted}")?;
-        return said(alloc, set, set.value_place(task, key), what, change);
+        let at = Word::At(set.file, set.value_place(task, key));
+        let what = texts::MEMBER_KIND.what;
+        let words = [
+            at,
+            named,
+            Word::Text(key),
+            Word::Text(kind_of(value)),
+            Word::Text(kind),
+        ];
+        return say(Texts { what, change }, &words);
     }
     let Some(other) = other_task_key(table) else {
-        let what = format!(in alloc; "{named} has no `{key}`")?;
-        return said(alloc, set, set.task_place(task), what, change);
+        let at = Word::At(set.file, set.task_place(task));
+        let what = texts::MEMBER_MISSING.what;
+        return say(Texts { what, change }, &[at, named, Word::Text(key)]);
     };
-    let place = match places_of(set.text, Within::Task(task), other) {
-        Some((place, _)) => Some(place),
-        None => set.task_place(task),
-    };
-    let what = format!(in alloc; "{named} has no `{key}`, and `{other}` is no key of a task")?;
-    said(alloc, set, place, what, change)
-}
-
-fn is_in_names(c: char) -> bool {
-    c.is_ascii_alphanumeric() || c == '_' || c == '-'
-}
-
-// A name like this one that a task may have.
-fn lawful_name(alloc: Global, name: &str) -> Result<String, AllocError> {
-    let mut lawful = String::new(alloc);
-    for c in name.chars() {
-        if lawful.len() < 32 {
-            lawful.push(if is_in_names(c) { c } else { '_' })?;
-        }
-    }
-    if lawful.is_empty() {
-        lawful.push_str("a")?;
-    }
-    Ok(lawful)
+    let at = Word::At(set.file, set.task_key_place(task, other));
+    let what = texts::MEMBER_MISNAMED.what;
+    let words = [at, named, Word::Text(key), Word::Text(other)];
+    say(Texts { what, change }, &words)
 }
 
 fn is_lawful(name: &str) -> bool {
     !name.is_empty() && name.len() <= 32 && name.chars().all(is_in_names)
 }
 
-fn bad_name(
-    alloc: Global,
-    set: &SetSource<'_>,
-    task: usize,
-    name: &str,
-) -> Result<Option<Note>, AllocError> {
-    let what = if name.is_empty() {
-        format!(in alloc; "the name of task {task} is empty")?
+fn bad_name<'a>(set: &SetSource<'a>, task: usize, name: &'a str) -> Option<Said<'a>> {
+    let at = Word::At(set.file, set.value_place(task, "name"));
+    let number = Word::Number(task as u64);
+    let (texts, word) = if name.is_empty() {
+        (texts::NAME_EMPTY, Word::Text(""))
     } else if name.chars().all(is_in_names) {
-        let len = name.len();
-        format!(in alloc; "the name of task {task} has {len} characters")?
+        (texts::NAME_LONG, Word::Number(name.len() as u64))
     } else {
-        format!(in alloc; "the name of task {task} is \"{name}\"")?
+        (texts::NAME_LETTERS, Word::Text(name))
     };
-    let lawful = lawful_name(alloc, name)?;
-    let lawful = lawful.as_str();
-    let what = located(
-        alloc,
-        set.file,
-        set.value_place(task, "name"),
-        what.as_str(),
-    )?;
-    let change = format!(in alloc;
-        "A name has 1 to 32 ASCII letters, digits, _ or -, as \"{lawful}\"."
-    )?;
-    Ok(of_lines(what, change))
-}
-
-// The name of a task, if it is a text.
-fn name_at<'a>(set: &SetSource<'a>, task: usize) -> Option<&'a str> {
-    set.task(task)?.get("name")?.as_str()
-}
-
-fn same_name(
-    alloc: Global,
-    set: &SetSource<'_>,
-    task: usize,
-    first: usize,
-) -> Result<Option<Note>, AllocError> {
-    let named = set.named(alloc, task)?;
-    let what = format!(in alloc; "{named} has the name of task {first}")?;
-    said(alloc, set, set.value_place(task, "name"), what, NAME)
+    say(texts, &[at, number, Word::Name(name), word])
 }
 
 // The first task before this one that has its name.
 fn earlier(set: &SetSource<'_>, task: usize) -> Option<usize> {
-    let name = name_at(set, task)?;
+    let name = set.name_of(task)?;
     for other in 0..task {
-        if name_at(set, other) == Some(name) {
+        if set.name_of(other) == Some(name) {
             return Some(other);
         }
     }
     None
 }
 
-fn names_note(alloc: Global, set: &SetSource<'_>) -> Result<Option<Note>, AllocError> {
+fn names_note<'a>(set: &SetSource<'a>) -> Option<Said<'a>> {
     for task in 0..set.tasks().len() {
         if let Some(first) = earlier(set, task) {
-            return same_name(alloc, set, task, first);
+            let at = Word::At(set.file, set.value_place(task, "name"));
+            let first = Word::Number(first as u64);
+            return say(texts::NAME_TWICE, &[at, set.named(task), first]);
         }
     }
-    Ok(None)
+    None
 }
 
-fn task_note(alloc: Global, set: &SetSource<'_>, task: usize) -> Result<Option<Note>, AllocError> {
+fn task_note<'a>(set: &SetSource<'a>, task: usize) -> Option<Said<'a>> {
     if set.number(task, "e").is_none() {
-        return bad_member(alloc, set, task, "e", WEIGHT);
+        return bad_member(set, task, "e");
     }
     if set.number(task, "p").is_none() {
-        return bad_member(alloc, set, task, "p", WEIGHT);
+        return bad_member(set, task, "p");
     }
-    match name_at(set, task) {
-        Some(name) if is_lawful(name) => Ok(None),
-        Some(name) => bad_name(alloc, set, task, name),
-        None => bad_member(alloc, set, task, "name", NAME),
+    match set.name_of(task) {
+        Some(name) if is_lawful(name) => None,
+        Some(name) => bad_name(set, task, name),
+        None => bad_member(set, task, "name"),
     }
 }
 
-fn tasks_note(
-    alloc: Global,
-    set: &SetSource<'_>,
-    table: &Table,
-) -> Result<Option<Note>, AllocError> {
-    let Some(value) = table.get("task") else {
-        return Ok(None);
-    };
+fn tasks_note<'a>(set: &SetSource<'a>, table: &Table) -> Option<Said<'a>> {
+    let value = table.get("task")?;
     if value.as_array().is_none() {
-        return bad_tasks(alloc, set, value);
+        return bad_tasks(set, value);
     }
     for task in 0..set.tasks().len() {
-        let found = task_note(alloc, set, task)?;
+        let found = task_note(set, task);
         if found.is_some() {
-            return Ok(found);
+            return found;
         }
     }
-    names_note(alloc, set)
+    names_note(set)
 }
 
 /// The note of a text that is TOML and no set.
-pub(crate) fn form_note(alloc: Global, set: &SetSource<'_>) -> Result<Option<Note>, AllocError> {
+pub(crate) fn form_note<'a>(set: &SetSource<'a>) -> Option<Said<'a>> {
     match set.table.get("workers") {
-        None => return no_workers(alloc, set),
-        Some(value) if !value.is_integer() => return bad_workers(alloc, set, value),
+        None => return no_workers(set),
+        Some(value) if !value.is_integer() => {
+            return bad_top(set, "workers", value, texts::WORKERS_KIND);
+        }
         Some(_) => {}
     }
     if let Some(value) = set.table.get("segment")
         && !value.is_integer()
     {
-        return bad_segment(alloc, set, value);
+        return bad_top(set, "segment", value, texts::SEGMENT_KIND);
     }
-    tasks_note(alloc, set, set.table)
+    tasks_note(set, set.table)
 }

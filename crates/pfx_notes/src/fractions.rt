@@ -1,5 +1,7 @@
 //! Sums of weights, as fractions.
 
+use pfx_set_file::NamedTask;
+
 /// The greatest common divisor; of 0 and a number that number.
 fn greatest_common_divisor(a: u64, b: u64) -> u64 {
     let mut large = a;
@@ -29,6 +31,17 @@ pub(crate) struct Fraction {
 }
 
 impl Fraction {
+    // The sum of it and another one.
+    fn plus(self, parts: u64, whole: u64) -> Option<Fraction> {
+        let both = common_multiple(self.whole, whole)?;
+        let own = self.parts.checked_mul(both.checked_div(self.whole)?)?;
+        let other = parts.checked_mul(both.checked_div(whole)?)?;
+        Some(Fraction {
+            parts: own.checked_add(other)?,
+            whole: both,
+        })
+    }
+
     /// The same number in the smallest parts.
     pub(crate) fn reduced(self) -> Fraction {
         let divisor = greatest_common_divisor(self.parts, self.whole);
@@ -42,16 +55,18 @@ impl Fraction {
     }
 }
 
-/// The sum of weights (e, p), if their common multiple and it fit 64 bits.
-pub(crate) fn sum_of(weights: &[(u32, u32)]) -> Option<Fraction> {
-    let mut whole: u64 = 1;
-    for weight in weights {
-        whole = common_multiple(whole, u64::from(weight.1))?;
+/// Whether a task is one of those that are left out.
+pub(crate) fn is_out(task: usize, out: &[u16]) -> bool {
+    out.iter().any(|other| usize::from(*other) == task)
+}
+
+/// The sum of the tasks' weights but for those left out, if their common multiple and it fit 64 bits.
+pub(crate) fn sum_of(tasks: &[NamedTask], out: &[u16]) -> Option<Fraction> {
+    let mut sum = Fraction { parts: 0, whole: 1 };
+    for (x, task) in tasks.iter().enumerate() {
+        if !is_out(x, out) {
+            sum = sum.plus(u64::from(task.e), u64::from(task.p))?;
+        }
     }
-    let mut parts: u64 = 0;
-    for weight in weights {
-        let each = whole.checked_div(u64::from(weight.1))?;
-        parts = parts.checked_add(u64::from(weight.0).checked_mul(each)?)?;
-    }
-    Some(Fraction { parts, whole })
+    Some(sum)
 }

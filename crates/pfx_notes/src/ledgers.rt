@@ -1,6 +1,8 @@
 //! Notes of ledgers that a plan can't begin with.
 
-use crate::lines::{of_lines, two_lines};
+use crate::fractions::Fraction;
+use crate::texts;
+use crate::words::{Said, Word, say, written};
 use pfx_decimal::number_in;
 use pfx_explain::Note;
 use pfx_fault::Fault;
@@ -11,193 +13,143 @@ use std::alloc::{AllocError, Global};
 /// The most digits of a number in a ledger's text.
 const DIGITS: usize = 13;
 
-const FORM: &str =
-    "The form is T:A,A,..: a slot below 1099511627776, and the slots that each task got before it, as digits alone.";
-
-// The first characters of a text, if it is long.
-fn front(alloc: Global, text: &str) -> Result<String, AllocError> {
-    let mut front = String::new(alloc);
-    for c in text.chars() {
-        if front.len() >= 40 {
-            front.push_str("..")?;
-            return Ok(front);
-        }
-        front.push(c)?;
-    }
-    Ok(front)
-}
-
-// What is wrong, after the word that has it.
-fn behind_word(alloc: Global, at: &str, what: &str) -> Result<String, AllocError> {
-    let front = front(alloc, at)?;
-    let front = front.as_str();
-    format!(in alloc; "--at {front}: {what}")
-}
-
-// The numbers after the colon, or the first part that is none.
-fn numbers<'a>(alloc: Global, text: &'a str) -> Result<Result<Vec<u64>, &'a str>, AllocError> {
-    let mut numbers = Vec::new(alloc);
+// The first part of a text of numbers that is none.
+fn no_number(text: &str) -> Option<&str> {
     for part in text.split(',') {
-        match number_in(DIGITS, part.as_bytes()) {
-            Some(number) => numbers.push(number)?,
-            None => return Ok(Err(part)),
+        if number_in(DIGITS, part.as_bytes()).is_none() {
+            return Some(part);
         }
     }
-    Ok(Ok(numbers))
+    None
 }
 
-// A ledger of nothing, of few tasks.
-fn zeros(alloc: Global, total: usize) -> Result<String, AllocError> {
-    let mut zeros = String::from_str(alloc, "0:0")?;
-    for _ in 1..total {
-        zeros.push_str(",0")?;
+// A number of a text of numbers.
+fn number_at(text: &str, at: usize) -> Option<u64> {
+    for (i, part) in text.split(',').enumerate() {
+        if i == at {
+            return number_in(DIGITS, part.as_bytes());
+        }
     }
-    Ok(zeros)
+    None
 }
 
-fn tasks_text(tasks: usize) -> &'static str {
-    if tasks == 1 { "task" } else { "tasks" }
+// The sum of a text of numbers.
+fn sum_of(text: &str) -> u64 {
+    let mut sum: u64 = 0;
+    for part in text.split(',') {
+        sum = sum.saturating_add(number_in(DIGITS, part.as_bytes()).unwrap_or(0));
+    }
+    sum
 }
 
 // How many allocations the set wants.
-fn count_note(
-    alloc: Global,
-    at: &str,
-    given: usize,
-    set: &TaskSet,
-) -> Result<Option<Note>, AllocError> {
+fn count_note<'a>(at: &'a str, given: usize, set: &TaskSet) -> Option<Said<'a>> {
     let total = set.total();
-    let real = set.real();
-    let idle = total.saturating_sub(real);
-    let noun = tasks_text(total);
-    let numbers = if given == 1 { "number" } else { "numbers" };
-    let what = format!(in alloc;
-        "{given} {numbers} behind the colon, and the set has {total} {noun}, {real} of its own and {idle} idle"
-    )?;
-    let what = behind_word(alloc, at, what.as_str())?;
-    if total > 12 {
-        let change = "Give one for each task in the order of the set, idle ones last.";
-        return two_lines(alloc, what, change);
-    }
-    let zeros = zeros(alloc, total)?;
-    let zeros = zeros.as_str();
-    let change = format!(in alloc;
-        "Give one for each task in the order of the set, idle ones last, as --at {zeros}."
-    )?;
-    Ok(of_lines(what, change))
+    let texts = if total > 12 {
+        texts::COUNT_OF_MANY
+    } else {
+        texts::COUNT
+    };
+    let idle = total.saturating_sub(set.real());
+    let words = [
+        Word::Front(at),
+        Word::Count(given as u64, "number"),
+        Word::Count(total as u64, "task"),
+        Word::Number(set.real() as u64),
+        Word::Number(idle as u64),
+        Word::Zeros(total),
+    ];
+    say(texts, &words)
 }
 
 // A text that is no ledger of the set.
-fn form_note(alloc: Global, at: &str, set: &TaskSet) -> Result<Option<Note>, AllocError> {
+fn form_note<'a>(at: &'a str, set: &TaskSet) -> Option<Said<'a>> {
+    let word = Word::Front(at);
     let Some((slot, rest)) = at.split_once(':') else {
-        let what = behind_word(alloc, at, "there is no colon")?;
-        return two_lines(alloc, what, FORM);
+        return say(texts::NO_COLON, &[word]);
     };
     match number_in(DIGITS, slot.as_bytes()) {
         Some(number) if number < 1 << 40 => {}
         _ => {
-            let slot = front(alloc, slot)?;
-            let slot = slot.as_str();
-            let what = format!(in alloc;
-                "`{slot}` in front of the colon is no slot below 1099511627776"
-            )?;
-            let what = behind_word(alloc, at, what.as_str())?;
-            return two_lines(alloc, what, FORM);
+            return say(texts::NO_SLOT, &[word, Word::Front(slot)]);
         }
     }
-    match numbers(alloc, rest)? {
-        Ok(numbers) => count_note(alloc, at, numbers.len(), set),
-        Err(part) => {
-            let part = front(alloc, part)?;
-            let part = part.as_str();
-            let what = format!(in alloc;
-                "`{part}` behind the colon is no number of 1 to 13 digits"
-            )?;
-            let what = behind_word(alloc, at, what.as_str())?;
-            two_lines(alloc, what, FORM)
-        }
+    if let Some(part) = no_number(rest) {
+        return say(texts::NO_NUMBER, &[word, Word::Front(part)]);
     }
-}
-
-// The slot and the allocations, if the text is a ledger.
-fn ledger_in(alloc: Global, at: &str) -> Result<Option<(u64, Vec<u64>)>, AllocError> {
-    let Some((slot, rest)) = at.split_once(':') else {
-        return Ok(None);
-    };
-    let Some(slot) = number_in(DIGITS, slot.as_bytes()) else {
-        return Ok(None);
-    };
-    match numbers(alloc, rest)? {
-        Ok(numbers) => Ok(Some((slot, numbers))),
-        Err(_) => Ok(None),
-    }
-}
-
-// A task as it is named, idle ones too.
-fn named(alloc: Global, file: &SetText, task: usize) -> Result<String, AllocError> {
-    if task < file.tasks.len() {
-        let name = file.tasks[task].name.as_str();
-        format!(in alloc; "task {task} \"{name}\"")
-    } else {
-        format!(in alloc; "idle task {task}")
-    }
+    count_note(at, rest.split(',').count(), set)
 }
 
 // The lag of a task is out of range.
-fn lag_note(
-    alloc: Global,
-    at: &str,
-    file: &SetText,
-    set: &TaskSet,
-    task: usize,
-) -> Result<Option<Note>, AllocError> {
-    let Some((slot, allocs)) = ledger_in(alloc, at)? else {
-        return Ok(None);
-    };
-    if task >= set.total() || task >= allocs.len() {
-        return Ok(None);
+fn lag_note<'a>(at: &'a str, file: &'a SetText, set: &TaskSet, task: usize) -> Option<Said<'a>> {
+    let (slot, rest) = at.split_once(':')?;
+    let slot = number_in(DIGITS, slot.as_bytes())?;
+    let got = number_at(rest, task)?;
+    if task >= set.total() {
+        return None;
     }
     let (e, p) = set.weight(task);
-    let p = u64::from(p);
-    let Some(due) = u64::from(e).checked_mul(slot) else {
-        return Ok(None);
+    let due = u64::from(e).checked_mul(slot)?;
+    let least = due.checked_div(u64::from(p))?;
+    let named = match file.tasks.get(task) {
+        Some(one) => Word::Task(task, Some(one.name.as_str())),
+        None => Word::Idle(task),
     };
-    let Some(least) = due.checked_div(p) else {
-        return Ok(None);
-    };
-    let got = allocs[task];
-    let named = named(alloc, file, task)?;
-    let named = named.as_str();
-    let what = format!(in alloc;
-        "{named} is due {due}/{p} slots before slot {slot}, and is said to have got {got}"
-    )?;
-    let what = behind_word(alloc, at, what.as_str())?;
-    let change = if least.saturating_mul(p) == due {
-        format!(in alloc; "A lag is above -1 and below 1: give it {least}.")?
+    let lawful = if least.saturating_mul(u64::from(p)) == due {
+        Word::Number(least)
     } else {
-        let most = least.saturating_add(1);
-        format!(in alloc; "A lag is above -1 and below 1: give it {least} or {most}.")?
+        Word::Either(least)
     };
-    Ok(of_lines(what, change))
+    let due = Fraction {
+        parts: due,
+        whole: u64::from(p),
+    };
+    let words = [
+        Word::Front(at),
+        named,
+        Word::Fraction(due),
+        Word::Number(slot),
+        Word::Number(got),
+        lawful,
+    ];
+    say(texts::LAG, &words)
 }
 
 // The allocations don't sum to the workers' slots.
-fn sum_note(alloc: Global, at: &str, set: &TaskSet) -> Result<Option<Note>, AllocError> {
-    let Some((slot, allocs)) = ledger_in(alloc, at)? else {
-        return Ok(None);
-    };
-    let mut sum: u64 = 0;
-    for given in allocs.iter() {
-        sum = sum.saturating_add(*given);
+fn sum_note<'a>(at: &'a str, set: &TaskSet) -> Option<Said<'a>> {
+    let (slot, rest) = at.split_once(':')?;
+    let slot = number_in(DIGITS, slot.as_bytes())?;
+    let workers = u64::from(set.workers());
+    let words = [
+        Word::Front(at),
+        Word::Number(sum_of(rest)),
+        Word::Number(slot),
+        Word::Number(workers),
+        Word::Number(workers.saturating_mul(slot)),
+    ];
+    say(texts::SUM, &words)
+}
+
+// What is said of a fault of a ledger.
+fn said_of<'a>(file: &'a SetText, at: &'a str, set: &TaskSet, fault: Fault) -> Option<Said<'a>> {
+    let word = Word::Front(at);
+    match fault {
+        Fault::BadLedger => form_note(at, set),
+        Fault::OutOfRange { task } => lag_note(at, file, set, usize::from(task)),
+        Fault::WrongSum => sum_note(at, set),
+        Fault::TooManyUrgent { urgent, m } => {
+            let urgent = Word::Number(u64::from(urgent));
+            say(texts::URGENT, &[word, urgent, Word::Number(u64::from(m))])
+        }
+        Fault::TooFewEligible { eligible, m } => {
+            let eligible = Word::Number(u64::from(eligible));
+            say(
+                texts::ELIGIBLE,
+                &[word, eligible, Word::Number(u64::from(m))],
+            )
+        }
+        _ => None,
     }
-    let workers = set.workers();
-    let wanted = u64::from(workers).saturating_mul(slot);
-    let what = format!(in alloc; "the tasks are said to have got {sum} slots")?;
-    let what = behind_word(alloc, at, what.as_str())?;
-    let change = format!(in alloc;
-        "Before slot {slot} all tasks, idle ones too, got {workers} times {slot}, which is {wanted}."
-    )?;
-    Ok(of_lines(what, change))
 }
 
 /// The note of a fault of a ledger, or of a plan that goes on from it.
@@ -208,27 +160,8 @@ pub(crate) fn ledger_fault_note(
     fault: Fault,
 ) -> Result<Option<Note>, AllocError> {
     let weights = file.weights(alloc)?;
-    let Ok(set) = TaskSet::new(alloc, file.workers, weights.as_slice()) else {
-        return Ok(None);
-    };
-    let further =
-        "No schedule goes further from this ledger: ask for fewer SLOTS, or begin with another one.";
-    match fault {
-        Fault::BadLedger => form_note(alloc, at, &set),
-        Fault::OutOfRange { task } => lag_note(alloc, at, file, &set, usize::from(task)),
-        Fault::WrongSum => sum_note(alloc, at, &set),
-        Fault::TooManyUrgent { urgent, m } => {
-            let what = format!(in alloc;
-                "{urgent} tasks have to run in the next slot, and the workers are {m}"
-            )?;
-            two_lines(alloc, behind_word(alloc, at, what.as_str())?, further)
-        }
-        Fault::TooFewEligible { eligible, m } => {
-            let what = format!(in alloc;
-                "{eligible} tasks may run in the next slot, and the workers are {m}"
-            )?;
-            two_lines(alloc, behind_word(alloc, at, what.as_str())?, further)
-        }
-        _ => Ok(None),
+    match TaskSet::new(alloc, file.workers, weights.as_slice()) {
+        Ok(set) => written(alloc, said_of(file, at, &set, fault)),
+        Err(_) => Ok(None),
     }
 }

@@ -1,7 +1,7 @@
 //! What a set file has under its keys, as far as its text is TOML.
 
 use crate::places::{Place, Within, header_place, places_of};
-use std::alloc::{AllocError, Global};
+use crate::words::Word;
 use toml::{Table, Value};
 
 /// A set's text, its name, and the table that it is.
@@ -36,18 +36,13 @@ impl<'a> SetSource<'a> {
     }
 
     /// A task as it is named: `task 2 "big"`.
-    pub(crate) fn named(&self, alloc: Global, task: usize) -> Result<String, AllocError> {
-        let name = match self.task(task) {
-            Some(table) => match table.get("name") {
-                Some(name) => name.as_str(),
-                None => None,
-            },
-            None => None,
-        };
-        match name {
-            Some(name) => format!(in alloc; "task {task} \"{name}\""),
-            None => format!(in alloc; "task {task}"),
-        }
+    pub(crate) fn named(&self, task: usize) -> Word<'a> {
+        Word::Task(task, self.name_of(task))
+    }
+
+    /// The name of a task, if it is a text.
+    pub(crate) fn name_of(&self, task: usize) -> Option<&'a str> {
+        self.task(task)?.get("name")?.as_str()
     }
 
     /// Where a task begins.
@@ -60,6 +55,22 @@ impl<'a> SetSource<'a> {
         match places_of(self.text, Within::Task(task), key) {
             Some((_, value)) => Some(value),
             None => self.task_place(task),
+        }
+    }
+
+    /// Where a key of a task stands, else where the task begins.
+    pub(crate) fn task_key_place(&self, task: usize, key: &str) -> Option<Place> {
+        match places_of(self.text, Within::Task(task), key) {
+            Some((place, _)) => Some(place),
+            None => self.task_place(task),
+        }
+    }
+
+    /// Where a key of the set stands, or the line that begins a table of its name.
+    pub(crate) fn key_place(&self, key: &str) -> Option<Place> {
+        match places_of(self.text, Within::Top, key) {
+            Some((place, _)) => Some(place),
+            None => header_place(self.text, key, 0),
         }
     }
 

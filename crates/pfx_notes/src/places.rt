@@ -1,8 +1,6 @@
 //! Where things stand in the text of a set file. It is read line by line, as files are written: what stands in the brackets of an
 //! array or a table of one line, or below a text of several lines, isn't found.
 
-use std::alloc::{AllocError, Global};
-
 /// A place in a text: the line and the column, each from 1. A column counts characters.
 #[derive(Clone, Copy, Debug, PartialEq, Eq)]
 pub(crate) struct Place {
@@ -167,18 +165,4 @@ pub(crate) fn header_place(text: &str, name: &str, number: usize) -> Option<Plac
 /// A name that is shown for a path: `-` is standard input.
 pub(crate) fn shown_path(path: &str) -> &str {
     if path == "-" { "standard input" } else { path }
-}
-
-/// What is wrong, after its place.
-pub(crate) fn located(
-    alloc: Global,
-    file: &str,
-    place: Option<Place>,
-    what: &str,
-) -> Result<String, AllocError> {
-    let file = shown_path(file);
-    match place {
-        Some(Place { line, column }) => format!(in alloc; "{file}:{line}:{column}: {what}"),
-        None => format!(in alloc; "{file}: {what}"),
-    }
 }

@@ -1,6 +1,9 @@
 //! Notes of records of a script whose commands were refused.
 
-use crate::places::{Place, line_behind, located, without_mark};
+use crate::places::{Place, without_mark};
+use crate::scripts::line_of;
+use crate::texts;
+use crate::words::{Said, Texts, Word, note_of, said_with};
 use csv::{ByteRecord, ReaderBuilder};
 use pfx_decimal::number_in;
 use pfx_explain::Note;
@@ -16,11 +19,6 @@ fn answers_of(row: &ByteRecord) -> u64 {
         Some(count) => number_in(10, count).unwrap_or(1),
         None => 1,
     }
-}
-
-fn line_of(text: &[u8], row: &ByteRecord) -> Option<Place> {
-    let byte = usize::try_from(row.position()?.byte()).ok()?;
-    Some(line_behind(text, byte))
 }
 
 // Whether a record shows jobs.
@@ -85,14 +83,17 @@ impl Passed {
     }
 }
 
-// The place and the line of the record that was refused first, after so many answers, of which `shown` were jobs that were shown;
+// The record that was refused first: its place, its line, and its fields.
+#[derive(Drop)]
+struct Found {
+    place: u64,
+    line: Option<Place>,
+    row: ByteRecord,
+}
+
+// The record that was refused first, after so many answers, of which `shown` were jobs that were shown;
 // none if two records may be the one.
-fn record_behind(
-    alloc: Global,
-    text: &[u8],
-    answers: u64,
-    shown: u64,
-) -> Option<(u64, Option<Place>)> {
+fn record_behind(alloc: Global, text: &[u8], answers: u64, shown: u64) -> Option<Found> {
     let mut reader = ReaderBuilder::new()
         .has_headers(false)
         .flexible(true)
@@ -114,7 +115,11 @@ fn record_behind(
             if found.is_some() {
                 return None;
             }
-            found = Some((place.saturating_add(1), line_of(text, &row)));
+            found = Some(Found {
+                place: place.saturating_add(1),
+                line: line_of(text, &row),
+                row: row.clone().ok()?,
+            });
         }
         if !passed.pass(&row) {
             return found;
@@ -123,25 +128,65 @@ fn record_behind(
     found
 }
 
-// What to do about a refusal of this name.
+// What is said of a refusal of this name: what to do about it.
 fn change_of(refusal: &str) -> &'static str {
-    if refusal.contains("NoSuchTask") {
-        "Tasks are numbered from 0 in the order of the set: pfx status has a line for each."
-    } else if refusal.contains("TaskBusy") {
-        "Run more slots until its job is done, or take the job away first: withdraw,TASK,,,"
-    } else if refusal.contains("NoJob") {
-        "Take away or show only what is there: pfx status says job=open or job=done of a task that has one."
-    } else if refusal.contains("BadKind") {
-        "The kinds are count, rule and scan."
-    } else if refusal.contains("BadGoal") {
-        "Give a count or a rule 1 step or more as the fourth field, and leave it empty for a scan."
-    } else if refusal.contains("BadData") {
-        "A count has digits or nothing, a rule RULE:CELLS as 110:00000001, a scan NEEDLE:TEXT as ab:abcab."
-    } else if refusal.contains("SessionFull") {
-        "Run the rest of the script as another one."
-    } else {
-        "The store has come to its end: make a new one."
+    for (name, change) in texts::REFUSALS {
+        if refusal.contains(name) {
+            return change;
+        }
     }
+    texts::AT_ITS_END
+}
+
+// The word of a record that such a refusal is about; empty if it is about none.
+fn word_of<'a>(row: &'a ByteRecord, refusal: &str) -> &'a str {
+    let place = if refusal.contains("BadKind") {
+        2
+    } else if refusal.contains("BadGoal") {
+        3
+    } else if refusal.contains("BadData") {
+        4
+    } else {
+        return "";
+    };
+    match row.get(place) {
+        Some(bytes) => from_utf8(bytes).unwrap_or(""),
+        None => "",
+    }
+}
+
+// What is said of the record that was refused first, if it is known.
+fn said_of<'a>(
+    file: &'a str,
+    refusal: &'a str,
+    found: &'a Option<Found>,
+    refused: u64,
+) -> Said<'a> {
+    let (place, line, word) = match found {
+        Some(found) => (found.place, found.line, word_of(&found.row, refusal)),
+        None => (0, None, ""),
+    };
+    let what = if found.is_none() {
+        texts::SOME_REFUSED
+    } else if word.is_empty() {
+        texts::REFUSED
+    } else {
+        texts::REFUSED_WORD
+    };
+    let more = match refused {
+        0 | 1 => "",
+        2 => "One more record was refused.",
+        _ => "{3} more records were refused.",
+    };
+    let words = [
+        Word::At(file, line),
+        Word::Number(place),
+        Word::Refusal(refusal),
+        Word::Number(refused.saturating_sub(1)),
+        Word::Front(word),
+    ];
+    let change = change_of(refusal);
+    said_with(Texts { what, change }, more, &words)
 }
 
 /// The note of the first refused record of a script: where it stands, how it was refused, what to change, and how many more records were.
@@ -158,22 +203,6 @@ pub fn refused_note(
     refused: u64,
 ) -> Result<Note, AllocError> {
     let refusal = from_utf8(refusal).unwrap_or("");
-    let what = match record_behind(alloc, without_mark(text), answers, shown) {
-        Some((place, line)) => {
-            let what = format!(in alloc; "record {place} was refused: {refusal}")?;
-            located(alloc, file, line, what.as_str())?
-        }
-        None => {
-            let what = format!(in alloc; "a record was refused: {refusal}")?;
-            located(alloc, file, None, what.as_str())?
-        }
-    };
-    let change = Some(String::from_str(alloc, change_of(refusal))?);
-    let others = refused.saturating_sub(1);
-    let more = match others {
-        0 => None,
-        1 => Some(String::from_str(alloc, "One more record was refused.")?),
-        _ => Some(format!(in alloc; "{others} more records were refused.")?),
-    };
-    Ok(Note { what, change, more })
+    let found = record_behind(alloc, without_mark(text), answers, shown);
+    note_of(alloc, said_of(file, refusal, &found, refused))
 }

@@ -1,55 +1,46 @@
 //! Notes of scripts.
 
-use crate::lines::{of_lines, two_lines};
-use crate::places::{line_behind, located, without_mark};
+use crate::places::{Place, line_behind, without_mark};
+use crate::texts;
+use crate::words::{Said, Texts, Word, say, written};
 use csv::{ByteRecord, ReaderBuilder};
 use pfx_decimal::number_in;
 use pfx_explain::Note;
+use pfx_script::Whole;
 use std::alloc::{AllocError, Global};
+use std::io::Read;
 use std::str::from_utf8;
 
-const VERBS: &str =
-    "A record begins with submit, slot, withdraw, settle, status or show, and no header line stands above them.";
-
-const RECORD: &str =
-    "A record has five fields, VERB,TASK,KIND,GOAL,DATA, as submit,0,count,5, or slot,,,3, with unused ones empty.";
-
-const TASK: &str =
-    "A task is its number, 0 for the set's first one: pfx status has it in front of each line.";
+/// How many bytes a record has at the most.
+const LONGEST: usize = 1 << 20;
 
 // A record, its place in the script and its line.
 #[derive(Clone, Copy)]
 struct Found<'a> {
     file: &'a str,
-    text: &'a [u8],
+    line: Option<Place>,
     row: &'a ByteRecord,
     place: u64,
 }
 
-impl Found<'_> {
-    fn field(&self, i: usize) -> &str {
+impl<'a> Found<'a> {
+    fn field(&self, i: usize) -> &'a str {
         match self.row.get(i) {
             Some(bytes) => from_utf8(bytes).unwrap_or(""),
             None => "",
         }
     }
 
-    fn told(&self, alloc: Global, what: &str) -> Result<String, AllocError> {
-        let number = self.place;
-        let what = format!(in alloc; "record {number} {what}")?;
-        let place = match self.row.position() {
-            Some(position) => match usize::try_from(position.byte()) {
-                Ok(byte) => Some(line_behind(self.text, byte)),
-                Err(_) => None,
-            },
-            None => None,
-        };
-        located(alloc, self.file, place, what.as_str())
+    fn say(&self, texts: Texts, second: Word<'a>, third: Word<'a>) -> Option<Said<'a>> {
+        let at = Word::At(self.file, self.line);
+        say(texts, &[at, Word::Number(self.place), second, third])
     }
+}
 
-    fn note(&self, alloc: Global, what: &str, change: &str) -> Result<Option<Note>, AllocError> {
-        two_lines(alloc, self.told(alloc, what)?, change)
-    }
+/// The line that a record begins at.
+pub(crate) fn line_of(text: &[u8], row: &ByteRecord) -> Option<Place> {
+    let byte = usize::try_from(row.position()?.byte()).ok()?;
+    Some(line_behind(text, byte))
 }
 
 // How a record of a verb is written; nothing of another word.
@@ -74,53 +65,22 @@ fn word_of(field: &str) -> &str {
     }
 }
 
-// The start of a text.
-fn front(alloc: Global, text: &str) -> Result<String, AllocError> {
-    let mut front = String::new(alloc);
-    for c in text.chars() {
-        if front.len() >= 40 {
-            front.push_str("..")?;
-            return Ok(front);
-        }
-        front.push(c)?;
-    }
-    Ok(front)
-}
-
 // Another number of fields than five.
-fn fields_note(alloc: Global, found: &Found<'_>) -> Result<Option<Note>, AllocError> {
+fn fields_note<'a>(found: &Found<'a>) -> Option<Said<'a>> {
     let count = found.row.len();
-    let noun = if count == 1 { "field" } else { "fields" };
-    let first = front(alloc, found.field(0))?;
-    let first = first.as_str();
-    let what = if count == 1 {
-        format!(in alloc; "has {count} {noun}, `{first}`, and a record has five")?
-    } else {
-        format!(in alloc; "has {count} {noun}, and a record has five")?
-    };
     let form = form_of(word_of(found.field(0)));
-    if form.is_empty() {
-        return found.note(alloc, what.as_str(), VERBS);
-    }
-    let what = found.told(alloc, what.as_str())?;
-    let change = format!(in alloc;
-        "Write it as {form} and leave fields that aren't used empty, with their commas."
-    )?;
-    Ok(of_lines(what, change))
-}
-
-// A field that the verb doesn't use and that isn't empty.
-fn used_note(alloc: Global, found: &Found<'_>, form: &str) -> Result<Option<Note>, AllocError> {
-    let what = found.told(alloc, "has a field that its verb doesn't use")?;
-    let change = format!(in alloc; "Write it as {form} with the fields between the commas empty.")?;
-    Ok(of_lines(what, change))
-}
-
-fn task_note(alloc: Global, found: &Found<'_>) -> Result<Option<Note>, AllocError> {
-    let task = front(alloc, found.field(1))?;
-    let task = task.as_str();
-    let what = format!(in alloc; "has the task `{task}`, and a task is a number, 0 to 65535")?;
-    found.note(alloc, what.as_str(), TASK)
+    let texts = match (count == 1, form.is_empty()) {
+        (true, true) => texts::ONE_WORD,
+        (true, false) => texts::ONE_FIELD,
+        (false, true) => texts::WORD_COUNT,
+        (false, false) => texts::FIELD_COUNT,
+    };
+    let third = if count == 1 {
+        Word::Front(found.field(0))
+    } else {
+        Word::Count(count as u64, "field")
+    };
+    found.say(texts, Word::Text(form), third)
 }
 
 fn is_task(text: &str) -> bool {
@@ -130,29 +90,6 @@ fn is_task(text: &str) -> bool {
     }
 }
 
-fn count_note(alloc: Global, found: &Found<'_>) -> Result<Option<Note>, AllocError> {
-    let count = front(alloc, found.field(3))?;
-    let count = count.as_str();
-    let what = format!(in alloc;
-        "has the count `{count}`, and a count is a number from 1 to 1048576"
-    )?;
-    let change = "Write the slots as several records, or leave the field empty for one slot.";
-    found.note(alloc, what.as_str(), change)
-}
-
-fn goal_note(alloc: Global, found: &Found<'_>) -> Result<Option<Note>, AllocError> {
-    let goal = front(alloc, found.field(3))?;
-    let goal = goal.as_str();
-    let what = format!(in alloc;
-        "has the goal `{goal}`, and a goal is a number of 1 to 10 digits"
-    )?;
-    found.note(
-        alloc,
-        what.as_str(),
-        "Write how many steps the job has; a scan has an empty goal.",
-    )
-}
-
 fn are_empty(found: &Found<'_>, task: bool, goal: bool) -> bool {
     (task || found.field(1).is_empty())
         && found.field(2).is_empty()
@@ -160,30 +97,37 @@ fn are_empty(found: &Found<'_>, task: bool, goal: bool) -> bool {
         && found.field(4).is_empty()
 }
 
-// The note of a record of five fields.
-fn verb_note(alloc: Global, found: &Found<'_>) -> Result<Option<Note>, AllocError> {
-    let verb = found.field(0);
-    let form = form_of(verb);
-    match verb {
-        "submit" if !is_task(found.field(1)) => task_note(alloc, found),
-        "submit" => goal_note(alloc, found),
-        "slot" if !are_empty(found, false, true) => used_note(alloc, found, form),
-        "slot" => count_note(alloc, found),
-        "withdraw" | "show" if !are_empty(found, true, false) => used_note(alloc, found, form),
-        "withdraw" | "show" => task_note(alloc, found),
-        "settle" | "status" => used_note(alloc, found, form),
-        _ => {
-            let verb = front(alloc, verb)?;
-            let verb = verb.as_str();
-            let what = format!(in alloc; "begins with `{verb}`, which is no verb")?;
-            found.note(alloc, what.as_str(), VERBS)
-        }
+// What is wrong with a record of five fields, and which of them.
+fn wrong_field(found: &Found<'_>) -> (Texts, usize) {
+    match found.field(0) {
+        "submit" if !is_task(found.field(1)) => (texts::RECORD_TASK, 1),
+        "submit" => (texts::RECORD_GOAL, 3),
+        "slot" if are_empty(found, false, true) => (texts::RECORD_COUNT, 3),
+        "withdraw" | "show" if are_empty(found, true, false) => (texts::RECORD_TASK, 1),
+        verb if form_of(verb).is_empty() => (texts::RECORD_VERB, 0),
+        _ => (texts::FIELD_USED, 5),
     }
 }
 
-// Whether all fields are UTF-8 text.
-fn are_texts(row: &ByteRecord) -> bool {
-    from_utf8(row.as_slice()).is_ok()
+fn verb_note<'a>(found: &Found<'a>) -> Option<Said<'a>> {
+    let (texts, field) = wrong_field(found);
+    let word = if field < 5 {
+        Word::Front(found.field(field))
+    } else {
+        Word::Text(form_of(found.field(0)))
+    };
+    found.say(texts, word, Word::Text(""))
+}
+
+// What is said of a record that has no form.
+fn said_of<'a>(found: &Found<'a>) -> Option<Said<'a>> {
+    if from_utf8(found.row.as_slice()).is_err() {
+        return found.say(texts::RECORD_BYTES, Word::Text(""), Word::Text(""));
+    }
+    if found.row.len() != 5 {
+        return fields_note(found);
+    }
+    verb_note(found)
 }
 
 // Reads the record at this place, counted from 1; whether there is one.
@@ -198,13 +142,57 @@ fn read_to(alloc: Global, text: &[u8], place: u64, row: &mut ByteRecord) -> bool
             _ => return false,
         }
     }
-    true
+    place > 0
+}
+
+// How many bytes of a text are whole, where not all are.
+fn whole_len(alloc: Global, text: &[u8]) -> Option<usize> {
+    let mut bytes = Vec::new(alloc);
+    Whole::new(text).read_to_end(&mut bytes).ok()?;
+    let len = bytes.len().checked_sub(1)?;
+    if bytes.len() <= text.len() && bytes[len] == text[len] {
+        None
+    } else {
+        Some(len)
+    }
+}
+
+// What isn't whole of the record that ends a text's whole bytes.
+fn broken_texts(text: &[u8], len: usize, begin: usize) -> Texts {
+    if len.saturating_sub(begin) >= LONGEST {
+        texts::RECORD_LONG
+    } else if len < text.len() {
+        texts::QUOTE_TEXT
+    } else {
+        texts::QUOTE_OPEN
+    }
+}
+
+// What is said of the record at this place, where it isn't whole.
+fn broken_note<'a>(alloc: Global, file: &'a str, text: &[u8], place: u64) -> Option<Said<'a>> {
+    let len = whole_len(alloc, text)?;
+    let whole = &text[..len.min(text.len())];
+    let mut row = ByteRecord::new(alloc);
+    if read_to(alloc, whole, place.saturating_add(1), &mut row)
+        || !read_to(alloc, whole, place, &mut row)
+    {
+        return None;
+    }
+    let begin = usize::try_from(row.position()?.byte()).ok()?;
+    let words = [
+        Word::At(file, line_of(text, &row)),
+        Word::Number(place),
+        Word::Text(""),
+        Word::Text(""),
+        Word::Number(row.len() as u64),
+    ];
+    say(broken_texts(text, len, begin), &words)
 }
 
 /// The note of the record at this place of a script whose text isn't at hand. Fails only if memory runs out.
 pub fn record_note(alloc: Global, file: &str, place: u64) -> Result<Option<Note>, AllocError> {
-    let what = format!(in alloc; "record {place} has no form of a record")?;
-    two_lines(alloc, located(alloc, file, None, what.as_str())?, RECORD)
+    let words = [Word::At(file, None), Word::Number(place)];
+    written(alloc, say(texts::RECORD, &words))
 }
 
 /// The note of the script's record at this place, counted from 1, which has no form: its line, what is wrong, what to write. `file` is
@@ -217,21 +205,19 @@ pub fn script_note(
     place: u64,
 ) -> Result<Option<Note>, AllocError> {
     let text = without_mark(text);
+    let broken = broken_note(alloc, file, text, place);
+    if broken.is_some() {
+        return written(alloc, broken);
+    }
     let mut row = ByteRecord::new(alloc);
-    if place == 0 || !read_to(alloc, text, place, &mut row) {
+    if !read_to(alloc, text, place, &mut row) {
         return Ok(None);
     }
     let found = Found {
         file,
-        text,
+        line: line_of(text, &row),
         row: &row,
         place,
     };
-    if !are_texts(&row) {
-        return found.note(alloc, "isn't UTF-8 text", "Save the script as UTF-8.");
-    }
-    if row.len() != 5 {
-        return fields_note(alloc, &found);
-    }
-    verb_note(alloc, &found)
+    written(alloc, said_of(&found))
 }

@@ -6,25 +6,38 @@ use crate::members::SetSource;
 use crate::weights::{
     load_note, multiple_note, no_tasks, segment_note, too_many, weight_note, workers_note,
 };
+use crate::words::{Said, written};
 use pfx_explain::Note;
 use pfx_fault::Fault;
 use pfx_set_file::{SetText, read_set};
 use std::alloc::{AllocError, Global};
 use std::str::from_utf8;
 
-// The note of a set that is none, by its tables alone.
-fn table_note(
-    alloc: Global,
-    source: &SetSource<'_>,
-    fault: Fault,
-) -> Result<Option<Note>, AllocError> {
+// What is said of a set that is none, by its tables alone.
+fn said_of_table<'a>(source: &SetSource<'a>, fault: Fault) -> Option<Said<'a>> {
     match fault {
-        Fault::BadSet => form_note(alloc, source),
-        Fault::NoTasks => no_tasks(alloc, source),
-        Fault::TooManyTasks => too_many(alloc, source),
-        Fault::BadWorkers => workers_note(alloc, source),
-        Fault::BadWeight { task } => weight_note(alloc, source, usize::from(task)),
-        _ => Ok(None),
+        Fault::BadSet => form_note(source),
+        Fault::NoTasks => no_tasks(source),
+        Fault::TooManyTasks => too_many(source),
+        Fault::BadWorkers => workers_note(source),
+        Fault::BadWeight { task } => weight_note(source, usize::from(task)),
+        _ => None,
+    }
+}
+
+// What is said of a set whose numbers don't fit together.
+fn said_of_numbers<'a>(
+    source: &SetSource<'a>,
+    set: &SetText,
+    out: &[u16],
+    fault: Fault,
+) -> Option<Said<'a>> {
+    match fault {
+        Fault::HyperperiodTooLarge { task } => multiple_note(source, set, usize::from(task), out),
+        Fault::Overload => load_note(source, set, out),
+        Fault::SegmentTooSmall { least } => segment_note(source, set, Some(least)),
+        Fault::SegmentTooLarge => segment_note(source, set, None),
+        _ => None,
     }
 }
 
@@ -34,19 +47,13 @@ fn numbers_note(
     source: &SetSource<'_>,
     set: &SetText,
     at: Option<&str>,
+    out: &[u16],
     fault: Fault,
 ) -> Result<Option<Note>, AllocError> {
-    match fault {
-        Fault::HyperperiodTooLarge { task } => {
-            multiple_note(alloc, source, set, usize::from(task))
-        }
-        Fault::Overload => load_note(alloc, source, set),
-        Fault::SegmentTooSmall { least } => segment_note(alloc, source, set, Some(least)),
-        Fault::SegmentTooLarge => segment_note(alloc, source, set, None),
-        _ => match at {
-            Some(at) => ledger_fault_note(alloc, set, at, fault),
-            None => Ok(None),
-        },
+    let said = said_of_numbers(source, set, out, fault);
+    match at {
+        Some(at) if said.is_none() => ledger_fault_note(alloc, set, at, fault),
+        _ => written(alloc, said),
     }
 }
 
@@ -60,10 +67,35 @@ pub fn set_note(
     at: Option<&str>,
     fault: Fault,
 ) -> Result<Option<Note>, AllocError> {
+    note_without(alloc, file, text, at, &[], fault)
+}
+
+/// The same of a set's fault that comes once these tasks are taken out of it.
+pub fn further_note(
+    alloc: Global,
+    file: &str,
+    text: &[u8],
+    out: &[u16],
+    fault: Fault,
+) -> Result<Option<Note>, AllocError> {
+    note_without(alloc, file, text, None, out, fault)
+}
+
+fn note_without(
+    alloc: Global,
+    file: &str,
+    text: &[u8],
+    at: Option<&str>,
+    out: &[u16],
+    fault: Fault,
+) -> Result<Option<Note>, AllocError> {
     let table = match toml::table_from_slice(alloc, text) {
         Ok(table) => table,
         Err(e) if e.is_memory() => return Err(AllocError),
-        Err(e) if matches!(fault, Fault::BadSet) => return syntax_note(alloc, file, text, &e),
+        Err(e) if matches!(fault, Fault::BadSet) => return written(
+            alloc,
+            syntax_note(file, text, &e),
+        ),
         Err(_) => return Ok(None),
     };
     let Ok(text) = from_utf8(text) else {
@@ -74,12 +106,12 @@ pub fn set_note(
         text: text.strip_prefix('\u{feff}').unwrap_or(text),
         table: &table,
     };
-    let found = table_note(alloc, &source, fault)?;
-    if found.is_some() {
-        return Ok(found);
+    let said = said_of_table(&source, fault);
+    if said.is_some() {
+        return written(alloc, said);
     }
     match read_set(alloc, text.as_bytes()) {
-        Ok(set) => numbers_note(alloc, &source, &set, at, fault),
+        Ok(set) => numbers_note(alloc, &source, &set, at, out, fault),
         Err(_) => Ok(None),
     }
 }

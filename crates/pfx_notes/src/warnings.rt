@@ -1,80 +1,62 @@
 //! Warnings: what is passed over in a set.
 
-use crate::members::{SetSource, is_set_key, is_task_key};
-use crate::places::{Within, header_place, located, places_of};
+use crate::members::{SetSource, is_set_key, is_task_key, other_set_key, other_task_key};
+use crate::texts;
+use crate::words::{Said, Word, said_with, written};
 use pfx_explain::Note;
 use std::alloc::{AllocError, Global};
 use std::str::from_utf8;
-use toml::Table;
 
-const KEYS: &str =
-    "A set has the keys workers and segment and tables [[task]]; a task has name, e and p.";
-
-// The first key that is passed over, and how many are.
-#[derive(Drop)]
-struct Passed {
-    first: Option<String>,
-    count: usize,
+// The first key of a task that no task has.
+fn first_of_tasks<'a>(set: &SetSource<'a>) -> Option<(usize, &'a str)> {
+    for task in 0..set.tasks().len() {
+        if let Some(table) = set.task(task)
+            && let Some(key) = other_task_key(table)
+        {
+            return Some((task, key));
+        }
+    }
+    None
 }
 
-fn of_set(alloc: Global, set: &SetSource<'_>, passed: &mut Passed) -> Result<(), AllocError> {
+// How many keys are passed over.
+fn count_of(set: &SetSource<'_>) -> usize {
+    let mut count: usize = 0;
     for key in set.table.keys() {
-        let key = key.as_str();
-        if !is_set_key(key) {
-            passed.count = passed.count.saturating_add(1);
-            if passed.first.is_none() {
-                let place = match places_of(set.text, Within::Top, key) {
-                    Some((place, _)) => Some(place),
-                    None => header_place(set.text, key, 0),
-                };
-                let what = format!(in alloc; "`{key}` is no key of a set, and is passed over")?;
-                passed.first = Some(located(alloc, set.file, place, what.as_str())?);
-            }
+        if !is_set_key(key.as_str()) {
+            count = count.saturating_add(1);
         }
     }
-    Ok(())
-}
-
-fn of_task(
-    alloc: Global,
-    set: &SetSource<'_>,
-    task: usize,
-    table: &Table,
-    passed: &mut Passed,
-) -> Result<(), AllocError> {
-    for key in table.keys() {
-        let key = key.as_str();
-        if !is_task_key(key) {
-            passed.count = passed.count.saturating_add(1);
-            if passed.first.is_none() {
-                let place = match places_of(set.text, Within::Task(task), key) {
-                    Some((place, _)) => Some(place),
-                    None => set.task_place(task),
-                };
-                let named = set.named(alloc, task)?;
-                let named = named.as_str();
-                let what = format!(in alloc;
-                    "`{key}` of {named} is no key of a task, and is passed over"
-                )?;
-                passed.first = Some(located(alloc, set.file, place, what.as_str())?);
-            }
-        }
-    }
-    Ok(())
-}
-
-fn passed_over(alloc: Global, set: &SetSource<'_>) -> Result<Passed, AllocError> {
-    let mut passed = Passed {
-        first: None,
-        count: 0,
-    };
-    of_set(alloc, set, &mut passed)?;
     for task in 0..set.tasks().len() {
         if let Some(table) = set.task(task) {
-            of_task(alloc, set, task, table, &mut passed)?;
+            for key in table.keys() {
+                if !is_task_key(key.as_str()) {
+                    count = count.saturating_add(1);
+                }
+            }
         }
     }
-    Ok(passed)
+    count
+}
+
+// What is said of a set's keys that are passed over.
+fn said_of<'a>(set: &SetSource<'a>) -> Option<Said<'a>> {
+    let others = count_of(set).saturating_sub(1);
+    let more = match others {
+        0 => "",
+        1 => "One more key is passed over.",
+        _ => "{3} more keys are passed over.",
+    };
+    let others = Word::Number(others as u64);
+    if let Some(key) = other_set_key(set.table) {
+        let at = Word::At(set.file, set.key_place(key));
+        let words = [at, Word::Text(key), Word::Text(""), others];
+        return Some(said_with(texts::SET_KEY, more, &words));
+    }
+    let (task, key) = first_of_tasks(set)?;
+    let at = Word::At(set.file, set.task_key_place(task, key));
+    let words = [at, Word::Text(key), set.named(task), others];
+    Some(said_with(texts::TASK_KEY, more, &words))
 }
 
 /// What is passed over in a set: its first key that no set has, else the first of a task that no task has, and how many more there
@@ -97,18 +79,5 @@ pub fn passed_over_note(
         text: text.strip_prefix('\u{feff}').unwrap_or(text),
         table: &table,
     };
-    let Passed { first, count } = passed_over(alloc, &set)?;
-    let Some(what) = first else {
-        return Ok(None);
-    };
-    let more = match count {
-        1 => None,
-        2 => Some(String::from_str(alloc, "One more key is passed over.")?),
-        _ => {
-            let others = count.saturating_sub(1);
-            Some(format!(in alloc; "{others} more keys are passed over.")?)
-        }
-    };
-    let change = Some(String::from_str(alloc, KEYS)?);
-    Ok(Some(Note { what, change, more }))
+    written(alloc, said_of(&set))
 }

@@ -1,4 +1,5 @@
 pub mod Texts
+pub mod Passing
 pub mod NextRecords
 pub mod Taking
 pub mod Examples

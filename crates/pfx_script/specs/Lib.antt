@@ -1,2 +1,3 @@
 pub mod Verbs
 pub mod Records
+pub mod Whole

@@ -9,6 +9,8 @@
 mod fields;
 mod records;
 mod verbs;
+mod whole;
 
 pub use records::Script;
 pub use verbs::{Verb, read_verb};
+pub use whole::Whole;
