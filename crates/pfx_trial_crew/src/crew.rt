@@ -1,6 +1,6 @@
 use crate::holding::Holding;
-use crate::quanta::quantum;
-use pfx_crew::channel::{ChannelDesk, ChannelSeat};
+use crate::quanta::{collected, is_dealt, is_run};
+use pfx_crew::channel::ChannelDesk;
 use pfx_crew::desk::Desk;
 use pfx_crew::work::worker;
 use pfx_jobs::quantum::{Done, Quantum};
@@ -11,64 +11,110 @@ use std::sync::Wait;
 use std::thread;
 use std::thread::Threads;
 
-type JobDesk = WatchedDesk<ChannelDesk<Quantum<AnyJob>, Done<AnyJob>>, Holding>;
-
-type JobSeat = ChannelSeat<Quantum<AnyJob>, Done<AnyJob>>;
-
 /// Deals the quanta of tasks 0 and 1, collects both results and closes the desk. The tasks, as they came.
-fn call<R: Wait>(rt: &R, desk: &JobDesk, mut seat: JobSeat) -> Option<(u16, u16)> {
-    let first = quantum(1, 0, 0, b"20")?;
-    let second = quantum(1, 0, 1, b"30")?;
-    desk.deal(rt, &mut seat, first).ok()?;
-    desk.deal(rt, &mut seat, second).ok()?;
-    let one = desk.collect(rt, &mut seat);
-    let other = desk.collect(rt, &mut seat);
+fn call<K: Desk<Quantum<AnyJob>, Done<AnyJob>>, R: Wait>(
+    rt: &R,
+    desk: &K,
+    mut seat: K::Seat,
+) -> [Option<u16>; 2]
+where
+    K::Seat: Drop,
+{
+    let dealt = is_dealt(rt, desk, &mut seat, 0) && is_dealt(rt, desk, &mut seat, 1);
+    let mut tasks = [None; 2];
+    if dealt {
+        tasks = [
+            collected(rt, desk, &mut seat),
+            collected(rt, desk, &mut seat),
+        ];
+    }
     desk.close(rt, &mut seat);
-    Some((one?.task, other?.task))
+    tasks
 }
 
-/// One caller and two workers. Whether both results came, task 1's first, before the limit. The second worker's count may
-/// come after the caller's last look, so it is read once all threads have ended.
-fn two_workers<R: Threads + Wait + Sync>(rt: &R, alloc: Global) -> Option<bool> {
-    let desk: JobDesk = WatchedDesk::new(ChannelDesk::new(alloc).ok()?, Holding::new());
-    let mine: JobSeat = desk.seat(rt).ok()?;
-    let first: JobSeat = desk.seat(rt).ok()?;
-    let second: JobSeat = desk.seat(rt).ok()?;
-    let shared = &desk;
+/// One caller and two workers at a desk. The tasks of the results, as they came.
+fn with_two_workers<K: Desk<Quantum<AnyJob>, Done<AnyJob>> + Sync, R: Threads + Wait + Sync>(
+    rt: &R,
+    desk: &K,
+) -> Option<[Option<u16>; 2]>
+where
+    K::Seat: Drop + Send,
+{
+    let mine = desk.seat(rt).ok()?;
+    let first = desk.seat(rt).ok()?;
+    let second = desk.seat(rt).ok()?;
     let (got, _seats) = thread::join(
         rt,
-        move || call(rt, shared, mine),
+        move || call(rt, desk, mine),
         move || {
             thread::join(
                 rt,
-                move || worker::<AnyJob, R, JobDesk>(rt, shared, first),
-                move || worker::<AnyJob, R, JobDesk>(rt, shared, second),
+                move || worker::<AnyJob, R, K>(rt, desk, first),
+                move || worker::<AnyJob, R, K>(rt, desk, second),
             )
         },
     );
-    Some(got == Some((1, 0)) && !desk.watch().is_late() && desk.watch().backs() == 2)
+    Some(got)
 }
 
-/// The same by the calling thread alone, which reaches the limit.
-fn one_thread<R: Wait>(rt: &R, alloc: Global) -> Option<bool> {
-    let desk: JobDesk = WatchedDesk::new(ChannelDesk::new(alloc).ok()?, Holding::new());
-    let mut seat: JobSeat = desk.seat(rt).ok()?;
-    for task in 0..2 {
-        desk.deal(rt, &mut seat, quantum(1, 0, task, b"20")?).ok()?;
+/// The quanta of tasks 0 and 1 by the calling thread alone. Whether both went out, and both results were handed back.
+fn serves_alone<K: Desk<Quantum<AnyJob>, Done<AnyJob>>, R: Wait>(rt: &R, desk: &K) -> bool
+where
+    K::Seat: Drop,
+{
+    let Ok(mut seat) = desk.seat(rt) else {
+        return false;
+    };
+    is_dealt(rt, desk, &mut seat, 0)
+        && is_dealt(rt, desk, &mut seat, 1)
+        && is_run(rt, desk, &mut seat)
+        && is_run(rt, desk, &mut seat)
+}
+
+/// What is done at a desk that holds back the result of task 0.
+#[derive(Clone, Copy)]
+enum Serves {
+    /// One caller and two workers.
+    Workers,
+    /// The caller alone.
+    Alone,
+}
+
+/// Whether both results came: of two workers task 1's first, before the limit, and of the caller alone at the limit. A worker's count
+/// may come after the caller's last look, so it is read once all threads have ended.
+fn is_served<K: Desk<Quantum<AnyJob>, Done<AnyJob>> + Drop + Sync, R: Threads + Wait + Sync>(
+    rt: &R,
+    desk: K,
+    serves: Serves,
+) -> bool
+where
+    K::Seat: Drop + Send,
+{
+    let desk = WatchedDesk::new(desk, Holding::new());
+    let (served, late) = match serves {
+        Serves::Workers => {
+            let tasks = with_two_workers(rt, &desk);
+            (tasks == Some([Some(1), Some(0)]), false)
+        }
+        Serves::Alone => (serves_alone(rt, &desk), true),
+    };
+    served && desk.watch().is_late() == late && desk.watch().backs() == 2
+}
+
+/// The same at a desk of channels.
+fn in_channels<R: Threads + Wait + Sync>(rt: &R, alloc: Global, serves: Serves) -> bool {
+    match ChannelDesk::<Quantum<AnyJob>, Done<AnyJob>>::new(alloc) {
+        Ok(desk) => is_served(rt, desk, serves),
+        Err(_) => false,
     }
-    for _task in 0..2 {
-        let one = desk.next(rt, &mut seat)?;
-        desk.hand_back(rt, &mut seat, one.run()).ok()?;
-    }
-    Some(desk.watch().is_late() && desk.watch().backs() == 2)
 }
 
 #[test]
 fn two_workers_end_within_the_limit(rt: HostRuntime) {
-    assert!(rt; two_workers(&rt, rt.alloc()) == Some(true));
+    assert!(rt; in_channels(&rt, rt.alloc(), Serves::Workers));
 }
 
 #[test]
 fn one_thread_reaches_the_limit(rt: HostRuntime) {
-    assert!(rt; one_thread(&rt, rt.alloc()) == Some(true));
+    assert!(rt; in_channels(&rt, rt.alloc(), Serves::Alone));
 }

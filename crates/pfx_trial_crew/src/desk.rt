@@ -1,5 +1,5 @@
-use crate::quanta::{is_result, quantum};
-use pfx_crew::channel::{ChannelDesk, ChannelSeat};
+use crate::quanta::{is_dealt, is_result, is_run, quantum};
+use pfx_crew::channel::ChannelDesk;
 use pfx_crew::desk::Desk;
 use pfx_crew::lane::{Berth, Quay};
 use pfx_jobs::quantum::{Done, Quantum};
@@ -7,79 +7,156 @@ use pfx_kinds::any::AnyJob;
 use std::alloc::Global;
 use std::sync::Wait;
 
-type JobDesk = ChannelDesk<Quantum<AnyJob>, Done<AnyJob>>;
-
-type JobSeat = ChannelSeat<Quantum<AnyJob>, Done<AnyJob>>;
+/// Whether the next result is that of this task's quantum.
+fn is_collected<K: Desk<Quantum<AnyJob>, Done<AnyJob>>, R: Wait>(
+    rt: &R,
+    desk: &K,
+    seat: &mut K::Seat,
+    task: u16,
+) -> bool {
+    match desk.collect(rt, seat) {
+        Some(done) => is_result(&done, task),
+        None => false,
+    }
+}
 
 /// Two seats at one desk: one deals two quanta, the other takes them, runs them and hands them back, in order.
-fn exchange<R: Wait>(rt: &R, alloc: Global) -> Option<bool> {
-    let desk: JobDesk = ChannelDesk::new(alloc).ok()?;
-    let mut mine: JobSeat = desk.seat(rt).ok()?;
-    let mut theirs: JobSeat = desk.seat(rt).ok()?;
-    for task in 0..2 {
-        desk.deal(rt, &mut mine, quantum(1, 0, task, b"20")?).ok()?;
-    }
-    for _task in 0..2 {
-        let one = desk.next(rt, &mut theirs)?;
-        desk.hand_back(rt, &mut theirs, one.run()).ok()?;
-    }
-    let first = desk.collect(rt, &mut mine)?;
-    let second = desk.collect(rt, &mut mine)?;
-    Some(is_result(&first, 0) && is_result(&second, 1) && !desk.is_closed())
+fn exchange<K: Desk<Quantum<AnyJob>, Done<AnyJob>>, R: Wait>(rt: &R, desk: &K) -> bool
+where
+    K::Seat: Drop,
+{
+    let (Ok(mut mine), Ok(mut theirs)) = (desk.seat(rt), desk.seat(rt)) else {
+        return false;
+    };
+    is_dealt(rt, desk, &mut mine, 0)
+        && is_dealt(rt, desk, &mut mine, 1)
+        && is_run(rt, desk, &mut theirs)
+        && is_run(rt, desk, &mut theirs)
+        && is_collected(rt, desk, &mut mine, 0)
+        && is_collected(rt, desk, &mut mine, 1)
 }
 
-/// A closed desk gives back what is brought and has nothing to give, though a quantum lies on it; and again when it is closed
-/// once more.
-fn closed<R: Wait>(rt: &R, alloc: Global) -> Option<bool> {
-    let desk: JobDesk = ChannelDesk::new(alloc).ok()?;
-    let mut seat: JobSeat = desk.seat(rt).ok()?;
-    desk.deal(rt, &mut seat, quantum(1, 0, 5, b"20")?).ok()?;
-    for _time in 0..2 {
-        desk.close(rt, &mut seat);
-        let Err(back) = desk.deal(rt, &mut seat, quantum(1, 0, 7, b"20")?) else {
-            return Some(false);
-        };
-        if back.task != 7 || desk.next(rt, &mut seat).is_some() {
-            return Some(false);
-        }
-        let Err(done) = desk.hand_back(rt, &mut seat, back.run()) else {
-            return Some(false);
-        };
-        if done.task != 7 || desk.collect(rt, &mut seat).is_some() {
-            return Some(false);
-        }
+/// Whether the desk, once it is closed, gives back what is brought and has nothing to give.
+fn gives_nothing<K: Desk<Quantum<AnyJob>, Done<AnyJob>>, R: Wait>(
+    rt: &R,
+    desk: &K,
+    seat: &mut K::Seat,
+) -> bool {
+    desk.close(rt, seat);
+    let Some(one) = quantum(1, 0, 7, b"20") else {
+        return false;
+    };
+    let Err(back) = desk.deal(rt, seat, one) else {
+        return false;
+    };
+    if back.task != 7 || desk.next(rt, seat).is_some() {
+        return false;
     }
-    Some(desk.is_closed())
+    match desk.hand_back(rt, seat, back.run()) {
+        Ok(()) => false,
+        Err(done) => done.task == 7 && desk.collect(rt, seat).is_none(),
+    }
 }
 
-/// A lane of its own: what is put in comes out in order, then the end, as often as it is asked for.
-fn lane<R: Wait>(rt: &R, alloc: Global) -> Option<bool> {
-    let quay: Quay<u32> = Quay::new(alloc, 4).ok()?;
-    let mut one = quay.berth(rt).ok()?;
-    let mut other = quay.berth(rt).ok()?;
-    one.put(rt, 5).ok()?;
-    other.put(rt, 6).ok()?;
+/// A closed desk gives nothing, though a quantum lies on it; and again when it is closed once more.
+fn closed<K: Desk<Quantum<AnyJob>, Done<AnyJob>>, R: Wait>(rt: &R, desk: &K) -> bool
+where
+    K::Seat: Drop,
+{
+    let Ok(mut seat) = desk.seat(rt) else {
+        return false;
+    };
+    is_dealt(rt, desk, &mut seat, 5)
+        && gives_nothing(rt, desk, &mut seat)
+        && gives_nothing(rt, desk, &mut seat)
+}
+
+/// Whether a desk lets two seats exchange quanta and results, and gives nothing once it is closed.
+fn is_right<K: Desk<Quantum<AnyJob>, Done<AnyJob>> + Drop, R: Wait>(
+    rt: &R,
+    desk: K,
+    closes: bool,
+) -> bool
+where
+    K::Seat: Drop,
+{
+    if closes {
+        closed(rt, &desk)
+    } else {
+        exchange(rt, &desk)
+    }
+}
+
+/// The same of a desk of channels.
+fn in_channels<R: Wait>(rt: &R, alloc: Global, closes: bool) -> bool {
+    match ChannelDesk::<Quantum<AnyJob>, Done<AnyJob>>::new(alloc) {
+        Ok(desk) => is_right(rt, desk, closes),
+        Err(_) => false,
+    }
+}
+
+/// Whether a desk of channels tells that it is closed just behind a close.
+fn tells_of_a_close<Q: Drop, D: Drop, R: Wait>(rt: &R, desk: ChannelDesk<Q, D>) -> bool {
+    let Ok(mut seat) = desk.seat(rt) else {
+        return false;
+    };
+    let before = desk.is_closed();
+    desk.close(rt, &mut seat);
+    !before && desk.is_closed()
+}
+
+/// The same of a desk of numbers.
+fn is_told<R: Wait>(rt: &R, alloc: Global) -> bool {
+    match ChannelDesk::<u32, u32>::new(alloc) {
+        Ok(desk) => tells_of_a_close(rt, desk),
+        Err(_) => false,
+    }
+}
+
+/// Whether what is put in at two places of a lane comes out in order, then the end, as often as it is asked for.
+fn ends<R: Wait>(rt: &R, one: &mut Berth<u32>, other: &mut Berth<u32>) -> bool {
+    let put = one.put(rt, 5).is_ok() && other.put(rt, 6).is_ok();
     one.end(rt);
-    let first = other.take(rt);
-    let second = one.take(rt);
-    let end = one.take(rt).is_none() && other.take(rt).is_none() && one.take(rt).is_none();
-    let mut third: Berth<u32> = Berth::new(alloc, 1).ok()?;
-    third.put(rt, 8).ok()?;
-    let mut fourth = third.another().ok()?;
-    Some(first == Some(5) && second == Some(6) && end && fourth.take(rt) == Some(8))
+    let taken = other.take(rt) == Some(5) && one.take(rt) == Some(6);
+    put && taken && one.take(rt).is_none() && other.take(rt).is_none() && one.take(rt).is_none()
+}
+
+/// Whether a lane with two places ends for both.
+fn quay_ends<R: Wait>(rt: &R, alloc: Global) -> bool {
+    let Ok(quay) = Quay::<u32>::new(alloc, 4) else {
+        return false;
+    };
+    match (quay.berth(rt), quay.berth(rt)) {
+        (Ok(mut one), Ok(mut other)) => ends(rt, &mut one, &mut other),
+        _ => false,
+    }
+}
+
+/// Whether what is put in at one place comes out at another one made of it.
+fn berth_leads_on<R: Wait>(rt: &R, alloc: Global) -> bool {
+    let Ok(mut one) = Berth::<u32>::new(alloc, 1) else {
+        return false;
+    };
+    let put = one.put(rt, 8).is_ok();
+    match one.another() {
+        Ok(mut other) => put && other.take(rt) == Some(8),
+        Err(_) => false,
+    }
 }
 
 #[test]
 fn quanta_go_out_and_results_come_back(rt: HostRuntime) {
-    assert!(rt; exchange(&rt, rt.alloc()) == Some(true));
+    assert!(rt; in_channels(&rt, rt.alloc(), false));
 }
 
 #[test]
 fn a_closed_desk_gives_nothing(rt: HostRuntime) {
-    assert!(rt; closed(&rt, rt.alloc()) == Some(true));
+    assert!(rt; in_channels(&rt, rt.alloc(), true));
+    assert!(rt; is_told(&rt, rt.alloc()));
 }
 
 #[test]
 fn a_lane_ends_for_all(rt: HostRuntime) {
-    assert!(rt; lane(&rt, rt.alloc()) == Some(true));
+    assert!(rt; quay_ends(&rt, rt.alloc()));
+    assert!(rt; berth_leads_on(&rt, rt.alloc()));
 }

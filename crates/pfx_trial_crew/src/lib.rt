@@ -5,7 +5,7 @@
 //! |---|---|
 //! | `tokens` | `pfx_token`: tokens that bring lists home |
 //! | `past` | `pfx_token`: beginnings of a list that only grows |
-//! | `quanta` | what the modules below deal |
+//! | `quanta` | quanta of jobs that count, and what is done with them at a desk |
 //! | `gathering` | `pfx_crew`: results in every order, and the results that are refused |
 //! | `desk` | `pfx_crew`: a desk of channels, and what a closed one answers |
 //! | `holding` | a watch over a desk that holds a result back |

@@ -14,8 +14,12 @@
 //! - `long`: long scripts and plans, a slow writer, and the reading of a store's set.
 //! - `windows`: scripts whose slots are run several at once, up to a refusal or a writer that fails.
 //! - `refused_sets`, `torn`: set files that are refused, and a reader that fails, for the others.
+//!
+//! `check` names the case that doesn't hold. Tables of cases are texts, a case a line, where a proof needn't look into them.
 #![tactic(auto)]
 
+#[cfg(test)]
+mod check;
 #[cfg(test)]
 mod fault;
 #[cfg(test)]
