@@ -3,8 +3,8 @@
 use pfx_explain::{Note, entry_named, put_entry};
 use pfx_fault::Fault;
 use pfx_notes::{
-    Named, input_note, output_note, passed_over_note, record_note, refused_note, script_note,
-    set_note, store_note,
+    Named, Stands, input_note, output_note, passed_over_note, record_note, refused_note,
+    script_note, set_note, store_note,
 };
 use std::alloc::{AllocError, Global};
 
@@ -208,7 +208,7 @@ fn says_what_is_wrong_with_a_file(rt: HostRuntime) {
     let lines = "  script a.csv: no such file
   Name a file that can be read, or - for standard input.\n";
     assert!(rt; says(rt.alloc(), note, lines));
-    let note = output_note(rt.alloc(), "no space is left");
+    let note = output_note(rt.alloc(), "no space is left", Stands::Run);
     let lines = "  standard output: no space is left
   What was carried out stands: pfx status says how far a store has come.\n";
     assert!(rt; says(rt.alloc(), note, lines));
