@@ -10,6 +10,11 @@ const COMMANDS: usize = 2000;
 const MANY: usize = 100_000;
 const SLOTS: usize = 20_000;
 
+// Where the first frame stands in a store of three tasks: behind the header, two checkpoint areas, and the segment's gate and number.
+const HEADER: u64 = 41;
+const AREA: u64 = 428;
+const FIRST_FRAME: u64 = HEADER + 2 * AREA + 9;
+
 fn show(name: &str, mut micros: Vec<u128>) -> u128 {
     micros.sort_unstable();
     let p50 = micros[micros.len() / 2];
@@ -29,7 +34,7 @@ fn bare(room: &Path) -> Vec<u128> {
     let frame = [7; 22];
     (0..COMMANDS as u64)
         .map(|i| {
-            let gate = 906 + 22 * i;
+            let gate = FIRST_FRAME + 22 * i;
             let start = Instant::now();
             file.write_all_at(&frame, gate + 1).unwrap();
             file.sync_data().unwrap();

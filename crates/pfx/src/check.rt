@@ -1,11 +1,12 @@
-//! `pfx check SET`.
+//! `pfx check SET --json`.
 
 use crate::files::{fault_of, input};
-use crate::notes::{is_closed, tell, tell_all};
+use crate::tell::{form_of, is_closed, tell, tell_all};
 use crate::traces::{Traces, output_of, set_source};
 use pfx_args::Request;
 use pfx_check::{Refusal, run_check};
 use pfx_fault::Fault;
+use pfx_program::Form;
 use std::alloc::Global;
 use std::io::Write;
 
@@ -14,13 +15,14 @@ pub(crate) fn check(
     rt: &HostRuntime,
     alloc: Global,
     set: &str,
+    form: Form,
     traces: &mut Traces,
 ) -> Result<(), Refusal> {
     let mut input = match input(rt, set) {
         Ok(input) => set_source(input, &mut traces.set),
         Err(fault) => return Err(Refusal::alone(alloc, fault)),
     };
-    let text = run_check(alloc, &mut input)?;
+    let text = run_check(alloc, form, &mut input)?;
     match output_of(rt, &traces.seen).write_all(text.as_slice()) {
         Ok(()) => Ok(()),
         Err(error) => Err(Refusal::alone(alloc, fault_of(&error, Fault::OutputFailed))),
@@ -40,9 +42,10 @@ pub(crate) fn refused_by_all(
         return refusal.first.status();
     }
     match request {
-        Request::Check { set } if !refusal.further.is_empty() => {
+        Request::Check { set, .. } if !refusal.further.is_empty() => {
             let further = refusal.further.as_slice();
-            tell_all(rt, alloc, set, traces, refusal.first, further);
+            let form = form_of(request);
+            tell_all(rt, alloc, form, set, traces, refusal.first, further);
         }
         _ => tell(rt, alloc, request, traces, refusal.first),
     }

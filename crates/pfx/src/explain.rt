@@ -1,16 +1,34 @@
-//! `pfx explain FAULT`.
+//! `pfx explain FAULT --json`.
 
 use crate::files::fault_of;
 use crate::traces::{Traces, output_of};
 use pfx_explain::{entry_named, put_entry};
 use pfx_fault::Fault;
+use pfx_objects::entry_line;
+use pfx_program::Form;
+use std::alloc::Global;
+use std::io::Write;
 
 /// Prints what is to be known of the fault that a word names; `false` if it names none, with nothing printed.
-pub(crate) fn explain(rt: &HostRuntime, word: &str, traces: &Traces) -> Result<bool, Fault> {
+pub(crate) fn explain(
+    rt: &HostRuntime,
+    alloc: Global,
+    word: &str,
+    form: Form,
+    traces: &Traces,
+) -> Result<bool, Fault> {
     let Some(entry) = entry_named(word) else {
         return Ok(false);
     };
-    match put_entry(&mut output_of(rt, &traces.seen), entry) {
+    let mut output = output_of(rt, &traces.seen);
+    let put = match form {
+        Form::Text => put_entry(&mut output, entry),
+        Form::Json => match entry_line(alloc, entry) {
+            Ok(line) => output.write_all(line.as_bytes()),
+            Err(_) => return Err(Fault::NoMemory),
+        },
+    };
+    match put {
         Ok(()) => Ok(true),
         Err(error) => Err(fault_of(&error, Fault::OutputFailed)),
     }

@@ -4,9 +4,9 @@ ghost use Rattle.std.specs.Prelude.{◌≡◌, ◌⊎◌, IfErr};
 
 use pfx_disk::FileDisk;
 use pfx_fault::Fault;
+use std::cell::Cell;
 use std::fs::{File, OpenOptions, TryLockError};
 use std::io::{Read, Stdin};
-use std::os::unix::fs::FileExt;
 use std::path::Path;
 use std::time::Duration;
 use std::{fs, io, thread};
@@ -99,8 +99,13 @@ pub(crate) fn disk(rt: &HostRuntime, path: &str) -> Result<FileDisk, Fault> {
     locked(opened(rt, path, &options)?)
 }
 
-/// The same of a file in which a store is made, and whether it is new, so that it is taken away where that fails.
-pub(crate) fn new_disk(rt: &HostRuntime, path: &str) -> Result<(FileDisk, bool), Fault> {
+/// The same of a file in which a store is made, and whether it is new, so that it is taken away where that fails. Of one that can't be
+/// opened or made it keeps what the system says.
+pub(crate) fn new_disk(
+    rt: &HostRuntime,
+    path: &str,
+    unopened: &mut Option<io::ErrorKind>,
+) -> Result<(FileDisk, bool), Fault> {
     let mut options = OpenOptions::new();
     options.read(true).write(true).create_new(true);
     if let Ok(file) = options.open(rt, path) {
@@ -108,34 +113,22 @@ pub(crate) fn new_disk(rt: &HostRuntime, path: &str) -> Result<(FileDisk, bool),
     }
     let mut options = OpenOptions::new();
     options.read(true).write(true).create(true);
-    Ok((locked(opened(rt, path, &options)?)?, false))
-}
-
-// Why so many bytes can't be written to a file, as the system says.
-fn unwritten_by(file: &File, len: u64) -> io::Result<()> {
-    let zeros = [0u8; 4096];
-    for i in 0..len.div_ceil(4096) {
-        file.write_all_at(&zeros, i.saturating_mul(4096))?;
-    }
-    file.sync_all()
-}
-
-/// Why so many bytes can't be written to a file and synced, if they can't now.
-pub(crate) fn unwritten(rt: &HostRuntime, path: &str, len: u64) -> Option<io::ErrorKind> {
-    let mut options = OpenOptions::new();
-    options.write(true);
-    let written = match options.open(rt, path) {
-        Ok(file) => unwritten_by(&file, len),
-        Err(error) => Err(error),
-    };
-    match written {
-        Ok(()) => None,
-        Err(error) => Some(error.kind()),
+    match options.open(rt, path) {
+        Ok(file) => Ok((locked(file)?, false)),
+        Err(error) => {
+            *unopened = Some(error.kind());
+            Err(fault_of(&error, Fault::InputFailed))
+        }
     }
 }
 
-/// Makes the name of a file durable, by a sync of the directory that it is in.
-pub(crate) fn sync_directory(rt: &HostRuntime, path: &str) -> Result<(), Fault>
+/// Makes the name of a file durable, by a sync of the directory that it is in. If that fails, what the system said comes to stand in
+/// `said`.
+pub(crate) fn sync_directory(
+    rt: &HostRuntime,
+    path: &str,
+    said: &Cell<Option<io::Error>>,
+) -> Result<(), Fault>
     ensures { IfErr result (λ fault. (fault ≡ Fault.Device) ⊎ (fault ≡ Fault.NoMemory)) }
 {
     let parent = match Path::new(path).parent() {
@@ -148,7 +141,10 @@ pub(crate) fn sync_directory(rt: &HostRuntime, path: &str) -> Result<(), Fault>
     };
     match synced {
         Ok(()) => Ok(()),
-        Err(error) => Err(fault_of(&error, Fault::Device)),
+        Err(error) => {
+            said.set(Some(error));
+            Err(fault_of(&error, Fault::Device))
+        }
     }
 }
 

@@ -21,6 +21,7 @@ mod progress;
 mod replay;
 mod run;
 mod store;
+mod tell;
 mod tips;
 mod traces;
 
@@ -28,18 +29,17 @@ use crate::check::{check, refused_by_all};
 use crate::draw::draw;
 use crate::explain::explain;
 use crate::files::taken_streams;
-use crate::notes::{is_closed, tell, warn};
 use crate::plan::plan;
 use crate::replay::replay;
 use crate::run::run;
 use crate::store::{init, show, status};
+use crate::tell::{form_of, is_closed, tell, warn};
 use crate::tips::{of_fault, of_words};
 use crate::traces::Traces;
 use clap::Error;
 use clap::error::ErrorKind;
 use pfx_args::{Request, read_words};
 use pfx_fault::{Fault, put_fault};
-use pfx_program::Form;
 use std::alloc::Global;
 use std::io::Write;
 use std::process::ExitCode;
@@ -60,6 +60,10 @@ const REFUSED: u8 = 7;
 /// What is said of a picture that would be too large.
 const TOO_LARGE: &str =
     "more than 262144 slots over the lanes of all tasks; draw fewer, and further ones with --at";
+
+/// What is said of a word that is no text.
+const NO_TEXT: &str =
+    "a word isn't UTF-8 text\n\n  tip: a file is named by UTF-8 text alone; rename it, or reach it by a link whose name is such a text";
 
 // Prints the fault's line. If standard error fails too, the status still tells.
 fn failed(rt: &HostRuntime, fault: Fault) -> u8
@@ -112,11 +116,6 @@ fn answered(rt: &HostRuntime, alloc: Global, words: &[&str], error: &Error) -> u
     error.exit_code() as u8
 }
 
-// How what is printed is written.
-fn form_of(json: bool) -> Form {
-    if json { Form::Json } else { Form::Text }
-}
-
 // Does what is asked for, and answers the exit status if nothing fails.
 fn carried_out<R: Threads + Wait + Clock + Copy + Drop + Send + Sync + 'static>(
     rt: &HostRuntime,
@@ -125,47 +124,42 @@ fn carried_out<R: Threads + Wait + Clock + Copy + Drop + Send + Sync + 'static>(
     request: Request<'_>,
     traces: &mut Traces,
 ) -> Result<u8, Fault> {
+    let form = form_of(&request);
     match request {
-        Request::Plan {
-            set,
-            slots,
-            at,
-            json,
-        } => plan(rt, alloc, set, at, slots, form_of(json), traces)?,
-        Request::Init { set, file } => init(rt, alloc, set, file, traces)?,
+        Request::Plan { set, slots, at, .. } => plan(rt, alloc, set, at, slots, form, traces)?,
+        Request::Init { set, file, .. } => init(rt, alloc, set, file, form, traces)?,
         Request::Run {
             file,
             script,
             workers,
             batch,
             strict,
-            json,
+            ..
         } => {
-            let form = form_of(json);
             traces.be_strict(strict);
             run(
                 rt, threads, alloc, file, script, workers, batch, form, traces,
             )?;
             return Ok(if traces.has_ended() { REFUSED } else { 0 });
         }
-        Request::Status { file, json } => status(rt, alloc, file, form_of(json), traces)?,
-        Request::Replay { file } => {
-            let agrees = replay(rt, alloc, file, traces)?;
+        Request::Status { file, .. } => status(rt, alloc, file, form, traces)?,
+        Request::Replay { file, .. } => {
+            let agrees = replay(rt, alloc, file, form, traces)?;
             return Ok(if agrees { 0 } else { DIFFERS });
         }
-        Request::Show { file, task, json } => show(rt, alloc, file, task, form_of(json), traces)?,
+        Request::Show { file, task, .. } => show(rt, alloc, file, task, form, traces)?,
         Request::Draw { set, slots, at } => {
             if !draw(rt, alloc, set, at, slots, traces)? {
                 return Ok(refused(rt, alloc, TOO_LARGE));
             }
         }
-        Request::Check { set } => {
-            if let Err(refusal) = check(rt, alloc, set, traces) {
+        Request::Check { set, .. } => {
+            if let Err(refusal) = check(rt, alloc, set, form, traces) {
                 return Ok(refused_by_all(rt, alloc, &request, traces, &refusal));
             }
         }
-        Request::Explain { fault } => {
-            if !explain(rt, fault, traces)? {
+        Request::Explain { fault, .. } => {
+            if !explain(rt, alloc, fault, form, traces)? {
                 return Ok(unexplained(rt, alloc, fault));
             }
         }
@@ -187,7 +181,9 @@ fn done<R: Threads + Wait + Clock + Copy + Drop + Send + Sync + 'static>(
     let mut traces = Traces::new(alloc);
     match carried_out(rt, threads, alloc, request, &mut traces) {
         Ok(status) => {
-            warn(rt, alloc, &request, &traces);
+            if status == 0 || status == REFUSED {
+                warn(rt, alloc, &request, &traces);
+            }
             status
         }
         Err(fault) if is_closed(&traces, fault) => fault.status(),
@@ -212,7 +208,7 @@ fn main(rt: HostRuntime) -> ExitCode {
         Err(error) if error.kind() == io::ErrorKind::OutOfMemory => {
             return ExitCode::from(failed(&rt, Fault::NoMemory));
         }
-        Err(_) => return ExitCode::from(refused(&rt, alloc, "a word isn't UTF-8 text")),
+        Err(_) => return ExitCode::from(refused(&rt, alloc, NO_TEXT)),
     };
     let mut words = Vec::new(alloc);
     for word in given.iter() {

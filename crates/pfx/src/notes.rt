@@ -1,33 +1,37 @@
-//! What is said below the line of a fault, and warnings.
+//! What is said below the line of a fault.
 
-use crate::files::Source;
-use crate::traces::{Seen, Traces, Unmade};
+use crate::traces::{Traces, Unmade};
 use pfx_args::Request;
-use pfx_check::put_also;
 use pfx_explain::Note;
-use pfx_fault::{Fault, put_fault};
+use pfx_fault::Fault;
 use pfx_notes::{
-    Named, Stands, Trouble, further_note, input_note, output_note, passed_over_note, record_note,
-    refused_note, script_note, set_note, store_note, trouble_note,
+    Named, Stands, Trouble, input_note, output_note, record_note, script_note, set_note,
+    store_note, trouble_note,
 };
 use std::alloc::{AllocError, Global};
+use std::fs;
 use std::fs::{File, OpenOptions};
-use std::io::{ErrorKind, Read, Write};
+use std::io::{Error, ErrorKind, Read};
 use std::path::Path;
-use std::{fs, io};
 
 /// The letters with which a store's file begins, behind an open gate.
 const STORE: &[u8; 9] = b"\xC3PFXSTORE";
 
+/// How often a store whose disk has failed is read again, 4,096 bytes each time.
+const LOOKS: u32 = 1024;
+
+/// What has failed of a store.
+const ANY_CALL: &str = "a read, a write or a sync of it has failed";
+
+/// The same if it was open before.
+const LATE_CALL: &str = "a write or a sync of it has failed";
+
 /// The longest script that is read again, in bytes.
 const LONGEST: u64 = 1 << 28;
 
-/// What is said where there is no memory to say it in.
-const NO_MEMORY: &[u8] =
-    b"pfx: error 90 NoMemory\n  the system gives no more memory to this process\n  What was printed stands. Give it more, as by ulimit -v, or run less beside it.\n";
-
-fn why(kind: ErrorKind) -> &'static str {
-    match kind {
+// What a kind of error says of a file, where that is known.
+fn known(kind: ErrorKind) -> Option<&'static str> {
+    let why = match kind {
         ErrorKind::NotFound => "no such file",
         ErrorKind::PermissionDenied => "no permission",
         ErrorKind::IsADirectory => "it is a directory",
@@ -39,7 +43,20 @@ fn why(kind: ErrorKind) -> &'static str {
         ErrorKind::InvalidFilename => "the name is too long",
         ErrorKind::FileTooLarge => "no file may be so long here",
         ErrorKind::Unsupported => "its file system has no locks",
-        _ => "it can't be opened, read or written",
+        _ => return None,
+    };
+    Some(why)
+}
+
+fn why(kind: ErrorKind) -> &'static str {
+    known(kind).unwrap_or("it can't be opened, read or written")
+}
+
+// What the system said, in its own words where the kind of error tells nothing.
+fn words_of(alloc: Global, error: Error) -> Result<String, AllocError> {
+    match known(error.kind()) {
+        Some(why) => format!(in alloc; "{why}"),
+        None => format!(in alloc; "{error}"),
     }
 }
 
@@ -114,19 +131,6 @@ fn first_of(
     }
 }
 
-// Why no file of this name can be made, where it isn't there: the directory first, and then what the system says.
-fn unmade_by(rt: &HostRuntime, path: &str) -> Option<ErrorKind> {
-    let mut options = OpenOptions::new();
-    options.write(true).create_new(true);
-    match options.open(rt, path) {
-        Ok(_file) => {
-            let _ = fs::remove_file(rt, path);
-            None
-        }
-        Err(error) => Some(error.kind()),
-    }
-}
-
 // The directory of a path, if it isn't there.
 fn lost_directory<'a>(rt: &HostRuntime, path: &'a str) -> Option<&'a str> {
     let parent = Path::new(path).parent()?.as_str();
@@ -139,64 +143,106 @@ fn lost_directory<'a>(rt: &HostRuntime, path: &'a str) -> Option<&'a str> {
     }
 }
 
-// The note of a file that isn't there and can't be made.
-fn new_note(rt: &HostRuntime, alloc: Global, path: &str) -> Result<Option<Note>, AllocError> {
+// The note of a file that isn't there and can't be made, by what the system said of it.
+fn new_note(
+    rt: &HostRuntime,
+    alloc: Global,
+    path: &str,
+    kind: ErrorKind,
+) -> Result<Option<Note>, AllocError> {
     if let Some(directory) = lost_directory(rt, path) {
         return trouble_note(alloc, path, Trouble::NoDirectory(directory));
     }
-    match unmade_by(rt, path) {
-        Some(ErrorKind::PermissionDenied) => trouble_note(alloc, path, Trouble::NoPermission),
-        Some(ErrorKind::ReadOnlyFilesystem) => trouble_note(alloc, path, Trouble::ReadOnly),
-        Some(kind) => input_note(alloc, Named::NewStore, path, why(kind), false),
-        None => Ok(None),
+    match kind {
+        ErrorKind::PermissionDenied => trouble_note(alloc, path, Trouble::NoPermission),
+        ErrorKind::ReadOnlyFilesystem => trouble_note(alloc, path, Trouble::ReadOnly),
+        _ => input_note(alloc, Named::NewStore, path, why(kind), false),
     }
 }
 
-// The note of a file in which no store can be made.
-fn made_note(rt: &HostRuntime, alloc: Global, path: &str) -> Result<Option<Note>, AllocError> {
+// Whether there is no file of this name.
+fn is_missing(rt: &HostRuntime, path: &str) -> bool {
+    match fs::metadata(rt, path) {
+        Ok(_) => false,
+        Err(error) => error.kind() == ErrorKind::NotFound,
+    }
+}
+
+// The note of a file in which no store can be made, by what the system said when it was opened or made.
+fn made_note(
+    rt: &HostRuntime,
+    alloc: Global,
+    path: &str,
+    unopened: Option<ErrorKind>,
+) -> Result<Option<Note>, AllocError> {
     if path.is_empty() {
         return trouble_note(alloc, path, Trouble::NoName(Named::NewStore));
     }
-    match trouble(rt, path, true) {
-        Some(ErrorKind::NotFound) => new_note(rt, alloc, path),
+    match unopened {
+        Some(kind) if is_missing(rt, path) => new_note(rt, alloc, path, kind),
         Some(kind) => input_note(alloc, Named::NewStore, path, why(kind), false),
         None => Ok(None),
     }
 }
 
 // The note of a store's file that couldn't be written to its end.
-fn unmade_note(alloc: Global, path: &str, unmade: Unmade) -> Result<Option<Note>, AllocError> {
-    let trouble = match unmade.why {
-        Some(ErrorKind::StorageFull | ErrorKind::QuotaExceeded) if !unmade.is_left => {
-            Trouble::NoSpace(unmade.needed)
-        }
-        Some(kind) => Trouble::Unmade(why(kind), unmade.is_left),
-        None => Trouble::Unmade("a write or a sync has failed", unmade.is_left),
+fn unmade_note(
+    alloc: Global,
+    path: &str,
+    unmade: Unmade,
+    said: Option<Error>,
+) -> Result<Option<Note>, AllocError> {
+    let Some(error) = said else {
+        let why = "a write or a sync has failed";
+        return trouble_note(alloc, path, Trouble::Unmade(why, unmade.is_left));
     };
-    trouble_note(alloc, path, trouble)
+    match error.kind() {
+        ErrorKind::StorageFull | ErrorKind::QuotaExceeded if !unmade.is_left => {
+            trouble_note(alloc, path, Trouble::NoSpace(unmade.needed))
+        }
+        _ => {
+            let why = words_of(alloc, error)?;
+            trouble_note(alloc, path, Trouble::Unmade(why.as_str(), unmade.is_left))
+        }
+    }
 }
 
-// The note of a store whose disk has failed: what the system says of a read of it now.
-fn device_note(rt: &HostRuntime, alloc: Global, path: &str) -> Result<Option<Note>, AllocError> {
-    let why = match fs::metadata(rt, path) {
-        Ok(found) if !found.is_file() => "it is no plain file",
-        Ok(_) => match unread(rt, path) {
-            Some(kind) => why(kind),
-            None => "a read, a write or a sync of it has failed",
-        },
-        Err(error) => why(error.kind()),
+// The note of a store whose disk has failed in such a call: what the system said of that, or else what it says of a read of the store
+// now.
+fn device_note(
+    rt: &HostRuntime,
+    alloc: Global,
+    path: &str,
+    call: &str,
+    said: Option<Error>,
+) -> Result<Option<Note>, AllocError> {
+    let found = match fs::metadata(rt, path) {
+        Ok(found) => found,
+        Err(error) => return trouble_note(alloc, path, Trouble::Device(why(error.kind()))),
+    };
+    if !found.is_file() {
+        return trouble_note(alloc, path, Trouble::Device("it is no plain file"));
+    }
+    if let Some(error) = said {
+        let words = words_of(alloc, error)?;
+        let why = format!(in alloc; "{call}: {words}")?;
+        return trouble_note(alloc, path, Trouble::Device(why.as_str()));
+    }
+    let why = match unread(rt, path) {
+        Some(kind) => why(kind),
+        None => call,
     };
     trouble_note(alloc, path, Trouble::Device(why))
 }
 
-// Why a file can't be read to its end.
+// Why a file can't be read, as far as its first bytes tell: a failing disk takes long for each.
 fn unread(rt: &HostRuntime, path: &str) -> Option<ErrorKind> {
     let mut room = [0u8; 4096];
     let mut file = match File::open(rt, path) {
         Ok(file) => file,
         Err(error) => return Some(error.kind()),
     };
-    for _ in 0..u64::MAX {
+    for _ in 0..LOOKS {
         match file.read(&mut room) {
             Ok(0) => return None,
             Ok(_) => {}
@@ -215,16 +261,16 @@ fn input_failed(
     match request {
         Request::Plan { set, .. }
         | Request::Draw { set, .. }
-        | Request::Check { set }
+        | Request::Check { set, .. }
         | Request::Init { set, .. }
             if traces.set.is_long => { trouble_note(alloc, set, Trouble::Long) }
-        Request::Plan { set, .. } | Request::Draw { set, .. } | Request::Check { set } => {
+        Request::Plan { set, .. } | Request::Draw { set, .. } | Request::Check { set, .. } => {
             let note = word_note(rt, alloc, Named::Set, set)?;
             first_of(note, unread_note(alloc, Named::Set, set))
         }
-        Request::Init { set, file } => {
+        Request::Init { set, file, .. } => {
             let note = word_note(rt, alloc, Named::Set, set)?;
-            let note = first_of(note, made_note(rt, alloc, file))?;
+            let note = first_of(note, made_note(rt, alloc, file, traces.unopened))?;
             first_of(note, unread_note(alloc, Named::Set, set))
         }
         Request::Run { file, script, .. } => {
@@ -232,15 +278,14 @@ fn input_failed(
             let note = first_of(note, word_note(rt, alloc, Named::Store, file))?;
             first_of(note, unread_note(alloc, Named::Script, script))
         }
-        Request::Status { file, .. } | Request::Replay { file } | Request::Show { file, .. } => {
-            store_word_note(rt, alloc, file)
-        }
+        Request::Status { file, .. } | Request::Replay { file, .. } | Request::Show { file, .. } =>
+            { store_word_note(rt, alloc, file) }
         Request::Explain { .. } => Ok(None),
     }
 }
 
-// What stands in a plain file that isn't too long, if it can be read.
-fn text_of(rt: &HostRuntime, path: &str) -> Option<Vec<u8>> {
+/// What stands in a plain file that isn't too long, if it can be read.
+pub(crate) fn text_of(rt: &HostRuntime, path: &str) -> Option<Vec<u8>> {
     if path == "-" {
         return None;
     }
@@ -269,6 +314,7 @@ fn run_note(
     file: &str,
     script: &str,
     fault: Fault,
+    said: Option<Error>,
 ) -> Result<Option<Note>, AllocError> {
     match fault {
         Fault::BadScript { at } => match text_of(rt, script) {
@@ -278,7 +324,8 @@ fn run_note(
         Fault::NotAStore if script != "-" && is_store(rt, script) => {
             store_note(alloc, file, Some(script), fault)
         }
-        Fault::Device | Fault::StoreFailed { .. } => device_note(rt, alloc, file),
+        Fault::Device => device_note(rt, alloc, file, ANY_CALL, said),
+        Fault::StoreFailed { .. } => device_note(rt, alloc, file, LATE_CALL, said),
         _ => store_note(alloc, file, None, fault),
     }
 }
@@ -292,7 +339,8 @@ fn stands_of(request: &Request<'_>) -> Stands {
     }
 }
 
-fn note_of(
+/// What is said below the line of a fault, if anything is known beside it. Fails only if memory runs out.
+pub(crate) fn note_of(
     rt: &HostRuntime,
     alloc: Global,
     request: &Request<'_>,
@@ -311,168 +359,29 @@ fn note_of(
         _ => {}
     }
     let text = traces.set.text.as_slice();
+    let said = traces.device.get();
     match request {
         Request::Plan { set, at, .. } | Request::Draw { set, at, .. } => {
             set_note(alloc, set, text, *at, fault)
         }
-        Request::Check { set } => set_note(alloc, set, text, None, fault),
-        Request::Init { set, file } => match set_note(alloc, set, text, None, fault)? {
+        Request::Check { set, .. } => set_note(alloc, set, text, None, fault),
+        Request::Init { set, file, .. } => match set_note(alloc, set, text, None, fault)? {
             Some(note) => Ok(Some(note)),
             None => match traces.unmade {
-                Some(unmade) => unmade_note(alloc, file, unmade),
-                None if fault == Fault::Device => device_note(rt, alloc, file),
-                None => store_note(alloc, file, None, fault),
+                Some(unmade) if fault == Fault::Device => unmade_note(alloc, file, unmade, said),
+                _ if fault == Fault::Device => device_note(rt, alloc, file, ANY_CALL, said),
+                _ => store_note(alloc, file, None, fault),
             },
         },
-        Request::Run { file, script, .. } => run_note(rt, alloc, file, script, fault),
-        Request::Status { file, .. } | Request::Replay { file } | Request::Show { file, .. } => {
-            match fault {
-                Fault::Busy => trouble_note(alloc, file, Trouble::Held),
-                Fault::Device => device_note(rt, alloc, file),
-                _ => store_note(alloc, file, None, fault),
+        Request::Run { file, script, .. } => run_note(rt, alloc, file, script, fault, said),
+        Request::Status { file, .. } | Request::Replay { file, .. } | Request::Show { file, .. } =>
+            {
+                match fault {
+                    Fault::Busy => trouble_note(alloc, file, Trouble::Held),
+                    Fault::Device => device_note(rt, alloc, file, ANY_CALL, said),
+                    _ => store_note(alloc, file, None, fault),
+                }
             }
-        }
         Request::Explain { .. } => Ok(None),
-    }
-}
-
-// Puts a note's lines behind a text.
-fn put_note(alloc: Global, text: &mut Vec<u8>, note: Result<Option<Note>, AllocError>) {
-    if let Ok(Some(note)) = note
-        && let Ok(lines) = note.text(alloc)
-    {
-        let _ = text.extend_from_slice(lines.as_slice());
-    }
-}
-
-// Prints a text on standard error, by one write where the system takes it whole.
-fn print(rt: &HostRuntime, text: &Vec<u8>) {
-    let _ = rt.stderr().write_all(text.as_slice());
-}
-
-/// Prints the line of a fault, and below it where the mistake stands, what is wrong and what to change, as far as that is known: all
-/// by one write.
-pub(crate) fn tell(
-    rt: &HostRuntime,
-    alloc: Global,
-    request: &Request<'_>,
-    traces: &Traces,
-    fault: Fault,
-) {
-    if fault == Fault::NoMemory {
-        let _ = rt.stderr().write_all(NO_MEMORY);
-        return;
-    }
-    let mut text = Vec::new(alloc);
-    if put_fault(&mut text, fault).is_err() {
-        let _ = put_fault(&mut rt.stderr(), fault);
-        return;
-    }
-    put_note(alloc, &mut text, note_of(rt, alloc, request, traces, fault));
-    print(rt, &text);
-}
-
-// The task that a fault names, so that the further ones are those without it.
-fn task_in(fault: Fault) -> Option<u16> {
-    match fault {
-        Fault::BadWeight { task } | Fault::HyperperiodTooLarge { task } => Some(task),
-        _ => None,
-    }
-}
-
-/// Prints the line of the first fault of a set and those of the further ones, each with what is said below it: all by one write.
-pub(crate) fn tell_all(
-    rt: &HostRuntime,
-    alloc: Global,
-    set: &str,
-    traces: &Traces,
-    first: Fault,
-    further: &[Fault],
-) {
-    let set_text = traces.set.text.as_slice();
-    let mut text = Vec::new(alloc);
-    let mut out = Vec::new(alloc);
-    let _ = put_fault(&mut text, first);
-    put_note(
-        alloc,
-        &mut text,
-        set_note(alloc, set, set_text, None, first),
-    );
-    if let Some(task) = task_in(first) {
-        let _ = out.push(task);
-    }
-    for fault in further {
-        let _ = put_also(&mut text, *fault);
-        let note = further_note(alloc, set, set_text, out.as_slice(), *fault);
-        put_note(alloc, &mut text, note);
-        if let Some(task) = task_in(*fault) {
-            let _ = out.push(task);
-        }
-    }
-    print(rt, &text);
-}
-
-/// Whether an output failed because its reader has gone.
-pub(crate) fn is_closed(traces: &Traces, fault: Fault) -> bool {
-    fault == Fault::OutputFailed && traces.seen.get().failed == Some(ErrorKind::BrokenPipe)
-}
-
-// Prints a warning's line and its note, by one write.
-fn warn_of(rt: &HostRuntime, alloc: Global, line: &[u8], note: Result<Option<Note>, AllocError>) {
-    let mut text = Vec::new(alloc);
-    if text.extend_from_slice(line).is_ok() {
-        put_note(alloc, &mut text, note);
-        print(rt, &text);
-    }
-}
-
-// Says that records were refused: the first of them, and how many.
-fn warn_refused(rt: &HostRuntime, alloc: Global, script: &str, seen: &Seen) {
-    let Some(text) = text_of(rt, script) else {
-        return;
-    };
-    let refusal = &seen.refusal[..seen.len.min(seen.refusal.len())];
-    let note = refused_note(
-        alloc,
-        script,
-        text.as_slice(),
-        seen.answers,
-        seen.shown,
-        refusal,
-        seen.refused,
-    );
-    if let Ok(note) = note {
-        warn_of(
-            rt,
-            alloc,
-            b"pfx: warning: a record was refused\n",
-            Ok(Some(note)),
-        );
-    }
-}
-
-/// Warns of what a command that went well has passed over: keys of a set, refused records of a script.
-pub(crate) fn warn(rt: &HostRuntime, alloc: Global, request: &Request<'_>, traces: &Traces) {
-    match request {
-        Request::Plan { set, .. }
-        | Request::Draw { set, .. }
-        | Request::Init { set, .. }
-        | Request::Check { set } => {
-            if let Ok(Some(note)) = passed_over_note(alloc, set, traces.set.text.as_slice()) {
-                warn_of(
-                    rt,
-                    alloc,
-                    b"pfx: warning: the set has a key that is passed over\n",
-                    Ok(Some(note)),
-                );
-            }
-        }
-        Request::Run { script, .. } => {
-            let seen = traces.seen.get();
-            if seen.refused > 0 {
-                warn_refused(rt, alloc, script, &seen);
-            }
-        }
-        _ => {}
     }
 }

@@ -1,4 +1,4 @@
-//! `pfx replay FILE`.
+//! `pfx replay FILE --json`.
 
 use crate::files::{fault_of, shared_disk};
 use crate::traces::{Traces, output_of};
@@ -6,16 +6,42 @@ use pfx_disk::FileDisk;
 use pfx_engine::faults::open_fault;
 use pfx_fault::Fault;
 use pfx_kinds::any::AnyJob;
-use pfx_replay::{Verdict, put_verdict};
-use std::alloc::Global;
-use std::io::{BufWriter, Write};
+use pfx_program::{Form, object_line};
+use pfx_replay::{Verdict, put_verdict, verdict_object};
+use std::alloc::{AllocError, Global};
+use std::io::Write;
 
 // What a replay of the store of a file finds.
-fn verdict_of(rt: &HostRuntime, alloc: Global, file: &str) -> Result<Verdict, Fault> {
+fn verdict_of(
+    rt: &HostRuntime,
+    alloc: Global,
+    file: &str,
+    traces: &Traces,
+) -> Result<Verdict, Fault> {
     let disk = shared_disk(rt, file)?;
     match pfx_replay::replay::<AnyJob, FileDisk>(alloc, disk) {
         Ok((verdict, _disk)) => Ok(verdict),
-        Err((fault, _disk)) => Err(open_fault(fault)),
+        Err((fault, disk)) => {
+            traces.keep_said(&disk);
+            Err(open_fault(fault))
+        }
+    }
+}
+
+// The verdict's line.
+fn line_of(alloc: Global, form: Form, verdict: Verdict) -> Result<Vec<u8>, AllocError> {
+    let mut line = Vec::new(alloc);
+    match form {
+        Form::Text => match put_verdict(&mut line, verdict) {
+            Ok(()) => Ok(line),
+            Err(_) => Err(AllocError),
+        },
+        Form::Json => {
+            let object = verdict_object(alloc, verdict)?;
+            let text = object_line(alloc, &object)?;
+            line.extend_from_slice(text.as_bytes())?;
+            Ok(line)
+        }
     }
 }
 
@@ -24,15 +50,14 @@ pub(crate) fn replay(
     rt: &HostRuntime,
     alloc: Global,
     file: &str,
+    form: Form,
     traces: &Traces,
 ) -> Result<bool, Fault> {
-    let verdict = verdict_of(rt, alloc, file)?;
-    let Ok(mut output) = BufWriter::new(alloc, output_of(rt, &traces.seen)) else {
+    let verdict = verdict_of(rt, alloc, file, traces)?;
+    let Ok(line) = line_of(alloc, form, verdict) else {
         return Err(Fault::NoMemory);
     };
-    let put = put_verdict(&mut output, verdict);
-    let flushed = output.flush();
-    match put.and(flushed) {
+    match output_of(rt, &traces.seen).write_all(line.as_slice()) {
         Ok(()) => Ok(matches!(verdict, Verdict::Agrees { .. })),
         Err(error) => Err(fault_of(&error, Fault::OutputFailed)),
     }

@@ -1,17 +1,19 @@
 //! `pfx run FILE SCRIPT`.
 
-ghost use Rattle.std.specs.Prelude.{◌<◌};
+ghost use Rattle.std.specs.Prelude.{◌≡◌, ◌<◌};
 ghost use Rattle.pfx_disk.specs.File.{file_view};
 ghost use Rattle.pfx_front.specs.Starting.{Begins};
 ghost use Rattle.pfx_kinds.specs.AnyKind.{any_kind};
 
 use crate::files::{disk, input};
 use crate::progress::Told;
-use crate::store::{engine, opened};
+use crate::store::opened;
 use crate::traces::{Lines, Traces, output_of, script_of};
+use pfx_chronicle::list::Opened;
+use pfx_chronicle::name::Charted;
 use pfx_crew::channel::ChannelDesk;
 use pfx_disk::FileDisk;
-use pfx_engine::run_durable;
+use pfx_engine::run_noted;
 use pfx_fault::Fault;
 use pfx_front_engine::engine::WINDOW;
 use pfx_front_engine::scripts::run_served;
@@ -21,31 +23,52 @@ use pfx_program::Form;
 use pfx_script::{Script, Whole};
 use pfx_store::Store;
 use std::alloc::Global;
+use std::marker::Brand;
 use std::sync::Wait;
 use std::thread::Threads;
 use std::time::Clock;
 
-// Runs a script on a store by one thread.
-fn run_alone(
+// The desk of a front's workers.
+type JobDesk = ChannelDesk<Quantum<AnyJob>, Done<AnyJob>>;
+
+/// The most records of a script that share a commit.
+const GROUP: u32 = 16;
+
+// Runs a script on a store by one thread. The name says which bytes the file held when it was opened: that they stand for the store is
+// the premise of each printed line.
+fn run_alone<N: Charted>(
     rt: &HostRuntime,
     alloc: Global,
+    list: Opened,
     store: Store<FileDisk, AnyJob>,
     script: &mut Script<Whole<Lines<'_>>>,
     window: u32,
     form: Form,
     traces: &Traces,
 ) -> Result<(), Fault>
-    requires { 0 < window }
+    requires some { 0 < window }
+    requires list { list.seen.book ≡ N.calls }
+    requires begins { Begins any_kind store.state N.failures N.clock N.held N.image store (file_view store.file.disk) }
 {
-    let mut engine = engine(alloc, store)?;
     let mut output = Told::new(rt, alloc, output_of(rt, &traces.seen), "lines", None);
-    let done = run_durable(alloc, script, window, form, &mut output, &mut engine);
+    let ran = run_noted::<_, _, FileDisk, N>(
+        alloc,
+        list,
+        store,
+        script,
+        window,
+        GROUP,
+        form,
+        &mut output,
+    );
     output.clear();
-    done
+    traces.keep_said(ran.store.disk());
+    ran.result
 }
 
-// Runs a script on a store by so many workers.
-fn run_by<R: Threads + Wait + Clock + Copy + Drop + Send + Sync + 'static>(
+// Runs a script on a store by so many workers. The name says which bytes the file held when it was opened: that they stand for the
+// store is the premise of each receipt.
+fn run_by<N: Charted, R: Threads + Wait + Clock + Copy + Drop + Send + Sync + 'static>(
     rt: &HostRuntime,
     threads: R,
     alloc: Global,
@@ -58,13 +81,13 @@ fn run_by<R: Threads + Wait + Clock + Copy + Drop + Send + Sync + 'static>(
 ) -> Result<(), Fault>
     requires some { 0 < window }
     requires begins { Begins any_kind store.state (file_view store.file.disk).failures
-        (file_view store.file.disk).clock store.file.broken store.state (file_view store.file.disk) }
+        (file_view store.file.disk).clock N.held N.image store (file_view store.file.disk) }
 {
-    let Ok(desk) = ChannelDesk::<Quantum<AnyJob>, Done<AnyJob>>::new(alloc) else {
+    let Ok(desk) = JobDesk::new(alloc) else {
         return Err(Fault::NoMemory);
     };
     let mut output = Told::new(rt, alloc, output_of(rt, &traces.seen), "lines", None);
-    let served = run_served(
+    let served = run_served::<_, _, FileDisk, N, JobDesk, R>(
         threads,
         alloc,
         store,
@@ -72,15 +95,18 @@ fn run_by<R: Threads + Wait + Clock + Copy + Drop + Send + Sync + 'static>(
         workers,
         script,
         window,
+        GROUP,
         form,
         &mut output,
     );
     output.clear();
+    traces.keep_said(served.store.disk());
     served.result
 }
 
 /// Runs a script on the store of a file by so many workers, as many as its set has if none are said, or for 0 by one thread. Up
-/// to `window` slots of a record are kept at once; if that isn't said, it is 1, or 64 with workers. Lines are printed as they come.
+/// to `window` slots of a record are kept at once; if that isn't said, it is 1, or 64 with workers. Records that stand ready together
+/// are kept at once too, up to 16. Lines are printed as they come.
 pub(crate) fn run<R: Threads + Wait + Clock + Copy + Drop + Send + Sync + 'static>(
     rt: &HostRuntime,
     threads: R,
@@ -96,14 +122,23 @@ pub(crate) fn run<R: Threads + Wait + Clock + Copy + Drop + Send + Sync + 'stati
         alloc,
         Whole::new(script_of(input(rt, script)?, &traces.seen)),
     );
-    let store = opened(alloc, disk(rt, file)?)?;
+    let store = opened(alloc, disk(rt, file)?, traces)?;
     let workers = workers.unwrap_or(store.state().columns().workers());
     if workers == 0 {
         let window = window.unwrap_or(1).max(1);
-        run_alone(rt, alloc, store, &mut script, window, form, traces)
+        run_alone::<Brand>(
+            rt,
+            alloc,
+            Opened::new(),
+            store,
+            &mut script,
+            window,
+            form,
+            traces,
+        )
     } else {
         let window = window.unwrap_or(WINDOW).max(1);
-        run_by(
+        run_by::<Brand, R>(
             rt,
             threads,
             alloc,

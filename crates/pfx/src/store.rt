@@ -1,11 +1,12 @@
 //! `pfx init SET FILE`, `pfx status FILE`, `pfx show FILE TASK`.
 
-ghost use Rattle.std.specs.Prelude.{IfOk};
+ghost use Rattle.std.specs.Prelude.{ℕ, List, IfOk};
 ghost use Rattle.pfx_disk.specs.File.{file_view};
 ghost use Rattle.pfx_front.specs.Starting.{Begins};
 ghost use Rattle.pfx_kinds.specs.AnyKind.{any_kind};
+ghost use Rattle.pfx_store.specs.Noting.{IsHeldBy};
 
-use crate::files::{fault_of, input, new_disk, shared_disk, sync_directory, unwritten};
+use crate::files::{fault_of, input, new_disk, shared_disk, sync_directory};
 use crate::traces::{Traces, Unmade, output_of, set_source};
 use pfx_check::store_len;
 use pfx_disk::FileDisk;
@@ -20,18 +21,13 @@ use std::alloc::Global;
 use std::fs;
 use std::io::{BufWriter, Write};
 
-// Takes away the file in which no store could be made, if it is new, and says why.
+// Takes away the file in which no store could be made, if it is new.
 fn taken_away(rt: &HostRuntime, file: &str, is_new: bool, needed: u64) -> Option<Unmade> {
     if !is_new {
         return None;
     }
-    let why = unwritten(rt, file, needed);
     let is_left = fs::remove_file(rt, file).is_err();
-    Some(Unmade {
-        why,
-        needed,
-        is_left,
-    })
+    Some(Unmade { needed, is_left })
 }
 
 /// Makes a store of a set in a file, which is made if it is missing, and prints its line. The set's refusals and the
@@ -42,6 +38,7 @@ pub(crate) fn init(
     alloc: Global,
     set: &str,
     file: &str,
+    form: Form,
     traces: &mut Traces,
 ) -> Result<(), Fault> {
     let mut input = set_source(input(rt, set)?, &mut traces.set);
@@ -50,19 +47,20 @@ pub(crate) fn init(
         return Err(size_fault(fault));
     }
     let needed = store_len(&set, segment);
-    let (disk, is_new) = new_disk(rt, file)?;
+    let (disk, is_new) = new_disk(rt, file, &mut traces.unopened)?;
     let store = match Store::<FileDisk, AnyJob>::init(alloc, disk, &set, segment) {
         Ok(store) => store,
-        Err((fault, _disk)) => {
+        Err((fault, disk)) => {
+            traces.device.set(disk.said());
             traces.unmade = taken_away(rt, file, is_new, needed);
             return Err(init_fault(fault));
         }
     };
-    if let Err(fault) = sync_directory(rt, file) {
+    if let Err(fault) = sync_directory(rt, file, &traces.device) {
         traces.unmade = taken_away(rt, file, is_new, needed);
         return Err(fault);
     }
-    let Ok(line) = created_line(alloc, &set, store.places().sizes.file_len()) else {
+    let Ok(line) = created_line(alloc, form, &set, store.places().sizes.file_len()) else {
         return Err(Fault::NoMemory);
     };
     match output_of(rt, &traces.seen).write_all(line.as_bytes()) {
@@ -71,22 +69,28 @@ pub(crate) fn init(
     }
 }
 
-/// The store on a disk.
-pub(crate) fn opened(alloc: Global, disk: FileDisk) -> Result<Store<FileDisk, AnyJob>, Fault>
+/// The store on a disk. Whatever bytes the file is said to hold, that they stand for the store is the premise. If the disk fails, what the
+/// system said is kept.
+pub(crate) fn opened(
+    alloc: Global,
+    disk: FileDisk,
+    traces: &Traces,
+) -> Result<Store<FileDisk, AnyJob>, Fault>
     ensures { IfOk result
-        (λ s. Begins any_kind s.state (file_view s.file.disk).failures (file_view s.file.disk).clock s.file.broken s.state (file_view s.file.disk)) }
+        (λ s. (image : List ℕ) → Begins any_kind s.state (file_view s.file.disk).failures (file_view s.file.disk).clock
+        (IsHeldBy any_kind s image) image s (file_view s.file.disk)) }
 {
     match Store::open(alloc, disk) {
         Ok(store) => Ok(store),
-        Err((fault, _disk)) => Err(open_fault(fault)),
+        Err((fault, disk)) => {
+            traces.keep_said(&disk);
+            Err(open_fault(fault))
+        }
     }
 }
 
-/// The engine of one thread over a store.
-pub(crate) fn engine(
-    alloc: Global,
-    store: Store<FileDisk, AnyJob>,
-) -> Result<DurableEngine<FileDisk>, Fault> {
+// The engine of one thread over a store.
+fn engine(alloc: Global, store: Store<FileDisk, AnyJob>) -> Result<DurableEngine<FileDisk>, Fault> {
     match DurableEngine::new(alloc, store) {
         Ok(engine) => Ok(engine),
         Err(_) => Err(Fault::NoMemory),
@@ -101,7 +105,7 @@ pub(crate) fn status(
     form: Form,
     traces: &Traces,
 ) -> Result<(), Fault> {
-    let mut engine = engine(alloc, opened(alloc, shared_disk(rt, file)?)?)?;
+    let mut engine = engine(alloc, opened(alloc, shared_disk(rt, file)?, traces)?)?;
     let Ok(mut output) = BufWriter::new(alloc, output_of(rt, &traces.seen)) else {
         return Err(Fault::NoMemory);
     };
@@ -128,7 +132,7 @@ pub(crate) fn show(
     form: Form,
     traces: &Traces,
 ) -> Result<(), Fault> {
-    let store = opened(alloc, shared_disk(rt, file)?)?;
+    let store = opened(alloc, shared_disk(rt, file)?, traces)?;
     let task = match task {
         Some(task) => Some(task_of(task)),
         None => None,

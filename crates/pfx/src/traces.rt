@@ -3,6 +3,7 @@
 ghost use Rattle.std.specs.Prelude.{◌≤◌, length};
 
 use crate::files::Source;
+use pfx_disk::FileDisk;
 use std::alloc::Global;
 use std::cell::Cell;
 use std::io;
@@ -33,10 +34,12 @@ fn shows_jobs(bytes: &[u8]) -> bool {
     (digits > 0
         && (words.starts_with(b" count left=")
             || words.starts_with(b" rule left=")
-            || words.starts_with(b" scan left=")))
+            || words.starts_with(b" scan left=")
+            || words.starts_with(b" own answered=")))
         || bytes.starts_with(b"{\"job\":")
         || bytes.starts_with(b"{\"cells\":")
         || bytes.starts_with(b"{\"found\":")
+        || bytes.starts_with(b"{\"answered\":")
 }
 
 /// What was seen of the output.
@@ -121,8 +124,6 @@ impl Seen {
 /// A store that wasn't made, whose file was new.
 #[derive(Clone, Copy)]
 pub(crate) struct Unmade {
-    /// Why its file can't be written, if that is known.
-    pub(crate) why: Option<ErrorKind>,
     /// How many bytes it needs.
     pub(crate) needed: u64,
     /// Whether the file couldn't be taken away.
@@ -145,6 +146,10 @@ pub(crate) struct Traces {
     pub(crate) set: SetRead,
     /// The store that wasn't made.
     pub(crate) unmade: Option<Unmade>,
+    /// Why the file of a new store couldn't be opened or made.
+    pub(crate) unopened: Option<ErrorKind>,
+    /// What the system said of the last call of a store's disk that failed.
+    pub(crate) device: Cell<Option<Error>>,
     /// What was seen of its output.
     pub(crate) seen: Cell<Seen>,
 }
@@ -157,8 +162,15 @@ impl Traces {
                 is_long: false,
             },
             unmade: None,
+            unopened: None,
+            device: Cell::new(None),
             seen: Cell::new(Seen::new()),
         }
+    }
+
+    /// Keeps what the system said of a disk's last failure, if there was one.
+    pub(crate) fn keep_said(&self, disk: &FileDisk) {
+        self.device.set(disk.said());
     }
 
     /// Whether a strict script has ended after a refusal.

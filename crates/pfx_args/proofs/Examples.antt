@@ -59,7 +59,7 @@ two_ledgers = refl
 abbrev new_store : List Text
 new_store = pfx (codes "init" ∷ codes "a.toml" ∷ codes "a.pfx" ∷ [])
 
-pub asks_for_a_store : asked new_store ≡ Some (init (codes "a.toml") (codes "a.pfx"))
+pub asks_for_a_store : asked new_store ≡ Some (init (codes "a.toml") (codes "a.pfx") false)
 unfolding clap_on_literals asked
 asks_for_a_store = refl
 
@@ -128,7 +128,7 @@ takes_a_board = refl
 abbrev replay_store : List Text
 replay_store = pfx (codes "replay" ∷ codes "a.pfx" ∷ [])
 
-pub asks_for_a_replay : asked replay_store ≡ Some (replay (codes "a.pfx"))
+pub asks_for_a_replay : asked replay_store ≡ Some (replay (codes "a.pfx") false)
 unfolding clap_on_literals asked
 asks_for_a_replay = refl
 

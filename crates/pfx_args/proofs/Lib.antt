@@ -3,6 +3,7 @@ pub mod Numbers
 pub mod Examples
 pub mod Plain
 pub mod PlainJson
+pub mod PlainJsonMore
 pub mod PlainPlan
 pub mod PlainInit
 pub mod PlainRun

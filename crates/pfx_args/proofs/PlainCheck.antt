@@ -9,10 +9,10 @@ use Rattle.pfx_args.specs.Commands.{pfx_app}
 use Rattle.pfx_args.specs.Requests.{check, asked, asked_in}
 use Rattle.pfx_args.proofs.Plain.{sub_built, with_word, on_from, plain_on, plain_passes, dash, dash_on, dash_passes, ends_well, and_true}
 
-abbrev check_built : Shape
+abbrev pub check_built : Shape
 check_built = sub_built 7
 
-abbrev after_set : Text → Walk
+abbrev pub after_set : Text → Walk
 after_set set = with_word check_built 1 nothing_held set
 
 check_walk : (set : Text) → starts_with_minus set ≡ false → on_from check_built (walk_from nothing_held) (set ∷ []) ≡ after_set set
@@ -22,11 +22,11 @@ asked_steps : (program set : Text) → asked (program ∷ codes "check" ∷ set 
 unfolding clap_on_literals asked
 asked_steps program set = refl
 
-asked_held : (set : Text) → asked_in (Some (codes "check", finished check_built.rules (after_set set).held)) ≡ Some (check set)
+asked_held : (set : Text) → asked_in (Some (codes "check", finished check_built.rules (after_set set).held)) ≡ Some (check set false)
 unfolding clap_on_literals
 asked_held set = refl
 
-pub plain_check_asked : (program set : Text) → starts_with_minus set ≡ false → asked (program ∷ codes "check" ∷ set ∷ []) ≡ Some (check set)
+pub plain_check_asked : (program set : Text) → starts_with_minus set ≡ false → asked (program ∷ codes "check" ∷ set ∷ []) ≡ Some (check set false)
 plain_check_asked program set e =
     asked_steps program set ∙ ap (λ (w : Walk). asked_in (Some (codes "check", finished check_built.rules w.held))) (check_walk set e) ∙ asked_held set
 
@@ -51,7 +51,7 @@ plain_check_taken program set e =
 dash_walk : on_from check_built (walk_from nothing_held) (dash ∷ []) ≡ after_set dash
 dash_walk = dash_on check_built nothing_held 1 []
 
-pub dash_check_asked : (program : Text) → asked (program ∷ codes "check" ∷ dash ∷ []) ≡ Some (check dash)
+pub dash_check_asked : (program : Text) → asked (program ∷ codes "check" ∷ dash ∷ []) ≡ Some (check dash false)
 dash_check_asked program = asked_steps program dash ∙ ap (λ (w : Walk). asked_in (Some (codes "check", finished check_built.rules w.held))) dash_walk ∙ asked_held dash
 
 dash_walk_passes : walk_passes check_built [] (walk_from nothing_held) (dash ∷ []) ≡ (step_passes check_built 1 nothing_held value && true)

@@ -9,10 +9,10 @@ use Rattle.pfx_args.specs.Commands.{pfx_app}
 use Rattle.pfx_args.specs.Requests.{explain, asked, asked_in}
 use Rattle.pfx_args.proofs.Plain.{sub_built, with_word, on_from, plain_on, plain_passes, ends_well, and_true}
 
-abbrev explain_built : Shape
+abbrev pub explain_built : Shape
 explain_built = sub_built 8
 
-abbrev after_fault : Text → Walk
+abbrev pub after_fault : Text → Walk
 after_fault fault = with_word explain_built 1 nothing_held fault
 
 explain_walk : (fault : Text) → starts_with_minus fault ≡ false → on_from explain_built (walk_from nothing_held) (fault ∷ []) ≡ after_fault fault
@@ -22,11 +22,11 @@ asked_steps : (program fault : Text) → asked (program ∷ codes "explain" ∷ 
 unfolding clap_on_literals asked
 asked_steps program fault = refl
 
-asked_held : (fault : Text) → asked_in (Some (codes "explain", finished explain_built.rules (after_fault fault).held)) ≡ Some (explain fault)
+asked_held : (fault : Text) → asked_in (Some (codes "explain", finished explain_built.rules (after_fault fault).held)) ≡ Some (explain fault false)
 unfolding clap_on_literals
 asked_held fault = refl
 
-pub plain_explain_asked : (program fault : Text) → starts_with_minus fault ≡ false → asked (program ∷ codes "explain" ∷ fault ∷ []) ≡ Some (explain fault)
+pub plain_explain_asked : (program fault : Text) → starts_with_minus fault ≡ false → asked (program ∷ codes "explain" ∷ fault ∷ []) ≡ Some (explain fault false)
 plain_explain_asked program fault e =
     asked_steps program fault ∙ ap (λ (w : Walk). asked_in (Some (codes "explain", finished explain_built.rules w.held))) (explain_walk fault e) ∙ asked_held fault
 

@@ -9,14 +9,14 @@ use Rattle.pfx_args.specs.Commands.{pfx_app}
 use Rattle.pfx_args.specs.Requests.{init, asked, asked_in}
 use Rattle.pfx_args.proofs.Plain.{sub_built, with_word, on_from, plain_on, plain_passes, dash, dash_on, dash_passes, ends_well, and_true}
 
-abbrev init_built : Shape
+abbrev pub init_built : Shape
 init_built = sub_built 1
 
 -- the set is held, and then both words
-abbrev after_set : Text → Walk
+abbrev pub after_set : Text → Walk
 after_set set = with_word init_built 1 nothing_held set
 
-abbrev after_both : Text → Text → Walk
+abbrev pub after_both : Text → Text → Walk
 after_both set file = with_word init_built 2 (after_set set).held file
 
 init_walk : (set file : Text) → starts_with_minus set ≡ false → starts_with_minus file ≡ false → on_from init_built (walk_from nothing_held) (set ∷ file ∷ []) ≡ after_both set file
@@ -26,11 +26,11 @@ asked_steps : (program set file : Text) → asked (program ∷ codes "init" ∷ 
 unfolding clap_on_literals asked
 asked_steps program set file = refl
 
-asked_held : (set file : Text) → asked_in (Some (codes "init", finished init_built.rules (after_both set file).held)) ≡ Some (init set file)
+asked_held : (set file : Text) → asked_in (Some (codes "init", finished init_built.rules (after_both set file).held)) ≡ Some (init set file false)
 unfolding clap_on_literals
 asked_held set file = refl
 
-pub plain_init_asked : (program set file : Text) → starts_with_minus set ≡ false → starts_with_minus file ≡ false → asked (program ∷ codes "init" ∷ set ∷ file ∷ []) ≡ Some (init set file)
+pub plain_init_asked : (program set file : Text) → starts_with_minus set ≡ false → starts_with_minus file ≡ false → asked (program ∷ codes "init" ∷ set ∷ file ∷ []) ≡ Some (init set file false)
 plain_init_asked program set file e f =
     asked_steps program set file ∙ ap (λ (w : Walk). asked_in (Some (codes "init", finished init_built.rules w.held))) (init_walk set file e f) ∙ asked_held set file
 
@@ -60,7 +60,7 @@ plain_init_taken program set file e f =
 dash_walk : (file : Text) → starts_with_minus file ≡ false → on_from init_built (walk_from nothing_held) (dash ∷ file ∷ []) ≡ after_both dash file
 dash_walk file f = dash_on init_built nothing_held 1 (file ∷ []) ∙ plain_on init_built (after_set dash).held 2 file [] f
 
-pub dash_init_asked : (program file : Text) → starts_with_minus file ≡ false → asked (program ∷ codes "init" ∷ dash ∷ file ∷ []) ≡ Some (init dash file)
+pub dash_init_asked : (program file : Text) → starts_with_minus file ≡ false → asked (program ∷ codes "init" ∷ dash ∷ file ∷ []) ≡ Some (init dash file false)
 dash_init_asked program file f =
     asked_steps program dash file ∙ ap (λ (w : Walk). asked_in (Some (codes "init", finished init_built.rules w.held))) (dash_walk file f) ∙ asked_held dash file
 

@@ -9,10 +9,10 @@ use Rattle.pfx_args.specs.Commands.{pfx_app}
 use Rattle.pfx_args.specs.Requests.{replay, asked, asked_in}
 use Rattle.pfx_args.proofs.Plain.{sub_built, with_word, on_from, plain_on, plain_passes, ends_well, and_true}
 
-abbrev replay_built : Shape
+abbrev pub replay_built : Shape
 replay_built = sub_built 4
 
-abbrev after_file : Text → Walk
+abbrev pub after_file : Text → Walk
 after_file file = with_word replay_built 1 nothing_held file
 
 replay_walk : (file : Text) → starts_with_minus file ≡ false → on_from replay_built (walk_from nothing_held) (file ∷ []) ≡ after_file file
@@ -22,11 +22,11 @@ asked_steps : (program file : Text) → asked (program ∷ codes "replay" ∷ fi
 unfolding clap_on_literals asked
 asked_steps program file = refl
 
-asked_held : (file : Text) → asked_in (Some (codes "replay", finished replay_built.rules (after_file file).held)) ≡ Some (replay file)
+asked_held : (file : Text) → asked_in (Some (codes "replay", finished replay_built.rules (after_file file).held)) ≡ Some (replay file false)
 unfolding clap_on_literals
 asked_held file = refl
 
-pub plain_replay_asked : (program file : Text) → starts_with_minus file ≡ false → asked (program ∷ codes "replay" ∷ file ∷ []) ≡ Some (replay file)
+pub plain_replay_asked : (program file : Text) → starts_with_minus file ≡ false → asked (program ∷ codes "replay" ∷ file ∷ []) ≡ Some (replay file false)
 plain_replay_asked program file e =
     asked_steps program file ∙ ap (λ (w : Walk). asked_in (Some (codes "replay", finished replay_built.rules w.held))) (replay_walk file e) ∙ asked_held file
 

@@ -37,8 +37,12 @@ abbrev pub plan_app : App
 plan_app = with_rule plan_from as_json
 
 -- `init SET FILE`
+abbrev pub init_words : App
+init_words = with_rule (with_rule (new_app (codes "init")) (required (codes "SET"))) (required (codes "FILE"))
+
+-- and `--json`
 abbrev pub init_app : App
-init_app = with_rule (with_rule (new_app (codes "init")) (required (codes "SET"))) (required (codes "FILE"))
+init_app = with_rule init_words as_json
 
 -- a number of workers: 0 to 64, as the value of `--workers`
 abbrev pub workers : Rule
@@ -81,8 +85,12 @@ abbrev pub status_app : App
 status_app = with_rule status_words as_json
 
 -- `replay FILE`
+abbrev pub replay_words : App
+replay_words = with_rule (new_app (codes "replay")) (required (codes "FILE"))
+
+-- and `--json`
 abbrev pub replay_app : App
-replay_app = with_rule (new_app (codes "replay")) (required (codes "FILE"))
+replay_app = with_rule replay_words as_json
 
 -- a task by its number: 0 to 65,535, which may be left out
 abbrev pub task : Rule
@@ -113,12 +121,20 @@ abbrev pub draw_app : App
 draw_app = with_rule draw_words at_ledger
 
 -- `check SET`
+abbrev pub check_words : App
+check_words = with_rule (new_app (codes "check")) (required (codes "SET"))
+
+-- and `--json`
 abbrev pub check_app : App
-check_app = with_rule (new_app (codes "check")) (required (codes "SET"))
+check_app = with_rule check_words as_json
 
 -- `explain FAULT`
+abbrev pub explain_words : App
+explain_words = with_rule (new_app (codes "explain")) (required (codes "FAULT"))
+
+-- and `--json`
 abbrev pub explain_app : App
-explain_app = with_rule (new_app (codes "explain")) (required (codes "FAULT"))
+explain_app = with_rule explain_words as_json
 
 -- `pfx`: one of its subcommands has to follow, and each of them tells the version too
 abbrev pub bare_app : App

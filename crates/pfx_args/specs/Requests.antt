@@ -13,26 +13,26 @@ use Rattle.pfx_args.specs.declared.request.Request.TheVariants as request
 -- a request, with its texts; the last of those that can be printed as JSON says whether they are
 pub data Asked : Type 0 where
   plan : Text → ℕ → Option Text → Bool → Asked
-  init : Text → Text → Asked
+  init : Text → Text → Bool → Asked
   run : Text → Text → Option ℕ → Option ℕ → Bool → Bool → Asked
   status : Text → Bool → Asked
-  replay : Text → Asked
+  replay : Text → Bool → Asked
   show : Text → Option ℕ → Bool → Asked
   draw : Text → ℕ → Option Text → Asked
-  check : Text → Asked
-  explain : Text → Asked
+  check : Text → Bool → Asked
+  explain : Text → Bool → Asked
 
 -- the request that a value of the code is
 abbrev pub asked_by : Request → Asked
 asked_by (request.Plan set slots at json) = plan set.now slots (option_map (λ s. s.now) at) json
-asked_by (request.Init set file) = init set.now file.now
+asked_by (request.Init set file json) = init set.now file.now json
 asked_by (request.Run file script workers batch strict json) = run file.now script.now workers batch strict json
 asked_by (request.Status file json) = status file.now json
-asked_by (request.Replay file) = replay file.now
+asked_by (request.Replay file json) = replay file.now json
 asked_by (request.Show file task json) = show file.now task json
 asked_by (request.Draw set slots at) = draw set.now slots (option_map (λ s. s.now) at)
-asked_by (request.Check set) = check set.now
-asked_by (request.Explain fault) = explain fault.now
+asked_by (request.Check set json) = check set.now json
+asked_by (request.Explain fault json) = explain fault.now json
 
 -- one digit or more, of a number of 32 bits
 abbrev pub is_number : Text → Bool
@@ -67,14 +67,14 @@ plan_of None slots at json = None
 abbrev pub plan_in : List Row → Option Asked
 plan_in rows = plan_of (text_at (codes "SET") rows) (number_at (codes "SLOTS") rows) (text_at (codes "at") rows) (flag_at (codes "json") rows)
 
--- a new store, if both its words are there
-abbrev pub init_of : Option Text → Option Text → Option Asked
-init_of (Some set) (Some file) = Some (init set file)
-init_of (Some set) None = None
-init_of None file = None
+-- a new store, if both its words are there, and whether it is told as JSON
+abbrev pub init_of : Option Text → Option Text → Bool → Option Asked
+init_of (Some set) (Some file) json = Some (init set file json)
+init_of (Some set) None json = None
+init_of None file json = None
 
 abbrev pub init_in : List Row → Option Asked
-init_in rows = init_of (text_at (codes "SET") rows) (text_at (codes "FILE") rows)
+init_in rows = init_of (text_at (codes "SET") rows) (text_at (codes "FILE") rows) (flag_at (codes "json") rows)
 
 -- a run, if both its words are there, with the number of workers and that of slots kept at once, if there are any, whether it
 -- ends at its first refused record, and whether its lines are JSON
@@ -97,9 +97,13 @@ status_of None json = None
 abbrev pub status_in : List Row → Option Asked
 status_in rows = status_of (text_at (codes "FILE") rows) (flag_at (codes "json") rows)
 
--- a replay of a store, if its word is there
+-- a replay of a store, if its word is there, and whether it is told as JSON
+abbrev pub replay_of : Option Text → Bool → Option Asked
+replay_of (Some file) json = Some (replay file json)
+replay_of None json = None
+
 abbrev pub replay_in : List Row → Option Asked
-replay_in rows = option_map replay (text_at (codes "FILE") rows)
+replay_in rows = replay_of (text_at (codes "FILE") rows) (flag_at (codes "json") rows)
 
 -- what the jobs of a store computed, or that of a task, if the store's word is there, and whether it is printed as JSON
 abbrev pub show_of : Option Text → Option ℕ → Bool → Option Asked
@@ -118,13 +122,21 @@ draw_of None slots at = None
 abbrev pub draw_in : List Row → Option Asked
 draw_in rows = draw_of (text_at (codes "SET") rows) (number_at (codes "SLOTS") rows) (text_at (codes "at") rows)
 
--- a look at a set, if its word is there
-abbrev pub check_in : List Row → Option Asked
-check_in rows = option_map check (text_at (codes "SET") rows)
+-- a look at a set, if its word is there, and whether it is printed as JSON
+abbrev pub check_of : Option Text → Bool → Option Asked
+check_of (Some set) json = Some (check set json)
+check_of None json = None
 
--- what is said of a fault, if its word is there
+abbrev pub check_in : List Row → Option Asked
+check_in rows = check_of (text_at (codes "SET") rows) (flag_at (codes "json") rows)
+
+-- what is said of a fault, if its word is there, and whether it is said as JSON
+abbrev pub explain_of : Option Text → Bool → Option Asked
+explain_of (Some fault) json = Some (explain fault json)
+explain_of None json = None
+
 abbrev pub explain_in : List Row → Option Asked
-explain_in rows = option_map explain (text_at (codes "FAULT") rows)
+explain_in rows = explain_of (text_at (codes "FAULT") rows) (flag_at (codes "json") rows)
 
 -- what the subcommand of this name asks for, by what was found for its arguments
 abbrev pub asked_of : Text → List Row → Option Asked

@@ -1,13 +1,13 @@
-//! `pfx init SET FILE`.
+//! `pfx init SET FILE --json`.
 
 ghost use Rattle.std.specs.Prelude.{◌≡◌, IfOk, option_map};
 ghost use Rattle.clap.specs.Matches.{found_of};
 ghost use Rattle.clap.specs.Walk.{rows_of};
-ghost use Rattle.pfx_args.specs.Commands.{init_app, IsCommand};
+ghost use Rattle.pfx_args.specs.Commands.{init_words, init_app, IsCommand};
 ghost use Rattle.pfx_args.specs.Requests.{asked_by, init_in};
 
 use crate::Request;
-use crate::arguments::{required_word, subcommand, text_under};
+use crate::arguments::{flag_under, json_flag, required_word, subcommand, text_under};
 use clap::{ArgMatches, Command};
 use std::alloc::{AllocError, Global};
 
@@ -23,13 +23,18 @@ One line is printed: m, the workers; real, the tasks of the set; idle, the idle 
 what those leave over; hyper, the slots after which the plan repeats; size, the bytes of the file.
 For examples/thirds.toml it is
 
-  created m=2 real=3 idle=0 hyper=3 size=2098049";
+  created m=2 real=3 idle=0 hyper=3 size=2098049
+
+With --json it is an object instead, and a refusal is one too:
+
+  {\"created\":{\"hyper\":3,\"idle\":0,\"m\":2,\"real\":3,\"size\":2098049}}";
 
 const EXAMPLE: &str = "Example:
   pfx init examples/thirds.toml thirds.pfx    a store for three tasks of weight 2/3";
 
-pub(crate) fn init_command<'a>(alloc: Global) -> Result<Command<'a>, AllocError>
-    ensures { IfOk result (λ c. IsCommand c init_app) }
+// The command without its flag.
+fn bare_init<'a>(alloc: Global) -> Result<Command<'a>, AllocError>
+    ensures { IfOk result (λ c. IsCommand c init_words) }
 {
     let set = required_word(alloc, "SET").help("The set file, in TOML; - is standard input");
     let file = required_word(alloc, "FILE").help("The file to make the store in");
@@ -37,10 +42,17 @@ pub(crate) fn init_command<'a>(alloc: Global) -> Result<Command<'a>, AllocError>
     command.arg(set)?.arg(file)
 }
 
+pub(crate) fn init_command<'a>(alloc: Global) -> Result<Command<'a>, AllocError>
+    ensures { IfOk result (λ c. IsCommand c init_app) }
+{
+    bare_init(alloc)?.arg(json_flag(alloc))
+}
+
 pub(crate) fn init_request<'a>(matches: &ArgMatches<'a>) -> Option<Request<'a>>
     ensures { option_map asked_by result ≡ init_in (rows_of (found_of matches.now)) }
 {
     let set = text_under(matches, "SET")?;
     let file = text_under(matches, "FILE")?;
-    Some(Request::Init { set, file })
+    let json = flag_under(matches, "json");
+    Some(Request::Init { set, file, json })
 }

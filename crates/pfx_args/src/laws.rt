@@ -23,7 +23,7 @@ pub fn plain_init(program: &str, set: &str, file: &str)
     requires set { starts_with_minus set.now ≡ false }
     requires file { starts_with_minus file.now ≡ false }
     ensures taken { takes pfx_app (program.now ∷ codes "init" ∷ set.now ∷ file.now ∷ []) ≡ true }
-    ensures asked { asked (program.now ∷ codes "init" ∷ set.now ∷ file.now ∷ []) ≡ Some (init set.now file.now) }
+    ensures asked { asked (program.now ∷ codes "init" ∷ set.now ∷ file.now ∷ []) ≡ Some (init set.now file.now false) }
 {}
 
 /// `pfx run FILE SCRIPT`: for any `file` and `script` that don't begin with a hyphen, the command takes these words, and
@@ -80,7 +80,7 @@ pub fn standard_plan(program: &str, slots: &str)
 pub fn standard_init(program: &str, file: &str)
     requires file { starts_with_minus file.now ≡ false }
     ensures taken { takes pfx_app (program.now ∷ codes "init" ∷ codes "-" ∷ file.now ∷ []) ≡ true }
-    ensures asked { asked (program.now ∷ codes "init" ∷ codes "-" ∷ file.now ∷ []) ≡ Some (init (codes "-") file.now) }
+    ensures asked { asked (program.now ∷ codes "init" ∷ codes "-" ∷ file.now ∷ []) ≡ Some (init (codes "-") file.now false) }
 {}
 
 /// `pfx run FILE -`: a hyphen alone is taken as a script too, which is standard input.
@@ -96,7 +96,7 @@ pub fn standard_run(program: &str, file: &str)
 pub fn plain_replay(program: &str, file: &str)
     requires file { starts_with_minus file.now ≡ false }
     ensures taken { takes pfx_app (program.now ∷ codes "replay" ∷ file.now ∷ []) ≡ true }
-    ensures asked { asked (program.now ∷ codes "replay" ∷ file.now ∷ []) ≡ Some (replay file.now) }
+    ensures asked { asked (program.now ∷ codes "replay" ∷ file.now ∷ []) ≡ Some (replay file.now false) }
 {}
 
 /// `pfx show FILE`: for any `file` that doesn't begin with a hyphen, the command takes these words, and they ask for what all
@@ -139,13 +139,13 @@ pub fn standard_draw(program: &str, slots: &str)
 pub fn plain_check(program: &str, set: &str)
     requires set { starts_with_minus set.now ≡ false }
     ensures taken { takes pfx_app (program.now ∷ codes "check" ∷ set.now ∷ []) ≡ true }
-    ensures asked { asked (program.now ∷ codes "check" ∷ set.now ∷ []) ≡ Some (check set.now) }
+    ensures asked { asked (program.now ∷ codes "check" ∷ set.now ∷ []) ≡ Some (check set.now false) }
 {}
 
 /// `pfx check -`: a hyphen alone is taken as a set too, which is standard input.
 pub fn standard_check(program: &str)
     ensures taken { takes pfx_app (program.now ∷ codes "check" ∷ codes "-" ∷ []) ≡ true }
-    ensures asked { asked (program.now ∷ codes "check" ∷ codes "-" ∷ []) ≡ Some (check (codes "-")) }
+    ensures asked { asked (program.now ∷ codes "check" ∷ codes "-" ∷ []) ≡ Some (check (codes "-") false) }
 {}
 
 /// `pfx run FILE SCRIPT --strict`: the same words as of `pfx run FILE SCRIPT` with the flag ask for a run that ends after its first
@@ -195,5 +195,34 @@ pub fn plain_json_show(program: &str, file: &str)
 pub fn plain_explain(program: &str, fault: &str)
     requires fault { starts_with_minus fault.now ≡ false }
     ensures taken { takes pfx_app (program.now ∷ codes "explain" ∷ fault.now ∷ []) ≡ true }
-    ensures asked { asked (program.now ∷ codes "explain" ∷ fault.now ∷ []) ≡ Some (explain fault.now) }
+    ensures asked { asked (program.now ∷ codes "explain" ∷ fault.now ∷ []) ≡ Some (explain fault.now false) }
+{}
+
+/// `pfx init SET FILE --json`: the same words as of `pfx init SET FILE` with the flag ask for that store, told as JSON.
+pub fn plain_json_init(program: &str, set: &str, file: &str)
+    requires set { starts_with_minus set.now ≡ false }
+    requires file { starts_with_minus file.now ≡ false }
+    ensures taken { takes pfx_app (program.now ∷ codes "init" ∷ set.now ∷ file.now ∷ codes "--json" ∷ []) ≡ true }
+    ensures asked { asked (program.now ∷ codes "init" ∷ set.now ∷ file.now ∷ codes "--json" ∷ []) ≡ Some (init set.now file.now true) }
+{}
+
+/// `pfx replay FILE --json`: the same of a replay.
+pub fn plain_json_replay(program: &str, file: &str)
+    requires file { starts_with_minus file.now ≡ false }
+    ensures taken { takes pfx_app (program.now ∷ codes "replay" ∷ file.now ∷ codes "--json" ∷ []) ≡ true }
+    ensures asked { asked (program.now ∷ codes "replay" ∷ file.now ∷ codes "--json" ∷ []) ≡ Some (replay file.now true) }
+{}
+
+/// `pfx check SET --json`: the same of what a set asks for.
+pub fn plain_json_check(program: &str, set: &str)
+    requires set { starts_with_minus set.now ≡ false }
+    ensures taken { takes pfx_app (program.now ∷ codes "check" ∷ set.now ∷ codes "--json" ∷ []) ≡ true }
+    ensures asked { asked (program.now ∷ codes "check" ∷ set.now ∷ codes "--json" ∷ []) ≡ Some (check set.now true) }
+{}
+
+/// `pfx explain FAULT --json`: the same of what is said of a fault.
+pub fn plain_json_explain(program: &str, fault: &str)
+    requires fault { starts_with_minus fault.now ≡ false }
+    ensures taken { takes pfx_app (program.now ∷ codes "explain" ∷ fault.now ∷ codes "--json" ∷ []) ≡ true }
+    ensures asked { asked (program.now ∷ codes "explain" ∷ fault.now ∷ codes "--json" ∷ []) ≡ Some (explain fault.now true) }
 {}

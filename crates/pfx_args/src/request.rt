@@ -20,6 +20,8 @@ pub enum Request<'a> {
         set: &'a str,
         /// The path of the store's file.
         file: &'a str,
+        /// Whether the line is an object of JSON.
+        json: bool,
     },
     /// Run a script of commands on a store.
     Run {
@@ -49,6 +51,8 @@ pub enum Request<'a> {
     Replay {
         /// The path of the store's file.
         file: &'a str,
+        /// Whether the line is an object of JSON.
+        json: bool,
     },
     /// Show what the jobs of a store have computed.
     Show {
@@ -72,10 +76,14 @@ pub enum Request<'a> {
     Check {
         /// The path of the set file; `-` is standard input.
         set: &'a str,
+        /// Whether it is said by an object of JSON.
+        json: bool,
     },
     /// Say what a fault means.
     Explain {
         /// The fault's number or its name.
         fault: &'a str,
+        /// Whether it is said by an object of JSON.
+        json: bool,
     },
 }

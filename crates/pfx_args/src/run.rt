@@ -20,7 +20,7 @@ const LONG: &str = "Run the commands of a script on a store, and keep in its fil
 The script is CSV without a header line. Each record has five fields: a verb, a task by its number, a
 kind of job, a goal and data. Fields that aren't used are empty.
 
-  submit,TASK,KIND,GOAL,DATA    give the task a job of kind count, rule or scan; an empty goal is 0
+  submit,TASK,KIND,GOAL,DATA    give the task a job of kind count, rule, scan or own; an empty goal is 0
   slot,,,N,                     run N slots, 1 to 1048576, up to the first refusal; 1 if N is empty
   withdraw,TASK,,,              take the task's job away
   settle,,,,                    wait until all that was accepted is kept
@@ -30,6 +30,11 @@ kind of job, a goal and data. Fields that aren't used are empty.
 Jobs of kind count and rule take GOAL steps. A count's data are the digits that it begins with, or
 nothing for 0; a rule's are its number, 0 to 255, a colon and 3 to 512 cells, each 0 or 1. A scan has
 no goal, and its data are a needle, 1 to 16 characters, a colon and a text of at most 64.
+
+A job of kind own records the answer of the task's unit GOAL, which another program did: up to 106
+characters without space, quote, comma and backslash. A slot of the task grants the unit of its
+allocation; an answer of another unit than the next one, or of one not granted yet, is refused as
+45 NotNext.
 
 Commands are numbered as they are accepted, and each prints a line: 1 submitted 0 (command 1, task 0),
 2 ran 0: 0 1 (command 2: in slot 0 ran tasks 0 and 1), 3 withdrawn 0. One that is refused gets no

@@ -19,18 +19,21 @@ const LONG: &str = "Show what the jobs of a store have computed
 
 Each task that has a job, done or not, has a line: the task's number, the job's kind, left, the steps
 that it has still to do, and what it has come to. That is value of a count; rule and cells of a rule;
-and of a scan found, how often it has found the needle, which follows behind of=.
+and of a scan found, how often it has found the needle, which follows behind of=. Of an own job it is
+answered, the unit that was answered last, and text, its answer.
 
   0 count left=98 value=12
   1 rule left=0 rule=110 cells=00001101
   2 scan left=0 found=2 of=ab
+  3 own answered=1 text=s=500;ck=9f2c
 
 With TASK that task's line alone is printed. A task without a job is refused as 33 NoJob, a number that
 is no task's as 31 NoSuchTask. With --json each line is an object instead:
 
   {\"job\":\"count\",\"left\":98,\"task\":0,\"value\":12}
   {\"cells\":\"00001101\",\"job\":\"rule\",\"left\":0,\"rule\":110,\"task\":1}
-  {\"found\":2,\"job\":\"scan\",\"left\":0,\"of\":\"ab\",\"task\":2}";
+  {\"found\":2,\"job\":\"scan\",\"left\":0,\"of\":\"ab\",\"task\":2}
+  {\"answered\":1,\"job\":\"own\",\"task\":3,\"text\":\"s=500;ck=9f2c\"}";
 
 const EXAMPLE: &str = "Example:
   pfx show thirds.pfx      what all jobs of the store thirds.pfx have computed

@@ -11,7 +11,7 @@ use Rattle.pfx_board.specs.Word.{records_of, last_of}
 use Rattle.pfx_board.specs.Shown.{IsBoardOf}
 
 module _ {J : Type 0} where
-  length-lines : (K : Kind J) (s : Plain J) (n : ℕ) → length (lines_of K s n) ≡ n
+  pub length-lines : (K : Kind J) (s : Plain J) (n : ℕ) → length (lines_of K s n) ≡ n
   length-lines K s zero = refl
   length-lines K s (suc n) = omega (arith, length-append (lines_of K s n) (line_of K s n ∷ []), length-lines K s n)
 

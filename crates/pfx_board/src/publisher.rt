@@ -8,7 +8,7 @@ ghost use Rattle.pfx_board.specs.Publisher.{Published};
 
 use crate::name::Begun;
 use crate::reader::Reader;
-use crate::shown::Shown;
+use crate::shown::{MOST_LINES, Shown};
 use crate::word::Word;
 use left_right::{Absorb, WriteHandle};
 use pfx_jobs::job::Job;
@@ -71,7 +71,7 @@ impl<J: Job, B: Begun<J>, R: Wait + Drop> BoardWriter<J, B, Shown<J, B>, R> {
         let second = Shown::of(alloc, state, &word)?;
         let writer = WriteHandle::new(alloc, rt, first, second, readers)?;
         let factory = writer.factory()?;
-        let tasks = state.columns().total();
+        let tasks = MOST_LINES;
         let mut given = Vec::with_capacity(alloc, readers)?;
         for _reader in 0..readers {
             let handle = factory.handle()?;

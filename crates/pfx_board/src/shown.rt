@@ -1,5 +1,5 @@
 //! What lies in each copy of the board.
-ghost use Rattle.std.specs.Prelude.{◌≡◌, ◌≤◌, [], IfOk, OnErr, IsTrue, Some};
+ghost use Rattle.std.specs.Prelude.{◌≡◌, ◌≤◌, [], length, vec_capacity, IfOk, OnErr, IsTrue, Some};
 ghost use mathlib.Core.List.{IsPrefix};
 ghost use Rattle.pfx_redo.specs.Applying.{applied};
 ghost use Rattle.pfx_board.specs.Word.{records_of, last_of};
@@ -15,6 +15,21 @@ use pfx_record::Batch;
 use std::alloc::{AllocError, Global};
 use std::marker::Model;
 
+/// How many lines a board has at the most.
+pub(crate) const MOST_LINES: usize = 1152;
+
+/// Puts lines in the place of others, in a vector with room for them.
+fn put_lines(lines: &mut Vec<TaskLine>, from: &[TaskLine])
+    requires { length from.now ≤ vec_capacity lines.old }
+    ensures items { lines.new.items ≡ from.now }
+    ensures room { vec_capacity lines.new ≡ vec_capacity lines.old }
+{
+    lines.clear();
+    for line in from {
+        lines.push_reserved(*line);
+    }
+}
+
 /// A board, with the word that it is of. Contracts see it as the batches of that word. Its type keeps that the board is that
 /// of the state after them.
 #[derive(Drop)]
@@ -24,7 +39,7 @@ pub struct Shown<J: Job, B: Begun<J>> {
 }
 
 impl<J: Job, B: Begun<J>> Model for Shown<J, B> {
-    ghost use Rattle.std.specs.Prelude.{List};
+    ghost use Rattle.std.specs.Prelude.{List, ◌≤◌, length, vec_capacity};
     ghost use Rattle.pfx_board.specs.Shown.{IsBoardOf};
     ghost use Rattle.pfx_record.specs.declared.batch.Batch.{Batch};
 
@@ -32,7 +47,7 @@ impl<J: Job, B: Begun<J>> Model for Shown<J, B> {
 
     ghost view = { λ s. s.word };
 
-    ghost invariant = { λ s. IsBoardOf J.kind B.origin s.word s.board };
+    ghost invariant = { λ s. IsBoardOf J.kind B.origin s.word s.board × (length s.board.lines.items ≤ 1152) × (1152 ≤ vec_capacity s.board.lines) };
 }
 
 impl<J: Job, B: Begun<J>> Shown<J, B> {
@@ -45,9 +60,20 @@ impl<J: Job, B: Begun<J>> Shown<J, B> {
         requires { applied J.kind B.origin (records_of word.now) ≡ Some state.now }
         ensures { IfOk result (λ s. s ≡ word.now) }
     {
-        let board = state.board(alloc)?;
+        let _total = state.columns().total();
+        let Board {
+            number,
+            slot,
+            lines,
+        } = state.board(alloc)?;
+        let mut room = Vec::with_capacity(alloc, MOST_LINES)?;
+        put_lines(&mut room, &lines);
         Ok(Shown {
-            board,
+            board: Board {
+                number,
+                slot,
+                lines: room,
+            },
             word: word.again(),
         })
     }
@@ -112,7 +138,7 @@ impl<J: Job, B: Begun<J>> Absorb<Shown<J, B>> for Shown<J, B> {
         let Shown { board, word } = self;
         board.number = operation.board.number;
         board.slot = operation.board.slot;
-        board.lines.copy_from_slice(&operation.board.lines);
+        put_lines(&mut board.lines, &operation.board.lines);
         *word = operation.word.again();
         Ok(())
     }

@@ -6,13 +6,17 @@ ghost use Rattle.pfx_recovery.specs.Layout.{file_len};
 ghost use Rattle.pfx_weights.specs.Sets.{Accepts};
 ghost use Rattle.pfx_header.specs.Headers.{IsSegmentSize};
 ghost use Rattle.pfx_format.specs.Format.{layout};
-ghost use Rattle.pfx_check.specs.Text.{line, fraction, tasks_text, store_text};
+ghost use Rattle.serde_json.specs.View.{view};
+ghost use Rattle.serde_json.specs.Written.{has_float};
+ghost use Rattle.pfx_check.specs.Text.{line, fraction, tasks_text, store_text, check_object, check_text};
 ghost use Rattle.pfx_check.specs.Checks.{IsDivisor, IsText};
 
 use crate::load::{demand, greatest_common_divisor};
 use pfx_checkpoint::state_len;
 use pfx_header::{header_len, least_segment};
+use pfx_program::{Form, object_line};
 use pfx_weights::TaskSet;
+use serde_json::{Value, json};
 use std::alloc::{AllocError, Global};
 
 fn put_number(alloc: Global, text: &mut Vec<u8>, n: u64) -> Result<(), AllocError>
@@ -120,20 +124,85 @@ fn put_store(
     put_line(alloc, text, "size", store_len(set, segment))
 }
 
+fn check_object(
+    alloc: Global,
+    tasks: &[(u32, u32)],
+    set: &TaskSet,
+    segment: u32,
+    by: u64,
+) -> Result<Value, AllocError>
+    requires accepted { Accepts set.now.workers tasks.now set.now }
+    requires segment { IsSegmentSize set.now.workers segment }
+    requires positive { 0 < by }
+    ensures { IfOk result (λ v. view v ≡ check_object tasks.now (record { set = set.now; segment = segment }) by) }
+{
+    let idle_ones = set.total() - set.real();
+    let above = demand(tasks, set.hyper()) / by;
+    let below = u64::from(set.hyper()) / by;
+    json!(in alloc; {
+        "workers": set.workers(),
+        "tasks": set.real(),
+        "idle": idle_ones,
+        "hyper": set.hyper(),
+        "load": [above, below],
+        "segment": segment,
+        "least": least_segment(set),
+        "size": store_len(set, segment)
+    })
+}
+
+fn object_text(
+    alloc: Global,
+    tasks: &[(u32, u32)],
+    set: &TaskSet,
+    segment: u32,
+    by: u64,
+) -> Result<Vec<u8>, AllocError>
+    requires accepted { Accepts set.now.workers tasks.now set.now }
+    requires segment { IsSegmentSize set.now.workers segment }
+    requires positive { 0 < by }
+    ensures { IfOk result (λ text. text.items ≡ check_text Form.Json tasks.now (record { set = set.now; segment = segment }) by) }
+{
+    let object = check_object(alloc, tasks, set, segment, by)?;
+    let line = object_line(alloc, &object)?;
+    let mut text = Vec::new(alloc);
+    put_words(&mut text, line.as_str())?;
+    Ok(text)
+}
+
+fn lines_text(
+    alloc: Global,
+    tasks: &[(u32, u32)],
+    set: &TaskSet,
+    segment: u32,
+    by: u64,
+) -> Result<Vec<u8>, AllocError>
+    requires accepted { Accepts set.now.workers tasks.now set.now }
+    requires segment { IsSegmentSize set.now.workers segment }
+    requires positive { 0 < by }
+    ensures { IfOk result (λ text. text.items ≡ check_text Form.Text tasks.now (record { set = set.now; segment = segment }) by) }
+{
+    let mut text = Vec::new(alloc);
+    put_tasks(alloc, &mut text, tasks, set, by)?;
+    put_store(alloc, &mut text, set, segment)?;
+    Ok(text)
+}
+
 /// What is printed of the set of these tasks, whose store has a segment of so many bytes.
 pub(crate) fn check_text(
     alloc: Global,
+    form: Form,
     tasks: &[(u32, u32)],
     set: &TaskSet,
     segment: u32,
 ) -> Result<Vec<u8>, AllocError>
     requires accepted { Accepts set.now.workers tasks.now set.now }
     requires segment { IsSegmentSize set.now.workers segment }
-    ensures { IfOk result (λ text. IsText tasks.now (record { set = set.now; segment = segment }) text.items) }
+    ensures { IfOk result (λ text. IsText form tasks.now (record { set = set.now; segment = segment }) text.items) }
 {
     let by = divisor(tasks, set);
-    let mut text = Vec::new(alloc);
-    put_tasks(alloc, &mut text, tasks, set, by)?;
-    put_store(alloc, &mut text, set, segment)?;
-    Ok(text)
+    match form {
+        Form::Text => lines_text(alloc, tasks, set, segment, by),
+        Form::Json => object_text(alloc, tasks, set, segment, by),
+    }
 }

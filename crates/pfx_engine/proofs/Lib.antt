@@ -1,4 +1,5 @@
 mod RunningLemmas
+mod NotingLemmas
 pub mod Promising
 mod Commands
 pub mod Keeps

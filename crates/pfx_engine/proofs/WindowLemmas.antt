@@ -1,6 +1,6 @@
 -- Slots that are run one after the other before they are kept.
-use Rattle.std.specs.Prelude.{◌≡◌, ℕ, List, [], ◌∷◌, ◌++◌, length, map, None}
-use Rattle.std.proofs.Common.{sym, ◌∙◌, subst, refl}
+use Rattle.std.specs.Prelude.{◌≡◌, ◌↔◌, ◌≤◌, ℕ, suc, Ok, Err, Bool, true, false, List, [], ◌∷◌, ◌++◌, length, map, None, IsTrue}
+use Rattle.std.proofs.Common.{sym, ap, ◌∙◌, subst, refl, inl, inr, arith}
 use Rattle.std.proofs.lemmas.List.{length-map}
 use Rattle.pfx_redo.specs.Recording.{record_of}
 use Rattle.pfx_store.specs.Groups.{AreRecordsOf}
@@ -9,14 +9,20 @@ use Rattle.pfx_kinds.specs.AnyKind.{any_kind, any_laws}
 use Rattle.pfx_kinds.specs.declared.any.AnyJob.{AnyJob}
 use Rattle.pfx_machine.specs.Plain.{Plain}
 use Rattle.pfx_machine.specs.Outcome.{outcome}
-use Rattle.pfx_machine.specs.Refusals.{refusal}
+use Rattle.pfx_machine.specs.Faults.{no_memory}
+use Rattle.pfx_machine.specs.Refusals.{IsFaultOf, refusal}
+use Rattle.pfx_machine.specs.Refusals.{reply}
+use Rattle.pfx_machine.specs.Runs.{answer_by}
 use Rattle.pfx_machine.specs.declared.command.Command.{Command}
 use Rattle.pfx_machine.specs.declared.command.Command.TheVariants.{Slot}
 use Rattle.pfx_machine.specs.declared.command.Reply.{Reply}
+use Rattle.pfx_machine.specs.declared.faults.MachineFault.{MachineFault}
 use Rattle.pfx_machine.proofs.SessionLemmas.{acceptable-snoc}
 use Rattle.pfx_program.specs.Promises.{slots_for}
+use Rattle.pfx_program.specs.Sharing.{Told, accepted_of}
 use Rattle.pfx_program.proofs.SlotLemmas.{length_slots, slots_more}
 use Rattle.pfx_record.specs.Records as recorded
+use Rattle.pfx_engine.specs.Executing.{Fills}
 use Rattle.pfx_engine.specs.Surviving.{AreRun}
 use Rattle.pfx_engine.proofs.Keeps.{length_of}
 
@@ -32,6 +38,35 @@ recorded_more s said x records done is accepted kept =
       of = (λ i. is.of i ++ kept i ∷ []) ∙ sym (records_split any_kind any_laws s (slots_for said) (Slot ∷ []));
     })
 
+-- one command more, of whatever kind
+pub recorded_snoc : (s : Plain AnyJob) (G : List (Command AnyJob)) (c : Command AnyJob) (records : List (recorded.Recorded AnyJob)) (done : recorded.Recorded AnyJob) → AreRecordsOf any_kind s G records
+    → refusal any_kind (outcome any_kind s G) c ≡ None → done ≡ record_of any_kind (outcome any_kind s G) c → AreRecordsOf any_kind s (G ++ c ∷ []) (records ++ done ∷ [])
+recorded_snoc s G c records done is accepted kept = record {
+  accepted = acceptable-snoc any_kind s G c is.accepted accepted;
+  of = (λ i. is.of i ++ kept i ∷ []) ∙ sym (records_split any_kind any_laws s G (c ∷ []));
+}
+
+-- no records are those of no command
+pub no_records : (s : Plain AnyJob) (G : List (Command AnyJob)) (records : List (recorded.Recorded AnyJob)) → AreRecordsOf any_kind s G records → length records ≡ 0 → G ≡ []
+no_records s [] records h none = refl
+no_records s (c ∷ G) records h none = absurd (let long : suc (length G) ≡ length records = length_of s (c ∷ G) records h in omega (arith, long, none))
+
+-- no more commands are accepted than there are
+pub accepted_few : (H : List (Command AnyJob)) (told : List Told) → length (accepted_of H told) ≤ length H
+accepted_few [] told = omega arith
+accepted_few (c ∷ H) [] = omega arith
+accepted_few (c ∷ H) (Ok x ∷ told) = let rest = accepted_few H told in omega (arith, rest)
+accepted_few (c ∷ H) (Err f ∷ told) = let rest = accepted_few H told in omega (arith, rest)
+
+-- as many records as commands that were accepted
+pub records_long : {R : Type 0} (view : R → recorded.Recorded AnyJob) (s : Plain AnyJob) (G : List (Command AnyJob)) (records : List R) → AreRecordsOf any_kind s G (map view records) → length records ≡ length G
+records_long view s G records h = sym (length-map records view) ∙ sym (length_of s G (map view records) h)
+
 -- as many records as Slots
 pub run_long : {R : Type 0} (view : R → recorded.Recorded AnyJob) (s new : Plain AnyJob) (count : ℕ) (said : List (ℕ × Reply)) (records : List R) → AreRun s count said (map view records) new → length records ≡ length said
 run_long view s new count said records h = sym (length-map records view) ∙ sym (length_of s (slots_for said) (map view records) h.recorded) ∙ length_slots said
+
+-- the next Slot is refused, or there is no memory for it
+pub ends_early : (count : ℕ) (said : List (ℕ × Reply)) (t : Plain AnyJob) (f : MachineFault) (starved : Bool) → IsFaultOf any_kind t Slot f → (IsTrue starved ↔ (f ≡ no_memory)) → Fills count said t starved
+ends_early count said t f true fault is = inr (inr refl)
+ends_early count said t f false fault is = inr (inl (f, ap (answer_by (reply t Slot)) (fault.1 (λ same. let never : false ≡ true = is.1 same in absurd (cc)))))

@@ -1,5 +1,5 @@
 -- What comes of a command that an engine carries out over its store.
-use Rattle.std.specs.Prelude.{◌≡◌, ◌↔◌, ◌≤◌, ◌+◌, ◌++◌, ℕ, List, [], ◌∷◌, length, Bool, false, Result, Ok, OnOk, OnErr, IfOk, IsErrOf}
+use Rattle.std.specs.Prelude.{◌≡◌, ◌⊎◌, ◌↔◌, ◌≤◌, ◌+◌, ◌++◌, ℕ, min, List, [], ◌∷◌, length, Bool, true, false, Result, Ok, Err, OnOk, OnErr, IfOk, IsErrOf}
 use Rattle.pfx_disk.specs.Disk.{View, IsHonest}
 use Rattle.pfx_format.specs.Format.{format}
 use Rattle.pfx_kinds.specs.AnyKind.{any_kind}
@@ -9,6 +9,8 @@ use Rattle.pfx_machine.specs.Plain.{Plain, IsState}
 use Rattle.pfx_machine.specs.Runs.{answer}
 use Rattle.pfx_machine.specs.Sessions.{IsAcceptable}
 use Rattle.pfx_machine.specs.declared.command.Command.{Command}
+use Rattle.pfx_machine.specs.declared.command.Command.TheVariants.{Slot}
+use Rattle.pfx_machine.specs.declared.faults.MachineFault.{MachineFault}
 use Rattle.pfx_machine.specs.declared.command.Reply.{Reply}
 use Rattle.pfx_program.specs.Promises.{AreAnswered, slots_for}
 use Rattle.pfx_recovery.specs.Recovery.{recovered}
@@ -36,9 +38,15 @@ pub record IsCarriedOut (s : Plain AnyJob) (c : Command AnyJob) (t : Plain AnyJo
   pub moves : t ≡ outcome any_kind s (c ∷ [])
   pub whole : broken ≡ false
 
--- Slots were accepted one after the other from a state on, in one frame, which has 16 at the most: their numbers and replies are the
--- machine's, and the state is the one after them, over a store that isn't broken.
-pub record AreCarriedOut (s t : Plain AnyJob) (broken : Bool) (said : List (ℕ × Reply)) : Type 0 where
+-- So many Slots were asked for, and these were run, up to this state: all of them, unless the machine refuses the next one, or there was
+-- no memory for it, and then the engine is starved.
+abbrev pub Fills : ℕ → List (ℕ × Reply) → Plain AnyJob → Bool → Type 0
+Fills count said t starved = (length said ≡ count) ⊎ (((f : MachineFault) × (answer any_kind t Slot ≡ Err f)) ⊎ (starved ≡ true))
+
+-- So many Slots were asked for, and these were accepted one after the other from a state on, in one frame, which has 16 if it isn't the
+-- last one: their numbers and replies are the machine's, and the state is the one after them, over a store that isn't broken.
+pub record AreCarriedOut (s t : Plain AnyJob) (count : ℕ) (broken starved : Bool) (said : List (ℕ × Reply)) : Type 0 where
+  pub fills : Fills (min count 16) said t starved
   pub few : length said ≤ 16
   pub answered : AreAnswered s said
   pub moves : t ≡ outcome any_kind s (slots_for said)

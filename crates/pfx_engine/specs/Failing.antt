@@ -35,6 +35,11 @@ pub record Stops {T : Type 0} (marked : ℕ) (was_broken : Bool) (failed unchang
   pub fails : IfErr result (Fails marked failed unchanged)
   pub broken : was_broken ≡ true → (result ≡ Err (callfault.Failed (stopped_at marked))) × unchanged
 
+-- The same of a call for Slots; and a starved engine that isn't broken answers only that there is no memory, and nothing changes.
+pub record StopsSlots {T : Type 0} (marked : ℕ) (was_broken was_starved : Bool) (failed unchanged : Type 0) (result : Result T CallFault) : Type 0 where
+  pub stops : Stops marked was_broken failed unchanged result
+  pub starved : was_broken ≡ false → was_starved ≡ true → (result ≡ Err (callfault.Failed fault.NoMemory)) × unchanged
+
 -- A look at an engine changes nothing. If the disk had failed before, it answers only that, with this number; else it fails only
 -- if there is no memory.
 pub record IsLook {E T : Type 0} (marked : ℕ) (was_broken : Bool) (old new : E) (result : Result T Fault) : Type 0 where

@@ -3,6 +3,7 @@ pub mod Failing
 pub mod Faults
 pub mod Keeping
 pub mod KeepingLaws
+pub mod Noting
 pub mod Running
 pub mod Stepping
 pub mod Surviving

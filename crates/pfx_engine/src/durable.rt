@@ -1,38 +1,43 @@
 //! The engine that keeps each command in a store before it answers it.
 
-ghost use Rattle.std.specs.Prelude.{◌≡◌, ◌<◌, ◌∷◌, [], List, ℕ, true, false, Ok, IfOk, IfErr, OnOk};
+ghost use Rattle.std.specs.Prelude.{◌≡◌, ◌<◌, ◌≤◌, ◌∷◌, [], List, ℕ, length, true, false, Ok, IfOk, IfErr, OnOk, OnErr};
 ghost use Rattle.pfx_disk.specs.Disk.{IsHonest, HasFailed};
 ghost use Rattle.pfx_feasible.specs.Endless.{IsEndless};
 ghost use Rattle.pfx_format.specs.Format.{format};
 ghost use Rattle.pfx_kinds.specs.AnyKind.{any_kind};
 ghost use Rattle.pfx_kinds.specs.declared.any.AnyJob.{AnyJob};
 ghost use Rattle.pfx_machine.specs.declared.command.Command.{Command};
-ghost use Rattle.pfx_program.specs.Promises.{Promise, Laws, AreDone, AreNotDone, IsDone, IsNotDone, IsSame, IsEngineFault, Shows};
+ghost use Rattle.pfx_program.specs.Promises.{Promise, Laws, AreDone, AreNotDone, IsDone, IsNotDone, IsPlace, IsSame, IsEngineFault, Shows};
+ghost use Rattle.pfx_program.specs.Sharing.{AreChanges, AreAllDone, AreAllLeft};
 ghost use Rattle.pfx_recovery.specs.Recovery.{recovered};
 ghost use Rattle.pfx_engine.specs.Executing.{AreCarriedOut, Commits, CommitsOne, Follows, IsCarriedOut, IsExecuted, TakesCalls};
-ghost use Rattle.pfx_engine.specs.Failing.{IsInDoubt, IsLook, IsServed, NotAccepted, Stops, last_kept, stopped_at};
+ghost use Rattle.pfx_engine.specs.Failing.{IsInDoubt, IsLook, IsServed, NotAccepted, Stops, StopsSlots, last_kept, stopped_at};
 ghost use Rattle.pfx_engine.specs.Keeping.{Anchors, KeepsFrom};
 ghost use Rattle.pfx_engine.specs.KeepingLaws.{keeps_none, keeps_more, keeps_fewer};
 ghost use Rattle.pfx_engine.specs.Stepping.{command_calls, frame_len};
 
 use crate::keeping::commit;
-use crate::windows::{Window, run_slots};
+use crate::windows::{Changes, Window, run_changes, run_slots};
 use pfx_disk::Disk;
 use pfx_fault::{Cause, Fault};
 use pfx_kinds::any::AnyJob;
 use pfx_machine::{Board, Command, Reply, State};
-use pfx_program::{CallFault, Engine};
+use pfx_program::{CallFault, Engine, Place, Told, place_of};
 use pfx_redo::{Recorded, run_recorded};
 use pfx_store::{Mark, Store};
 use std::alloc::{AllocError, Global};
 
 /// A store, and a state that commands are run on, which is the store's own while the store isn't broken.
+///
+/// An engine that had no memory within a window of Slots is starved: it keeps what was run of them, and to the next call for Slots
+/// it answers `NoMemory`.
 #[derive(Drop)]
 pub struct DurableEngine<D: Disk> {
     /// The store.
     pub store: Store<D, AnyJob>,
     /// The state that commands are run on.
     pub state: State<AnyJob>,
+    starved: bool,
     pub ghost same: { store.file.broken ≡ false → state ≡ store.state },
 }
 
@@ -54,10 +59,15 @@ impl<D: Disk> DurableEngine<D> {
     ) -> Result<DurableEngine<D>, (AllocError, Store<D, AnyJob>)>
         ensures store { IfOk result (λ engine. engine.store ≡ store) }
         ensures state { IfOk result (λ engine. engine.state ≡ store.state) }
+        ensures fed { IfOk result (λ engine. engine.starved ≡ false) }
         ensures given_back { IfErr result (λ e. e.1 ≡ store) }
     {
         match store.state().copy_of(alloc) {
-            Ok(state) => Ok(DurableEngine { store, state }),
+            Ok(state) => Ok(DurableEngine {
+                store,
+                state,
+                starved: false,
+            }),
             Err(fault) => Err((fault, store)),
         }
     }
@@ -184,8 +194,9 @@ impl<D: Disk> Engine for DurableEngine<D> {
     /// Carries Slots out one after the other, at least one and at most `count`: their numbers and their replies, and they are
     /// done; or they aren't, as every engine says.
     ///
-    /// Accepted ones share a frame, which has 16 at the most; they have the machine's replies, and the state is the one after
-    /// them. If the first is refused the state stays.
+    /// Accepted ones share a frame, which has 16 at the most, and as many as are asked for unless the machine refuses the next one
+    /// or there is no memory for it; they have the machine's replies, and the state is the one after them. If the first is refused
+    /// the state stays.
     ///
     /// `StoreFailed` breaks the store; a broken store does nothing, and answers so to every call. The disk is honest after the
     /// call if and only if it was before. From the return on each image is recovered to the state after the Slots.
@@ -193,9 +204,9 @@ impl<D: Disk> Engine for DurableEngine<D> {
         requires some { 0 < count }
         ensures done { IfOk result (λ said. AreDone ⟦<DurableEngine<D> as Engine>⟧.promise count said.items self.old self.new) }
         ensures not_done { IfErr result (AreNotDone ⟦<DurableEngine<D> as Engine>⟧.promise count self.old self.new) }
-        ensures accepted { IfOk result (λ said. AreCarriedOut self.old.state self.new.state self.new.store.file.broken said.items) }
+        ensures accepted { IfOk result (λ said. AreCarriedOut self.old.state self.new.state count self.new.store.file.broken self.new.starved said.items) }
         ensures refused { IfErr result (NotAccepted self.old.state Command.Slot self.new.state) }
-        ensures stops { Stops self.old.store.state.number self.old.store.file.broken (self.new.store.file.broken ≡ true)
+        ensures stops { StopsSlots self.old.store.state.number self.old.store.file.broken self.old.starved (self.new.store.file.broken ≡ true)
             ((self.new.state ≡ self.old.state) × (self.new.store ≡ self.old.store)) result }
         ensures calls { Follows (D.view self.old.store.file.disk) (D.view self.new.store.file.disk) }
         ensures acknowledged { IsHonest (D.view self.old.store.file.disk)
@@ -204,13 +215,45 @@ impl<D: Disk> Engine for DurableEngine<D> {
         if self.store.is_broken() {
             return Err(CallFault::Failed(stopped(&self.store)));
         }
+        if self.starved {
+            return Err(CallFault::Failed(Fault::NoMemory));
+        }
         let _number = self.state.number();
-        match run_slots(alloc, &mut self.state, count.min(16)) {
+        match run_slots(alloc, &mut self.state, &mut self.starved, count.min(16)) {
             Err(why) => Err(why),
             Ok(Window { said, records }) => match commit(&mut self.store, records) {
                 Ok(_) => Ok(said),
                 Err(_) => Err(CallFault::Failed(stopped(&self.store))),
             },
+        }
+    }
+
+    /// Carries out commands that give tasks jobs or take jobs away, one after the other: what each is told, in order. All that are
+    /// accepted share a frame, and are kept then; where none is, nothing is written.
+    ///
+    /// `NoMemory` leaves the state. `StoreFailed` breaks the store; a broken store does nothing, and answers so to every call. The
+    /// disk is honest after the call if and only if it was before.
+    fn all(&mut self, alloc: Global, commands: Vec<Command<AnyJob>>) -> Result<Vec<Told>, Fault>
+        requires changes { AreChanges commands.items }
+        requires few { length commands.items ≤ 16 }
+        ensures done { IfOk result (λ told. AreAllDone ⟦<DurableEngine<D> as Engine>⟧.promise commands.items told.items self.old self.new) }
+        ensures fails { IfErr result (IsEngineFault ⟦<DurableEngine<D> as Engine>⟧.promise.faults self.old.store.state) }
+        ensures left { OnErr result (AreAllLeft ⟦<DurableEngine<D> as Engine>⟧.promise commands.items self.old self.new) }
+        ensures calls { Follows (D.view self.old.store.file.disk) (D.view self.new.store.file.disk) }
+    {
+        if self.store.is_broken() {
+            return Err(stopped(&self.store));
+        }
+        let _number = self.state.number();
+        let Ok(Changes { told, records }) = run_changes(alloc, &mut self.state, commands) else {
+            return Err(Fault::NoMemory);
+        };
+        if records.is_empty() {
+            return Ok(told);
+        }
+        match commit(&mut self.store, records) {
+            Ok(_) => Ok(told),
+            Err(_) => Err(stopped(&self.store)),
         }
     }
 
@@ -253,6 +296,17 @@ impl<D: Disk> Engine for DurableEngine<D> {
             Ok(copy) => Ok(copy),
             Err(_) => Err(Fault::NoMemory),
         }
+    }
+
+    fn place(&mut self, _alloc: Global, task: u16) -> Result<Option<Place>, Fault>
+        ensures copies { IfOk result (IsPlace self.old.store.state task) }
+        ensures settled { OnOk result (self.new.store.file.broken ≡ false) }
+        ensures same { IsSame ⟦<DurableEngine<D> as Engine>⟧.promise self.old self.new }
+        ensures fails { IfErr result (IsEngineFault ⟦<DurableEngine<D> as Engine>⟧.promise.faults self.old.store.state) }
+        ensures look { IsLook self.old.store.state.number self.old.store.file.broken self.old self.new result }
+    {
+        let _kept = self.last_kept()?;
+        Ok(place_of(self.store.state(), task))
     }
 
     ghost laws = { record {

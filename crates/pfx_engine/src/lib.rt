@@ -24,8 +24,10 @@ mod durable;
 pub mod faults;
 mod keeping;
 pub mod laws;
+mod noting;
 mod scripts;
 mod windows;
 
 pub use durable::DurableEngine;
+pub use noting::{NotedRun, run_noted};
 pub use scripts::run_durable;

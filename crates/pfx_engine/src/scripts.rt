@@ -1,6 +1,6 @@
 //! Running a script on a store.
 
-ghost use Rattle.std.specs.Prelude.{◌≡◌, ◌<◌, List, false, IfSome};
+ghost use Rattle.std.specs.Prelude.{◌≡◌, ◌<◌, ◌≤◌, max, List, false, IfSome};
 ghost use Rattle.pfx_disk.specs.Disk.{IsHonest};
 ghost use Rattle.pfx_engine.specs.Keeping.{Anchors};
 ghost use Rattle.pfx_engine.specs.Running.{IsKeptAsPrinted};
@@ -17,7 +17,8 @@ use std::io::{Read, Write};
 
 /// Runs the records of a script that are left on an engine's store, as `run_script` does over any engine.
 ///
-/// Of the slots of a record up to `window` share a frame, 1 or more, and 16 at the most. By `form` lines are text or JSON.
+/// Of the slots of a record up to `window` share a frame, 1 or more, and 16 at the most; so do up to `group` records that stand
+/// ready together, as `run_script` says. By `form` lines are text or JSON.
 ///
 /// A printed line is a receipt: whatever the run answers, each image that a stop may leave after it is recovered to the
 /// outcome of a beginning of the script's accepted commands which holds every command whose line was printed. It takes an
@@ -26,17 +27,19 @@ pub fn run_durable<R: Read + Drop, W: Write, D: Disk>(
     alloc: Global,
     script: &mut Script<R>,
     window: u32,
+    group: u32,
     form: Form,
     output: &mut W,
     engine: &mut DurableEngine<D>,
 ) -> Result<(), Fault>
     requires some { 0 < window }
-    ensures runs { Runs ⟦<DurableEngine<D> as Engine>⟧.promise form window script.old script.new.failed engine.old engine.new
+    requires few { group ≤ 16 }
+    ensures runs { Runs ⟦<DurableEngine<D> as Engine>⟧.promise form (max window group) script.old script.new.failed engine.old engine.new
         (W.contents output.old) (W.contents output.new) result }
     ensures printed { engine.old.store.file.broken ≡ false → IsHonest (D.view engine.old.store.file.disk)
         → Anchors (D.view engine.old.store.file.disk) engine.old.store.state
         → (records : List Fields) × IfSome script.old.left (λ all. all ≡ records)
         × IsKeptAsPrinted form engine.old.store.state script.old records (W.contents output.old) (W.contents output.new) (D.view engine.new.store.file.disk) }
 {
-    run_script(alloc, script, window, form, output, engine)
+    run_script(alloc, script, window, group, form, output, engine)
 }

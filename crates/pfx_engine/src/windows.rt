@@ -1,18 +1,23 @@
-//! Running several Slots before any of them is kept.
+//! Running several commands before any of them is kept.
 
 ghost use Rattle.std.specs.Prelude.{◌≡◌, ◌<◌, map, IfOk, IfErr, OnErr};
+ghost use Rattle.pfx_kinds.specs.AnyKind.{any_kind};
+ghost use Rattle.pfx_machine.specs.Outcome.{outcome};
 ghost use Rattle.pfx_machine.specs.declared.command.Command.{Command};
+ghost use Rattle.pfx_program.specs.Sharing.{AreChanges, AreTold, accepted_of};
 ghost use Rattle.pfx_record.specs.Records.{plain};
+ghost use Rattle.pfx_store.specs.Groups.{AreRecordsOf};
+ghost use Rattle.pfx_engine.specs.Executing.{Fills};
 ghost use Rattle.pfx_engine.specs.Failing.{Fails, NotAccepted};
 ghost use Rattle.pfx_engine.specs.Surviving.{AreRun};
 
 use pfx_fault::Fault;
 use pfx_kinds::any::AnyJob;
 use pfx_machine::{Command, Reply, State};
-use pfx_program::CallFault;
+use pfx_program::{CallFault, Told};
 use pfx_record::Record;
 use pfx_redo::{Recorded, run_recorded};
-use std::alloc::Global;
+use std::alloc::{AllocError, Global};
 
 /// Slots that were run, in order.
 #[derive(Drop)]
@@ -23,15 +28,19 @@ pub(crate) struct Window {
     pub(crate) records: Vec<Record<AnyJob>>,
 }
 
-/// Runs Slots on the state, at least one and at most `count`, up to the first that is refused. If that is the first of
-/// all, or there is no memory for it, the state stays.
+/// Runs Slots on the state, at least one and at most `count`, up to the first that is refused, or for which there is no memory, and then
+/// `starved` says so. If that is the first of all, the state stays.
 pub(crate) fn run_slots(
     alloc: Global,
     state: &mut State<AnyJob>,
+    starved: &mut bool,
     count: u32,
 ) -> Result<Window, CallFault>
     requires some { 0 < count }
     ensures ran { IfOk result (λ w. AreRun state.old count w.said.items (map plain w.records.items) state.new) }
+
+    // All of them, unless the next one is refused by the machine, or for want of memory.
+    ensures fills { IfOk result (λ w. Fills count w.said.items state.new starved.new) }
     ensures refused { IfErr result (NotAccepted state.old Command.Slot state.new) }
     ensures stays { OnErr result (state.new ≡ state.old) }
 
@@ -51,10 +60,49 @@ pub(crate) fn run_slots(
                 said.push_reserved((before + 1, reply));
                 records.push_reserved(entry);
             }
-            Err(_) if !said.is_empty() => return Ok(Window { said, records }),
+            Err(fault) if !said.is_empty() => {
+                *starved = fault.is_memory();
+                return Ok(Window { said, records });
+            }
             Err(fault) if fault.is_memory() => return Err(CallFault::Failed(Fault::NoMemory)),
             Err(fault) => return Err(CallFault::Refused(fault)),
         }
     }
     Ok(Window { said, records })
+}
+
+/// Commands that were run, in order.
+#[derive(Drop)]
+pub(crate) struct Changes {
+    /// What each of them is told.
+    pub(crate) told: Vec<Told>,
+    /// The records of those that were accepted.
+    pub(crate) records: Vec<Record<AnyJob>>,
+}
+
+/// Runs commands that are no Slots on the state, one after the other. If an allocation failed, none was run.
+pub(crate) fn run_changes(
+    alloc: Global,
+    state: &mut State<AnyJob>,
+    commands: Vec<Command<AnyJob>>,
+) -> Result<Changes, AllocError>
+    requires changes { AreChanges commands.items }
+    ensures told { IfOk result (λ w. AreTold state.old commands.items w.told.items) }
+    ensures moves { IfOk result (λ w. state.new ≡ outcome any_kind state.old (accepted_of commands.items w.told.items)) }
+    ensures recorded { IfOk result (λ w. AreRecordsOf any_kind state.old (accepted_of commands.items w.told.items) (map plain w.records.items)) }
+    ensures stays { OnErr result (state.new ≡ state.old) }
+{
+    let mut told = Vec::with_capacity(alloc, commands.len())?;
+    let mut records = Vec::with_capacity(alloc, commands.len())?;
+    for command in commands {
+        let last = state.number();
+        match run_recorded(alloc, state, command) {
+            Ok(Recorded { reply, entry }) => {
+                told.push_reserved(Ok((last + 1, reply)));
+                records.push_reserved(entry);
+            }
+            Err(fault) => told.push_reserved(Err(fault)),
+        }
+    }
+    Ok(Changes { told, records })
 }

@@ -1,5 +1,6 @@
 //! What holds of every list of events, each the contract of a function that does nothing.
-ghost use Rattle.std.specs.Prelude.{◌≡◌, ◌≢◌, ◌+◌, ◌++◌, ◌∷◌, [], List, ℕ, take, false, None, Some, Ok};
+ghost use Rattle.std.specs.Prelude.{◌≡◌, ◌≢◌, ◌≤◌, ◌+◌, ◌++◌, ◌∷◌, [], List, ℕ, length, take, false, None, Some, Ok};
+ghost use Rattle.pfx_columns.specs.Ledgers.{IsFair};
 ghost use Rattle.pfx_disk.specs.Disk.{IsHonest};
 ghost use Rattle.pfx_redo.specs.Recording.{records_of};
 ghost use Rattle.pfx_events.specs.Batches.{frames_of, joined, AreSmall, IsSeen, KeepsBatches};
@@ -19,7 +20,7 @@ ghost use Rattle.pfx_recovery.specs.Store.{Replays};
 ghost use Rattle.pfx_store_file.specs.Holding.{Survives as FramesSurvive};
 ghost use Rattle.pfx_world.specs.Claims.{IsNew, IsReceipted, StaysOrderly, ShowsAppended, LosesNothing, RecoversPrefix, NeverGoesBack, Survives};
 ghost use Rattle.pfx_world.specs.Calls.{MayLeave};
-ghost use Rattle.pfx_world.specs.Events.{Event, Tend, CanRun, run};
+ghost use Rattle.pfx_world.specs.Events.{Event, Stop, Tend, CanRun, run};
 ghost use Rattle.pfx_world.specs.Session.{IsQuick};
 ghost use Rattle.pfx_world.specs.Setting.{Settled};
 ghost use Rattle.pfx_world.specs.World.{World, new_world, state_at};
@@ -58,6 +59,28 @@ pub fn receipts_last<J: Job>()
         → (let w = run S B (new_world S B image f) (events ++ more) in Survives S B w.book.accepted n (MayLeave w.start w.done w.coming)) }
 {
     crash_prefix::<J>();
+}
+
+/// The same without the names of the claims. From a file that is recovered, after any run: whatever a stop may leave, before or
+/// within the coming call, is recovered to the outcome of first accepted commands, which has the number of each receipt; after a
+/// stop just these commands are accepted, and each receipt stands; and at every prefix of the accepted commands the allocation is fair.
+pub fn receipted_commands_survive<J: Job>()
+    ensures survive { let S = store_of J.kind in (B : Plain J) (image : List ℕ) (f : FileOf J) (events : List (Event J)) (n : ℕ)
+        (left : List ℕ) → recovered_file J.kind image ≡ Some (B, f) → CanRun S B (new_world S B image f) events
+        → (let w = run S B (new_world S B image f) events in IsReceipted n w.book.receipts → MayLeave w.start w.done w.coming left
+        → (k : ℕ) × (k ≤ length w.book.accepted) × (recovered (format J.kind) left ≡ Ok (outcome J.kind B (take k w.book.accepted)))
+        × (n ≤ (outcome J.kind B (take k w.book.accepted)).number)) }
+    ensures stop { let S = store_of J.kind in (B : Plain J) (image : List ℕ) (f : FileOf J) (events : List (Event J)) (left : List ℕ)
+        → recovered_file J.kind image ≡ Some (B, f) → CanRun S B (new_world S B image f) (events ++ Stop left ∷ [])
+        → (let w = run S B (new_world S B image f) events in let v = run S B (new_world S B image f) (events ++ Stop left ∷ []) in
+        (k : ℕ) × (v.book.accepted ≡ take k w.book.accepted) × (recovered (format J.kind) left ≡ Ok (outcome J.kind B (take k w.book.accepted)))
+        × ((n : ℕ) → IsReceipted n w.book.receipts → IsReceipted n v.book.receipts × (n ≤ (outcome J.kind B (take k w.book.accepted)).number))) }
+    ensures fair { let S = store_of J.kind in (B : Plain J) (image : List ℕ) (f : FileOf J) (events : List (Event J)) (k : ℕ)
+        → recovered_file J.kind image ≡ Some (B, f) → CanRun S B (new_world S B image f) events
+        → (let w = run S B (new_world S B image f) events in k ≤ length w.book.accepted → IsFair (outcome J.kind B (take k w.book.accepted)).ledger) }
+{
+    crash_prefix::<J>();
+    runs_begin_at_files::<J>();
 }
 
 /// The claims of `crash_prefix` hold of each world that a run leads to, also where it began at a store that goes on, of whose

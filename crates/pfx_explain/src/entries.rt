@@ -144,7 +144,7 @@ The lines below the fault say how many numbers the set wants.",
 ];
 
 /// The faults of commands and of stores.
-pub(crate) const OF_STORES: [Entry; 17] = [
+pub(crate) const OF_STORES: [Entry; 18] = [
     Entry {
         fault: Fault::NoSuchTask { task: 9 },
         text: "The store has no real task of this number. Tasks are numbered from 0 in the order of the set.
@@ -180,13 +180,14 @@ At 8000 commands a second that takes 1100 years. Make a new store.",
         fault: Fault::BadKind,
         text: "There is no kind of job of this name.
 
-    submit,0,counter,3,     # the kinds are count, rule and scan
+    submit,0,counter,3,     # the kinds are count, rule, scan and own
 
 In a run it is a line of the output, and the run goes on.",
     },
     Entry {
         fault: Fault::BadGoal,
-        text: "The goal is out of the kind's range: a count and a rule have 1 step or more, a scan has an empty goal.
+        text: "The goal is out of the kind's range: a count and a rule have 1 step or more, a scan has an empty
+goal, and an answer has its unit.
 
     submit,0,count,,
     submit,0,scan,3,ab:abcab
@@ -196,9 +197,19 @@ In a run it is a line of the output, and the run goes on.",
     Entry {
         fault: Fault::BadData,
         text: "The data aren't in the kind's form: digits or nothing for a count; for a rule its number, 0 to 255, a colon
-and 3 to 512 cells, each 0 or 1; for a scan 1 to 16 characters, a colon and at most 64 more.
+and 3 to 512 cells, each 0 or 1; for a scan 1 to 16 characters, a colon and at most 64 more; for an answer at most 106 visible
+characters, but no quote, comma or backslash.
 
     submit,0,rule,3,110     # submit,0,rule,3,110:00000001
+
+In a run it is a line of the output, and the run goes on.",
+    },
+    Entry {
+        fault: Fault::NotNext { task: 0 },
+        text: "The answer isn't of the next unit of this task: its number is the last answered one plus 1, and at most the
+slots that the task got.
+
+    submit,0,own,8,chunk/8     # unit 8 was answered before, or unit 7 wasn't, or the task got 7 slots
 
 In a run it is a line of the output, and the run goes on.",
     },
@@ -293,10 +304,12 @@ Ask for fewer workers; --workers 0 runs on one thread alone.",
     Entry {
         fault: Fault::BadScript { at: 2 },
         text: "The record at this place of the script, counted from 1, has no form: it hasn't five fields, or its verb is none,
-or a number is none or out of range, or a field that the verb doesn't use isn't empty.
+or a number is none or out of range, or a field that the verb doesn't use isn't empty. Or a quote that opens a field isn't closed
+right before the next comma or the line's end, or the record has more than 1048576 bytes or some that are no UTF-8 text.
 
     slot 3                  # slot,,,3,
     submit,a,count,3,       # a task is a number
+    submit,2,scan,,\"ab:xaby  # \"ab:xaby\", with a quote behind; within it a quote stands twice
 
 The records before it are done, and stand. The lines below the fault say what is wrong with it.",
     },

@@ -51,6 +51,7 @@ refusal fault.NumberLimit = plain 34 (codes "NumberLimit")
 refusal fault.BadKind = plain 41 (codes "BadKind")
 refusal fault.BadGoal = plain 42 (codes "BadGoal")
 refusal fault.BadData = plain 43 (codes "BadData")
+refusal (fault.NotNext task) = with (plain 45 (codes "NotNext")) (codes "task") task
 refusal fault.NotAStore = plain 51 (codes "NotAStore")
 refusal (fault.Damaged at what) = with_word (with (plain 52 (codes "Damaged")) (codes "at") at) (codes "what") (part_name what)
 refusal fault.Device = plain 53 (codes "Device")

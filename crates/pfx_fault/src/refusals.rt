@@ -59,6 +59,8 @@ pub enum Fault {
     BadGoal,
     /// The data isn't in the kind's form.
     BadData,
+    /// The answer isn't of the next unit that the task was given.
+    NotNext { task: u16 },
     /// The file isn't a store.
     NotAStore,
     /// This part of the store file, at this offset, is damaged.
@@ -119,6 +121,7 @@ impl Fault {
             Fault::BadKind => 41,
             Fault::BadGoal => 42,
             Fault::BadData => 43,
+            Fault::NotNext { .. } => 45,
             Fault::NotAStore => 51,
             Fault::Damaged { .. } => 52,
             Fault::Device => 53,
@@ -164,6 +167,7 @@ impl Fault {
             Fault::BadKind => "BadKind",
             Fault::BadGoal => "BadGoal",
             Fault::BadData => "BadData",
+            Fault::NotNext { .. } => "NotNext",
             Fault::NotAStore => "NotAStore",
             Fault::Damaged { .. } => "Damaged",
             Fault::Device => "Device",
@@ -234,7 +238,8 @@ impl Display for Fields {
             | Fault::OutOfRange { task }
             | Fault::NoSuchTask { task }
             | Fault::TaskBusy { task }
-            | Fault::NoJob { task } => write!(f, " task={task}"),
+            | Fault::NoJob { task }
+            | Fault::NotNext { task } => write!(f, " task={task}"),
             Fault::SegmentTooSmall { least } => write!(f, " least={least}"),
             Fault::TooManyUrgent { urgent, m } => write!(f, " urgent={urgent} m={m}"),
             Fault::TooFewEligible { eligible, m } => write!(f, " eligible={eligible} m={m}"),

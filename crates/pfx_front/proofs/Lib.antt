@@ -3,3 +3,6 @@ mod Groups
 mod Ends
 mod Looking
 mod Losses
+mod Telling
+mod Refuted
+mod RefutedEnds

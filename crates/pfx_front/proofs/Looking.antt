@@ -4,7 +4,7 @@ use Rattle.std.proofs.Common.{◌≡◌, ◌≢◌, ◌⊎◌, ℕ, zero, suc, L
 use Rattle.std.proofs.lemmas.Option.{none-some, same_Some, slice_get_past, slice_get_within}
 use mathlib.Core.List.{IsPrefix}
 use Rattle.pfx_record.specs.declared.batch.Batch.{Batch}
-use Rattle.pfx_front.specs.Closing.{AreLooked}
+use Rattle.pfx_front.specs.Closing.{HaveLooked}
 
 -- what stands at a place of a list with one element set
 set_get : {A : Type 0} (xs : List A) (i k : ℕ) (y z : A) → slice_get (set xs i y) k ≡ Some z → ((k ≡ i) × (z ≡ y)) ⊎ ((k ≢ i) × (slice_get xs k ≡ Some z))
@@ -39,16 +39,16 @@ module _ {J : Type 0} (last : List (Batch J)) (old : List (List (Batch J))) wher
   then_more a b c p q = (p.0 ++ q.0, sym (append_assoc a p.0 q.0) ∙ ap (λ l. l ++ q.0) p.1 ∙ q.1)
 
   -- nobody looked yet
-  pub none_looked : (flags : List Bool) → flags ≡ [] → AreLooked last old old flags
+  pub none_looked : (flags : List Bool) → flags ≡ [] → HaveLooked last old old flags
   none_looked flags none k was is before now = (
     ([], append-nil was ∙ same_Some was is (sym before ∙ now)),
     λ flag. absurd (none-some true (sym (slice_get_past [] k (omega arith)) ∙ subst (λ l. slice_get l k ≡ Some true) none flag)),
   )
 
-  module _ (items : List (List (Batch J))) (flags : List Bool) (i : ℕ) (cur new : List (Batch J)) (h : AreLooked last old items flags) (long : length flags ≡ i)
+  module _ (items : List (List (Batch J))) (flags : List Bool) (i : ℕ) (cur new : List (Batch J)) (h : HaveLooked last old items flags) (long : length flags ≡ i)
       (at : slice_get items i ≡ Some cur) (later : IsPrefix cur new) where
     -- one more looked
-    pub looked_more : (b : Bool) → (b ≡ true → new ≡ last) → AreLooked last old (set items i new) (flags ++ b ∷ [])
+    pub looked_more : (b : Bool) → (b ≡ true → new ≡ last) → HaveLooked last old (set items i new) (flags ++ b ∷ [])
     looked_more b saw k was is before now = elim (set_get items i k new is now) [
       | inl here ↦ (
         let first = h k was cur before (ap (slice_get items) here.0 ∙ at) in
@@ -69,7 +69,7 @@ module _ {J : Type 0} (last : List (Batch J)) (old : List (List (Batch J))) wher
     ]
 
     -- one more looked, of whom nothing is said
-    pub looked_still : AreLooked last old (set items i new) flags
+    pub looked_still : HaveLooked last old (set items i new) flags
     looked_still k was is before now = elim (set_get items i k new is now) [
       | inl here ↦ (
         let first = h k was cur before (ap (slice_get items) here.0 ∙ at) in

@@ -31,7 +31,7 @@ use Rattle.pfx_board.proofs.Words.{records_more as records_published}
 use Rattle.pfx_front.specs.Showing.{AreShown, IsShown, IsShownBefore}
 use Rattle.pfx_front.specs.Keeping.{frame_in, frames_of, mark_in, marks_of, IsNext, AreCounted, InStep, Behind}
 use Rattle.pfx_front.specs.Working.{IsTaken}
-use Rattle.pfx_front.specs.Starting.{Begins}
+use Rattle.pfx_front.specs.Starting.{IsFresh}
 
 -- a whole store that refuses a call has seen the disk fail
 pub failed_of : {T : Type 0} (old new : View) (was is : Bool) (r : Result T StoreFault) (fault : StoreFault) → r ≡ Err fault → Works old new was is r → was ≡ false → (IsErrOf r NoRoom → ⊥) → HasFailed old new
@@ -359,7 +359,7 @@ module _ {J : Type 0} where
 
   -- a flusher begins in step
   pub begins_in_step : (K : Kind J) (start : Plain J) (failures clock : ℕ) (notes : List (Note J)) (broken : Bool) (s : Plain J) (disk : View)
-      → Begins K start failures clock broken s disk → notes ≡ Marked start.number disk.clock ∷ [] → InStep K start failures clock notes broken s disk
+      → IsFresh K start failures clock broken s disk → notes ≡ Marked start.number disk.clock ∷ [] → InStep K start failures clock notes broken s disk
   begins_in_step K start failures clock notes broken s disk h noted =
       let e : Note J = Marked start.number disk.clock in record {
         state = ap (λ l. applied K start (records_in l)) noted ∙ ap Some (sym h.state);

@@ -1,5 +1,5 @@
 -- What a front has come to when it is closed.
-use Rattle.std.specs.Prelude.{◌≡◌, ◌≢◌, ◌⊎◌, ◌≤◌, ◌<◌, ℕ, ◌+◌, List, [], length, map, take, slice_get, Bool, true, Option, None, Some, Ok}
+use Rattle.std.specs.Prelude.{◌≡◌, ◌≢◌, ◌⊎◌, ◌≤◌, ◌<◌, ℕ, ◌+◌, ◌-◌, List, [], length, map, take, slice_get, Bool, true, Option, None, Some, Ok}
 use mathlib.Core.List.{IsPrefix}
 use Rattle.pfx_board.specs.Word.{records_of as records_of_batches}
 use Rattle.pfx_disk.specs.Disk.{View, IsSpent}
@@ -16,8 +16,10 @@ use Rattle.pfx_recovery.specs.Recovery.{recovered}
 use Rattle.pfx_book.specs.declared.note.Note.{Note}
 use Rattle.pfx_book.specs.declared.note.Note.TheVariants.{Receipt}
 use Rattle.pfx_book.specs.Notes.{Noted, Legal, answers_of, commands_of, lost_in}
-use Rattle.pfx_book.specs.Merging.{IsMerge}
+use Rattle.pfx_book.specs.Merging.{IsMerge, numbers_from}
 use Rattle.pfx_book.specs.Register.{Register}
+use Rattle.pfx_front.specs.declared.faults.CloseFault.{CloseFault}
+use Rattle.pfx_front.specs.declared.faults.CloseFault.TheVariants.{PassOut}
 
 -- if a pass notes why the flusher gave up, it did so for that cause
 abbrev pub IsTold : {J : Type 0} → Option Cause → ℕ × List (Note J) → Type 0
@@ -27,10 +29,18 @@ IsTold failure pass = (cause : Cause) → lost_in pass.1 ≡ Some cause → fail
 abbrev pub AreTold : {J : Type 0} → Option Cause → List (ℕ × List (Note J)) → Type 0
 AreTold failure passes = (k : ℕ) → (pass : ℕ × List (Note _)) → slice_get passes k ≡ Some pass → IsTold failure pass
 
+-- of so many passes that were given out these aren't all, and so many are missing
+abbrev pub IsShort : {J : Type 0} → List (ℕ × List (Note J)) → CloseFault → Type 0
+IsShort passes (PassOut count) = (out : ℕ) × (count ≡ out - length passes) × (map (λ p. p.0) passes ≢ numbers_from 1 out)
+
 -- each reader knows what it knew, and more, and those who looked know just the last publication
-abbrev pub AreLooked : {J : Type 0} → List (Batch J) → List (List (Batch J)) → List (List (Batch J)) → List Bool → Type 0
-AreLooked last old new looked = (k : ℕ) → (was is : List (Batch _)) → slice_get old k ≡ Some was → slice_get new k ≡ Some is →
+abbrev pub HaveLooked : {J : Type 0} → List (Batch J) → List (List (Batch J)) → List (List (Batch J)) → List Bool → Type 0
+HaveLooked last old new looked = (k : ℕ) → (was is : List (Batch _)) → slice_get old k ≡ Some was → slice_get new k ≡ Some is →
     IsPrefix was is × (slice_get looked k ≡ Some true → is ≡ last)
+
+-- so do all readers, and there is an answer of each
+abbrev pub AreLooked : {J : Type 0} → List (Batch J) → List (List (Batch J)) → List (List (Batch J)) → List Bool → Type 0
+AreLooked last old new looked = (length new ≡ length old) × (length looked ≡ length old) × HaveLooked last old new looked
 
 module _ {J : Type 0} (K : Kind J) (start : Plain J) where
   -- an image is recovered to the outcome of first commands, those up to number n among them
@@ -68,10 +78,13 @@ module _ {J : Type 0} (K : Kind J) (start : Plain J) where
     pub durable : start.number + count ≤ s.number
     pub records : records_of_batches batches ≡ records_of K start (take count r.session.accepted)
 
-  -- each reader knows what it knew, and more, and what those who looked know are first commands that the store has
-  abbrev pub AreSeen : Register J → Plain J → List (List (Batch J)) → List (List (Batch J)) → List Bool → Type 0
-  AreSeen r s old new looked = (k : ℕ) → (was is : List (Batch J)) → slice_get old k ≡ Some was → slice_get new k ≡ Some is →
-      IsPrefix was is × (slice_get looked k ≡ Some true → IsSeen r s is)
+  -- each reader is there, with an answer, and knows what it knew, and more; what those who looked know are first commands that the
+  -- store has
+  pub record AreSeen (r : Register J) (s : Plain J) (old new : List (List (Batch J))) (looked : List Bool) : Type 0 where
+    pub readers : length new ≡ length old
+    pub answers : length looked ≡ length old
+    pub each : (k : ℕ) → (was is : List (Batch J)) → slice_get old k ≡ Some was → slice_get new k ≡ Some is →
+        IsPrefix was is × (slice_get looked k ≡ Some true → IsSeen r s is)
 
   -- each image since the beginning has first commands, and each since a receipt's clock has the receipt's
   pub record IsHeld (began : ℕ) (r : Register J) (disk : View) : Type 0 where

@@ -5,3 +5,4 @@ pub mod Calling
 pub mod Closing
 pub mod Starting
 pub mod Sole
+pub mod Lasting

@@ -1,5 +1,5 @@
 //! What clients call.
-ghost use Rattle.std.specs.Prelude.{◌≡◌, ◌<◌, ◌≤◌, ◌+◌, ℕ, [], IfOk, IfErr, IfSome, IfNone, OnOk, Some, None, false};
+ghost use Rattle.std.specs.Prelude.{◌≡◌, ◌<◌, ◌≤◌, ◌+◌, ℕ, [], length, IfOk, IfErr, IfSome, IfNone, OnOk, Some, None, false};
 ghost use Rattle.pfx_fault.specs.declared.parts.Cause.{Cause};
 ghost use Rattle.pfx_machine.specs.declared.command.Command.TheVariants.{Slot};
 ghost use Rattle.pfx_world.specs.Session.{IsQuick};
@@ -8,13 +8,14 @@ ghost use Rattle.pfx_book.specs.Notes.{greatest};
 ghost use Rattle.pfx_book.specs.Register.{HasRoom};
 ghost use Rattle.pfx_book.specs.declared.note.Note.TheVariants.{Accepted, Receipt as Receipted};
 ghost use Rattle.pfx_front.specs.Calling.{IsLost, HasNoReply, HasNoReceipt};
+ghost use Rattle.pfx_front.specs.Lasting.{IsAcknowledged};
 ghost use Rattle.pfx_front.specs.declared.faults.CallFault.TheVariants.{StoreFailed};
 
+use crate::durable::Acknowledged;
 use crate::faults::CallFault;
 use crate::monitor::{Monitor, is_busy, is_ready};
 use crate::name::Since;
 use crate::start::make_room;
-use pfx_board::receipt::Receipt;
 use pfx_book::book::{Book, Pass};
 use pfx_book::closing;
 use pfx_book::faults::BookFault;
@@ -280,17 +281,18 @@ fn settle_in<J: Job, B: Since<J>, R: Wait>(
     unreachable!()
 }
 
-/// The receipt with the word of the last publication, which reaches its number: it was left before the number was marked.
+/// The receipt with what was durable at the last publication, which reaches its number and its clock: it was left before the number was
+/// marked.
 fn worded<J: Job, B: Since<J>, R: Wait>(
     rt: &R,
     monitor: &Monitor<J, B>,
     receipt: closing::Receipt,
-) -> Receipt<J, B>
-    ensures { (result.number ≡ receipt.number) × (result.clock ≡ receipt.clock) }
+) -> Acknowledged<J, B>
+    ensures { (result.receipt.number ≡ receipt.number) × (result.receipt.clock ≡ receipt.clock) }
 {
-    let word = monitor.word.lock(rt).again();
-    if receipt.number <= word.number() {
-        return Receipt::new(receipt.number, receipt.clock, word);
+    let durable = monitor.durable.lock(rt).again();
+    if let Some(acknowledged) = Acknowledged::new(receipt.number, receipt.clock, durable) {
+        return acknowledged;
     }
     for _ in rt.forever() {}
     unreachable!()
@@ -388,7 +390,8 @@ where
     }
 
     /// Waits until the command of this number is durable, and gives its receipt, which the pass notes. A reader that is told of
-    /// the receipt shows that command's state, or a later one.
+    /// the receipt shows that command's state, or a later one. With it comes the moment at which it is durable: whatever a stop may
+    /// have left then is recovered to a state that has the command.
     ///
     /// `StoreFailed` says that it isn't known to be durable, and won't become so; a number up to the last mark has its receipt
     /// also then. `Refused(Machine(NoRow(NoMemory)))` changes nothing, and the call may be made again.
@@ -397,10 +400,12 @@ where
         rt: &R,
         pass: &mut Pass<J, B>,
         number: u64,
-    ) -> Result<Receipt<J, B>, CallFault>
+    ) -> Result<Acknowledged<J, B>, CallFault>
         requires some { 0 < number }
         requires known { number ≤ greatest pass.old.1 }
-        ensures ok { IfOk result (λ r. (r.number ≡ number) × (pass.new ≡ noted (Receipted number r.clock) pass.old)) }
+        ensures ok { IfOk result (λ r. (r.receipt.number ≡ number) × (pass.new ≡ noted (Receipted number r.receipt.clock) pass.old)) }
+        ensures reached { IfOk result (λ r. r.receipt.clock ≤ B.clock + length r.moment) }
+        ensures durable { IfOk result (λ r. IsAcknowledged J.kind B.origin B.held B.image r.moment r.receipt.word number) }
         ensures err { IfErr result (HasNoReceipt number pass.old pass.new) }
     {
         let monitor = &self.shared.monitor;

@@ -1,11 +1,14 @@
 //! The end of a front.
-ghost use Rattle.std.specs.Prelude.{◌≡◌, [], IfOk, IfErr, IfSome, IfNone, IsTrue, IsPermutation};
+ghost use Rattle.std.specs.Prelude.{◌≡◌, ◌≢◌, ◌-◌, [], length, map, true, IfOk, IfErr, IfSome, IfNone, IsTrue, IsPermutation};
+ghost use Rattle.pfx_chronicle.specs.Chart.{noted_view};
 ghost use Rattle.pfx_disk.specs.Disk.{IsHonest};
-ghost use Rattle.pfx_board.specs.Word.{records_of};
-ghost use Rattle.pfx_front.specs.Closing.{IsTold, AreTold, AreLooked, AreSeen, IsSession, IsStored, IsHeld};
+ghost use Rattle.pfx_book.specs.Merging.{numbers_from};
+ghost use Rattle.pfx_front.specs.Closing.{IsTold, AreTold, AreLooked, AreSeen, IsSession, IsShort, IsStored, IsHeld};
 ghost use Rattle.pfx_front.specs.Keeping.{Behind};
 ghost use Rattle.pfx_front.specs.Showing.{IsShown};
+ghost use Rattle.pfx_front.specs.declared.faults.CloseFault.TheVariants.{PassOut};
 
+use crate::before::Before;
 use crate::calls::Front;
 use crate::faults::CloseFault;
 use crate::flusher::Flushed;
@@ -17,6 +20,7 @@ use pfx_board::reader::Reader;
 use pfx_board::shown::Shown;
 use pfx_board::word::Word;
 use pfx_book::book::{Book, Pass, Share};
+use pfx_chronicle::chronicle::Chronicle;
 use pfx_crew::desk::Desk;
 use pfx_disk::Disk;
 use pfx_fault::Cause;
@@ -48,24 +52,40 @@ pub struct Closed<J: Job, B: Since<J>, D: Disk> {
     pub looked: Vec<bool>,
 }
 
+/// Shuts this book, if these are all its passes; else says how many are missing, and changes nothing.
+fn shut<J: Job, B: Since<J>>(book: &mut Book<J, B>, passes: &mut Vec<Pass<J, B>>) -> Option<u8>
+    ensures passes { passes.new.items ≡ passes.old.items }
+    ensures shut { IfNone result (book.new ≡ record book.old { shut = true }) }
+    ensures kept { IfSome result (λ count. book.new ≡ book.old) }
+    ensures count { IfSome result (λ count. count ≡ book.old.passes - length passes.old.items) }
+    ensures short { IfSome result (λ count. map (λ p. p.0) passes.old.items ≢ numbers_from 1 book.old.passes) }
+{
+    if book.gathered(passes) {
+        book.shut();
+        return None;
+    }
+    let out = book.passes();
+    let given = passes.len();
+    if given < out as usize {
+        return Some(out - given as u8);
+    }
+    Some(0)
+}
+
 /// Shuts the book, if these are all passes; else says how many are missing, and changes nothing.
 fn shut_in<J: Job, B: Since<J>, R: Wait>(
     rt: &R,
     monitor: &Monitor<J, B>,
     passes: &mut Vec<Pass<J, B>>,
 ) -> Option<u8>
-    ensures { passes.new.items ≡ passes.old.items }
+    ensures passes { passes.new.items ≡ passes.old.items }
+    ensures short { IfSome result (λ count. IsShort passes.old.items (PassOut count)) }
 {
     let mut guard = monitor.book.lock(rt);
-    let Some(book) = &mut *guard else {
-        return None;
-    };
-    if book.gathered(passes) {
-        book.shut();
-        return None;
+    match &mut *guard {
+        Some(book) => shut(book, passes),
+        None => None,
     }
-    let out = u64::from(book.passes()).saturating_sub(passes.len() as u64);
-    Some(u8::try_from(out).unwrap_or(u8::MAX))
 }
 
 /// Whether the client of this pass wasn't told of another failure than this one.
@@ -92,23 +112,24 @@ fn are_told<J: Job, B: Since<J>>(failure: Option<Cause>, passes: &[Pass<J, B>]) 
     true
 }
 
-/// Tells each reader of the last publication, and has it look.
+/// Tells each reader of the last publication, and has it look. `false` if there is no room for an answer of each.
 fn look_all<J: Job, B: Since<J>>(
     last: &Word<J, B>,
     readers: &mut Vec<Reader<J, B>>,
     looked: &mut Vec<bool>,
-)
+) -> bool
     requires { looked.old.items ≡ [] }
-    ensures { AreLooked last.now readers.old.items readers.new.items looked.new.items }
+    ensures { IsTrue result → AreLooked last.now readers.old.items readers.new.items looked.new.items }
 {
     let mut i = 0;
     while i < readers.len() {
         let saw = readers[i].looks(last);
         if looked.push(saw).is_err() {
-            return;
+            return false;
         }
         i += 1;
     }
+    true
 }
 
 /// Looks at the book, all passes and the share together: what session, store and board have come to.
@@ -148,11 +169,69 @@ fn ended<J: Job, B: Since<J>, D: Disk + Drop, R: Wait + Drop>(
     }
     book.settled(&mut share);
     book.legal();
-    look_all(publisher.published(), &mut readers, &mut looked);
+    if !look_all(publisher.published(), &mut readers, &mut looked) {
+        return None;
+    }
     Some(Closed {
         store,
         book,
         given: Given { passes, readers },
+        looked,
+    })
+}
+
+/// The store on the disk itself, which has gone along with what was told of it. `None` if the flusher gave up for a device that
+/// hasn't failed.
+fn told<J: Job, B: Since<J>, D: Disk + Drop>(
+    before: &Before<B>,
+    book: &Book<J, B>,
+    store: Store<Chronicle<D, B>, J>,
+) -> Option<Store<D, J>>
+    requires store { IsStored J.kind B.start B.failures book.now store.state (noted_view B.held B.image B.clock B.failures store.file.disk) }
+    requires images { IsHonest (noted_view B.held B.image B.clock B.failures store.file.disk)
+        → IsHeld J.kind B.start B.clock book.now (noted_view B.held B.image B.clock B.failures store.file.disk) }
+    ensures state { IfSome result (λ s. s.state ≡ store.state) }
+    ensures store { IfSome result (λ s. IsStored J.kind B.start B.failures book.now s.state (D.view s.file.disk)) }
+    ensures images { IfSome result (λ s. IsHonest (D.view s.file.disk) → IsHeld J.kind B.start B.clock book.now (D.view s.file.disk)) }
+{
+    let store = store.told();
+    if before.backs(book.failure(), store.disk()) {
+        return Some(store);
+    }
+    None
+}
+
+/// What `ended` finds, on the disk itself.
+fn ended_on_disk<J: Job, B: Since<J>, D: Disk + Drop, R: Wait + Drop>(
+    before: &Before<B>,
+    book: Book<J, B>,
+    flushed: Flushed<J, B, Chronicle<D, B>, Shown<J, B>, R>,
+    given: Given<J, B>,
+    looked: Vec<bool>,
+) -> Option<Closed<J, B, D>>
+    ensures passes { IfSome result (λ c. c.given.passes.items ≡ given.passes.items) }
+    ensures session { IfSome result (λ c. IsSession J.kind B.start c.book c.given.passes.items) }
+    ensures told { IfSome result (λ c. AreTold c.book.failure c.given.passes.items) }
+    ensures store { IfSome result (λ c. IsStored J.kind B.start B.failures c.book c.store.state (D.view c.store.file.disk)) }
+    ensures images { IfSome result (λ c. IsHonest (D.view c.store.file.disk) → IsHeld J.kind B.start B.clock c.book (D.view c.store.file.disk)) }
+    ensures readers { IfSome result (λ c. AreSeen J.kind B.start c.book c.store.state given.readers.items c.given.readers.items c.looked.items) }
+{
+    let Some(closed) = ended(book, flushed, given, looked) else {
+        return None;
+    };
+    let Closed {
+        store,
+        book,
+        given,
+        looked,
+    } = closed;
+    let Some(store) = told(before, &book, store) else {
+        return None;
+    };
+    Some(Closed {
+        store,
+        book,
+        given,
         looked,
     })
 }
@@ -164,14 +243,15 @@ where
     /// Ends the front: nothing more is accepted, what was accepted becomes durable unless the store has failed, and all threads
     /// are joined. It takes the passes in any order. Each reader is then told of the board's last publication, and looks.
     ///
-    /// Of what comes back it says: the session is the merge of the passes' notes, and legal, so each answer is the machine's; a
-    /// client that was told of a failure was told of the session's; the store is the outcome of its first commands, of all up to
-    /// the last mark, and of all of them unless the store has failed, which it is said to have by `Device` only if the disk has;
-    /// each image that a stop may leave since a receipt's moment is recovered to the outcome of first commands, the receipt's
-    /// among them; and what a reader that looked has seen are first commands that the store has.
+    /// The store comes back on the disk itself. Of what comes back it says: the session is the merge of the passes' notes, and
+    /// legal, so each answer is the machine's; a client that was told of a failure was told of the session's; the store is the
+    /// outcome of its first commands, of all up to the last mark, and of all of them unless the store has failed, which it is
+    /// said to have by `Device` only if the disk has; each image that a stop may leave since a receipt's moment is recovered to
+    /// the outcome of first commands, the receipt's among them; and what a reader that looked has seen are first commands that
+    /// the store has.
     ///
-    /// `PassOut` says that a pass is missing, or is another front's; then nothing has ended, and all comes back, the passes perhaps
-    /// in another order. Of the front's book no clause says that it is as it was.
+    /// `PassOut` says that a pass is missing, or is another front's; then nothing has ended, and all comes back as it was, the passes
+    /// perhaps in another order. Of the front's book, which is under its lock, no clause says so.
     pub fn close<D: Disk + Drop, R: Threads + Wait + Drop>(
         self,
         rt: &R,
@@ -180,6 +260,8 @@ where
     ) -> Result<Closed<J, B, D>, (CloseFault, Front<J, B, K>, Crew<J, B, D, K, R>, Given<J, B>)>
         ensures passes { IfOk result (λ c. IsPermutation given.passes.items c.given.passes.items) }
         ensures back { IfErr result (λ e. IsPermutation given.passes.items e.3.passes.items × (e.3.readers.items ≡ given.readers.items)) }
+        ensures unchanged { IfErr result (λ e. (e.1 ≡ self) × (e.2 ≡ crew)) }
+        ensures short { IfErr result (λ e. IsShort e.3.passes.items e.0) }
         ensures session { IfOk result (λ c. IsSession J.kind B.start c.book c.given.passes.items) }
         ensures told { IfOk result (λ c. AreTold c.book.failure c.given.passes.items) }
         ensures store { IfOk result (λ c. IsStored J.kind B.start B.failures c.book c.store.state (D.view c.store.file.disk)) }
@@ -201,17 +283,19 @@ where
             flusher,
             workers,
             looked,
+            before,
         } = crew;
         let flushed = flusher.join(rt);
         dismiss(rt, shared, workers);
         if let Some(book) = shared.monitor.book.lock(rt).take() {
             let given = Given { passes, readers };
-            if let Some(closed) = ended(book, flushed, given, looked) {
+            if let Some(closed) = ended_on_disk(&before, book, flushed, given, looked) {
                 return Ok(closed);
             }
         }
 
-        // The flusher's thread has ended, so all is marked or the store has failed; and only this call takes the book out.
+        // The flusher's thread has ended, so all is marked or the store has failed; only this call takes the book out; and there
+        // is room for an answer of each reader since the start.
         for _ in rt.forever() {}
         unreachable!()
     }

@@ -9,6 +9,7 @@ ghost use Rattle.pfx_front.specs.Keeping.{InStep, Behind};
 ghost use Rattle.pfx_front.specs.Showing.{AreShown, IsShown, IsShownBefore};
 ghost use Rattle.pfx_front.specs.Working.{Gives, IsTaken};
 
+use crate::durable::Durable;
 use crate::gathering::{Pace, gathered};
 use crate::monitor::Monitor;
 use crate::name::Since;
@@ -16,6 +17,7 @@ use left_right::Absorb;
 use pfx_board::publisher::BoardWriter;
 use pfx_board::shown::Shown;
 use pfx_book::book::Share;
+use pfx_chronicle::chronicle::Logged;
 use pfx_disk::Disk;
 use pfx_fault::Cause;
 use pfx_jobs::job::Job;
@@ -193,9 +195,9 @@ fn room_of<J: Job>(batch: Batch<J>) -> Vec<Record<J>>
     room
 }
 
-/// Publishes a batch that is durable, and leaves its word to those who will be told of it. `false` if an allocation fails; then
+/// Publishes a batch that is durable, and leaves what is durable to those who will be told of it. `false` if an allocation fails; then
 /// the book knows.
-fn show<J: Job, B: Since<J>, D: Disk, R: Wait + Drop, W: Wait>(
+fn show<J: Job, B: Since<J>, D: Disk + Logged<B>, R: Wait + Drop, W: Wait>(
     rt: &W,
     alloc: Global,
     monitor: &Monitor<J, B>,
@@ -204,14 +206,16 @@ fn show<J: Job, B: Since<J>, D: Disk, R: Wait + Drop, W: Wait>(
     publisher: &mut BoardWriter<J, B, Shown<J, B>, R>,
     batch: &Batch<J>,
 ) -> bool
-    requires { applied J.kind B.origin (records_of (publisher.old.batches ++ batch.now ∷ [])) ≡ Some store.now.state }
+    requires taken { AreShown share.old (publisher.old.batches ++ batch.now ∷ []) }
+    requires leads { applied J.kind B.origin (records_of (publisher.old.batches ++ batch.now ∷ [])) ≡ Some store.now.state }
+    requires whole { store.now.file.broken ≡ false }
     ensures batches { publisher.new.batches ≡ publisher.old.batches ++ batch.now ∷ [] }
     ensures shown { IsTrue result → share.new ≡ share.old }
     ensures lost { result ≡ false → share.new ≡ share.old ++ Failed Memory ∷ [] }
 {
     match publisher.publish(rt, alloc, batch, store.state()) {
         Ok(()) => {
-            *monitor.word.lock(rt) = publisher.published().again();
+            *monitor.durable.lock(rt) = Durable::of(store, share, publisher.published().again());
             true
         }
         Err(_) => {
@@ -223,7 +227,7 @@ fn show<J: Job, B: Since<J>, D: Disk, R: Wait + Drop, W: Wait>(
 
 /// Appends a batch, publishes and marks it: the room for the next one. `None` if the store has failed, or an allocation fails
 /// for the board; then the book knows.
-fn commit<J: Job, B: Since<J>, D: Disk, R: Wait + Drop, W: Wait>(
+fn commit<J: Job, B: Since<J>, D: Disk + Logged<B>, R: Wait + Drop, W: Wait>(
     rt: &W,
     alloc: Global,
     monitor: &Monitor<J, B>,
@@ -297,7 +301,7 @@ fn home<J: Job, B: Since<J>, D: Disk, R: Wait + Drop>(
 
 /// Keeps the book's commands in the store, batch by batch, until no more is accepted or the store has failed. After each batch
 /// it takes one step of the checkpoint in progress.
-pub(crate) fn flush<J: Job, B: Since<J>, D: Disk, R: Wait + Drop, W: Wait + Clock>(
+pub(crate) fn flush<J: Job, B: Since<J>, D: Disk + Logged<B>, R: Wait + Drop, W: Wait + Clock>(
     rt: &W,
     alloc: Global,
     monitor: &Monitor<J, B>,

@@ -14,6 +14,8 @@
 //! - `calls`: `Front` with `pass`, `call` and `settled`.
 //! - `start`: a front with its threads.
 //! - `sole`: what a client knows that is the only one: its answers are the machine's, and the board and a copy of their state.
+//! - `before`: how often the disk had failed when it began.
+//! - `durable`: what is durable at a moment of the disk, and the acknowledgement that carries it out of the lock.
 //! - `closing`: the end: all threads joined, and what session and store have come to.
 //!
 //! What tokens carry: clients know what happened to their pass, and the flusher what happened to its share. The lists that they
@@ -22,8 +24,10 @@
 //! lock is held during a call of the disk or a step of a job.
 #![tactic(auto)]
 
+mod before;
 pub mod calls;
 pub mod closing;
+pub mod durable;
 pub mod faults;
 pub mod flusher;
 mod gathering;

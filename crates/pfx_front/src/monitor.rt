@@ -1,21 +1,21 @@
 //! The book's lock, and what threads wait for.
-ghost use Rattle.std.specs.Prelude.{◌≡◌, None, false, IsTrue};
-ghost use Rattle.pfx_book.specs.Register.{HasRoom};
+ghost use Rattle.std.specs.Prelude.{◌≡◌, ℕ, None, false, IsTrue};
+ghost use Rattle.pfx_book.specs.Register.{new_register, HasRoom};
 
+use crate::durable::Durable;
 use crate::name::Since;
-use pfx_board::word::Word;
 use pfx_book::book::Book;
 use pfx_jobs::job::Job;
 use std::sync::atomic::{AtomicU64, Ordering};
 use std::sync::{Condvar, Mutex};
 
 /// A book under a lock, with what threads wait for: the flusher for work, clients for marks, and clients for a book that may be
-/// asked. `close` takes the book out. Under a lock of its own lies the word of the last publication, which is put there before
+/// asked. `close` takes the book out. Under a lock of its own lies what was durable at the last publication, which is put there before
 /// its commands are marked. Two numbers are touched under the book's lock alone.
 #[derive(Drop)]
 pub struct Monitor<J: Job, B: Since<J>> {
     pub(crate) book: Mutex<Option<Book<J, B>>>,
-    pub(crate) word: Mutex<Word<J, B>>,
+    pub(crate) durable: Mutex<Durable<J, B>>,
     pub(crate) work: Condvar,
     pub(crate) marked: Condvar,
     pub(crate) free: Condvar,
@@ -26,11 +26,13 @@ pub struct Monitor<J: Job, B: Since<J>> {
 }
 
 impl<J: Job, B: Since<J>> Monitor<J, B> {
-    /// With this book, this word, and nobody waiting.
-    pub(crate) fn new(book: Book<J, B>, word: Word<J, B>) -> Monitor<J, B> {
+    /// With this book, of which nobody has a pass yet, what is durable, and nobody waiting.
+    pub(crate) fn new(book: Book<J, B>, durable: Durable<J, B>) -> Monitor<J, B>
+        requires { (clock : ℕ) × (book ≡ new_register B.start clock) }
+    {
         Monitor {
             book: Mutex::new(Some(book)),
-            word: Mutex::new(word),
+            durable: Mutex::new(durable),
             work: Condvar::new(),
             marked: Condvar::new(),
             free: Condvar::new(),

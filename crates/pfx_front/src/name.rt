@@ -2,34 +2,26 @@
 use pfx_board::name::Begun;
 use pfx_book::name::Named;
 use pfx_book::note::Note;
+use pfx_chronicle::list;
+use pfx_chronicle::name::Charted;
 use pfx_jobs::job::Job;
 use pfx_record::Batch;
 use pfx_token::{past, tokens};
 use std::alloc::{AllocError, Global};
 use std::marker::Brand;
 
-/// Names a front, with its book and its board, and says how often its disk had failed, and at which moment, when it began.
-pub trait Since<J>: Named<J> + Begun<J> {
-    ghost use Rattle.std.specs.Prelude.{ℕ};
+/// Names a front, with its book, its board and the calls that are made on its disk from its beginning on.
+pub trait Since<J>: Named<J> + Begun<J> + Charted {}
 
-    /// How often the disk had failed.
-    ghost failures: { ℕ };
+impl<J> Since<J> for Brand {}
 
-    /// The disk's clock.
-    ghost clock: { ℕ };
-}
-
-impl<J> Since<J> for Brand {
-    ghost failures = { 0 };
-
-    ghost clock = { 0 };
-}
-
-/// The lists of a front, which have no name yet: what happened to its passes, and its durable batches.
+/// The lists of a front, which have no name yet: what happened to its passes, its durable batches, and the calls that are made
+/// on its disk.
 #[derive(Drop)]
 pub struct Names<J: Job> {
     pub(crate) tokens: tokens::Opened<Note<J>>,
     pub(crate) list: past::Opened<Batch<J>>,
+    pub(crate) calls: list::Opened,
 }
 
 impl<J: Job> Names<J> {
@@ -39,6 +31,7 @@ impl<J: Job> Names<J> {
         Ok(Names {
             tokens,
             list: past::Opened::new(),
+            calls: list::Opened::new(),
         })
     }
 }

@@ -1,9 +1,14 @@
 //! A front with its threads.
-ghost use Rattle.std.specs.Prelude.{◌≡◌, ◌<◌, ◌≤◌, ◌∷◌, [], replicate, IfOk, IfErr, IsTrue, vec_len, vec_capacity};
+ghost use Rattle.std.specs.Prelude.{◌≡◌, ◌<◌, ◌≤◌, ◌∷◌, [], replicate, Some, false, IfOk, IfErr, IsTrue, vec_len, vec_capacity};
+ghost use Rattle.pfx_board.specs.Word.{records_of};
+ghost use Rattle.pfx_chronicle.specs.Chart.{noted_view};
 ghost use Rattle.pfx_book.specs.declared.note.Note.TheVariants.{Marked};
-ghost use Rattle.pfx_front.specs.Starting.{Begins};
+ghost use Rattle.pfx_front.specs.Starting.{Begins, IsFresh};
+ghost use Rattle.pfx_redo.specs.Applying.{applied};
 
+use crate::before::Before;
 use crate::calls::{Front, Shared};
+use crate::durable::Durable;
 use crate::faults::StartFault;
 use crate::flusher::{Flushed, Flusher, flush};
 use crate::monitor::Monitor;
@@ -15,6 +20,7 @@ use pfx_board::shown::Shown;
 use pfx_board::word::Word;
 use pfx_book::book::{Book, Share};
 use pfx_book::note::Note;
+use pfx_chronicle::chronicle::{Chronicle, Logged};
 use pfx_crew::desk::Desk;
 use pfx_crew::work::worker;
 use pfx_disk::Disk;
@@ -30,7 +36,7 @@ use std::thread::{self, JoinHandle, Threads};
 use std::time::Clock;
 
 /// The threads of a front. `Front::close` joins them.
-pub type Crew<J, B, D, K, R> = Hands<J, B, D, K, Shown<J, B>, R>;
+pub type Crew<J, B, D, K, R> = Hands<J, B, Chronicle<D, B>, K, Shown<J, B>, R>;
 
 /// A `Crew`, over what each copy of the board holds: `Shown`.
 #[derive(Drop)]
@@ -46,6 +52,7 @@ pub struct Hands<
     pub(crate) workers: Vec<JoinHandle<K::Seat>>,
     // Room for one answer a reader, empty.
     pub(crate) looked: Vec<bool>,
+    pub(crate) before: Before<B>,
 }
 
 /// Where the flusher's thread finds what it owns. It is put in once all threads have started: until then the store can be given
@@ -64,6 +71,13 @@ struct Mailbox<
 
 /// A mailbox that two share.
 type Post<J, B, D, R> = Arc<Mailbox<J, B, D, Shown<J, B>, R>, Global>;
+
+/// A front, its threads and its readers.
+type Started<J, B, D, K, R> = (
+    Front<J, B, K>,
+    Hands<J, B, D, K, Shown<J, B>, R>,
+    Vec<Reader<J, B>>,
+);
 
 /// The mailbox, the flusher's thread and the workers'.
 type Manned<J, B, D, K, R> = (
@@ -102,7 +116,7 @@ fn post<J: Job, B: Since<J>, D: Disk + Drop, R: Wait + Drop, W: Wait>(
 fn flush_there<
     J: Job,
     B: Since<J>,
-    D: Disk + Drop,
+    D: Disk + Logged<B> + Drop,
     K: Desk<Quantum<J>, Done<J>> + Drop,
     R: Wait + Clock + Drop,
 >(
@@ -148,7 +162,7 @@ where
 }
 
 /// What the threads of a front share, the flusher's share of a new book, and room for a batch.
-fn furnish<J: Job, B: Since<J>, D: Disk, K: Desk<Quantum<J>, Done<J>> + Drop, R: Wait>(
+fn furnish<J: Job, B: Since<J>, D: Disk + Logged<B>, K: Desk<Quantum<J>, Done<J>> + Drop, R: Wait>(
     rt: &R,
     alloc: Global,
     tokens: Opened<Note<J>>,
@@ -161,16 +175,20 @@ where
     K::Seat: Drop,
     requires table { tokens.table.shared.table_id ≡ B.table }
     requires start { store.now.state ≡ B.start }
+    requires whole { store.now.file.broken ≡ false }
+    requires none { records_of word ≡ [] }
+    requires leads { applied J.kind B.origin (records_of word) ≡ Some store.now.state }
     ensures share { IfOk result (λ r. r.1 ≡ Marked B.start.number (D.view store.now.file.disk).clock ∷ []) }
     ensures room { IfOk result (λ r. (r.2.items ≡ []) × (16 ≤ vec_capacity r.2)) }
 {
     let (book, share) = Book::new(alloc, tokens, store.state(), store.disk().clock())?;
+    let durable = Durable::of(store, &share, word);
     let room = Vec::with_capacity(alloc, 16)?;
     let seat = desk.seat(rt)?;
     let shared = Arc::new(
         alloc,
         Shared {
-            monitor: Monitor::new(book, word),
+            monitor: Monitor::new(book, durable),
             desk,
             seat: Mutex::new(Some(seat)),
             workers,
@@ -260,7 +278,7 @@ fn mailboxes<J: Job, B: Since<J>, D: Disk + Drop, R: Wait + Drop>(
 fn man<
     J: Job + Drop + Send + Sync + 'static,
     B: Since<J> + Send + Sync + 'static,
-    D: Disk + Drop + Send + 'static,
+    D: Disk + Logged<B> + Drop + Send + 'static,
     K: Desk<Quantum<J>, Done<J>> + Drop + Send + Sync + 'static,
     R: Threads + Wait + Clock + Copy + Drop + Send + Sync + 'static,
 >(
@@ -292,6 +310,62 @@ where
     }
 }
 
+/// A front at a store whose disk tells its calls. With a fault the store comes back as it was.
+fn manned<
+    J: Job + Drop + Send + Sync + 'static,
+    B: Since<J> + Send + Sync + 'static,
+    D: Disk + Logged<B> + Drop + Send + 'static,
+    K: Desk<Quantum<J>, Done<J>> + Drop + Send + Sync + 'static,
+    R: Threads + Wait + Clock + Copy + Drop + Send + Sync + 'static,
+>(
+    rt: R,
+    alloc: Global,
+    lists: (Opened<Note<J>>, past::Opened<Batch<J>>),
+    store: Store<D, J>,
+    before: Before<B>,
+    desk: K,
+    workers: u32,
+    readers: u8,
+) -> Result<Started<J, B, D, K, R>, (StartFault, Store<D, J>)>
+where
+    K::Seat: Drop + Send + 'static,
+    requires named { (lists.0.table.shared.table_id ≡ B.table) × (lists.1.seen.book ≡ B.book) × (B.origin ≡ B.start) }
+    requires readers { 0 < readers }
+    requires fresh { IsFresh J.kind B.start B.failures B.clock store.file.broken store.state (D.view store.file.disk) }
+    ensures readers { IfOk result (λ r. r.2.items ≡ replicate readers []) }
+    ensures given_back { IfErr result (λ e. e.1 ≡ store) }
+{
+    let (tokens, list) = lists;
+    let Ok((publisher, given, looked)) = show_first::<J, B, D, R>(rt, alloc, list, &store, readers)
+    else {
+        return Err((StartFault::NoMemory, store));
+    };
+    let word = publisher.published().again();
+    let Ok((shared, share, room)) = furnish::<J, B, D, K, R>(
+        &rt, alloc, tokens, &store, word, desk, workers,
+    ) else {
+        return Err((StartFault::NoMemory, store));
+    };
+    let (mailbox, flusher, workers) = match man::<J, B, D, K, R>(rt, alloc, &shared, workers) {
+        Ok(manned) => manned,
+        Err(fault) => return Err((fault, store)),
+    };
+    let owned = Flusher {
+        share,
+        store,
+        publisher,
+        room,
+    };
+    post(&rt, &*mailbox, owned);
+    let crew = Hands {
+        flusher,
+        workers,
+        looked,
+        before,
+    };
+    Ok((Front { shared }, crew, given))
+}
+
 impl<
     J: Job + Drop + Send + Sync + 'static,
     B: Since<J> + Send + Sync + 'static,
@@ -302,6 +376,10 @@ where
 {
     /// A front at this store: one thread for the flusher, so many workers at the desk, and so many readers of the board, who
     /// know nothing yet. With no workers each client's thread runs the quanta of its Slots.
+    ///
+    /// From now on the calls that are made on the disk are told in a list of `names`. The front's name says which bytes the disk
+    /// held, and under which premise: it is that of each receipt. An honest disk is shown to meet it (`BeginsHonest`); of a file
+    /// it is that the file held these bytes, which stand for the store.
     ///
     /// `NoThread` and `NoMemory` give the store back as it was, with all threads joined that had been started.
     pub fn start<
@@ -317,39 +395,32 @@ where
         readers: u8,
     ) -> Result<(Front<J, B, K>, Crew<J, B, D, K, R>, Vec<Reader<J, B>>), (StartFault, Store<D, J>)>
         requires named { (names.tokens.table.shared.table_id ≡ B.table) × (names.list.seen.book ≡ B.book) × (B.origin ≡ B.start) }
+        requires calls { names.calls.seen.book ≡ B.calls }
         requires readers { 0 < readers }
-        requires begins { Begins J.kind B.start B.failures B.clock store.file.broken store.state (D.view store.file.disk) }
+        requires begins { Begins J.kind B.start B.failures B.clock B.held B.image store (D.view store.file.disk) }
         ensures readers { IfOk result (λ r. r.2.items ≡ replicate readers []) }
         ensures given_back { IfErr result (λ e. e.1 ≡ store) }
     {
-        let Names { tokens, list } = names;
-        let Ok((publisher, given, looked)) = show_first::<J, B, D, R>(
-            rt, alloc, list, &store, readers,
-        ) else {
-            return Err((StartFault::NoMemory, store));
-        };
-        let word = publisher.published().again();
-        let Ok((shared, share, room)) = furnish::<J, B, D, K, R>(
-            &rt, alloc, tokens, &store, word, desk, workers,
-        ) else {
-            return Err((StartFault::NoMemory, store));
-        };
-        let (mailbox, flusher, workers) = match man::<J, B, D, K, R>(rt, alloc, &shared, workers) {
-            Ok(manned) => manned,
-            Err(fault) => return Err((fault, store)),
-        };
-        let owned = Flusher {
-            share,
-            store,
-            publisher,
-            room,
-        };
-        post(&rt, &*mailbox, owned);
-        let crew = Hands {
-            flusher,
+        let Names {
+            tokens,
+            list,
+            calls,
+        } = names;
+        let before = Before::of(store.disk());
+        let noted = store.noted::<B>(calls);
+        let _broken = noted.is_broken();
+        match manned::<J, B, Chronicle<D, B>, K, R>(
+            rt,
+            alloc,
+            (tokens, list),
+            noted,
+            before,
+            desk,
             workers,
-            looked,
-        };
-        Ok((Front { shared }, crew, given))
+            readers,
+        ) {
+            Ok(begun) => Ok(begun),
+            Err((fault, back)) => Err((fault, back.told())),
+        }
     }
 }

@@ -42,7 +42,7 @@ where
         return Err(Failure::NoReceipt(number));
     }
     match front.settled(rt, pass, last) {
-        Ok(receipt) if receipt.number == number => Ok(number),
+        Ok(acknowledged) if acknowledged.receipt.number == number => Ok(number),
         Ok(_) => Err(Failure::NoReceipt(number)),
         Err(fault) => Err(Failure::Call(fault)),
     }

@@ -2,7 +2,7 @@
 ghost use Rattle.std.specs.Prelude.{◌≡◌};
 ghost use Rattle.pfx_disk.specs.File.{file_view};
 ghost use Rattle.pfx_kinds.specs.AnyKind.{any_kind};
-ghost use Rattle.pfx_front.specs.Starting.{Begins};
+ghost use Rattle.pfx_front.specs.Starting.{Begins, BeginsHonest};
 
 use crate::clients::{Visit, client, furnish};
 use crate::failures::Failure;
@@ -62,7 +62,8 @@ fn begin<
 where
     K::Seat: Drop + Send + 'static,
     requires named { (names.tokens.table.shared.table_id ≡ B.table) × (names.list.seen.book ≡ B.book) × (B.origin ≡ B.start) }
-    requires begins { Begins any_kind B.start B.failures B.clock store.file.broken store.state (D.view store.file.disk) }
+    requires calls { names.calls.seen.book ≡ B.calls }
+    requires begins { Begins any_kind B.start B.failures B.clock B.held B.image store (D.view store.file.disk) }
 {
     match Front::<AnyJob, B, K>::start::<D, R>(
         rt,
@@ -181,7 +182,8 @@ fn serve<
 where
     K::Seat: Drop + Send + 'static,
     requires named { (names.tokens.table.shared.table_id ≡ B.table) × (names.list.seen.book ≡ B.book) × (B.origin ≡ B.start) }
-    requires begins { Begins any_kind B.start B.failures B.clock store.file.broken store.state (D.view store.file.disk) }
+    requires calls { names.calls.seen.book ≡ B.calls }
+    requires begins { Begins any_kind B.start B.failures B.clock B.held B.image store (D.view store.file.disk) }
 {
     let began = store.state().number();
     let served = begin::<B, K, D, R>(rt, alloc, names, store, desk, plan.workers)?;
@@ -244,8 +246,7 @@ pub fn serve_file<R: Threads + Wait + Clock + Print + Copy + Drop + Send + Sync 
     desk: JobDesk,
     plan: Plan,
 ) -> Result<Outcome, Failure>
-    requires { Begins any_kind store.state (file_view store.file.disk).failures
-        (file_view store.file.disk).clock store.file.broken store.state (file_view store.file.disk) }
+    requires { BeginsHonest any_kind store (file_view store.file.disk) }
 {
     serve::<Brand, JobDesk, FileDisk, R>(rt, alloc, names, store, desk, plan)
 }

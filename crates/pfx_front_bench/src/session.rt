@@ -6,7 +6,7 @@
 ghost use Rattle.std.specs.Prelude.{◌≡◌, IfErr, IfSome};
 ghost use Rattle.pfx_disk.specs.File.{file_view};
 ghost use Rattle.pfx_kinds.specs.AnyKind.{any_kind};
-ghost use Rattle.pfx_front.specs.Starting.{Begins};
+ghost use Rattle.pfx_front.specs.Starting.{Begins, BeginsHonest};
 
 use crate::stores::{JobDesk, SEGMENT, TASKS, submit, thirds};
 use pfx_board::reader::{Reader, StatusFault};
@@ -134,7 +134,7 @@ fn init<R: Print>(rt: &R, alloc: Global, disk: FileDisk) -> Option<Store<FileDis
 /// The store that is on a disk.
 fn open<R: Print>(rt: &R, alloc: Global, disk: FileDisk) -> Option<Store<FileDisk, AnyJob>>
     ensures { IfSome result
-        (λ s. Begins any_kind s.state (file_view s.file.disk).failures (file_view s.file.disk).clock s.file.broken s.state (file_view s.file.disk)) }
+        (λ s. BeginsHonest any_kind s (file_view s.file.disk)) }
 {
     let mut disk = disk;
     for _try in 0..2 {
@@ -232,9 +232,9 @@ where
             return false;
         }
         match front.settled(rt, pass, last) {
-            Ok(receipt) => {
-                count(rt, "settled", receipt.number);
-                reader.told(&receipt);
+            Ok(acknowledged) => {
+                count(rt, "settled", acknowledged.receipt.number);
+                reader.told(&acknowledged.receipt);
                 return true;
             }
             Err(fault) => {
@@ -317,7 +317,8 @@ fn serve<
 where
     K::Seat: Drop + Send + 'static,
     requires named { (names.tokens.table.shared.table_id ≡ B.table) × (names.list.seen.book ≡ B.book) × (B.origin ≡ B.start) }
-    requires begins { Begins any_kind B.start B.failures B.clock store.file.broken store.state (D.view store.file.disk) }
+    requires calls { names.calls.seen.book ≡ B.calls }
+    requires begins { Begins any_kind B.start B.failures B.clock B.held B.image store (D.view store.file.disk) }
     ensures back { IfErr result (λ s. s ≡ store) }
 {
     let Ok(mut passes) = Vec::with_capacity(alloc, 2) else {
@@ -354,8 +355,7 @@ fn serve_file<R: Threads + Wait + Clock + Print + Copy + Drop + Send + Sync + 's
     desk: JobDesk,
     names: Names<AnyJob>,
 ) -> Result<bool, Store<FileDisk, AnyJob>>
-    requires { Begins any_kind store.state (file_view store.file.disk).failures
-        (file_view store.file.disk).clock store.file.broken store.state (file_view store.file.disk) }
+    requires { BeginsHonest any_kind store (file_view store.file.disk) }
     ensures back { IfErr result (λ s. s ≡ store) }
 {
     serve::<Brand, JobDesk, FileDisk, R>(rt, alloc, names, store, desk)
@@ -367,8 +367,7 @@ fn start<R: Threads + Wait + Clock + Print + Copy + Drop + Send + Sync + 'static
     alloc: Global,
     store: Store<FileDisk, AnyJob>,
 ) -> Result<bool, Store<FileDisk, AnyJob>>
-    requires { Begins any_kind store.state (file_view store.file.disk).failures
-        (file_view store.file.disk).clock store.file.broken store.state (file_view store.file.disk) }
+    requires { BeginsHonest any_kind store (file_view store.file.disk) }
     ensures back { IfErr result (λ s. s ≡ store) }
 {
     match (ChannelDesk::new(alloc), Names::new(alloc)) {

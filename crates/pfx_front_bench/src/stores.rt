@@ -1,7 +1,7 @@
 //! The store, its desk, and the jobs of its tasks.
 ghost use Rattle.std.specs.Prelude.{IfOk};
 ghost use Rattle.pfx_kinds.specs.AnyKind.{any_kind};
-ghost use Rattle.pfx_front.specs.Starting.{Begins};
+ghost use Rattle.pfx_front.specs.Starting.{BeginsHonest};
 
 use crate::failures::Failure;
 use pfx_crew::channel::ChannelDesk;
@@ -10,6 +10,7 @@ use pfx_jobs::quantum::{Done, Quantum};
 use pfx_kinds::any::AnyJob;
 use pfx_machine::Command;
 use pfx_store::Store;
+use pfx_store::laws::honest_disks_hold;
 use pfx_weights::TaskSet;
 use std::alloc::Global;
 
@@ -29,23 +30,29 @@ pub fn thirds(alloc: Global) -> Option<TaskSet> {
 
 /// A new store of these.
 pub fn made<D: Disk + Drop>(alloc: Global, disk: D) -> Result<Store<D, AnyJob>, Failure>
-    ensures { IfOk result (λ s. Begins any_kind s.state (D.view s.file.disk).failures (D.view s.file.disk).clock s.file.broken s.state (D.view s.file.disk)) }
+    ensures { IfOk result (λ s. BeginsHonest any_kind s (D.view s.file.disk)) }
 {
     let Some(set) = thirds(alloc) else {
         return Err(Failure::NoStore);
     };
     match Store::init(alloc, disk, &set, SEGMENT) {
-        Ok(store) => Ok(store),
+        Ok(store) => {
+            honest_disks_hold(&store);
+            Ok(store)
+        }
         Err(_) => Err(Failure::NoStore),
     }
 }
 
 /// The store that is on a disk.
 pub fn opened<D: Disk + Drop>(alloc: Global, disk: D) -> Result<Store<D, AnyJob>, Failure>
-    ensures { IfOk result (λ s. Begins any_kind s.state (D.view s.file.disk).failures (D.view s.file.disk).clock s.file.broken s.state (D.view s.file.disk)) }
+    ensures { IfOk result (λ s. BeginsHonest any_kind s (D.view s.file.disk)) }
 {
     match Store::open(alloc, disk) {
-        Ok(store) => Ok(store),
+        Ok(store) => {
+            honest_disks_hold(&store);
+            Ok(store)
+        }
         Err(_) => Err(Failure::NoStore),
     }
 }

@@ -1,5 +1,5 @@
 -- What the engine's calls promise.
-use Rattle.std.proofs.Common.{◌≡◌, ◌≢◌, ◌≤◌, ℕ, List, [], ◌∷◌, ◌++◌, ◌+◌, length, append-nil, Ok, refl, sym, subst, ◌∙◌, arith, inl, inr}
+use Rattle.std.proofs.Common.{◌≡◌, ◌≢◌, ◌≤◌, ℕ, List, [], ◌∷◌, ◌++◌, ◌+◌, length, append-nil, Ok, Err, refl, sym, subst, ◌∙◌, arith, inl, inr}
 use Rattle.pfx_book.specs.declared.note.Note.{Note}
 use Rattle.pfx_fault.specs.declared.refusals.Fault.{Fault}
 use Rattle.pfx_fault.specs.declared.refusals.Fault.TheVariants as fault
@@ -14,14 +14,18 @@ use Rattle.pfx_machine.specs.declared.board.Board.{Board}
 use Rattle.pfx_machine.specs.declared.command.Command.{Command}
 use Rattle.pfx_machine.specs.declared.command.Command.TheVariants.{Slot}
 use Rattle.pfx_machine.specs.declared.command.Reply.{Reply}
+use Rattle.pfx_machine.specs.declared.faults.MachineFault.{MachineFault}
+use Rattle.pfx_program.proofs.GroupLemmas.{accepted_err, accepted_ok, told_err, told_ok}
 use Rattle.pfx_program.proofs.SlotLemmas.{answered_more, length_slots, slots_more}
 use Rattle.pfx_program.specs.Promises.{Promise, AreAnswered, AreDone, AreInDoubt, AreLeftBy, AreNotDone, IsDone, IsInDoubt, IsLeftBy, IsNotDone, IsSame, Shows, slots_for}
+use Rattle.pfx_program.specs.Sharing.{AreAllDone, AreAllLeft, Told, accepted_of}
 use Rattle.pfx_program.specs.declared.engine.CallFault.{CallFault}
 use Rattle.pfx_program.specs.declared.engine.CallFault.TheVariants as callfault
 use Rattle.pfx_front_engine.proofs.Answering.{engine_fault}
 use Rattle.pfx_front_engine.proofs.Notes.{all_kept, grown, more_by, settled_stays, state_is}
-use Rattle.pfx_front_engine.specs.Asking.{AreAsked, IsAnswered, IsFrontFault, IsUnanswered}
+use Rattle.pfx_front_engine.specs.Asking.{AreAllAsked, AreAsked, AreSomeAsked, IsAnswered, IsFrontFault, IsUnanswered}
 use Rattle.pfx_front_engine.specs.Keeping.{IsSettled, KeepsBy}
+use Rattle.pfx_front_engine.specs.KeepingLaws.{keeps_none}
 
 module _ {E : Type 0} (notes : E → List (Note AnyJob)) (B : Plain AnyJob) where
   -- what an engine promises, by its client's notes
@@ -115,6 +119,44 @@ module _ {E : Type 0} (notes : E → List (Note AnyJob)) (B : Plain AnyJob) wher
           slots_left_by count f apart (record { said = said; few = long; answered = a.answered; state = inr (state_is B B.number (notes old) (notes new) (slots_for said) 0 now); keeps = now }),
         )
 
+      -- commands that were told, and then waited for
+      module _ (H : List (Command AnyJob)) (told : List Told) (a : AreAllAsked B (notes old) H told mid) where
+        told_now : KeepsBy B.number (notes old) (accepted_of H told) 0 (notes new)
+        told_now = subst (λ (G : List (Command AnyJob)). KeepsBy B.number (notes old) G 0 (notes new)) (append-nil (accepted_of H told)) (grown B.number (notes old) mid (notes new) (accepted_of H told) [] a.kept stays)
+
+        pub all_done : IsSettled B.number (notes new) → AreAllDone promise H told old new
+        all_done settled = record {
+          answered = a.answered;
+          state = state_is B B.number (notes old) (notes new) (accepted_of H told) 0 told_now;
+          keeps = all_kept B.number (notes old) (notes new) (accepted_of H told) told_now settled;
+          settled = settled;
+        }
+
+        pub all_doubted : AreAllLeft promise H old new
+        all_doubted = record {
+          took = H;
+          rest = [];
+          split = sym (append-nil H);
+          said = told;
+          answered = a.answered;
+          state = inr (state_is B B.number (notes old) (notes new) (accepted_of H told) 0 told_now);
+          keeps = told_now;
+        }
+
+    -- commands of which some were told
+    pub some_left : (H : List (Command AnyJob)) → AreSomeAsked B (notes old) H (notes new) → AreAllLeft promise H old new
+    some_left H h =
+        let a = h.asked in
+        record {
+          took = h.took;
+          rest = h.rest;
+          split = h.split;
+          said = h.said;
+          answered = a.answered;
+          state = inr (state_is B B.number (notes old) (notes new) (accepted_of h.took h.said) 0 a.kept);
+          keeps = a.kept;
+        }
+
 -- ---- Slots that are asked for one after the other
 
 module _ (B : Plain AnyJob) (old mid new : List (Note AnyJob)) (said : List (ℕ × Reply)) (kept : KeepsBy B.number old (slots_for said) 0 mid) where
@@ -130,3 +172,35 @@ module _ (B : Plain AnyJob) (old mid new : List (Note AnyJob)) (said : List (ℕ
   -- no more was
   pub kept_so_far : KeepsBy B.number mid [] 0 new → KeepsBy B.number old (slots_for said) 0 new
   kept_so_far stays = subst (λ (H : List (Command AnyJob)). KeepsBy B.number old H 0 new) (append-nil (slots_for said)) (grown B.number old mid new (slots_for said) [] kept stays)
+
+-- ---- commands that are asked for one after the other
+
+-- none yet
+pub told_none : (B : Plain AnyJob) (notes : List (Note AnyJob)) → AreAllAsked B notes [] [] notes
+told_none B notes = record { answered = tt; kept = keeps_none B.number notes }
+
+module _ (B : Plain AnyJob) (old mid new : List (Note AnyJob)) (H : List (Command AnyJob)) (told : List Told) (h : AreAllAsked B old H told mid) where
+  told_at : state_of any_kind B mid ≡ outcome any_kind (state_of any_kind B old) (accepted_of H told)
+  told_at = state_is B B.number old mid (accepted_of H told) 0 h.kept
+
+  told_so_far : KeepsBy B.number mid [] 0 new → KeepsBy B.number old (accepted_of H told) 0 new
+  told_so_far stays = subst (λ (G : List (Command AnyJob)). KeepsBy B.number old G 0 new) (append-nil (accepted_of H told)) (grown B.number old mid new (accepted_of H told) [] h.kept stays)
+
+  -- one more was accepted
+  pub told_next : (c : Command AnyJob) (x : ℕ × Reply) → IsAnswered B mid c x.0 x.1 new → AreAllAsked B old (H ++ c ∷ []) (told ++ Ok x ∷ []) new
+  told_next c x a = record {
+    answered = told_ok (state_of any_kind B old) H told c x h.answered (subst (λ (s : Plain AnyJob). answer any_kind s c ≡ Ok x.1) told_at a.accepted) (subst (λ (s : Plain AnyJob). x.0 ≡ s.number + 1) told_at a.next);
+    kept = subst (λ (G : List (Command AnyJob)). KeepsBy B.number old G 0 new) (sym (accepted_ok (state_of any_kind B old) H told c x h.answered))
+        (grown B.number old mid new (accepted_of H told) (c ∷ []) h.kept (more_by B.number mid new x.0 c x.1 a.noted));
+  }
+
+  -- or refused
+  pub told_refused : (c : Command AnyJob) (f : MachineFault) → IsUnanswered B mid c new (callfault.Refused f) → AreAllAsked B old (H ++ c ∷ []) (told ++ Err f ∷ []) new
+  told_refused c f u = record {
+    answered = told_err (state_of any_kind B old) H told c f h.answered (subst (λ (s : Plain AnyJob). answer any_kind s c ≡ Err f) told_at u.reason);
+    kept = subst (λ (G : List (Command AnyJob)). KeepsBy B.number old G 0 new) (sym (accepted_err (state_of any_kind B old) H told c f h.answered)) (told_so_far u.stays);
+  }
+
+  -- or the front failed
+  pub told_fails : (all : List (Command AnyJob)) (c : Command AnyJob) (rest : List (Command AnyJob)) (f : Fault) → all ≡ H ++ rest → IsUnanswered B mid c new (callfault.Failed f) → AreSomeAsked B old all new
+  told_fails all c rest f split u = record { took = H; rest = rest; split = split; said = told; asked = record { answered = h.answered; kept = told_so_far u.stays } }

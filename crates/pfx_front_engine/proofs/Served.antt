@@ -192,7 +192,7 @@ known_rest (Some all) = (all, refl)
 
 -- a run whose front didn't start
 pub unserved : (form : Form) (B : Plain AnyJob) (disk : View) (lines : Records) (failed : Bool) (was : Option (List ℕ)) (f : Fault) → (f ≡ fault.NoThread) ⊎ (f ≡ fault.NoMemory)
-    → (IsHonest disk → (image : List ℕ) → disk.since disk.clock image → recovered (format any_kind) image ≡ Ok B) → IsServedRun form B lines failed was was disk (Err f)
+    → (IsHonest disk → (image : List ℕ) → disk.now image → recovered (format any_kind) image ≡ Ok B) → IsServedRun form B lines failed was was disk (Err f)
 unserved form B disk lines failed was f why images = record {
   records = rest.0;
   known = rest.1;
@@ -204,7 +204,7 @@ unserved form B disk lines failed was f why images = record {
     count = 0;
     at_least = omega arith;
     at_most = omega arith;
-    recovered = images honest image (honest.counted disk.clock image (omega arith) here) ∙ ap Ok (sym (outcome-none any_kind B));
+    recovered = images honest image here ∙ ap Ok (sym (outcome-none any_kind B));
   };
 }
   where

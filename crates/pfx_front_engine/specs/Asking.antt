@@ -19,6 +19,7 @@ use Rattle.pfx_machine.specs.declared.command.Reply.{Reply}
 use Rattle.pfx_machine.specs.declared.faults.MachineFault.{MachineFault}
 use Rattle.pfx_machine.specs.declared.faults.MachineFault.TheVariants.{NoRow}
 use Rattle.pfx_program.specs.Promises.{AreAnswered, slots_for}
+use Rattle.pfx_program.specs.Sharing.{AreTold, Told, accepted_of}
 use Rattle.pfx_program.specs.declared.engine.CallFault.{CallFault}
 use Rattle.pfx_program.specs.declared.engine.CallFault.TheVariants as callfault
 use Rattle.pfx_front_engine.specs.Keeping.{KeepsBy}
@@ -66,3 +67,16 @@ pub record AreAsked (start : Plain AnyJob) (was : List (Note AnyJob)) (count : �
   pub few : length said ≤ count
   pub answered : AreAnswered (state_of any_kind start was) said
   pub kept : KeepsBy start.number was (slots_for said) 0 is
+
+-- commands were asked for one after the other, and told so; those that were accepted needn't be kept yet
+pub record AreAllAsked (start : Plain AnyJob) (was : List (Note AnyJob)) (H : List (Command AnyJob)) (told : List Told) (is : List (Note AnyJob)) : Type 0 where
+  pub answered : AreTold (state_of any_kind start was) H told
+  pub kept : KeepsBy start.number was (accepted_of H told) 0 is
+
+-- some first ones were
+pub record AreSomeAsked (start : Plain AnyJob) (was : List (Note AnyJob)) (H : List (Command AnyJob)) (is : List (Note AnyJob)) : Type 0 where
+  pub took : List (Command AnyJob)
+  pub rest : List (Command AnyJob)
+  pub split : H ≡ took ++ rest
+  pub said : List Told
+  pub asked : AreAllAsked start was took said is

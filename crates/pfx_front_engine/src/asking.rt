@@ -1,9 +1,9 @@
 //! A command of a front's only client.
-ghost use Rattle.std.specs.Prelude.{◌≡◌, ◌≢◌, ◌<◌, [], IfOk, IfErr, OnOk};
+ghost use Rattle.std.specs.Prelude.{◌≡◌, ◌≢◌, ◌<◌, [], IfOk, IfErr, OnOk, OnErr};
 ghost use Rattle.pfx_front.specs.Sole.{IsAlone, IsShownBy, state_of};
 ghost use Rattle.pfx_kinds.specs.AnyKind.{any_kind};
 ghost use Rattle.pfx_machine.specs.declared.command.Command.{Command};
-ghost use Rattle.pfx_front_engine.specs.Asking.{AreAsked, IsAnswered, IsUnanswered, IsFrontFault, why_machine, why_of};
+ghost use Rattle.pfx_front_engine.specs.Asking.{AreAllAsked, AreAsked, AreSomeAsked, IsAnswered, IsUnanswered, IsFrontFault, why_machine, why_of};
 ghost use Rattle.pfx_front_engine.specs.Keeping.{IsSettled, KeepsBy};
 
 use crate::client::Client;
@@ -18,7 +18,7 @@ use pfx_front::name::Since;
 use pfx_jobs::quantum::{Done, Quantum};
 use pfx_kinds::any::AnyJob;
 use pfx_machine::{Board, Command, MachineFault, Reply, State};
-use pfx_program::CallFault;
+use pfx_program::{CallFault, Told};
 use std::alloc::{AllocError, Global};
 use std::sync::Wait;
 
@@ -111,6 +111,33 @@ where
         }
     }
     Ok(said)
+}
+
+/// Has commands carried out one after the other: what each is told. None of the answers is an acknowledgement: `settle` is.
+pub(crate) fn ask_all<B: Since<AnyJob>, K: Desk<Quantum<AnyJob>, Done<AnyJob>> + Drop, R: Wait>(
+    rt: &R,
+    alloc: Global,
+    front: &Front<AnyJob, B, K>,
+    client: &mut Client<B>,
+    commands: Vec<Command<AnyJob>>,
+) -> Result<Vec<Told>, Fault>
+where
+    K::Seat: Drop,
+    ensures ok { IfOk result (λ told. AreAllAsked B.start client.old commands.items told.items client.new) }
+    ensures fails { IfErr result IsFrontFault }
+    ensures err { OnErr result (AreSomeAsked B.start client.old commands.items client.new) }
+{
+    let Ok(mut told) = Vec::with_capacity(alloc, commands.len()) else {
+        return Err(Fault::NoMemory);
+    };
+    for command in commands {
+        match ask(rt, front, client, command) {
+            Ok(reply) => told.push_reserved(Ok(reply)),
+            Err(CallFault::Refused(fault)) => told.push_reserved(Err(fault)),
+            Err(CallFault::Failed(fault)) => return Err(fault),
+        }
+    }
+    Ok(told)
 }
 
 /// Waits until all that the client had accepted is durable: the last number.

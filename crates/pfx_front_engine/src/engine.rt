@@ -3,11 +3,12 @@ ghost use Rattle.std.specs.Prelude.{◌≡◌, ◌≢◌, [], IfOk, IfErr, OnOk}
 ghost use Rattle.pfx_front.specs.Sole.{state_of};
 ghost use Rattle.pfx_kinds.specs.AnyKind.{any_kind};
 ghost use Rattle.pfx_program.specs.Promises.{Promise, Laws, AreAnswered, AreDone, AreNotDone, IsDone, IsNotDone, IsSame, IsEngineFault, Shows, slots_for};
-ghost use Rattle.pfx_front_engine.specs.Asking.{AreAsked, IsAnswered, IsUnanswered, IsFrontFault};
+ghost use Rattle.pfx_program.specs.Sharing.{AreChanges, AreAllDone, AreAllLeft};
+ghost use Rattle.pfx_front_engine.specs.Asking.{AreAllAsked, AreAsked, AreSomeAsked, IsAnswered, IsUnanswered, IsFrontFault};
 ghost use Rattle.pfx_front_engine.specs.Keeping.{IsSettled, KeepsBy};
 ghost use Rattle.pfx_front_engine.specs.KeepingLaws.{keeps_none, keeps_more, keeps_fewer};
 
-use crate::asking::{ask, ask_slots, board, settle, state};
+use crate::asking::{ask, ask_all, ask_slots, board, settle, state};
 use crate::client::Client;
 use pfx_crew::desk::Desk;
 use pfx_fault::Fault;
@@ -16,7 +17,7 @@ use pfx_front::name::Since;
 use pfx_jobs::quantum::{Done, Quantum};
 use pfx_kinds::any::AnyJob;
 use pfx_machine::{Board, Command, Reply, State};
-use pfx_program::{CallFault, Engine};
+use pfx_program::{CallFault, Engine, Place, Told, place_of};
 use std::alloc::Global;
 use std::sync::Wait;
 
@@ -81,6 +82,16 @@ where
         }
     }
 
+    fn all(&mut self, alloc: Global, commands: Vec<Command<AnyJob>>) -> Result<Vec<Told>, Fault> {
+        match ask_all(&self.rt, alloc, &self.front, &mut self.client, commands) {
+            Err(fault) => Err(fault),
+            Ok(told) => match settle(&self.rt, &self.front, &mut self.client) {
+                Ok(_number) => Ok(told),
+                Err(fault) => Err(fault),
+            },
+        }
+    }
+
     fn settled(&mut self, _alloc: Global) -> Result<u64, Fault> {
         settle(&self.rt, &self.front, &mut self.client)
     }
@@ -103,6 +114,11 @@ where
                 Err(_) => Err(Fault::NoMemory),
             },
         }
+    }
+
+    fn place(&mut self, alloc: Global, task: u16) -> Result<Option<Place>, Fault> {
+        let copy = self.state(alloc)?;
+        Ok(place_of(&copy, task))
     }
 
     ghost laws = { record {

@@ -1,11 +1,12 @@
 //! Running a script over a front.
-ghost use Rattle.std.specs.Prelude.{◌≡◌, ◌⊎◌, ◌<◌};
+ghost use Rattle.std.specs.Prelude.{◌≡◌, ◌⊎◌, ◌<◌, ◌≤◌};
 ghost use Rattle.pfx_front.specs.Starting.{Begins};
 ghost use Rattle.pfx_kinds.specs.AnyKind.{any_kind};
 ghost use Rattle.pfx_front_engine.specs.Running.{IsServedRun};
 
 use crate::client::Client;
 use crate::engine::FrontEngine;
+use pfx_chronicle::name::Charted;
 use pfx_crew::desk::Desk;
 use pfx_disk::Disk;
 use pfx_fault::Fault;
@@ -69,18 +70,22 @@ fn serve<
     workers: u32,
     script: &mut Script<I>,
     window: u32,
+    group: u32,
     form: Form,
     output: &mut W,
 ) -> Served<D>
 where
     K::Seat: Drop + Send + 'static,
     requires named { (names.tokens.table.shared.table_id ≡ B.table) × (names.list.seen.book ≡ B.book) × (B.origin ≡ B.start) }
+    requires calls { names.calls.seen.book ≡ B.calls }
     requires some { 0 < window }
-    requires begins { Begins any_kind B.start B.failures B.clock store.file.broken store.state (D.view store.file.disk) }
+    requires few { group ≤ 16 }
+    requires begins { Begins any_kind B.start B.failures B.clock B.held B.image store (D.view store.file.disk) }
     ensures { IsServedRun form B.start script.old script.new.failed (W.contents output.old) (W.contents output.new)
         (D.view result.store.file.disk) result.result }
 {
     let number = store.state().number();
+    let _broken = store.is_broken();
     let Ok(mut passes) = Vec::with_capacity(alloc, 1) else {
         return Served {
             store,
@@ -96,7 +101,7 @@ where
             if let Some(pass) = front.pass(&rt) {
                 let client = Client::new(pass, number);
                 let mut engine = FrontEngine { rt, front, client };
-                let result = run_script(alloc, script, window, form, output, &mut engine);
+                let result = run_script(alloc, script, window, group, form, output, &mut engine);
                 let FrontEngine { front, client, .. } = engine;
                 passes.push_reserved(client.into_pass());
                 if let Ok(closed) = front.close(&rt, crew, Given { passes, readers }) {
@@ -117,16 +122,21 @@ where
 /// for it and ended after it: with one thread for the flusher, and so many workers at the desk, or none, if the calling thread
 /// runs the jobs.
 ///
-/// Of the slots of a record up to `window` are asked for before the last of them is waited for, 1 or more, and 64 at the most.
+/// Of the slots of a record up to `window` are asked for before the last of them is waited for, 1 or more, and 64 at the most; so are
+/// up to `group` records that stand ready together, as `run_script` says.
 ///
 /// What is printed is the same for any number of workers and any window, and by `form` text or JSON. A printed line is a
 /// receipt: whatever the run answers, each image that a stop may leave after it is recovered to the outcome of a beginning of
 /// the script's accepted commands which holds
 /// every command whose line was printed. `NoThread` says that the system gives no thread; then nothing was done.
+///
+/// `N` says what the disk held when the store was opened, and what the premise of that is: each receipt that the front gives for
+/// a line stands under it.
 pub fn run_served<
     I: Read + Drop,
     W: Write,
     D: Disk + Drop + Send + 'static,
+    N: Charted,
     K: Desk<Quantum<AnyJob>, Done<AnyJob>> + Drop + Send + Sync + 'static,
     R: Threads + Wait + Clock + Copy + Drop + Send + Sync + 'static,
 >(
@@ -137,20 +147,23 @@ pub fn run_served<
     workers: u32,
     script: &mut Script<I>,
     window: u32,
+    group: u32,
     form: Form,
     output: &mut W,
 ) -> Served<D>
 where
     K::Seat: Drop + Send + 'static,
     requires some { 0 < window }
+    requires few { group ≤ 16 }
     requires begins { Begins any_kind store.state (D.view store.file.disk).failures
-        (D.view store.file.disk).clock store.file.broken store.state (D.view store.file.disk) }
+        (D.view store.file.disk).clock N.held N.image store (D.view store.file.disk) }
     ensures { IsServedRun form store.state script.old script.new.failed (W.contents output.old) (W.contents output.new)
         (D.view result.store.file.disk) result.result }
 {
+    let _broken = store.is_broken();
     match Names::new(alloc) {
         Ok(names) => serve::<I, W, D, Brand, K, R>(
-            rt, alloc, store, names, desk, workers, script, window, form, output,
+            rt, alloc, store, names, desk, workers, script, window, group, form, output,
         ),
         Err(_) => Served {
             store,

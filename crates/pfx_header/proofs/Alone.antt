@@ -7,8 +7,9 @@ use Rattle.std.proofs.lemmas.List.{get_or-take, drop-take, take-take, length-tak
 use Rattle.byteorder.specs.Endian.{little_number}
 use Rattle.byteorder.specs.Numbers.{little_from-take}
 use Rattle.pfx_recovery.specs.Refusals.{NotAStore, WrongVersion}
-use Rattle.pfx_header.specs.Sets.{set_of}
-use Rattle.pfx_header.specs.Headers.{Header, mark, header_len, version_at, workers_at, real_at, segment_at, task_of, tasks_of, tasks_at, damaged, sized, read_tasks, are_counts, read_counts, read_version, read_header}
+use Rattle.pfx_weights.specs.Bytes.{weight_of, weights_of}
+use Rattle.pfx_weights.specs.Tests.{set_of}
+use Rattle.pfx_header.specs.Headers.{Header, mark, header_len, version_at, workers_at, real_at, segment_at, tasks_at, damaged, sized, read_tasks, are_counts, read_counts, read_version, read_header}
 use Rattle.pfx_header.proofs.Meanings.{read_is, read_real}
 
 drop_taken : (i n : ℕ) (xs : List ℕ) → i ≤ n → drop i (take n xs) ≡ take (n - i) (drop i xs)
@@ -20,17 +21,17 @@ number_taken : (i k n : ℕ) (xs : List ℕ) → i + k ≤ n → little_number k
 number_taken i k n xs h =
     ap (little_number k) (drop_taken i n xs (omega arith)) ∙ little_from-take 0 k (n - i) (drop i xs) (omega arith)
 
-task_taken : (n : ℕ) (xs : List ℕ) → 8 ≤ n → task_of (take n xs) ≡ task_of xs
-task_taken n xs h =
+weight_taken : (n : ℕ) (xs : List ℕ) → 8 ≤ n → weight_of (take n xs) ≡ weight_of xs
+weight_taken n xs h =
     let first = little_from-take 0 4 n xs (omega arith) in
     let second = number_taken 4 4 n xs (omega arith) in
     λ i. (first i, second i)
 
-tasks_taken : (r n : ℕ) (xs : List ℕ) → 8 * r ≤ n → tasks_of r (take n xs) ≡ tasks_of r xs
-tasks_taken zero n xs h = refl
-tasks_taken (suc r) n xs h =
-    let first = task_taken n xs (omega arith) in
-    let rest : tasks_of r (drop 8 (take n xs)) ≡ tasks_of r (drop 8 xs) = ap (tasks_of r) (drop_taken 8 n xs (omega arith)) ∙ tasks_taken r (n - 8) (drop 8 xs) (omega arith) in
+weights_taken : (r n : ℕ) (xs : List ℕ) → 8 * r ≤ n → weights_of r (take n xs) ≡ weights_of r xs
+weights_taken zero n xs h = refl
+weights_taken (suc r) n xs h =
+    let first = weight_taken n xs (omega arith) in
+    let rest : weights_of r (drop 8 (take n xs)) ≡ weights_of r (drop 8 xs) = ap (weights_of r) (drop_taken 8 n xs (omega arith)) ∙ weights_taken r (n - 8) (drop 8 xs) (omega arith) in
     λ i. first i ∷ rest i
 
 long_taken : (k n : ℕ) (xs : List ℕ) → k ≤ n → nat_le k (length (take n xs)) ≡ nat_le k (length xs)
@@ -56,9 +57,9 @@ body_taken n bytes h more =
     let long : nat_le (17 + 8 * real_at (take n bytes)) (length (take n bytes)) ≡ nat_le (17 + 8 * real_at bytes) (length bytes) =
     ap (λ r. nat_le (17 + 8 * r) (length (take n bytes))) real ∙ long_taken (17 + 8 * real_at bytes) n bytes more in
     let tasks : tasks_at (take n bytes) ≡ tasks_at bytes =
-    ap (λ r. tasks_of r (drop 17 (take n bytes))) real
-    ∙ (ap (tasks_of (real_at bytes)) (drop_taken 17 n bytes h)
-    ∙ tasks_taken (real_at bytes) (n - 17) (drop 17 bytes) (omega arith)) in
+    ap (λ r. weights_of r (drop 17 (take n bytes))) real
+    ∙ (ap (weights_of (real_at bytes)) (drop_taken 17 n bytes h)
+    ∙ weights_taken (real_at bytes) (n - 17) (drop 17 bytes) (omega arith)) in
     λ i. if long i then sized (segment i) (set_of (workers i) (tasks i)) else Err NotAStore
 
 counts_in : (n : ℕ) (bytes : List ℕ) → 17 ≤ n → 17 + 8 * real_at bytes ≤ n → read_counts (take n bytes) ≡ read_counts bytes

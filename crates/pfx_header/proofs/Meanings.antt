@@ -9,10 +9,11 @@ use Rattle.std.proofs.lemmas.Slice.Eq.{bytes_eq-Decides}
 use Rattle.pfx_disk.specs.declared.gates.TheConstants.{GATE_OPEN}
 use Rattle.pfx_recovery.specs.Refusals.{Refusal, NotAStore, WrongVersion, IsOfHeader}
 use Rattle.pfx_weights.specs.Sets.{FilledSet, Accepts, IsFilled, idle, demand}
+use Rattle.pfx_weights.specs.Tests.{set_of}
 use Rattle.pfx_weights.proofs.Fills.{filled_set}
-use Rattle.pfx_header.specs.Sets.{set_of}
-use Rattle.pfx_header.specs.Headers.{Header, IsHeader, IsSegmentSize, real_tasks, mark, header_len, version_at, workers_at, real_at, segment_at, tasks_of, tasks_at, damaged, is_segment_size, sized, read_tasks, are_counts, read_counts, read_version, is_store, read_header}
-use Rattle.pfx_header.proofs.SetLemmas.{sets_from}
+use Rattle.pfx_weights.proofs.Tests.{sets_from}
+use Rattle.pfx_weights.proofs.Written.{length-weights_of}
+use Rattle.pfx_header.specs.Headers.{Header, IsHeader, IsSegmentSize, real_tasks, mark, header_len, version_at, workers_at, real_at, segment_at, tasks_at, damaged, is_segment_size, sized, read_tasks, are_counts, read_counts, read_version, is_store, read_header}
 
 pub record IsRead (bytes : List ℕ) (h : Header) : Type 0 where
   pub front : 17 ≤ length bytes
@@ -69,10 +70,6 @@ is_read bytes h r =
 
 -- the set of workers and tasks has these
 
-pub length-tasks_of : (n : ℕ) (bytes : List ℕ) → length (tasks_of n bytes) ≡ n
-length-tasks_of zero bytes = refl
-length-tasks_of (suc n) bytes = ap suc (length-tasks_of n (drop 8 bytes))
-
 pub record Has (m : ℕ) (given : List (ℕ × ℕ)) (s : FilledSet) : Type 0 where
   pub workers : s.workers ≡ m
   pub real : s.real ≡ length given
@@ -100,7 +97,7 @@ pub read_accepted : (bytes : List ℕ) (h : Header) → IsRead bytes h → Accep
 read_accepted bytes h r = sets_from (workers_at bytes) (tasks_at bytes) h.set r.set
 
 pub read_real : (bytes : List ℕ) (h : Header) → IsRead bytes h → h.set.real ≡ real_at bytes
-read_real bytes h r = (accepted_has _ _ _ (read_accepted bytes h r)).real ∙ length-tasks_of (real_at bytes) (drop 17 bytes)
+read_real bytes h r = (accepted_has _ _ _ (read_accepted bytes h r)).real ∙ length-weights_of (real_at bytes) (drop 17 bytes)
 
 pub size_from : (m segment : ℕ) → is_segment_size m segment ≡ true → IsSegmentSize m segment
 size_from m segment is = let parts = and_parts _ _ is in (leb-true _ _ parts.0, leb-true _ _ parts.1)

@@ -4,7 +4,7 @@ use Rattle.std.proofs.Common.{sym, ◌∙◌, ap, subst, arith}
 use Rattle.std.proofs.lemmas.Bool.{cond-true, cond-false, le-leb, lt-leb, false_from_ne_true, eq-eqb, ne_eqb}
 use Rattle.pfx_recovery.specs.Refusals.{Refusal, NotAStore, WrongVersion}
 use Rattle.pfx_weights.specs.Sets.{FilledSet}
-use Rattle.pfx_header.specs.Sets.{set_of}
+use Rattle.pfx_weights.specs.Tests.{set_of}
 use Rattle.pfx_header.specs.declared.faults.SegmentSizeFault.{SegmentSizeFault}
 use Rattle.pfx_header.specs.declared.faults.SegmentSizeFault.TheVariants.{SegmentTooSmall, SegmentTooLarge}
 use Rattle.pfx_header.specs.declared.faults.HeaderFault.{HeaderFault}

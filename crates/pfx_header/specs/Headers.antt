@@ -1,12 +1,13 @@
 -- The header of a store's file: a task set, and how many bytes a segment has.
-use Rattle.std.specs.Prelude.{ℕ, zero, suc, ◌+◌, ◌*◌, ◌^◌, ◌≤◌, ◌==◌, ◌&&◌, nat_lt, nat_le, if◌then◌else◌, Bool, List, [], ◌∷◌, ◌++◌, length, take, drop}
+use Rattle.std.specs.Prelude.{ℕ, ◌+◌, ◌*◌, ◌^◌, ◌≤◌, ◌==◌, ◌&&◌, nat_lt, nat_le, if◌then◌else◌, Bool, List, [], ◌∷◌, ◌++◌, length, take, drop}
 use Rattle.std.specs.Prelude.{slice_index, Option, Some, None, Result, Ok, Err}
 use Rattle.std.specs.Str.{bytes_eq}
 use Rattle.byteorder.specs.Endian.{little_bytes, little_number}
 use Rattle.pfx_disk.specs.declared.gates.TheConstants.{GATE_OPEN}
 use Rattle.pfx_recovery.specs.Refusals.{Refusal, NotAStore, WrongVersion, Damaged, Header as ThePart}
+use Rattle.pfx_weights.specs.Bytes.{weights_bytes, weights_of}
 use Rattle.pfx_weights.specs.Sets.{FilledSet, Accepts}
-use Rattle.pfx_header.specs.Sets.{set_of}
+use Rattle.pfx_weights.specs.Tests.{set_of}
 
 pub record Header : Type 0 where
   pub set : FilledSet
@@ -41,16 +42,8 @@ mark = GATE_OPEN ∷ 0x50 ∷ 0x46 ∷ 0x58 ∷ 0x53 ∷ 0x54 ∷ 0x4F ∷ 0x52 
 unfoldable pub front_bytes : Header → List ℕ
 front_bytes h = mark ++ (1 ∷ h.set.workers ∷ (little_bytes 2 h.set.real ++ little_bytes 4 h.segment))
 
--- a weight e/p is e and then p
-abbrev pub task_bytes : ℕ × ℕ → List ℕ
-task_bytes w = little_bytes 4 w.0 ++ little_bytes 4 w.1
-
-abbrev pub tasks_bytes : List (ℕ × ℕ) → List ℕ
-tasks_bytes [] = []
-tasks_bytes (w ∷ tasks) = task_bytes w ++ tasks_bytes tasks
-
 unfoldable pub header_bytes : Header → List ℕ
-header_bytes h = front_bytes h ++ tasks_bytes (real_tasks h.set)
+header_bytes h = front_bytes h ++ weights_bytes (real_tasks h.set)
 
 abbrev pub header_len : FilledSet → ℕ
 header_len s = 17 + 8 * s.real
@@ -69,16 +62,8 @@ real_at bytes = little_number 2 (drop 11 bytes)
 abbrev pub segment_at : List ℕ → ℕ
 segment_at bytes = little_number 4 (drop 13 bytes)
 
--- the weight in the first eight bytes, and the first n weights
-abbrev pub task_of : List ℕ → ℕ × ℕ
-task_of bytes = (little_number 4 bytes, little_number 4 (drop 4 bytes))
-
-abbrev pub tasks_of : ℕ → List ℕ → List (ℕ × ℕ)
-tasks_of zero bytes = []
-tasks_of (suc n) bytes = task_of bytes ∷ tasks_of n (drop 8 bytes)
-
 abbrev pub tasks_at : List ℕ → List (ℕ × ℕ)
-tasks_at bytes = tasks_of (real_at bytes) (drop 17 bytes)
+tasks_at bytes = weights_of (real_at bytes) (drop 17 bytes)
 
 -- The tests, the last one first: the result of each is that of the ones above it here, if it is passed.
 

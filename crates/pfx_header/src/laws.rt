@@ -4,14 +4,8 @@ ghost use Rattle.std.specs.Prelude.{◌≡◌, ◌≢◌, ◌↔◌, ◌<◌, �
 ghost use Rattle.pfx_disk.specs.declared.gates.TheConstants.{GATE_OPEN};
 ghost use Rattle.pfx_recovery.specs.Refusals.{Refusal, IsOfHeader, NotAStore};
 ghost use Rattle.pfx_weights.specs.Sets.{FilledSet, IsFilled, Accepts};
-ghost use Rattle.pfx_header.specs.Sets.{set_of};
 ghost use Rattle.pfx_header.specs.Headers.{Header, IsHeader, IsSegmentSize, header_len, header_bytes, read_header};
 ghost use Rattle.pfx_header.specs.declared.sizes.TheConstants.{HEADER_MOST};
-
-/// The set that is read is the one that is accepted of its workers and tasks, and there is none if none is.
-pub fn sets_are_the_accepted_ones()
-    ensures { (m : ℕ) (tasks : List (ℕ × ℕ)) (s : FilledSet) → (set_of m tasks ≡ Some s) ↔ Accepts m tasks s }
-{}
 
 /// What is read is a header, whose set is filled and whose bytes are all there.
 pub fn what_is_read_is_a_header()

@@ -1,7 +1,8 @@
 //! Bytes as a header.
 
 ghost use Rattle.std.specs.Prelude.{◌≡◌, ◌+◌, ◌*◌, ◌≤◌, length, drop, IfOk};
-ghost use Rattle.pfx_header.specs.Headers.{is_store, are_counts, task_of, tasks_of, read_header, read_tasks, sized, workers_at, real_at};
+ghost use Rattle.pfx_weights.specs.Bytes.{weight_of, weights_of};
+ghost use Rattle.pfx_header.specs.Headers.{is_store, are_counts, read_header, read_tasks, sized, workers_at, real_at};
 ghost use Rattle.pfx_header.specs.Answers.{Reads};
 
 use crate::HeaderFault;
@@ -29,7 +30,7 @@ fn are_counts(workers: u8, real: u16) -> bool
 /// The weight at a place.
 fn task_at(bytes: &[u8], at: usize) -> (u32, u32)
     requires { at + 8 ≤ length bytes.now }
-    ensures { result ≡ task_of (drop at bytes.now) }
+    ensures { result ≡ weight_of (drop at bytes.now) }
 {
     (
         LittleEndian::read_u32(&bytes[at..]),
@@ -41,7 +42,7 @@ fn task_at(bytes: &[u8], at: usize) -> (u32, u32)
 fn tasks_at(alloc: Global, real: usize, bytes: &[u8]) -> Result<Vec<(u32, u32)>, AllocError>
     requires few { real ≤ 1024 }
     requires long { 17 + 8 * real ≤ length bytes.now }
-    ensures { IfOk result (λ tasks. tasks.items ≡ tasks_of real (drop 17 bytes.now)) }
+    ensures { IfOk result (λ tasks. tasks.items ≡ weights_of real (drop 17 bytes.now)) }
 {
     let mut tasks = Vec::with_capacity(alloc, real)?;
     for task in 0..real {

@@ -1,7 +1,7 @@
 //! Task sets by the function behind their acceptance.
 
 ghost use Rattle.std.specs.Prelude.{◌≡◌, IfOk};
-ghost use Rattle.pfx_header.specs.Sets.{set_of};
+ghost use Rattle.pfx_weights.specs.Tests.{set_of};
 
 use pfx_weights::{SetFault, TaskSet};
 use std::alloc::{AllocError, Global};

@@ -2,7 +2,8 @@
 
 ghost use Rattle.std.specs.Prelude.{◌≡◌, ◌+◌, ◌≤◌, ◌++◌, length, take};
 ghost use Rattle.byteorder.specs.Endian.{little_bytes};
-ghost use Rattle.pfx_header.specs.Headers.{header_len, header_bytes, front_bytes, task_bytes};
+ghost use Rattle.pfx_weights.specs.Bytes.{weight_bytes};
+ghost use Rattle.pfx_header.specs.Headers.{header_len, header_bytes, front_bytes};
 
 use crate::sizes::FRONT;
 use byteorder::{ByteOrder, LittleEndian};
@@ -50,7 +51,7 @@ fn put_front(set: &TaskSet, segment: u32, out: &mut [u8])
 /// Writes a task at a place.
 fn put_task(out: &mut [u8], at: usize, weight: (u32, u32))
     requires { at + 8 ≤ length out.old }
-    ensures front { take (at + 8) out.new ≡ take at out.old ++ task_bytes weight }
+    ensures front { take (at + 8) out.new ≡ take at out.old ++ weight_bytes weight }
     ensures long { length out.new ≡ length out.old }
 {
     put_u32(out, at, weight.0);

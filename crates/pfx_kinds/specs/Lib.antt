@@ -5,6 +5,9 @@ pub mod CountKind
 pub mod Scans
 pub mod ScanBytes
 pub mod ScanKind
+pub mod Owns
+pub mod OwnBytes
+pub mod OwnKind
 pub mod Cells
 pub mod CellBits
 pub mod Rules
@@ -15,3 +18,4 @@ pub mod AnyKind
 pub mod Starts
 pub mod AnyStart
 pub mod Laws
+pub mod Units

@@ -2,6 +2,7 @@ ghost use Rattle.std.specs.Prelude.{◌≡◌, MatchResult, Ok, Err};
 ghost use Rattle.pfx_kinds.specs.Starts.{any_start};
 
 use crate::count::{COUNT, Count};
+use crate::own::{OWN, Own};
 use crate::rule::{RULE, Rule};
 use crate::scan::{SCAN, Scan};
 use crate::start::StartFault;
@@ -16,15 +17,17 @@ pub enum AnyJob {
     Rule(Rule),
     /// A search.
     Scan(Scan),
+    /// What another program answered.
+    Own(Own),
 }
 
 impl AnyJob {
     ghost use Rattle.pfx_kinds.specs.AnyStart.{fields_of};
 
-    /// The job of the kind `count`, `rule` or `scan` at its start, of its goal and its data.
+    /// The job of the kind `count`, `rule`, `scan` or `own` at its start, of its goal and its data.
     ///
     /// A kind of another name is refused first (`BadKind`), then a goal out of the kind's range (`BadGoal`), then data that is not
-    /// in the kind's form (`BadData`), as `Count::start`, `Rule::start` and `Scan::start` say.
+    /// in the kind's form (`BadData`), as `Count::start`, `Rule::start`, `Scan::start` and `Own::start` say.
     pub fn start(kind: &str, goal: u64, text: &[u8]) -> Result<AnyJob, StartFault>
         ensures { MatchResult result (λ job. any_start kind.now goal text.now ≡ Ok (fields_of job)) (λ fault. any_start kind.now goal text.now ≡ Err fault) }
     {
@@ -36,6 +39,9 @@ impl AnyJob {
         }
         if kind == "scan" {
             return Ok(AnyJob::Scan(Scan::start(goal, text)?));
+        }
+        if kind == "own" {
+            return Ok(AnyJob::Own(Own::start(goal, text)?));
         }
         Err(StartFault::BadKind)
     }
@@ -51,6 +57,7 @@ impl Job for AnyJob {
             AnyJob::Count(job) => AnyJob::Count(job.copy_of()),
             AnyJob::Rule(job) => AnyJob::Rule(job.copy_of()),
             AnyJob::Scan(job) => AnyJob::Scan(job.copy_of()),
+            AnyJob::Own(job) => AnyJob::Own(job.copy_of()),
         }
     }
 
@@ -59,6 +66,7 @@ impl Job for AnyJob {
             AnyJob::Count(job) => job.left(),
             AnyJob::Rule(job) => job.left(),
             AnyJob::Scan(job) => job.left(),
+            AnyJob::Own(_) => 0,
         }
     }
 
@@ -67,6 +75,7 @@ impl Job for AnyJob {
             AnyJob::Count(job) => job.is_done(),
             AnyJob::Rule(job) => job.is_done(),
             AnyJob::Scan(job) => job.is_done(),
+            AnyJob::Own(_) => true,
         }
     }
 
@@ -75,6 +84,7 @@ impl Job for AnyJob {
             AnyJob::Count(job) => job.step(),
             AnyJob::Rule(job) => job.step(),
             AnyJob::Scan(job) => job.step(),
+            AnyJob::Own(_) => {}
         }
     }
 
@@ -83,6 +93,7 @@ impl Job for AnyJob {
             AnyJob::Count(job) => job.encode(bytes),
             AnyJob::Rule(job) => job.encode(bytes),
             AnyJob::Scan(job) => job.encode(bytes),
+            AnyJob::Own(job) => job.encode(bytes),
         }
     }
 
@@ -91,6 +102,7 @@ impl Job for AnyJob {
             COUNT => Ok(AnyJob::Count(Count::decode(bytes)?)),
             RULE => Ok(AnyJob::Rule(Rule::decode(bytes)?)),
             SCAN => Ok(AnyJob::Scan(Scan::decode(bytes)?)),
+            OWN => Ok(AnyJob::Own(Own::decode(bytes)?)),
             _ => Err(JobFault::BadState),
         }
     }

@@ -7,7 +7,7 @@ use pfx_fault::{Fault, Part};
 use std::alloc::{AllocError, Global};
 
 /// What a word of the command line names.
-#[derive(Clone, Copy, Debug, PartialEq, Eq)]
+#[derive(Clone, Copy, PartialEq, Eq)]
 pub enum Named {
     /// A set file.
     Set,
@@ -55,7 +55,7 @@ pub fn input_note<'a>(
 }
 
 /// What of a command stands, though its output failed.
-#[derive(Clone, Copy, Debug, PartialEq, Eq)]
+#[derive(Clone, Copy, PartialEq, Eq)]
 pub enum Stands {
     /// Nothing that is kept.
     Nothing,
@@ -76,7 +76,7 @@ pub fn output_note(alloc: Global, why: &str, stands: Stands) -> Result<Option<No
 }
 
 /// What is wrong with a file.
-#[derive(Clone, Copy, Debug, PartialEq, Eq)]
+#[derive(Clone, Copy, PartialEq, Eq)]
 pub enum Trouble<'a> {
     /// Its name is empty, where a word names a set or a script.
     NoName(Named),

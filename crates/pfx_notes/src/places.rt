@@ -2,7 +2,7 @@
 //! array or a table of one line, or below a text of several lines, isn't found.
 
 /// A place in a text: the line and the column, each from 1. A column counts characters.
-#[derive(Clone, Copy, Debug, PartialEq, Eq)]
+#[derive(Clone, Copy, PartialEq, Eq)]
 pub(crate) struct Place {
     pub(crate) line: usize,
     pub(crate) column: usize,

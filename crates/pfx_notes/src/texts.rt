@@ -508,7 +508,7 @@ pub(crate) const REFUSED_WORD: &str = "{0}: record {1} was refused: {2}, for `{4
 pub(crate) const SOME_REFUSED: &str = "{0}: a record was refused: {2}";
 
 /// What to do about a refusal, by the name that it has.
-pub(crate) const REFUSALS: [(&str, &str); 7] = [
+pub(crate) const REFUSALS: [(&str, &str); 8] = [
     (
         "NoSuchTask",
         "Tasks are numbered from 0 in the order of the set: pfx status has a line for each.",
@@ -521,14 +521,18 @@ pub(crate) const REFUSALS: [(&str, &str); 7] = [
         "NoJob",
         "Take away or show only what is there: pfx status says job=open or job=done of a task that has one.",
     ),
-    ("BadKind", "The kinds are count, rule and scan."),
+    ("BadKind", "The kinds are count, rule, scan and own."),
     (
         "BadGoal",
-        "Give a count or a rule 1 step or more as the fourth field, and leave it empty for a scan.",
+        "Give a count or a rule 1 step or more as the fourth field, an answer its unit, and leave it empty for a scan.",
     ),
     (
         "BadData",
-        "A count has digits or nothing, a rule RULE:CELLS as 110:00000001, a scan NEEDLE:TEXT as ab:abcab.",
+        "A count has digits or nothing, a rule RULE:CELLS as 110:00000001, a scan NEEDLE:TEXT as ab:abcab, an answer up to 106 visible characters.",
+    ),
+    (
+        "NotNext",
+        "Answer the unit behind the one that pfx show has, and no more units than pfx status has slots of the task.",
     ),
     ("SessionFull", "Run the rest of the script as another one."),
 ];

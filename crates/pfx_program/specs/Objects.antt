@@ -1,15 +1,17 @@
 -- What is printed as JSON: an object a line, with its keys in alphabetical order.
-use Rattle.std.specs.Prelude.{codes, ◌++◌, ◌+◌, ℕ, List, [], ◌∷◌, map}
+use Rattle.std.specs.Prelude.{codes, ◌++◌, ◌+◌, ℕ, List, [], ◌∷◌, map, Option, Some, None, slice_get}
 use Rattle.serde_json.specs.Data.{Data, unsigned, number, string, array, object, Members, no_members, member}
 use Rattle.serde_json.specs.Find.{of_integer}
 use Rattle.serde_json.specs.View.{items_of}
 use Rattle.serde_json.specs.Written.{compact_text}
+use Rattle.pfx_kinds.specs.OwnKind.{answer_of}
 use Rattle.pfx_kinds.specs.ScanKind.{needle_of}
 use Rattle.pfx_kinds.specs.declared.any.AnyJob.{AnyJob}
-use Rattle.pfx_kinds.specs.declared.any.AnyJob.TheVariants.{Count, Rule, Scan}
+use Rattle.pfx_kinds.specs.declared.any.AnyJob.TheVariants.{Count, Rule, Scan, Own}
 use Rattle.pfx_kinds.specs.declared.count.Count as count_type
 use Rattle.pfx_kinds.specs.declared.rule.Rule as rule_type
 use Rattle.pfx_kinds.specs.declared.scan.Scan as scan_type
+use Rattle.pfx_kinds.specs.declared.own.Own as own_type
 use Rattle.pfx_fault.specs.Parts.{part_name, cause_name}
 use Rattle.pfx_fault.specs.Refusals.{number_of, name_of}
 use Rattle.pfx_fault.specs.declared.refusals.Fault.{Fault}
@@ -55,10 +57,15 @@ abbrev pub scan_object : ℕ → scan_type.Scan → Data
 scan_object x s = object (number_at (codes "found") s.found (text_at (codes "job") (codes "scan")
     (number_at (codes "left") s.left (text_at (codes "of") (needle_of s) (number_at (codes "task") x no_members)))))
 
+abbrev pub own_object : ℕ → own_type.Own → Data
+own_object x s = object (number_at (codes "answered") s.answered (text_at (codes "job") (codes "own")
+    (number_at (codes "task") x (text_at (codes "text") (answer_of s) no_members))))
+
 abbrev pub job_object : ℕ → AnyJob → Data
 job_object x (Count c) = count_object x c
 job_object x (Rule r) = rule_object x r
 job_object x (Scan s) = scan_object x s
+job_object x (Own s) = own_object x s
 
 -- ---- what a script's run prints
 
@@ -86,6 +93,7 @@ fault_fields (fault.OutOfRange task) = number_at (codes "task") task no_members
 fault_fields (fault.NoSuchTask task) = number_at (codes "task") task no_members
 fault_fields (fault.TaskBusy task) = number_at (codes "task") task no_members
 fault_fields (fault.NoJob task) = number_at (codes "task") task no_members
+fault_fields (fault.NotNext task) = number_at (codes "task") task no_members
 fault_fields (fault.Damaged at what) = number_at (codes "at") at (text_at (codes "what") (part_name what) no_members)
 fault_fields (fault.WrongVersion version) = number_at (codes "version") version no_members
 fault_fields (fault.StoreFailed marked cause) = text_at (codes "cause") (cause_name cause) (number_at (codes "marked") marked no_members)
@@ -114,17 +122,27 @@ job_name job_status.None = codes "none"
 job_name job_status.Open = codes "open"
 job_name job_status.Done = codes "done"
 
--- a task, whose lag is a number of parts of its period
-abbrev pub line_object : ℕ → TaskLine → Data
-line_object x t = object (number_at (codes "alloc") t.alloc (text_at (codes "job") (job_name t.job) (member (codes "lag") (number (of_integer t.lag))
+-- the word for a task's job, by its place in the list of jobs: `own` where other programs do the task's units, so that pfx has no step
+-- of it to run, and else how the job stands
+abbrev pub job_word : Option (Option AnyJob) → JobStatus → List ℕ
+job_word None stands = job_name stands
+job_word (Some None) stands = job_name stands
+job_word (Some (Some (Count job))) stands = job_name stands
+job_word (Some (Some (Rule job))) stands = job_name stands
+job_word (Some (Some (Scan job))) stands = job_name stands
+job_word (Some (Some (Own job))) stands = codes "own"
+
+-- a task, whose lag is a number of parts of its period, with the word for its job
+abbrev pub line_object : List ℕ → ℕ → TaskLine → Data
+line_object job x t = object (number_at (codes "alloc") t.alloc (text_at (codes "job") job (member (codes "lag") (number (of_integer t.lag))
     (number_at (codes "period") t.period (number_at (codes "task") x no_members)))))
 
--- tasks, the first one with the number x
-abbrev pub line_objects : ℕ → List TaskLine → List Data
-line_objects x [] = []
-line_objects x (t ∷ ts) = line_object x t ∷ line_objects (x + 1) ts
+-- tasks with these jobs, the first one with the number x
+abbrev pub line_objects : List (Option AnyJob) → ℕ → List TaskLine → List Data
+line_objects jobs x [] = []
+line_objects jobs x (t ∷ ts) = line_object (job_word (slice_get jobs x) t.job) x t ∷ line_objects jobs (x + 1) ts
 
 -- `{"number":4,"slot":3,"tasks":[{"alloc":1,"job":"none","lag":-1,"period":3,"task":0}]}`
-abbrev pub board_object : ℕ → ℕ → List TaskLine → Data
-board_object n slot lines =
-    object (number_at (codes "number") n (number_at (codes "slot") slot (member (codes "tasks") (array (items_of (line_objects 0 lines))) no_members)))
+abbrev pub board_object : ℕ → ℕ → List TaskLine → List (Option AnyJob) → Data
+board_object n slot lines jobs =
+    object (number_at (codes "number") n (number_at (codes "slot") slot (member (codes "tasks") (array (items_of (line_objects jobs 0 lines))) no_members)))

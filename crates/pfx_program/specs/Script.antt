@@ -5,7 +5,8 @@ use Rattle.pfx_kinds.specs.AnyKind.{any_kind, any_decoded}
 use Rattle.pfx_kinds.specs.Counts.{count_bytes}
 use Rattle.pfx_kinds.specs.Rules.{rule_bytes}
 use Rattle.pfx_kinds.specs.Scans.{scan_bytes}
-use Rattle.pfx_kinds.specs.Starts.{AnyFields, a_count, a_rule, a_scan, any_start, or_bad_data}
+use Rattle.pfx_kinds.specs.Owns.{own_bytes}
+use Rattle.pfx_kinds.specs.Starts.{AnyFields, a_count, a_rule, a_scan, an_own, any_start, or_bad_data}
 use Rattle.pfx_kinds.specs.declared.any.AnyJob.{AnyJob}
 use Rattle.pfx_kinds.specs.declared.start.StartFault.{StartFault}
 use Rattle.pfx_machine.specs.Plain.{Plain}
@@ -22,6 +23,7 @@ use Rattle.pfx_fault.specs.declared.refusals.Fault.{Fault}
 use Rattle.pfx_fault.specs.declared.refusals.Fault.TheVariants as fault
 use Rattle.pfx_program.specs.declared.form.Form.{Form}
 use Rattle.pfx_program.specs.Answers.{reply_line, refused_line, settled_line, closed_line, board_shown}
+use Rattle.pfx_program.specs.Grants.{is_next}
 use Rattle.pfx_program.specs.Jobs.{shown_jobs}
 use Rattle.pfx_program.specs.Faults.{fault_of_start, fault_of_machine}
 
@@ -89,19 +91,21 @@ abbrev pub job_of : AnyFields → Option AnyJob
 job_of (a_count f) = any_decoded (count_bytes f)
 job_of (a_rule f) = any_decoded (rule_bytes f)
 job_of (a_scan f) = any_decoded (scan_bytes f)
+job_of (an_own f) = any_decoded (own_bytes f)
 
 abbrev pub job_by : Result AnyFields StartFault → Result AnyJob StartFault
 job_by (Ok f) = or_bad_data (job_of f)
 job_by (Err f) = Err f
 
--- a job of a kind, a goal and a text, for a task
+-- a job of a kind, a goal and a text, for a task; an answer only if it is of the next unit that the task was given, at the state after all
+-- accepted commands
 abbrev pub submitted : Run → ℕ → Result AnyJob StartFault → Step
-submitted r task (Ok job) = command_step r (Submit task job)
+submitted r task (Ok job) = if is_next r.state task job then command_step r (Submit task job) else refused r.form (fault.NotNext task)
 submitted r task (Err f) = refused r.form (fault_of_start f)
 
 -- the board of a state
 abbrev pub board_of : Form → Plain AnyJob → List ℕ
-board_of form s = board_shown form s.number s.ledger.slot (all_lines any_kind s)
+board_of form s = board_shown form s.number s.ledger.slot (all_lines any_kind s) s.jobs
 
 -- the lines of jobs, or why there is none
 abbrev pub jobs_step : Form → Result (List ℕ) Fault → Step

@@ -8,10 +8,11 @@ ghost use Rattle.pfx_set_file.specs.Views.{task_view};
 ghost use Rattle.pfx_kinds.specs.Cells.{cell_at};
 ghost use Rattle.pfx_program.specs.Cells.{cells_text};
 ghost use Rattle.pfx_program.specs.Lines.{name_of};
-ghost use Rattle.pfx_program.specs.Objects.{object_line, slot_object, count_object, rule_object, scan_object, job_object};
+ghost use Rattle.pfx_program.specs.Objects.{object_line, slot_object, count_object, rule_object, scan_object, own_object, job_object};
 
 use pfx_kinds::any::AnyJob;
 use pfx_kinds::count::Count;
+use pfx_kinds::own::Own;
 use pfx_kinds::rule::{CELL_BYTES, Rule};
 use pfx_kinds::scan::Scan;
 use pfx_set_file::NamedTask;
@@ -19,8 +20,8 @@ use serde_json::{Value, json};
 use std::alloc::{AllocError, Global};
 use std::str;
 
-// The line of an object.
-pub(crate) fn object_line(alloc: Global, value: &Value) -> Result<String, AllocError>
+/// The line of an object without a float. An error comes only if an allocation failed.
+pub fn object_line(alloc: Global, value: &Value) -> Result<String, AllocError>
     requires whole { has_float (view value.now) ≡ false }
     ensures { IfOk result (λ s. string_bytes s ≡ object_line (view value.now)) }
 {
@@ -120,6 +121,16 @@ fn scan_object(alloc: Global, task: usize, job: &Scan) -> Result<Value, AllocErr
     json!(in alloc; {"task": task, "job": "scan", "left": job.left, "found": job.found, "of": needle})
 }
 
+// An answer's bytes are visible ASCII, so only memory can fail.
+fn own_object(alloc: Global, task: usize, job: &Own) -> Result<Value, AllocError>
+    ensures { IfOk result (λ v. view v ≡ own_object task job.now) }
+{
+    let Ok(answer) = str::from_utf8(job.answer()) else {
+        return Err(AllocError);
+    };
+    json!(in alloc; {"task": task, "job": "own", "answered": job.answered, "text": answer})
+}
+
 fn job_object(alloc: Global, task: usize, job: &AnyJob) -> Result<Value, AllocError>
     ensures { IfOk result (λ v. view v ≡ job_object task job.now) }
 {
@@ -127,6 +138,7 @@ fn job_object(alloc: Global, task: usize, job: &AnyJob) -> Result<Value, AllocEr
         AnyJob::Count(job) => count_object(alloc, task, job),
         AnyJob::Rule(job) => rule_object(alloc, task, job),
         AnyJob::Scan(job) => scan_object(alloc, task, job),
+        AnyJob::Own(job) => own_object(alloc, task, job),
     }
 }
 

@@ -1,5 +1,5 @@
 -- Records one after the other.
-use Rattle.std.specs.Prelude.{◌≡◌, ◌+◌, if◌then◌else◌, Bool, true, false, ℕ, List, [], ◌∷◌, length, map, ◌<◌, ◌≤◌, Some, None, IsTrue, refl}
+use Rattle.std.specs.Prelude.{◌≡◌, ◌+◌, if◌then◌else◌, Bool, true, false, ℕ, Option, List, [], ◌∷◌, length, map, ◌<◌, ◌≤◌, Some, None, IsTrue, refl}
 use Rattle.std.proofs.Common.{zero, suc, get_or, drop, sym, ◌∙◌, ap, ap₂, subst, arith}
 use Rattle.std.proofs.lemmas.Option.{none-some}
 use Rattle.pfx_jobs.specs.Kind.{Kind, Laws}
@@ -15,7 +15,7 @@ use Rattle.pfx_redo.specs.Recording.{record_of}
 use Rattle.pfx_redo.proofs.Outcomes.{outcome-one, record_outcome, records_outcome}
 use Rattle.pfx_redo.proofs.States.{applied_behind}
 use Rattle.pfx_machine.specs.Plain.{IsState}
-use Rattle.pfx_replay.specs.Commands.{Follow, command_of, commands_of}
+use Rattle.pfx_replay.specs.Commands.{Follow, AreNext, command_of, commands_of, is_next}
 use Rattle.pfx_replay.specs.Judged.{GivesAll}
 use Rattle.pfx_replay.specs.Stated.{plain_of}
 use Rattle.pfx_replay.specs.Verdicts.{IsFirst, IsWrong}
@@ -25,16 +25,21 @@ use Rattle.pfx_replay.specs.declared.judged.Judged.TheVariants.{Agrees, Differs}
 use Rattle.pfx_replay.specs.declared.verdict.Difference.{Difference}
 use Rattle.pfx_replay.proofs.Sessions as sessions
 
-module _ {J : Type 0} (K : Kind J) (L : Laws K) where
+module _ {J : Type 0} (K : Kind J) (L : Laws K) (unit : J → Option ℕ) where
   -- what is known of one record at a state
-  module _ (s : machine.Plain J) (one : Recorded J) (is_accepted : refusal K s (command_of one) ≡ None) (is_recorded : one ≡ record_of K s (command_of one)) where
+  module _ (s : machine.Plain J) (one : Recorded J) (is_accepted : refusal K s (command_of one) ≡ None) (is_recorded : one ≡ record_of K s (command_of one)) (follows : is_next unit s one ≡ true) where
     abbrev next : machine.Plain J
     next = outcome K s (command_of one ∷ [])
 
-    follow-cons : (records : List (Recorded J)) → Follow K next records → Follow K s (one ∷ records)
+    next-cons : (records : List (Recorded J)) → AreNext K unit next records → AreNext K unit s (one ∷ records)
+    unfolding AreNext
+    next-cons records h = (follows, h)
+
+    follow-cons : (records : List (Recorded J)) → Follow K unit next records → Follow K unit s (one ∷ records)
     follow-cons records h = record {
       acceptable = sessions.acceptable-cons K L s (command_of one) (commands_of records) is_accepted h.acceptable;
       recorded = ap₂ (λ x xs. x ∷ xs) is_recorded h.recorded;
+      next = next-cons records h.next;
     }
 
     outcome-cons : (H : List (Command J)) → outcome K next H ≡ outcome K s (command_of one ∷ H)
@@ -43,7 +48,7 @@ module _ {J : Type 0} (K : Kind J) (L : Laws K) where
     number-next : next.number ≡ s.number + 1
     number-next = ap (λ (t : machine.Plain J). t.number) (outcome-one K L s (command_of one))
 
-    first-cons : (what : Difference) (records : List (Recorded J)) (n : ℕ) → IsFirst K what next records n → IsFirst K what s (one ∷ records) n
+    first-cons : (what : Difference) (records : List (Recorded J)) (n : ℕ) → IsFirst K unit what next records n → IsFirst K unit what s (one ∷ records) n
     first-cons what records n h = record {
       agreed = one ∷ h.agreed;
       one = h.one;
@@ -51,23 +56,27 @@ module _ {J : Type 0} (K : Kind J) (L : Laws K) where
       whole = ap (λ xs. one ∷ xs) h.whole;
       follow = follow-cons h.agreed h.follow;
       number = omega (arith, h.number, number-next);
-      wrong = subst (λ t. IsWrong K what t h.one) (outcome-cons (commands_of h.agreed)) h.wrong;
+      wrong = subst (λ t. IsWrong K unit what t h.one) (outcome-cons (commands_of h.agreed)) h.wrong;
     }
 
-    pub gives-cons : (records : List (Recorded J)) (v : Judged J) → GivesAll K next records v → GivesAll K s (one ∷ records) v
+    pub gives-cons : (records : List (Recorded J)) (v : Judged J) → GivesAll K unit next records v → GivesAll K unit s (one ∷ records) v
     gives-cons records (Agrees t) h = (follow-cons records h.0, h.1 ∙ outcome-cons (commands_of records))
     gives-cons records (Differs n what) h = first-cons what records n h
 
     pub applied-cons : (records : List (Recorded J)) (t : machine.Plain J) → applied K (after_record s one) records ≡ Some t → applied K next records ≡ Some t
     applied-cons records t h = subst (λ x. applied K x records ≡ Some t) (ap (after_record s) is_recorded ∙ record_outcome K L s (command_of one)) h
 
-  follow-none : (s : machine.Plain J) → Follow K s []
-  follow-none s = record { acceptable = tt; recorded = refl }
+  next-none : (s : machine.Plain J) → AreNext K unit s []
+  unfolding AreNext
+  next-none s = tt
 
-  pub gives-none : (s : machine.Plain J) (t : PlainState J) → plain_of t ≡ s → GivesAll K s [] (Agrees t)
+  follow-none : (s : machine.Plain J) → Follow K unit s []
+  follow-none s = record { acceptable = tt; recorded = refl; next = next-none s }
+
+  pub gives-none : (s : machine.Plain J) (t : PlainState J) → plain_of t ≡ s → GivesAll K unit s [] (Agrees t)
   gives-none s t is = (follow-none s, is ∙ sym (outcome-none K s))
 
-  pub gives-wrong : (s : machine.Plain J) (one : Recorded J) (records : List (Recorded J)) (n : ℕ) (what : Difference) → n ≡ s.number + 1 → IsWrong K what s one → GivesAll K s (one ∷ records) (Differs n what)
+  pub gives-wrong : (s : machine.Plain J) (one : Recorded J) (records : List (Recorded J)) (n : ℕ) (what : Difference) → n ≡ s.number + 1 → IsWrong K unit what s one → GivesAll K unit s (one ∷ records) (Differs n what)
   gives-wrong s one records n what number wrong = record {
     agreed = [];
     one = one;
@@ -75,12 +84,12 @@ module _ {J : Type 0} (K : Kind J) (L : Laws K) where
     whole = refl;
     follow = follow-none s;
     number = omega (arith, number);
-    wrong = subst (λ t. IsWrong K what t one) (sym (outcome-none K s)) wrong;
+    wrong = subst (λ t. IsWrong K unit what t one) (sym (outcome-none K s)) wrong;
   }
 
 -- the number after records
-pub follow_number : {J : Type 0} (K : Kind J) (L : Laws K) (s : machine.Plain J) (records : List (Recorded J)) → IsState s → Follow K s records → (outcome K s (commands_of records)).number ≡ s.number + length records
-follow_number K L s records state h =
+pub follow_number : {J : Type 0} (K : Kind J) (L : Laws K) (unit : J → Option ℕ) (s : machine.Plain J) (records : List (Recorded J)) → IsState s → Follow K unit s records → (outcome K s (commands_of records)).number ≡ s.number + length records
+follow_number K L unit s records state h =
     let t = outcome K s (commands_of records) in
     let run : applied K s records ≡ Some t = ap (applied K s) h.recorded ∙ records_outcome K L s (commands_of records) state h.acceptable in
     (applied_behind K s t records run).number

@@ -67,33 +67,33 @@ module _ {J : Type 0} (K : Kind J) (L : Laws K) (h : Header) where
         frames_joined K L h p.base p.middle t p.before p.frames base_set (replays_set p.base p.middle p.before base_set lead) lead is.state
 
     -- what is answered of these records
-    abbrev pub Answered : Plain J → List (Recorded J) → Plain J → List (Recorded J) → Option Verdict → Type 0
-    Answered start before base behind found =
-        MatchOption found ((x y : Plain J) → applied K start before ≡ Some x → applied K base behind ≡ Some y → ⊥) (λ v. IsVerdict K (record { start = start; before = before; checkpoint = base; behind = behind }) v)
+    abbrev pub Answered : (J → Option ℕ) → Plain J → List (Recorded J) → Plain J → List (Recorded J) → Option Verdict → Type 0
+    Answered unit start before base behind found =
+        MatchOption found ((x y : Plain J) → applied K start before ≡ Some x → applied K base behind ≡ Some y → ⊥) (λ v. IsVerdict K unit (record { start = start; before = before; checkpoint = base; behind = behind }) v)
 
-    pub answered_as : (found : Option Verdict) (a b : Plain J) (before again : List (Recorded J)) (base : Plain J) (behind : List (Recorded J)) → a ≡ b → before ≡ again → Answered a before base behind found → Answered b again base behind found
-    answered_as found a b before again base behind same also given = subst (λ s. Answered s again base behind found) same (subst (λ l. Answered a l base behind found) also given)
+    pub answered_as : (unit : J → Option ℕ) (found : Option Verdict) (a b : Plain J) (before again : List (Recorded J)) (base : Plain J) (behind : List (Recorded J)) → a ≡ b → before ≡ again → Answered unit a before base behind found → Answered unit b again base behind found
+    answered_as unit found a b before again base behind same also given = subst (λ s. Answered unit s again base behind found) same (subst (λ l. Answered unit a l base behind found) also given)
 
     -- the verdict where no way leads from the other checkpoint
-    pub verdict_none : (found : Option Verdict) (base : Plain J) (behind : List (Recorded J)) → base ≡ p.base → behind ≡ records_in K h.set.workers (p.before ++ p.frames) → IsWayIf (format K) h p image None
-        → MatchOption found ((x y : Plain J) → applied K base [] ≡ Some x → applied K base behind ≡ Some y → ⊥) (λ v. IsVerdict K (record { start = base; before = []; checkpoint = base; behind = behind }) v)
-        → MatchOption found ⊥ (λ v. (way : Option (Plain J × List (List ℕ))) × IsWayIf (format K) h p image way × IsVerdict K (history K h.set.workers p way) v)
-    verdict_none found base behind base_same behind_same way given =
+    pub verdict_none : (unit : J → Option ℕ) (found : Option Verdict) (base : Plain J) (behind : List (Recorded J)) → base ≡ p.base → behind ≡ records_in K h.set.workers (p.before ++ p.frames) → IsWayIf (format K) h p image None
+        → MatchOption found ((x y : Plain J) → applied K base [] ≡ Some x → applied K base behind ≡ Some y → ⊥) (λ v. IsVerdict K unit (record { start = base; before = []; checkpoint = base; behind = behind }) v)
+        → MatchOption found ⊥ (λ v. (way : Option (Plain J × List (List ℕ))) × IsWayIf (format K) h p image way × IsVerdict K unit (history K h.set.workers p way) v)
+    verdict_none unit found base behind base_same behind_same way given =
         verdict_by found _ _ _ given
         (λ none. none base t refl (subst (λ b. applied K b behind ≡ Some t) (sym base_same) (subst (λ l. applied K p.base l ≡ Some t) (sym behind_same) behind_applied)))
         (λ v verdict. (
           None,
           way,
-          subst (λ b. IsVerdict K (record { start = b; before = []; checkpoint = b; behind = records_in K h.set.workers (p.before ++ p.frames) }) v) base_same
-              (subst (λ l. IsVerdict K (record { start = base; before = []; checkpoint = base; behind = l }) v) behind_same verdict),
+          subst (λ b. IsVerdict K unit (record { start = b; before = []; checkpoint = b; behind = records_in K h.set.workers (p.before ++ p.frames) }) v) base_same
+              (subst (λ l. IsVerdict K unit (record { start = base; before = []; checkpoint = base; behind = l }) v) behind_same verdict),
         ))
 
     -- the verdict where a way does
-    pub verdict_some : (found : Option Verdict) (start base : Plain J) (frames : List (List ℕ)) (before behind : List (Recorded J)) → base ≡ p.base → before ≡ records_in K h.set.workers frames
+    pub verdict_some : (unit : J → Option ℕ) (found : Option Verdict) (start base : Plain J) (frames : List (List ℕ)) (before behind : List (Recorded J)) → base ≡ p.base → before ≡ records_in K h.set.workers frames
         → behind ≡ records_in K h.set.workers (p.before ++ p.frames) → IsWay (format K) h p image start frames
-        → MatchOption found ((x y : Plain J) → applied K start before ≡ Some x → applied K base behind ≡ Some y → ⊥) (λ v. IsVerdict K (record { start = start; before = before; checkpoint = base; behind = behind }) v)
-        → MatchOption found ⊥ (λ v. (way : Option (Plain J × List (List ℕ))) × IsWayIf (format K) h p image way × IsVerdict K (history K h.set.workers p way) v)
-    verdict_some found start base frames before behind base_same before_same behind_same way given =
+        → MatchOption found ((x y : Plain J) → applied K start before ≡ Some x → applied K base behind ≡ Some y → ⊥) (λ v. IsVerdict K unit (record { start = start; before = before; checkpoint = base; behind = behind }) v)
+        → MatchOption found ⊥ (λ v. (way : Option (Plain J × List (List ℕ))) × IsWayIf (format K) h p image way × IsVerdict K unit (history K h.set.workers p way) v)
+    verdict_some unit found start base frames before behind base_same before_same behind_same way given =
         let set = read_set K h _ start way.area.body in
         verdict_by found _ _ _ given
         (λ none. none way.reached t (subst (λ l. applied K start l ≡ Some way.reached) (sym before_same) (frames_applied K L h start way.reached frames set way.leads))
@@ -101,7 +101,7 @@ module _ {J : Type 0} (K : Kind J) (L : Laws K) (h : Header) where
         (λ v verdict. (
           Some (start, frames),
           way,
-          subst (λ b. IsVerdict K (record { start = start; before = records_in K h.set.workers frames; checkpoint = b; behind = records_in K h.set.workers (p.before ++ p.frames) }) v) base_same
-              (subst (λ l. IsVerdict K (record { start = start; before = records_in K h.set.workers frames; checkpoint = base; behind = l }) v) behind_same
-              (subst (λ l. IsVerdict K (record { start = start; before = l; checkpoint = base; behind = behind }) v) before_same verdict)),
+          subst (λ b. IsVerdict K unit (record { start = start; before = records_in K h.set.workers frames; checkpoint = b; behind = records_in K h.set.workers (p.before ++ p.frames) }) v) base_same
+              (subst (λ l. IsVerdict K unit (record { start = start; before = records_in K h.set.workers frames; checkpoint = base; behind = l }) v) behind_same
+              (subst (λ l. IsVerdict K unit (record { start = start; before = l; checkpoint = base; behind = behind }) v) before_same verdict)),
         ))

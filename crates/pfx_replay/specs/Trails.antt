@@ -45,10 +45,11 @@ module _ {J : Type 0} (K : Kind J) where
   history workers p None = record { start = p.base; before = []; checkpoint = p.base; behind = records_in workers (p.before ++ p.frames) }
   history workers p (Some w) = record { start = w.0; before = records_in workers w.1; checkpoint = p.base; behind = records_in workers (p.before ++ p.frames) }
 
+module _ {J : Type 0} (K : Kind J) (unit : J → Option ℕ) where
   -- a state is recovered from the image, and this is the verdict on what the file records
   pub record IsReplayed (image : List ℕ) (read : Result (Found Header (Plain J)) Refusal) (verdict : Verdict) : Type 0 where
     pub found : Found Header (Plain J)
     pub read_is : read ≡ Ok found
     pub way : Option (Plain J × List (List ℕ))
     pub way_is : IsWayIf (format K) found.head found.parts image way
-    pub is : IsVerdict K (history found.head.set.workers found.parts way) verdict
+    pub is : IsVerdict K unit (history K found.head.set.workers found.parts way) verdict

@@ -17,6 +17,7 @@ use crate::records::add_records;
 use crate::verdict::Verdict;
 use crate::way::find_way;
 use pfx_jobs::job::Job;
+use pfx_kinds::units::Units;
 use pfx_machine::State;
 use pfx_record::Record;
 use pfx_recover::Format;
@@ -78,7 +79,7 @@ fn file_records<J: Job>(
 }
 
 // The verdict on records that lead from a start to a checkpoint, and on from there, or `None` if some aren't right.
-fn judge_trail<J: Job>(
+fn judge_trail<J: Job + Units>(
     alloc: Global,
     start: State<J>,
     before: &[Record<J>],
@@ -88,7 +89,7 @@ fn judge_trail<J: Job>(
     requires { start.ledger.set ≡ base.ledger.set }
     ensures { IfOk result (λ found. MatchOption found
         ((t u : Plain J) → applied J.kind start (map plain before.now) ≡ Some t → applied J.kind base (map plain behind.now) ≡ Some u → ⊥)
-        (λ verdict. IsVerdict J.kind (record { start = start; before = map plain before.now; checkpoint = base; behind = map plain behind.now }) verdict)) }
+        (λ verdict. IsVerdict J.kind J.unit (record { start = start; before = map plain before.now; checkpoint = base; behind = map plain behind.now }) verdict)) }
 {
     let first = PlainState::of(alloc, &start)?;
     let checkpoint = PlainState::of(alloc, &base)?;
@@ -105,7 +106,7 @@ fn judge_trail<J: Job>(
 }
 
 /// The verdict on a file with these parts, or `None` if the bytes aren't those of a store's file.
-pub(crate) fn judge_file<J: Job>(
+pub(crate) fn judge_file<J: Job + Units>(
     alloc: Global,
     header: &FileHeader,
     image: &[u8],
@@ -117,7 +118,7 @@ pub(crate) fn judge_file<J: Job>(
     ensures { IfOk result (λ found. (p : Parts (Plain J)) → (t : Plain J) → IsStore (format J.kind) header.now p t image.now
         → p.area ≡ area → p.segment ≡ segment → p.turned ≡ turned
         → MatchOption found ⊥ (λ verdict. (way : Option (Plain J × List (List ℕ)))
-        × IsWayIf (format J.kind) header.now p image.now way × IsVerdict J.kind (history J.kind header.now.set.workers p way) verdict)) }
+        × IsWayIf (format J.kind) header.now p image.now way × IsVerdict J.kind J.unit (history J.kind header.now.set.workers p way) verdict)) }
 {
     let sizes = FileFormat::<J>::sizes(header);
     let at = sizes.area_at(area);

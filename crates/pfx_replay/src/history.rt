@@ -11,6 +11,7 @@ use crate::judged::Judged;
 use crate::judging::{is_same, judge_all};
 use crate::verdict::{Difference, Verdict};
 use pfx_jobs::job::Job;
+use pfx_kinds::units::Units;
 use pfx_record::Record;
 use std::alloc::{AllocError, Global};
 
@@ -54,7 +55,7 @@ fn are_states<J: Job>(one: &PlainState<J>, other: &PlainState<J>) -> bool
 }
 
 /// The verdict on records that lead from a start to a checkpoint, and on from there.
-pub(crate) fn judge_history<J: Job>(
+pub(crate) fn judge_history<J: Job + Units>(
     alloc: Global,
     start: PlainState<J>,
     before: &[Record<J>],
@@ -64,7 +65,7 @@ pub(crate) fn judge_history<J: Job>(
     requires set { (plain_of start).ledger.set ≡ (plain_of checkpoint).ledger.set }
     requires before { (t : Plain J) × (applied J.kind (plain_of start) (map plain before.now) ≡ Some t) }
     requires behind { (t : Plain J) × (applied J.kind (plain_of checkpoint) (map plain behind.now) ≡ Some t) }
-    ensures { IfOk result (IsVerdict J.kind (record {
+    ensures { IfOk result (IsVerdict J.kind J.unit (record {
       start = plain_of start;
       before = map plain before.now;
       checkpoint = plain_of checkpoint;

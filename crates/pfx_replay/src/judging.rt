@@ -1,12 +1,14 @@
 // Records against what their commands do.
-ghost use Rattle.std.specs.Prelude.{◌≡◌, ◌≢◌, ◌↔◌, ◌+◌, ◌∷◌, [], ℕ, List, length, map, slice_get, IsTrue, IfOk, Some, None, Ok};
+ghost use Rattle.std.specs.Prelude.{◌≡◌, ◌≢◌, ◌↔◌, ◌+◌, ◌∷◌, [], ℕ, List, length, map, slice_get, slice_index_or, IsTrue, IfOk, Some, None, Ok};
 ghost use Rattle.pfx_choice.specs.PfRows.{chosen};
 ghost use Rattle.pfx_machine.specs.Outcome.{outcome};
 ghost use Rattle.pfx_machine.specs.Plain.{Plain};
 ghost use Rattle.pfx_machine.specs.Refusals.{refusal};
-ghost use Rattle.pfx_record.specs.Records.{plain, ran, tasks_of};
+ghost use Rattle.pfx_kinds.specs.Units.{is_behind, is_taken, last_by};
+ghost use Rattle.pfx_record.specs.Records.{plain, ran, submitted, tasks_of};
 ghost use Rattle.pfx_redo.specs.Applying.{applied, is_right};
 ghost use Rattle.pfx_redo.specs.Recording.{place_of, state_after_step};
+ghost use Rattle.pfx_replay.specs.Commands.{is_next};
 ghost use Rattle.pfx_replay.specs.Judged.{GivesAll, GivesOne};
 ghost use Rattle.pfx_replay.specs.Stated.{plain_of};
 
@@ -14,6 +16,7 @@ use crate::jobs::PlainState;
 use crate::judged::Judged;
 use crate::verdict::Difference;
 use pfx_jobs::job::{Job, are_same};
+use pfx_kinds::units::Units;
 use pfx_record::{Place, Record};
 use std::alloc::{AllocError, Global};
 
@@ -81,13 +84,13 @@ fn are_tasks<J>(row: &[Place<J>], tasks: &[u16]) -> bool
 }
 
 // A slot's record.
-fn judge_row<J: Job>(
+fn judge_row<J: Job + Units>(
     alloc: Global,
     state: PlainState<J>,
     row: &[Place<J>],
 ) -> Result<Judged<J>, AllocError>
     requires { IsTrue (is_right J.kind (plain_of state) (ran row.now)) }
-    ensures { IfOk result (GivesOne J.kind (plain_of state) (ran row.now)) }
+    ensures { IfOk result (GivesOne J.kind J.unit (plain_of state) (ran row.now)) }
 {
     let number = state.number + 1;
     let Some(tasks) = state.ledger.row(alloc)? else {
@@ -111,30 +114,83 @@ fn judge_row<J: Job>(
     Ok(Judged::Agrees(state.ran(&tasks)))
 }
 
+// How many units a task was given.
+fn granted(allocations: &[u64], task: u16) -> u64
+    ensures { result ≡ slice_index_or allocations.now task 0 }
+{
+    match allocations.get(usize::from(task)) {
+        None => 0,
+        Some(units) => *units,
+    }
+}
+
+// Whether a unit is the one behind the last that was answered at a task's place.
+fn is_behind<J: Units>(place: &Option<J>, unit: u64) -> bool
+    ensures { result ≡ is_behind (last_by J.unit place.now) unit }
+{
+    match place {
+        None => true,
+        Some(job) => match job.unit_answered() {
+            None => true,
+            Some(last) => last < unit && unit - last == 1,
+        },
+    }
+}
+
+// Whether a unit's answer is taken for a task.
+fn is_taken<J: Units>(state: &PlainState<J>, task: u16, unit: u64) -> bool
+    ensures { result ≡ is_taken J.unit (slice_get state.now.jobs.items task) (slice_index_or state.now.ledger.allocations.items task 0) (Some unit) }
+{
+    match state.jobs.get(usize::from(task)) {
+        None => true,
+        Some(place) => {
+            unit <= granted(&state.ledger.allocations, task) && is_behind(place, unit)
+        }
+    }
+}
+
+// Whether a job that is given to a task is no answer, or that of the next unit that the task was given.
+fn is_next<J: Job + Units>(state: &PlainState<J>, task: u16, job: &J) -> bool
+    ensures { result ≡ is_next J.unit (plain_of state.now) (submitted task job.now) }
+{
+    match job.unit_answered() {
+        None => true,
+        Some(unit) => is_taken(state, task, unit),
+    }
+}
+
 // One record.
-fn judge_one<J: Job>(
+fn judge_one<J: Job + Units>(
     alloc: Global,
     state: PlainState<J>,
     entry: &Record<J>,
 ) -> Result<Judged<J>, AllocError>
     requires { IsTrue (is_right J.kind (plain_of state) (plain entry.now)) }
-    ensures { IfOk result (GivesOne J.kind (plain_of state) (plain entry.now)) }
+    ensures { IfOk result (GivesOne J.kind J.unit (plain_of state) (plain entry.now)) }
 {
     match entry {
-        Record::Submit { task, job } => Ok(Judged::Agrees(state.submitted(*task, job.copy_of()))),
+        Record::Submit { task, job } => {
+            if !is_next(&state, *task, job) {
+                return Ok(Judged::Differs {
+                    number: state.number + 1,
+                    what: Difference::Answer,
+                });
+            }
+            Ok(Judged::Agrees(state.submitted(*task, job.copy_of())))
+        }
         Record::Slot { row } => judge_row(alloc, state, row),
         Record::Withdraw { task } => Ok(Judged::Agrees(state.withdrawn(*task))),
     }
 }
 
 /// Records after a state, one after the other, up to the first that isn't what its command does.
-pub(crate) fn judge_all<J: Job>(
+pub(crate) fn judge_all<J: Job + Units>(
     alloc: Global,
     state: PlainState<J>,
     records: &[Record<J>],
 ) -> Result<Judged<J>, AllocError>
     requires { (t : Plain J) × (applied J.kind (plain_of state) (map plain records.now) ≡ Some t) }
-    ensures { IfOk result (GivesAll J.kind (plain_of state) (map plain records.now)) }
+    ensures { IfOk result (GivesAll J.kind J.unit (plain_of state) (map plain records.now)) }
 {
     let mut reached = state;
     for entry in records {

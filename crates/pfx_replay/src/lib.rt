@@ -5,7 +5,8 @@
 //! that doesn't, and what differs there:
 //! 1. a row that isn't PF's, or if there is none;
 //! 2. a job's state that isn't the one after its quantum;
-//! 3. a checkpoint that doesn't hold what the commands led to.
+//! 3. an answer that isn't of the next unit that its task was given;
+//! 4. a checkpoint that doesn't hold what the commands led to.
 //!
 //! The state is kept as plain numbers, one task after the other. PF's row is found by counting who goes before whom, by symbols
 //! that are worked out anew: no code of the chooser, the lanes or the machine runs here, so an error there doesn't hide itself.
@@ -33,4 +34,4 @@ pub use folding::plain_state;
 pub use jobs::PlainState;
 pub use numbers::PlainLedger;
 pub use replaying::replay;
-pub use verdict::{Difference, Verdict, put_verdict};
+pub use verdict::{Difference, Verdict, put_verdict, verdict_object};

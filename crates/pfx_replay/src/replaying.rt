@@ -13,6 +13,7 @@ use crate::verdict::Verdict;
 use pfx_disk::Disk;
 use pfx_fault::Part;
 use pfx_jobs::job::Job;
+use pfx_kinds::units::Units;
 use pfx_recover::{OpenFault, Opened, Refusal, open};
 use pfx_store::FileFormat;
 use std::alloc::Global;
@@ -34,13 +35,16 @@ fn read_image<D: Disk>(alloc: Global, disk: &mut D, len: usize) -> Result<Vec<u8
 /// Reads a store's file and runs its commands again, from the lesser checkpoint on if the file has the records from
 /// there to the other, and from the one in use on if it hasn't. The disk comes back.
 ///
-/// `Agrees` says that each recorded row is PF's, each recorded state of a job is the one after its quantum, and the
-/// checkpoint on the way holds the state that the commands lead to; `Differs` names the first number where that isn't so,
-/// and what differs there: a row before a state, a state before a checkpoint. If the file isn't a store's, it is refused
+/// `Agrees` says that each recorded row is PF's, each recorded state of a job is the one after its quantum, each recorded answer is of
+/// the next unit that its task was given, and the checkpoint on the way holds the state that the commands lead to; `Differs` names the
+/// first number where that isn't so, and what differs there: a row before a state, a state before a checkpoint. If the file isn't a store's, it is refused
 /// as `open` refuses it. Nothing is written.
-pub fn replay<J: Job, D: Disk>(alloc: Global, disk: D) -> Result<(Verdict, D), (OpenFault, D)>
+pub fn replay<J: Job + Units, D: Disk>(
+    alloc: Global,
+    disk: D,
+) -> Result<(Verdict, D), (OpenFault, D)>
     ensures verdict { IsHonest (D.view disk) → IfOk result (λ r.
-        IsReplayed J.kind (D.view disk).contents (found (format J.kind) (D.view disk).contents) r.0) }
+        IsReplayed J.kind J.unit (D.view disk).contents (found (format J.kind) (D.view disk).contents) r.0) }
     ensures refused { IsHonest (D.view disk) → IfErr result (λ e. IsRefusal e.0 (λ refusal.
         recovered (format J.kind) (D.view disk).contents ≡ Err refusal)) }
     ensures device { IfErr result (λ e. e.0 ≡ OpenFault.Device → HasFailed (D.view disk) (D.view e.1)) }

@@ -1,8 +1,12 @@
-// What a replay finds, and the line that says it.
-ghost use Rattle.std.specs.Prelude.{Some, OnOk};
+// What a replay finds, and the line or the object that says it.
+ghost use Rattle.std.specs.Prelude.{◌≡◌, Some, false, IfOk, OnOk};
 ghost use Rattle.std.specs.Io.KnownBytes.{Appends};
-ghost use Rattle.pfx_replay.specs.Lines.{difference_name, verdict_text, verdict_line};
+ghost use Rattle.serde_json.specs.View.{view};
+ghost use Rattle.serde_json.specs.Written.{has_float};
+ghost use Rattle.pfx_replay.specs.Lines.{difference_name, verdict_text, verdict_line, difference_object, verdict_object};
 
+use serde_json::{Value, json};
+use std::alloc::{AllocError, Global};
 use std::fmt::{Display, Formatter};
 use std::io::Write;
 use std::{fmt, io};
@@ -14,6 +18,8 @@ pub enum Difference {
     Row,
     /// A recorded state of a job isn't the one after its quantum.
     State,
+    /// A recorded answer isn't of the next unit that its task was given.
+    Answer,
     /// A checkpoint doesn't hold the state after the commands up to its number.
     Checkpoint,
 }
@@ -25,6 +31,7 @@ impl Display for Difference {
         f.write_str(match self {
             Difference::Row => "Row",
             Difference::State => "State",
+            Difference::Answer => "Answer",
             Difference::Checkpoint => "Checkpoint",
         })
     }
@@ -55,4 +62,26 @@ pub fn put_verdict<W: Write>(output: &mut W, verdict: Verdict) -> io::Result<()>
     ensures { OnOk result (Appends (W.contents output.old) (W.contents output.new) (verdict_line verdict)) }
 {
     write!(output, "{verdict}\n")
+}
+
+fn difference_object(alloc: Global, number: u64, what: Difference) -> Result<Value, AllocError>
+    ensures { IfOk result (λ v. view v ≡ difference_object number what) }
+{
+    let what = what.to_string(alloc)?;
+    json!(in alloc; {"number": number, "what": what})
+}
+
+/// A verdict as an object of JSON: `{"agrees":6}` or `{"differs":{"number":3,"what":"State"}}`. An error comes only if an allocation
+/// failed.
+pub fn verdict_object(alloc: Global, verdict: Verdict) -> Result<Value, AllocError>
+    ensures object { IfOk result (λ v. view v ≡ verdict_object verdict) }
+    ensures whole { IfOk result (λ v. has_float (view v) ≡ false) }
+{
+    match verdict {
+        Verdict::Agrees { number } => json!(in alloc; {"agrees": number}),
+        Verdict::Differs { number, what } => {
+            let difference = difference_object(alloc, number, what)?;
+            json!(in alloc; {"differs": difference})
+        }
+    }
 }

@@ -1,12 +1,14 @@
 -- Rows that show the records of a script, and what they ask for.
-use Rattle.std.proofs.Common.{◌≡◌, codes, refl, [], ◌∷◌, Some, None}
+use Rattle.std.proofs.Common.{◌≡◌, codes, refl, [], ◌∷◌, ◌++◌, Some, None, false}
 use Rattle.std.specs.Char.{encode_utf8}
 use Rattle.std.specs.Str.{is_utf8, chars}
 use Rattle.csv.specs.Records.{field_at}
 use Rattle.csv.proofs.OnLiterals.{csv_on_literals}
 use Rattle.pfx_decimal.specs.Numerals.{number_in}
 use Rattle.pfx_script.specs.Verbs.{submit, slot, withdraw, settle, status, show, verb_of}
+use Rattle.pfx_script.specs.Quoting.{plain, quoted, script_text}
 use Rattle.pfx_script.specs.Records.{script_records}
+use Rattle.pfx_script.specs.Whole.{after, whole, whole_of}
 
 pub two_records : script_records (codes "settle,,,,\n\nslot,,\"\",3,\n") ≡ (codes "settle" ∷ [] ∷ [] ∷ [] ∷ [] ∷ []) ∷ (codes "slot" ∷ [] ∷ [] ∷ codes "3" ∷ [] ∷ []) ∷ []
 unfolding csv_on_literals
@@ -63,3 +65,21 @@ four_fields = refl
 pub a_field_too_many : verb_of (codes "settle" ∷ codes "0" ∷ [] ∷ [] ∷ [] ∷ []) ≡ None
 unfolding verb_of number_in field_at is_utf8 chars encode_utf8
 a_field_too_many = refl
+
+-- ---- what is whole
+
+pub closed : whole_of (codes "\"b\",c\n") ≡ codes "\"b\",c\n"
+unfolding whole after
+closed = refl
+
+pub open_quote : whole_of (codes "a,\"b\n") ≡ codes "a,\"b\n" ++ 255 ∷ []
+unfolding whole after
+open_quote = refl
+
+pub text_behind_a_quote : whole_of (codes "\"b\"c\n") ≡ codes "\"b\"" ++ 255 ∷ []
+unfolding whole after
+text_behind_a_quote = refl
+
+-- a record of two fields, as it is written
+pub written : script_text false ((plain (codes "a") ∷ quoted (codes "b\"") ∷ []) ∷ []) [] ≡ codes "a,\"b\"\"\"\n"
+written = refl

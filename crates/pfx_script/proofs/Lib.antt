@@ -1,5 +1,6 @@
 pub mod Texts
 pub mod Passing
+pub mod Quotes
 pub mod NextRecords
 pub mod Taking
 pub mod Examples

@@ -1,5 +1,5 @@
 -- What a read of the next record leaves of a script.
-use Rattle.std.proofs.Common.{◌≡◌, ◌+◌, ℕ, List, [], ◌∷◌, length, true, false, Option, Some, None, IfSome, option_map, refl, sym, ap, ◌∙◌, inl, arith}
+use Rattle.std.proofs.Common.{◌≡◌, ◌+◌, ℕ, List, [], ◌∷◌, length, Bool, true, false, if◌then◌else◌, Option, Some, None, IfSome, option_map, refl, sym, ap, ◌∙◌, inl, arith}
 use Rattle.csv.specs.Reading.{ReadsNext, ReadRecord, ExplainsRead, source_of, pending_of, records_from, default_config}
 use Rattle.csv.specs.declared.parser.State.{State}
 use Rattle.csv.specs.declared.reader.Reader.{Reader}
@@ -7,6 +7,7 @@ use Rattle.csv.specs.declared.error.ErrorKind.{ErrorKind}
 use Rattle.csv.specs.declared.error.ErrorKind.TheVariants as kind
 use Rattle.pfx_script.specs.Records.{Fields, Records, records_left, Reports, ReadFails}
 use Rattle.pfx_fault.specs.declared.refusals.Fault.{Fault}
+use Rattle.pfx_fault.specs.declared.refusals.Fault.TheVariants as fault
 use Rattle.pfx_script.proofs.Texts.{verb_of-no_text}
 use Rattle.pfx_script.proofs.NextRecords.{next_record-found, next_record-not_found, records_from-some, records_from-none, records_from-same}
 
@@ -42,14 +43,19 @@ pub if_some : {A : Type 0} (o : Option A) (P Q : A → Type 0) → IfSome o P �
 if_some None P Q h f = tt
 if_some (Some x) P Q h f = f x h
 
+-- whichever of the two it is
+io_fails : (old : Records) (broken : Bool) → ReadFails old (if broken then fault.InputFailed else fault.NoMemory)
+io_fails old true = tt
+io_fails old false = tt
+
 -- `csv` refused the read
-pub refuses : {R : Type 0} (rem : R → Option (List ℕ)) (a b : Reader R) (old : Records) (e : ErrorKind) (f : Fault) → a.config ≡ default_config → a.flexible ≡ true
-    → old.left ≡ records_left rem a → ExplainsRead rem a b true e → Reports e (old.place + 1) f → ReadFails old f
-refuses rem a b old (kind.Io why) f config flexible is explained same = rw same tt
-refuses rem a b old kind.OutOfMemory f config flexible is explained same = rw same tt
-refuses rem a b old (kind.UnequalLengths pos expected len) f config flexible is explained same = let never : true ≡ false = sym flexible ∙ explained.0 in absurd (cc)
-refuses rem a b old (kind.Utf8 pos err) f config flexible is (text, fields, took_it, other) same =
+pub refuses : {R : Type 0} (rem : R → Option (List ℕ)) (a b : Reader R) (old : Records) (e : ErrorKind) (broken : Bool) (f : Fault) → a.config ≡ default_config → a.flexible ≡ true
+    → old.left ≡ records_left rem a → ExplainsRead rem a b true e → Reports e broken (old.place + 1) f → ReadFails old f
+refuses rem a b old (kind.Io why) broken f config flexible is explained same = rw same (io_fails old broken)
+refuses rem a b old kind.OutOfMemory broken f config flexible is explained same = rw same tt
+refuses rem a b old (kind.UnequalLengths pos expected len) broken f config flexible is explained same = let never : true ≡ false = sym flexible ∙ explained.0 in absurd (cc)
+refuses rem a b old (kind.Utf8 pos err) broken f config flexible is (text, fields, took_it, other) same =
     let read = took a.state b.state (source_of rem a) (pending_of (rem b.rdr) b) fields (rw config at took_it) in
     rw (same, is) (refl, if_some (records_left rem a) _ _ read (λ rows (rest, rows_are, left). (fields, rest, rows_are, verb_of-no_text fields other)))
-refuses rem a b old (kind.Serialize why) f config flexible is explained same = absurd explained
-refuses rem a b old (kind.Deserialize pos err) f config flexible is explained same = absurd explained
+refuses rem a b old (kind.Serialize why) broken f config flexible is explained same = absurd explained
+refuses rem a b old (kind.Deserialize pos err) broken f config flexible is explained same = absurd explained

@@ -1,3 +1,6 @@
 pub mod Verbs
 pub mod Records
 pub mod Whole
+pub mod Heard
+pub mod Quoting
+pub mod Ends

@@ -1,5 +1,5 @@
 -- The records of a script, and what reading them one at a time gives.
-use Rattle.std.specs.Prelude.{◌≡◌, ◌<◌, ◌⊎◌, ⊤, ℕ, ◌+◌, Bool, true, false, List, [], ◌∷◌, length, Option, Some, None, IfSome, option_map}
+use Rattle.std.specs.Prelude.{◌≡◌, ◌<◌, ◌⊎◌, ⊤, ℕ, ◌+◌, ◌-◌, ◌^◌, if◌then◌else◌, Bool, true, false, List, [], ◌∷◌, length, Option, Some, None, IfSome, option_map}
 use Rattle.csv.specs.Reading.{Ready, records, records_from, default_config, strip_bom, source_of}
 use Rattle.csv.specs.declared.parser.State.{State}
 use Rattle.csv.specs.declared.parser.State.TheVariants as st
@@ -19,15 +19,18 @@ Fields = List (List ℕ)
 abbrev pub script_records : List ℕ → List Fields
 script_records bytes = records default_config (strip_bom bytes)
 
--- a script as its callers see it: the records that are left, if the bytes are known, how many were read, and whether reading has failed
+-- a script as its callers see it: the records that are left, if the bytes are known, how many were read, whether reading has failed,
+-- whether the last answer of its reader was an error, and whether its reader has given the next record to its end
 pub record Records : Type 0 where
   pub left : Option (List Fields)
   pub place : ℕ
   pub failed : Bool
+  pub broken : Bool
+  pub ready : Bool
 
 -- a script of which nothing was read yet
 abbrev pub unread : Option (List ℕ) → Records
-unread bytes = record { left = option_map script_records bytes; place = 0; failed = false }
+unread bytes = record { left = option_map script_records bytes; place = 0; failed = false; broken = false; ready = false }
 
 -- so many records are at least those of the bytes that are left
 abbrev pub Covers : ℕ → State → List ℕ → Type 0
@@ -62,8 +65,12 @@ ReadFails old fault.InputFailed = ⊤
 ReadFails old fault.NoMemory = ⊤
 ReadFails old other = ⊥
 
--- what is answered if `csv` refused the read of the record at a place
-abbrev pub Reports : ErrorKind → ℕ → Fault → Type 0
-Reports (kind.Io e) at f = f ≡ fault.InputFailed
-Reports kind.OutOfMemory at f = f ≡ fault.NoMemory
-Reports other at f = f ≡ fault.BadScript at
+-- that the reader has failed is said if its last answer was an error, if reading had failed before, or if no further record can be counted
+abbrev pub IsUnread : Records → Records → Type 0
+IsUnread old new = (new.broken ≡ true) ⊎ ((old.failed ≡ true) ⊎ (old.place ≡ 2 ^ 64 - 1))
+
+-- what is answered if `csv` refused the read of the record at a place, over a reader that has failed or hasn't
+abbrev pub Reports : ErrorKind → Bool → ℕ → Fault → Type 0
+Reports (kind.Io e) broken at f = f ≡ (if broken then fault.InputFailed else fault.NoMemory)
+Reports kind.OutOfMemory broken at f = f ≡ fault.NoMemory
+Reports other broken at f = f ≡ fault.BadScript at

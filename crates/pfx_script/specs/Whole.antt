@@ -1,5 +1,6 @@
 -- What is whole of a script's bytes.
 use Rattle.std.specs.Prelude.{ℕ, ◌+◌, ◌==◌, ◌||◌, nat_lt, Bool, true, false, if◌then◌else◌, List, [], ◌∷◌, Option, option_map}
+use Rattle.pfx_script.specs.Heard.{heard_left}
 use Rattle.pfx_script.specs.declared.whole.Mode.{Mode}
 use Rattle.pfx_script.specs.declared.whole.Mode.TheVariants as mode
 use Rattle.pfx_script.specs.declared.whole.Spot.{Spot}
@@ -62,4 +63,4 @@ behind false s rest = whole s rest
 
 -- what such a reader has left
 abbrev pub whole_left : {R : Type 0} → (R → Option (List ℕ)) → Whole R → Option (List ℕ)
-whole_left rem w = option_map (whole w.spot) (rem w.input)
+whole_left rem w = option_map (whole w.spot) (heard_left rem w.input)

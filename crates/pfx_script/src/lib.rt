@@ -3,10 +3,13 @@
 //! What it keeps true: the records of a script are those of its bytes as CSV without a header line, read one at a time
 //! in the memory of one record; the verb of a record is one stated function of its fields, `verb_of` of
 //! `specs/Verbs.antt`; a script ends early exactly at its first record that is no text, or if its reader or the
-//! memory fails.
+//! memory fails; and that a reader has failed is said only where its last answer was an error.
 #![tactic(auto)]
 
+mod ends;
 mod fields;
+mod heard;
+pub mod laws;
 mod records;
 mod verbs;
 mod whole;

@@ -3,6 +3,7 @@
 ghost use Rattle.std.specs.Prelude.{◌≡◌, ◌≤◌, ◌<◌, ◌++◌, [], List, ℕ, length, take, nat_lt, true, false, option_map};
 ghost use Rattle.pfx_script.specs.Whole.{is_over, is_quoted, in_field, at_field, behind_quote, mode_after, spot_with, after, whole, whole_of, whole_left, behind};
 
+use crate::heard::Heard;
 use std::io;
 use std::io::Read;
 
@@ -38,7 +39,7 @@ pub(crate) enum Mode {
 /// Where a byte stands, and how many bytes of its record are before it.
 #[derive(Clone, Copy, Debug, PartialEq, Eq)]
 pub(crate) struct Spot {
-    mode: Mode,
+    pub(crate) mode: Mode,
     len: u32,
 }
 
@@ -123,8 +124,19 @@ fn spot_with(mode: Mode, len: u32) -> Spot
     }
 }
 
+/// A script's front.
+pub(crate) fn front() -> Spot
+    ensures { result ≡ record { mode = Mode.Begin; len = 0 } }
+{
+    Spot {
+        mode: Mode::Begin,
+        len: 0,
+    }
+}
+
+/// Where the byte behind this one stands.
 #[tactic(auto, unfolding(crate::specs::Whole::after))]
-fn after(spot: Spot, byte: u8) -> Spot
+pub(crate) fn after(spot: Spot, byte: u8) -> Spot
     ensures { result ≡ after spot byte }
 {
     spot_with(mode_after(spot.mode, byte), spot.len)
@@ -152,7 +164,7 @@ fn passed(spot: Spot, bytes: &[u8]) -> (usize, Spot)
 /// A byte order mark in front is passed over.
 #[derive(Drop)]
 pub struct Whole<R: Read + Drop> {
-    input: R,
+    input: Heard<R>,
     spot: Spot,
 }
 
@@ -162,11 +174,8 @@ impl<R: Read + Drop> Whole<R> {
         ensures { whole_left R.remaining result ≡ option_map whole_of (R.remaining input) }
     {
         Whole {
-            input,
-            spot: Spot {
-                mode: Mode::Begin,
-                len: 0,
-            },
+            input: Heard::new(input),
+            spot: front(),
         }
     }
 
@@ -209,11 +218,19 @@ impl<R: Read + Drop> Whole<R> {
 }
 
 impl<R: Read + Drop> Read for Whole<R> {
+    ghost use Rattle.std.specs.Prelude.{◌≡◌, true, OnErr};
+    ghost use Rattle.std.specs.Io.{ReadsAtMost};
+    ghost use Rattle.std.specs.Io.KnownBytes.{ReadConsumes};
     ghost use Rattle.pfx_script.specs.Whole.{whole_left};
 
     ghost remaining = { whole_left R.remaining };
 
-    fn read(&mut self, bytes: &mut [u8]) -> io::Result<usize> {
+    /// Gives what is whole of the bytes that come next. It fails only if the reader below does.
+    fn read(&mut self, bytes: &mut [u8]) -> io::Result<usize>
+        ensures bound { ReadsAtMost result bytes.new }
+        ensures bytes { ReadConsumes (whole_left R.remaining self.old) (whole_left R.remaining self.new) result bytes.new }
+        ensures fails { OnErr result (self.new.input.failed ≡ true) }
+    {
         if bytes.is_empty() || is_over(self.spot.mode) {
             return Ok(0);
         }

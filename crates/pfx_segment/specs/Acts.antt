@@ -10,7 +10,7 @@ use Rattle.pfx_segment.specs.Segment.{IsRun}
 abbrev pub put_acts : ℕ → List ℕ → List Act
 put_acts gate bytes = Write (gate + 1) bytes ∷ Sync ∷ Write gate (GATE_OPEN ∷ []) ∷ Sync ∷ []
 
--- a gate that stands open is closed, one that stands closed is read
+-- a gate that stands open is closed, one that stands closed is looked at
 abbrev pub closing_act : ℕ → Bool → Act
 closing_act gate true = Write gate (0 ∷ [])
 closing_act gate false = Look

@@ -30,7 +30,7 @@ pub fn put_behind<D: Disk>(disk: &mut D, gate: usize, bytes: &[u8]) -> Result<()
     Ok(())
 }
 
-/// Closes a gate that stands open, or reads one that stands closed, and syncs: two calls.
+/// Closes a gate that stands open, or looks at one that stands closed, and syncs: two calls, and nothing is made of what a read gives.
 /// `gate` is its place in bytes. `DeviceFailed` comes only if a call of the disk failed; no call is made after that.
 ///
 /// A closed gate isn't written closed again, since a stop within that write could leave it open. The gate lies before
@@ -52,8 +52,7 @@ pub fn close<D: Disk>(disk: &mut D, gate: usize, is_open: bool) -> Result<(), De
         disk.sync()?;
         return Ok(());
     }
-    let mut byte = [0];
-    disk.read(gate, &mut byte)?;
+    disk.look_at(gate)?;
     disk.sync()?;
     Ok(())
 }

@@ -5,3 +5,4 @@ pub mod Making
 pub mod Marks
 pub mod Files
 pub mod Groups
+pub mod Noting

@@ -131,11 +131,13 @@ pub record BeginsBehind (last : ℕ) (start : List ℕ) : Type 0 where
   pub closed : slice_index start 8 ≡ 0
   pub bytes : start ≡ number_bytes 8 (last + 1) ++ 0 ∷ []
 
--- So many calls of the disk made the store, and no answer took more; an honest disk is one before as after.
+-- So many calls of the disk made the store, the last of them a sync, after which a stop leaves what is read; no answer took more; an honest
+-- disk is one before as after.
 pub record IsMaking {D J : Type 0} (view : D → View) (calls : ℕ) (disk : D) (result : Result (PlainStore D J) (InitFault × D)) : Type 0 where
   pub calls_made : IfOk result (λ store. (view store.file.disk).clock ≡ (view disk).clock + 6 + pieces (total_len store.file.places.sizes - 1))
   pub honest : MatchResult result (λ store. IsHonest (view disk) ↔ IsHonest (view store.file.disk)) (λ e. IsHonest (view disk) ↔ IsHonest (view e.1))
   pub takes : MatchResult result (λ store. Takes calls (view disk) (view store.file.disk) result) (λ e. Takes calls (view disk) (view e.1) result)
+  pub only : IsHonest (view disk) → IfOk result (λ store. Only (view store.file.disk).contents (view store.file.disk))
 
 -- the new store of a set, with segments of this length, within the limits; it isn't broken, and no checkpoint is in progress
 pub record IsNew {D J : Type 0} (set : FilledSet) (segment : ℕ) (store : PlainStore D J) : Type 0 where

@@ -2,13 +2,12 @@
 ghost use Rattle.std.specs.Prelude.{◌≡◌, IsTrue, None, false};
 ghost use Rattle.pfx_book.specs.Register.{HasRoom};
 
-use crate::states::count;
+use crate::states::Trial;
 use pfx_book::book::{Book, Pass};
 use pfx_book::closing::Receipt;
 use pfx_book::faults::BookFault;
 use pfx_book::name::Named;
 use pfx_jobs::quantum::Quantum;
-use pfx_kinds::any::AnyJob;
 use pfx_machine::{Command, MachineFault, Reply};
 use std::alloc::AllocError;
 
@@ -16,7 +15,7 @@ use std::alloc::AllocError;
 pub type Answer = Result<(u64, Reply), BookFault>;
 
 /// Whether commands may be asked.
-pub fn is_free<B: Named<AnyJob>>(book: &Book<AnyJob, B>) -> bool
+pub fn is_free<J: Trial, B: Named<J>>(book: &Book<J, B>) -> bool
     ensures none_open { IsTrue result → book.now.session.opened ≡ None }
     ensures room { IsTrue result → HasRoom book.now.session }
     ensures goes_on { IsTrue result → book.now.failure ≡ None }
@@ -26,12 +25,12 @@ pub fn is_free<B: Named<AnyJob>>(book: &Book<AnyJob, B>) -> bool
 }
 
 /// Submits a count of five steps.
-pub fn submit<B: Named<AnyJob>>(
-    book: &mut Book<AnyJob, B>,
-    pass: &mut Pass<AnyJob, B>,
+pub fn submit<J: Trial, B: Named<J>>(
+    book: &mut Book<J, B>,
+    pass: &mut Pass<J, B>,
     task: u16,
 ) -> Option<Answer> {
-    let job = count()?;
+    let job = J::count()?;
     if !is_free(book) {
         return None;
     }
@@ -39,9 +38,9 @@ pub fn submit<B: Named<AnyJob>>(
 }
 
 /// Withdraws.
-pub fn withdraw<B: Named<AnyJob>>(
-    book: &mut Book<AnyJob, B>,
-    pass: &mut Pass<AnyJob, B>,
+pub fn withdraw<J: Trial, B: Named<J>>(
+    book: &mut Book<J, B>,
+    pass: &mut Pass<J, B>,
     task: u16,
 ) -> Option<Answer> {
     if !is_free(book) {
@@ -51,10 +50,10 @@ pub fn withdraw<B: Named<AnyJob>>(
 }
 
 /// Opens a slot.
-pub fn open<B: Named<AnyJob>>(
-    book: &mut Book<AnyJob, B>,
-    pass: &mut Pass<AnyJob, B>,
-) -> Option<Result<Vec<Quantum<AnyJob>>, BookFault>> {
+pub fn open<J: Trial, B: Named<J>>(
+    book: &mut Book<J, B>,
+    pass: &mut Pass<J, B>,
+) -> Option<Result<Vec<Quantum<J>>, BookFault>> {
     if !is_free(book) {
         return None;
     }
@@ -62,9 +61,9 @@ pub fn open<B: Named<AnyJob>>(
 }
 
 /// Gives a receipt.
-pub fn receipt<B: Named<AnyJob>>(
-    book: &mut Book<AnyJob, B>,
-    pass: &mut Pass<AnyJob, B>,
+pub fn receipt<J: Trial, B: Named<J>>(
+    book: &mut Book<J, B>,
+    pass: &mut Pass<J, B>,
     number: u64,
 ) -> Option<Result<Receipt, AllocError>> {
     if number > book.marked() {
@@ -74,7 +73,7 @@ pub fn receipt<B: Named<AnyJob>>(
 }
 
 /// Tells a client that the flusher has given up. Whether it has.
-pub fn tell<B: Named<AnyJob>>(book: &mut Book<AnyJob, B>, pass: &mut Pass<AnyJob, B>) -> bool {
+pub fn tell<J: Trial, B: Named<J>>(book: &mut Book<J, B>, pass: &mut Pass<J, B>) -> bool {
     if book.failure().is_none() {
         return false;
     }
@@ -117,8 +116,8 @@ pub fn is_refused(answer: &Option<Answer>, fault: MachineFault) -> bool {
 }
 
 /// Whether the machine refused to open a slot for this fault.
-pub fn is_unopened(
-    answer: &Option<Result<Vec<Quantum<AnyJob>>, BookFault>>,
+pub fn is_unopened<J: Trial>(
+    answer: &Option<Result<Vec<Quantum<J>>, BookFault>>,
     fault: MachineFault,
 ) -> bool {
     match answer {

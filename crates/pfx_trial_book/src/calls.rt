@@ -5,12 +5,11 @@ use crate::asking::{
     is_first_slot, is_submitted, is_withdrawn, open, receipt, submit, tell, withdraw,
 };
 use crate::flusher::{Flusher, begin};
-use crate::states::later;
+use crate::states::{Trial, later};
 use pfx_book::book::{Book, Pass};
 use pfx_book::name::Named;
 use pfx_book::note::Note;
 use pfx_fault::Cause;
-use pfx_jobs::job::Job;
 use pfx_kinds::any::AnyJob;
 use pfx_machine::State;
 use pfx_token::tokens::Opened;
@@ -18,26 +17,26 @@ use std::alloc::Global;
 use std::marker::Brand;
 
 /// Whether a new book is as it should be.
-fn is_new<B: Named<AnyJob>>(book: &Book<AnyJob, B>) -> bool {
+fn is_new<J: Trial, B: Named<J>>(book: &Book<J, B>) -> bool {
     let is_idle = !book.is_open() && !book.has_pending() && book.is_settled();
     let goes_on = book.has_room() && !book.is_closed() && book.failure().is_none();
     is_idle && goes_on && book.marked() == 1 && book.passes() == 0
 }
 
 /// Whether the first pass of a book is as it should be.
-fn is_first<B: Named<AnyJob>>(book: &Book<AnyJob, B>, pass: &Pass<AnyJob, B>) -> bool {
+fn is_first<J: Trial, B: Named<J>>(book: &Book<J, B>, pass: &Pass<J, B>) -> bool {
     pass.number() == 1 && pass.greatest() == 0 && pass.cause().is_none() && book.passes() == 1
 }
 
 /// Whether a Submit and a Withdraw are taken.
-fn asks<B: Named<AnyJob>>(book: &mut Book<AnyJob, B>, pass: &mut Pass<AnyJob, B>) -> bool {
+fn asks<J: Trial, B: Named<J>>(book: &mut Book<J, B>, pass: &mut Pass<J, B>) -> bool {
     let submitted = is_submitted(&submit(book, pass, 0), 2, 0);
     let withdrawn = is_withdrawn(&withdraw(book, pass, 2), 3, 2);
     submitted && withdrawn && pass.greatest() == 3 && book.has_pending() && !book.is_settled()
 }
 
 /// Whether a slot of one quantum is opened, run and sealed.
-fn runs<B: Named<AnyJob>>(book: &mut Book<AnyJob, B>, pass: &mut Pass<AnyJob, B>) -> Option<bool> {
+fn runs<J: Trial, B: Named<J>>(book: &mut Book<J, B>, pass: &mut Pass<J, B>) -> Option<bool> {
     let mut quanta = open(book, pass)?.ok()?;
     let quantum = quanta.pop()?;
     let missing = book.missing()?;
@@ -49,11 +48,11 @@ fn runs<B: Named<AnyJob>>(book: &mut Book<AnyJob, B>, pass: &mut Pass<AnyJob, B>
 }
 
 /// Whether all is taken and marked, and a receipt given.
-fn marks<B: Named<AnyJob>>(
+fn marks<J: Trial, B: Named<J>>(
     alloc: Global,
-    book: &mut Book<AnyJob, B>,
-    flusher: &mut Flusher<B>,
-    pass: &mut Pass<AnyJob, B>,
+    book: &mut Book<J, B>,
+    flusher: &mut Flusher<J, B>,
+    pass: &mut Pass<J, B>,
 ) -> Option<bool> {
     let taken = flusher.takes(alloc, book, 2, 3) && !book.has_pending() && !book.is_settled();
     flusher.mark(book, 9);
@@ -63,12 +62,12 @@ fn marks<B: Named<AnyJob>>(
 }
 
 /// How many steps a task's job has left. `None` if the task has no job.
-fn left(state: &State<AnyJob>, task: usize) -> Option<u32> {
+fn left<J: Trial>(state: &State<J>, task: usize) -> Option<u32> {
     Some(state.jobs().get(task)?.as_ref()?.left())
 }
 
 /// Whether the copy of the state has just task 0's job, one step on.
-fn is_copied<B: Named<AnyJob>>(book: &Book<AnyJob, B>) -> bool {
+fn is_copied<J: Trial, B: Named<J>>(book: &Book<J, B>) -> bool {
     let Ok(copy) = book.state() else {
         return false;
     };
@@ -77,10 +76,10 @@ fn is_copied<B: Named<AnyJob>>(book: &Book<AnyJob, B>) -> bool {
 }
 
 /// Whether the book is closed, and the client told why.
-fn ends<B: Named<AnyJob>>(
-    book: &mut Book<AnyJob, B>,
-    flusher: &mut Flusher<B>,
-    pass: &mut Pass<AnyJob, B>,
+fn ends<J: Trial, B: Named<J>>(
+    book: &mut Book<J, B>,
+    flusher: &mut Flusher<J, B>,
+    pass: &mut Pass<J, B>,
 ) -> bool {
     book.legal();
     book.shut();
@@ -90,15 +89,15 @@ fn ends<B: Named<AnyJob>>(
 }
 
 /// Whether each part of a book's life is as it should be.
-fn live<B: Named<AnyJob>>(
+fn live<J: Trial, B: Named<J>>(
     alloc: Global,
-    tokens: Opened<Note<AnyJob>>,
-    state: &State<AnyJob>,
+    tokens: Opened<Note<J>>,
+    state: &State<J>,
 ) -> Option<[bool; 8]>
     requires table { tokens.table.shared.table_id ≡ B.table }
     requires start { state.now ≡ B.start }
 {
-    let (mut book, mut flusher) = begin::<B>(alloc, tokens, state)?;
+    let (mut book, mut flusher) = begin::<J, B>(alloc, tokens, state)?;
     let new = is_new(&book);
     let mut pass = book.pass()?;
     let first = is_first(&book, &pass);
@@ -117,7 +116,7 @@ fn live<B: Named<AnyJob>>(
 fn book_lives(alloc: Global) -> Option<[bool; 8]> {
     let state = later(alloc)?;
     let tokens = Opened::new(alloc).ok()?;
-    live::<Brand>(alloc, tokens, &state)
+    live::<AnyJob, Brand>(alloc, tokens, &state)
 }
 
 #[test]

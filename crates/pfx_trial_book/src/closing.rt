@@ -3,7 +3,7 @@ ghost use Rattle.std.specs.Prelude.{◌≡◌};
 
 use crate::asking::{submit, withdraw};
 use crate::flusher::begin;
-use crate::states::thirds;
+use crate::states::{Trial, thirds};
 use pfx_book::book::{Book, Pass};
 use pfx_book::name::Named;
 use pfx_book::note::Note;
@@ -14,10 +14,7 @@ use std::alloc::Global;
 use std::marker::Brand;
 
 /// Three passes, each with an entry, in their order. The last one's is a refusal.
-fn three<B: Named<AnyJob>>(
-    alloc: Global,
-    book: &mut Book<AnyJob, B>,
-) -> Option<Vec<Pass<AnyJob, B>>> {
+fn three<J: Trial, B: Named<J>>(alloc: Global, book: &mut Book<J, B>) -> Option<Vec<Pass<J, B>>> {
     let mut passes = Vec::with_capacity(alloc, 3).ok()?;
     for task in 0..3 {
         let mut pass = book.pass()?;
@@ -32,15 +29,15 @@ fn three<B: Named<AnyJob>>(
 }
 
 /// Whether passes are gathered if all are back in order, and only there. They come back in order.
-fn gather<B: Named<AnyJob>>(
+fn gather<J: Trial, B: Named<J>>(
     alloc: Global,
-    tokens: Opened<Note<AnyJob>>,
-    state: &State<AnyJob>,
+    tokens: Opened<Note<J>>,
+    state: &State<J>,
 ) -> Option<bool>
     requires table { tokens.table.shared.table_id ≡ B.table }
     requires start { state.now ≡ B.start }
 {
-    let (mut book, _flusher) = begin::<B>(alloc, tokens, state)?;
+    let (mut book, _flusher) = begin::<J, B>(alloc, tokens, state)?;
     let mut none = Vec::new(alloc);
     let empty = book.gathered(&mut none);
     let mut passes = three(alloc, &mut book)?;
@@ -58,7 +55,7 @@ fn gather<B: Named<AnyJob>>(
 fn passes_are_gathered(alloc: Global) -> Option<bool> {
     let state = thirds(alloc)?;
     let tokens = Opened::new(alloc).ok()?;
-    gather::<Brand>(alloc, tokens, &state)
+    gather::<AnyJob, Brand>(alloc, tokens, &state)
 }
 
 #[test]

@@ -2,11 +2,11 @@
 ghost use Rattle.std.specs.Prelude.{◌≡◌, ◌+◌, ◌≤◌, [], length, vec_capacity, IfSome};
 ghost use Rattle.pfx_book.specs.Notes.{records_in};
 
+use crate::states::Trial;
 use pfx_book::book::{Book, Share};
 use pfx_book::name::Named;
 use pfx_book::note::Note;
 use pfx_fault::Cause;
-use pfx_kinds::any::AnyJob;
 use pfx_machine::State;
 use pfx_record::{Batch, Record};
 use pfx_token::tokens::Opened;
@@ -14,40 +14,40 @@ use std::alloc::Global;
 
 /// A flusher.
 #[derive(Drop)]
-pub struct Flusher<B: Named<AnyJob>> {
-    share: Share<AnyJob, B>,
+pub struct Flusher<J: Trial, B: Named<J>> {
+    share: Share<J, B>,
     last: u64,
     ghost last_is: { last ≡ B.start.number + length (records_in share) },
 }
 
 /// A book that begins at this state, marked at clock 7, and its flusher.
-pub fn begin<B: Named<AnyJob>>(
+pub fn begin<J: Trial, B: Named<J>>(
     alloc: Global,
-    tokens: Opened<Note<AnyJob>>,
-    state: &State<AnyJob>,
-) -> Option<(Book<AnyJob, B>, Flusher<B>)>
+    tokens: Opened<Note<J>>,
+    state: &State<J>,
+) -> Option<(Book<J, B>, Flusher<J, B>)>
     requires table { tokens.table.shared.table_id ≡ B.table }
     requires start { state.now ≡ B.start }
 {
-    let (book, share) = Book::<AnyJob, B>::new(alloc, tokens, state, 7).ok()?;
+    let (book, share) = Book::<J, B>::new(alloc, tokens, state, 7).ok()?;
     let last = book.marked();
     Some((book, Flusher { share, last }))
 }
 
 /// A vector with room for a batch.
-pub fn batch_room(alloc: Global) -> Option<Vec<Record<AnyJob>>>
+pub fn batch_room<J: Trial>(alloc: Global) -> Option<Vec<Record<J>>>
     ensures { IfSome result (λ room. (room.items ≡ []) × (16 ≤ vec_capacity room)) }
 {
     Vec::with_capacity(alloc, 16).ok()
 }
 
-impl<B: Named<AnyJob>> Flusher<B> {
+impl<J: Trial, B: Named<J>> Flusher<J, B> {
     /// The next batch. The vector comes back if nothing waits.
     pub fn take(
         &mut self,
-        book: &mut Book<AnyJob, B>,
-        room: Vec<Record<AnyJob>>,
-    ) -> Result<Batch<AnyJob>, Vec<Record<AnyJob>>>
+        book: &mut Book<J, B>,
+        room: Vec<Record<J>>,
+    ) -> Result<Batch<J>, Vec<Record<J>>>
         requires empty { room.items ≡ [] }
         requires room { 16 ≤ vec_capacity room }
     {
@@ -66,7 +66,7 @@ impl<B: Named<AnyJob>> Flusher<B> {
     pub fn takes(
         &mut self,
         alloc: Global,
-        book: &mut Book<AnyJob, B>,
+        book: &mut Book<J, B>,
         first: u64,
         count: usize,
     ) -> bool {
@@ -80,7 +80,7 @@ impl<B: Named<AnyJob>> Flusher<B> {
     }
 
     /// Marks what it took, at this clock.
-    pub fn mark(&mut self, book: &mut Book<AnyJob, B>, clock: u64) {
+    pub fn mark(&mut self, book: &mut Book<J, B>, clock: u64) {
         let Flusher { share, last } = self;
         book.settled(share);
         book.mark(share, *last, clock);
@@ -88,7 +88,7 @@ impl<B: Named<AnyJob>> Flusher<B> {
     }
 
     /// Gives up.
-    pub fn fail(&mut self, book: &mut Book<AnyJob, B>, cause: Cause) {
+    pub fn fail(&mut self, book: &mut Book<J, B>, cause: Cause) {
         let Flusher { share, .. } = self;
         book.settled(share);
         book.fail(share, cause);

@@ -3,7 +3,7 @@ ghost use Rattle.std.specs.Prelude.{◌≡◌};
 
 use crate::asking::{is_free, receipt, submit, tell, withdraw};
 use crate::flusher::{Flusher, batch_room, begin};
-use crate::states::thirds;
+use crate::states::{Trial, thirds};
 use pfx_book::book::{Book, Pass};
 use pfx_book::name::Named;
 use pfx_book::note::Note;
@@ -15,7 +15,7 @@ use std::alloc::Global;
 use std::marker::Brand;
 
 /// Whether ten jobs are given to task 0 and taken away.
-fn ask_twenty<B: Named<AnyJob>>(book: &mut Book<AnyJob, B>, pass: &mut Pass<AnyJob, B>) -> bool {
+fn ask_twenty<J: Trial, B: Named<J>>(book: &mut Book<J, B>, pass: &mut Pass<J, B>) -> bool {
     for _time in 0..10 {
         let submitted = matches!(submit(book, pass, 0), Some(Ok(_)));
         if !submitted || !matches!(withdraw(book, pass, 0), Some(Ok(_))) {
@@ -26,9 +26,9 @@ fn ask_twenty<B: Named<AnyJob>>(book: &mut Book<AnyJob, B>, pass: &mut Pass<AnyJ
 }
 
 /// Whether a receipt is given for this number, with this clock.
-fn is_receipted<B: Named<AnyJob>>(
-    book: &mut Book<AnyJob, B>,
-    pass: &mut Pass<AnyJob, B>,
+fn is_receipted<J: Trial, B: Named<J>>(
+    book: &mut Book<J, B>,
+    pass: &mut Pass<J, B>,
     number: u64,
     clock: u64,
 ) -> bool {
@@ -39,11 +39,11 @@ fn is_receipted<B: Named<AnyJob>>(
 }
 
 /// Whether receipts have their marks' clocks: of the start, of the first 16 commands, and of all twenty.
-fn marks<B: Named<AnyJob>>(
+fn marks<J: Trial, B: Named<J>>(
     alloc: Global,
-    book: &mut Book<AnyJob, B>,
-    flusher: &mut Flusher<B>,
-    pass: &mut Pass<AnyJob, B>,
+    book: &mut Book<J, B>,
+    flusher: &mut Flusher<J, B>,
+    pass: &mut Pass<J, B>,
 ) -> bool {
     let begun = is_receipted(book, pass, 0, 7) && receipt(book, pass, 1).is_none();
     let sixteen = flusher.takes(alloc, book, 1, 16) && book.marked() == 0;
@@ -56,10 +56,10 @@ fn marks<B: Named<AnyJob>>(
 }
 
 /// Whether a client is told of the first failure, and once, and receipts are given on.
-fn gives_up<B: Named<AnyJob>>(
-    book: &mut Book<AnyJob, B>,
-    flusher: &mut Flusher<B>,
-    pass: &mut Pass<AnyJob, B>,
+fn gives_up<J: Trial, B: Named<J>>(
+    book: &mut Book<J, B>,
+    flusher: &mut Flusher<J, B>,
+    pass: &mut Pass<J, B>,
 ) -> bool {
     let before = !tell(book, pass) && is_free(book);
     flusher.fail(book, Cause::Device);
@@ -71,15 +71,15 @@ fn gives_up<B: Named<AnyJob>>(
 }
 
 /// Twenty commands are taken, marked and receipted, and then the flusher gives up. How far all is as expected.
-fn flush<B: Named<AnyJob>>(
+fn flush<J: Trial, B: Named<J>>(
     alloc: Global,
-    tokens: Opened<Note<AnyJob>>,
-    state: &State<AnyJob>,
+    tokens: Opened<Note<J>>,
+    state: &State<J>,
 ) -> Option<u32>
     requires table { tokens.table.shared.table_id ≡ B.table }
     requires start { state.now ≡ B.start }
 {
-    let (mut book, mut flusher) = begin::<B>(alloc, tokens, state)?;
+    let (mut book, mut flusher) = begin::<J, B>(alloc, tokens, state)?;
     let mut pass = book.pass()?;
     if !ask_twenty(&mut book, &mut pass) {
         return Some(0);
@@ -100,7 +100,7 @@ fn flush<B: Named<AnyJob>>(
 fn twenty_are_flushed(alloc: Global) -> Option<u32> {
     let state = thirds(alloc)?;
     let tokens = Opened::new(alloc).ok()?;
-    flush::<Brand>(alloc, tokens, &state)
+    flush::<AnyJob, Brand>(alloc, tokens, &state)
 }
 
 #[test]

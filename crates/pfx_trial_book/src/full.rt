@@ -3,7 +3,7 @@ ghost use Rattle.std.specs.Prelude.{◌≡◌};
 
 use crate::asking::{Answer, is_free, open, submit, withdraw};
 use crate::flusher::{Flusher, begin};
-use crate::states::thirds;
+use crate::states::{Trial, thirds};
 use pfx_book::book::{Book, Pass};
 use pfx_book::faults::BookFault;
 use pfx_book::name::Named;
@@ -15,7 +15,7 @@ use std::alloc::Global;
 use std::marker::Brand;
 
 /// Whether eight jobs are given to task 0 and taken away.
-fn ask_sixteen<B: Named<AnyJob>>(book: &mut Book<AnyJob, B>, pass: &mut Pass<AnyJob, B>) -> bool {
+fn ask_sixteen<J: Trial, B: Named<J>>(book: &mut Book<J, B>, pass: &mut Pass<J, B>) -> bool {
     for _time in 0..8 {
         let submitted = matches!(submit(book, pass, 0), Some(Ok(_)));
         if !submitted || !matches!(withdraw(book, pass, 0), Some(Ok(_))) {
@@ -26,11 +26,11 @@ fn ask_sixteen<B: Named<AnyJob>>(book: &mut Book<AnyJob, B>, pass: &mut Pass<Any
 }
 
 /// Whether so many commands can be asked, in groups of 16 that are taken and marked.
-fn fill<B: Named<AnyJob>>(
+fn fill<J: Trial, B: Named<J>>(
     alloc: Global,
-    book: &mut Book<AnyJob, B>,
-    flusher: &mut Flusher<B>,
-    pass: &mut Pass<AnyJob, B>,
+    book: &mut Book<J, B>,
+    flusher: &mut Flusher<J, B>,
+    pass: &mut Pass<J, B>,
     groups: u32,
 ) -> bool {
     for group in 0..groups {
@@ -49,7 +49,7 @@ fn is_full(answer: &Option<Answer>) -> bool {
 }
 
 /// Whether a Submit, a Withdraw that the machine would refuse, and a Slot are refused since the session is full.
-fn refuses<B: Named<AnyJob>>(book: &mut Book<AnyJob, B>, pass: &mut Pass<AnyJob, B>) -> bool {
+fn refuses<J: Trial, B: Named<J>>(book: &mut Book<J, B>, pass: &mut Pass<J, B>) -> bool {
     is_free(book)
         && is_full(&submit(book, pass, 0))
         && is_full(&withdraw(book, pass, 3))
@@ -59,15 +59,15 @@ fn refuses<B: Named<AnyJob>>(book: &mut Book<AnyJob, B>, pass: &mut Pass<AnyJob,
 }
 
 /// Whether a session is full with its last command, and not before.
-fn serve<B: Named<AnyJob>>(
+fn serve<J: Trial, B: Named<J>>(
     alloc: Global,
-    tokens: Opened<Note<AnyJob>>,
-    state: &State<AnyJob>,
+    tokens: Opened<Note<J>>,
+    state: &State<J>,
 ) -> Option<bool>
     requires table { tokens.table.shared.table_id ≡ B.table }
     requires start { state.now ≡ B.start }
 {
-    let (mut book, mut flusher) = begin::<B>(alloc, tokens, state)?;
+    let (mut book, mut flusher) = begin::<J, B>(alloc, tokens, state)?;
     let mut pass = book.pass()?;
     let filled = fill(alloc, &mut book, &mut flusher, &mut pass, 1 << 16);
     Some(filled && book.marked() == 1 << 20 && refuses(&mut book, &mut pass))
@@ -77,7 +77,7 @@ fn serve<B: Named<AnyJob>>(
 fn session_ends(alloc: Global) -> Option<bool> {
     let state = thirds(alloc)?;
     let tokens = Opened::new(alloc).ok()?;
-    serve::<Brand>(alloc, tokens, &state)
+    serve::<AnyJob, Brand>(alloc, tokens, &state)
 }
 
 #[test]

@@ -7,7 +7,7 @@ use crate::asking::{
     submit, withdraw,
 };
 use crate::flusher::begin;
-use crate::states::thirds;
+use crate::states::{Trial, thirds};
 use pfx_book::book::{Book, Pass};
 use pfx_book::closing::Receipt;
 use pfx_book::faults::BookFault;
@@ -22,9 +22,9 @@ use std::alloc::Global;
 use std::marker::Brand;
 
 /// Submits, and once more if an allocation fails.
-fn submit_again<B: Named<AnyJob>>(
-    book: &mut Book<AnyJob, B>,
-    pass: &mut Pass<AnyJob, B>,
+fn submit_again<J: Trial, B: Named<J>>(
+    book: &mut Book<J, B>,
+    pass: &mut Pass<J, B>,
     task: u16,
 ) -> Option<Answer> {
     let answer = submit(book, pass, task);
@@ -35,9 +35,9 @@ fn submit_again<B: Named<AnyJob>>(
 }
 
 /// Withdraws, and once more if an allocation fails.
-fn withdraw_again<B: Named<AnyJob>>(
-    book: &mut Book<AnyJob, B>,
-    pass: &mut Pass<AnyJob, B>,
+fn withdraw_again<J: Trial, B: Named<J>>(
+    book: &mut Book<J, B>,
+    pass: &mut Pass<J, B>,
     task: u16,
 ) -> Option<Answer> {
     let answer = withdraw(book, pass, task);
@@ -48,10 +48,10 @@ fn withdraw_again<B: Named<AnyJob>>(
 }
 
 /// Opens a slot, and once more if an allocation fails.
-fn open_again<B: Named<AnyJob>>(
-    book: &mut Book<AnyJob, B>,
-    pass: &mut Pass<AnyJob, B>,
-) -> Option<Result<Vec<Quantum<AnyJob>>, BookFault>> {
+fn open_again<J: Trial, B: Named<J>>(
+    book: &mut Book<J, B>,
+    pass: &mut Pass<J, B>,
+) -> Option<Result<Vec<Quantum<J>>, BookFault>> {
     let answer = open(book, pass);
     if is_unopened(&answer, MachineFault::NoRow(ChoiceFault::NoMemory)) && !book.is_open() {
         return open(book, pass);
@@ -60,9 +60,9 @@ fn open_again<B: Named<AnyJob>>(
 }
 
 /// A receipt for the start, once more if an allocation fails.
-fn receipt_again<B: Named<AnyJob>>(
-    book: &mut Book<AnyJob, B>,
-    pass: &mut Pass<AnyJob, B>,
+fn receipt_again<J: Trial, B: Named<J>>(
+    book: &mut Book<J, B>,
+    pass: &mut Pass<J, B>,
 ) -> Option<Receipt> {
     match receipt(book, pass, 0)? {
         Ok(given) => Some(given),
@@ -71,7 +71,7 @@ fn receipt_again<B: Named<AnyJob>>(
 }
 
 /// Whether a slot is opened, run and sealed, with nine receipts in its midst.
-fn runs<B: Named<AnyJob>>(book: &mut Book<AnyJob, B>, pass: &mut Pass<AnyJob, B>) -> Option<bool> {
+fn runs<J: Trial, B: Named<J>>(book: &mut Book<J, B>, pass: &mut Pass<J, B>) -> Option<bool> {
     let quanta = open_again(book, pass)?.ok()?;
     for _time in 0..9 {
         if receipt_again(book, pass)?.clock != 7 {
@@ -85,15 +85,11 @@ fn runs<B: Named<AnyJob>>(book: &mut Book<AnyJob, B>, pass: &mut Pass<AnyJob, B>
 }
 
 /// Whether all is answered as it should be, whatever was refused.
-fn serve<B: Named<AnyJob>>(
-    alloc: Global,
-    tokens: Opened<Note<AnyJob>>,
-    state: &State<AnyJob>,
-) -> bool
+fn serve<J: Trial, B: Named<J>>(alloc: Global, tokens: Opened<Note<J>>, state: &State<J>) -> bool
     requires table { tokens.table.shared.table_id ≡ B.table }
     requires start { state.now ≡ B.start }
 {
-    let Some((mut book, _flusher)) = begin::<B>(alloc, tokens, state) else {
+    let Some((mut book, _flusher)) = begin::<J, B>(alloc, tokens, state) else {
         return true;
     };
     let (Some(mut one), Some(mut other)) = (book.pass(), book.pass()) else {
@@ -113,7 +109,7 @@ fn refused_memory(alloc: Global) -> bool {
         return true;
     };
     match Opened::new(alloc) {
-        Ok(tokens) => serve::<Brand>(alloc, tokens, &state),
+        Ok(tokens) => serve::<AnyJob, Brand>(alloc, tokens, &state),
         Err(_) => true,
     }
 }

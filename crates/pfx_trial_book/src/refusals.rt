@@ -5,14 +5,13 @@ use crate::asking::{
     is_free, is_refused, is_submitted, is_unopened, is_withdrawn, open, submit, withdraw,
 };
 use crate::flusher::{Flusher, batch_room, begin};
-use crate::states::{at_the_limits, count, idle, thirds, urgent};
+use crate::states::{Trial, at_the_limits, idle, thirds, urgent};
 use pfx_book::book::{Book, Pass};
 use pfx_book::faults::BookFault;
 use pfx_book::name::Named;
 use pfx_book::note::Note;
 use pfx_choice::ChoiceFault;
 use pfx_crew::gathering::GatherFault;
-use pfx_jobs::job::Job;
 use pfx_jobs::quantum::Quantum;
 use pfx_kinds::any::AnyJob;
 use pfx_machine::{MachineFault, State};
@@ -21,7 +20,7 @@ use std::alloc::Global;
 use std::marker::Brand;
 
 /// Whether commands for tasks are refused as the machine refuses them, and take no number.
-fn tasks<B: Named<AnyJob>>(book: &mut Book<AnyJob, B>, pass: &mut Pass<AnyJob, B>) -> bool {
+fn tasks<J: Trial, B: Named<J>>(book: &mut Book<J, B>, pass: &mut Pass<J, B>) -> bool {
     let none = MachineFault::NoSuchTask { task: 3 };
     let busy = MachineFault::TaskBusy { task: 0 };
     let empty = MachineFault::NoJob { task: 1 };
@@ -35,8 +34,8 @@ fn tasks<B: Named<AnyJob>>(book: &mut Book<AnyJob, B>, pass: &mut Pass<AnyJob, B
 }
 
 /// Whether a result is a stranger's if no slot is open.
-fn strange<B: Named<AnyJob>>(book: &mut Book<AnyJob, B>) -> Option<bool> {
-    let job = count()?;
+fn strange<J: Trial, B: Named<J>>(book: &mut Book<J, B>) -> Option<bool> {
+    let job = J::count()?;
     if job.is_done() {
         return None;
     }
@@ -45,12 +44,12 @@ fn strange<B: Named<AnyJob>>(book: &mut Book<AnyJob, B>) -> Option<bool> {
 }
 
 /// Whether no slot is sealed that isn't open.
-fn unopened<B: Named<AnyJob>>(book: &mut Book<AnyJob, B>, pass: &mut Pass<AnyJob, B>) -> bool {
+fn unopened<J: Trial, B: Named<J>>(book: &mut Book<J, B>, pass: &mut Pass<J, B>) -> bool {
     !book.is_open() && book.seal(pass).is_none()
 }
 
 /// Whether 63 passes more are given out, and then none.
-fn passes<B: Named<AnyJob>>(book: &mut Book<AnyJob, B>) -> bool {
+fn passes<J: Trial, B: Named<J>>(book: &mut Book<J, B>) -> bool {
     for _pass in 1..64 {
         if book.pass().is_none() {
             return false;
@@ -60,11 +59,7 @@ fn passes<B: Named<AnyJob>>(book: &mut Book<AnyJob, B>) -> bool {
 }
 
 /// Gives task 0 a job and takes it away, so many times. Whether that could be asked.
-fn pairs<B: Named<AnyJob>>(
-    book: &mut Book<AnyJob, B>,
-    pass: &mut Pass<AnyJob, B>,
-    times: u32,
-) -> bool {
+fn pairs<J: Trial, B: Named<J>>(book: &mut Book<J, B>, pass: &mut Pass<J, B>, times: u32) -> bool {
     for _time in 0..times {
         let submitted = matches!(submit(book, pass, 0), Some(Ok(_)));
         if !submitted || !matches!(withdraw(book, pass, 0), Some(Ok(_))) {
@@ -75,11 +70,11 @@ fn pairs<B: Named<AnyJob>>(
 }
 
 /// Whether there is room for 64 commands that aren't marked, two of which the book has, and more once they are.
-fn room<B: Named<AnyJob>>(
+fn room<J: Trial, B: Named<J>>(
     alloc: Global,
-    book: &mut Book<AnyJob, B>,
-    flusher: &mut Flusher<B>,
-    pass: &mut Pass<AnyJob, B>,
+    book: &mut Book<J, B>,
+    flusher: &mut Flusher<J, B>,
+    pass: &mut Pass<J, B>,
 ) -> bool {
     let filled = pairs(book, pass, 31) && !book.has_room() && !is_free(book);
     let taken = flusher.takes(alloc, book, 1, 16) && !book.has_room();
@@ -88,10 +83,10 @@ fn room<B: Named<AnyJob>>(
 }
 
 /// Whether nothing is taken if nothing waits, and the vector comes back.
-fn nothing_waits<B: Named<AnyJob>>(
+fn nothing_waits<J: Trial, B: Named<J>>(
     alloc: Global,
-    book: &mut Book<AnyJob, B>,
-    flusher: &mut Flusher<B>,
+    book: &mut Book<J, B>,
+    flusher: &mut Flusher<J, B>,
 ) -> Option<bool> {
     match flusher.take(book, batch_room(alloc)?) {
         Ok(_) => Some(false),
@@ -100,15 +95,15 @@ fn nothing_waits<B: Named<AnyJob>>(
 }
 
 /// Whether each kind of refusal is as expected, of three tasks of 2/3 on two workers.
-fn refuse<B: Named<AnyJob>>(
+fn refuse<J: Trial, B: Named<J>>(
     alloc: Global,
-    tokens: Opened<Note<AnyJob>>,
-    state: &State<AnyJob>,
+    tokens: Opened<Note<J>>,
+    state: &State<J>,
 ) -> Option<[bool; 7]>
     requires table { tokens.table.shared.table_id ≡ B.table }
     requires start { state.now ≡ B.start }
 {
-    let (mut book, mut flusher) = begin::<B>(alloc, tokens, state)?;
+    let (mut book, mut flusher) = begin::<J, B>(alloc, tokens, state)?;
     let mut pass = book.pass()?;
     let waits = nothing_waits(alloc, &mut book, &mut flusher) == Some(true);
     let named = tasks(&mut book, &mut pass);
@@ -122,15 +117,15 @@ fn refuse<B: Named<AnyJob>>(
 }
 
 /// Whether a book is refused the last slot, and all after the last number.
-fn limit<B: Named<AnyJob>>(
+fn limit<J: Trial, B: Named<J>>(
     alloc: Global,
-    tokens: Opened<Note<AnyJob>>,
-    state: &State<AnyJob>,
+    tokens: Opened<Note<J>>,
+    state: &State<J>,
 ) -> Option<bool>
     requires table { tokens.table.shared.table_id ≡ B.table }
     requires start { state.now ≡ B.start }
 {
-    let (mut book, _flusher) = begin::<B>(alloc, tokens, state)?;
+    let (mut book, _flusher) = begin::<J, B>(alloc, tokens, state)?;
     let mut pass = book.pass()?;
     let last = is_unopened(
         &open(&mut book, &mut pass),
@@ -144,16 +139,16 @@ fn limit<B: Named<AnyJob>>(
 }
 
 /// Whether a book opens no slot, for this fault.
-fn stuck<B: Named<AnyJob>>(
+fn stuck<J: Trial, B: Named<J>>(
     alloc: Global,
-    tokens: Opened<Note<AnyJob>>,
-    state: &State<AnyJob>,
+    tokens: Opened<Note<J>>,
+    state: &State<J>,
     fault: MachineFault,
 ) -> Option<bool>
     requires table { tokens.table.shared.table_id ≡ B.table }
     requires start { state.now ≡ B.start }
 {
-    let (mut book, _flusher) = begin::<B>(alloc, tokens, state)?;
+    let (mut book, _flusher) = begin::<J, B>(alloc, tokens, state)?;
     let mut pass = book.pass()?;
     let answer = open(&mut book, &mut pass);
     Some(is_unopened(&answer, fault) && !book.is_open() && !book.has_pending())
@@ -163,21 +158,21 @@ fn stuck<B: Named<AnyJob>>(
 fn is_refused_by_name(alloc: Global) -> Option<[bool; 7]> {
     let state = thirds(alloc)?;
     let tokens = Opened::new(alloc).ok()?;
-    refuse::<Brand>(alloc, tokens, &state)
+    refuse::<AnyJob, Brand>(alloc, tokens, &state)
 }
 
 /// Whether a book is refused what lies behind the limits.
 fn is_refused_at_limits(alloc: Global) -> Option<bool> {
     let state = at_the_limits(alloc)?;
     let tokens = Opened::new(alloc).ok()?;
-    limit::<Brand>(alloc, tokens, &state)
+    limit::<AnyJob, Brand>(alloc, tokens, &state)
 }
 
 /// Whether a book opens no slot at this state, for this fault.
 fn is_stuck(alloc: Global, state: Option<State<AnyJob>>, fault: MachineFault) -> Option<bool> {
     let state = state?;
     let tokens = Opened::new(alloc).ok()?;
-    stuck::<Brand>(alloc, tokens, &state, fault)
+    stuck::<AnyJob, Brand>(alloc, tokens, &state, fault)
 }
 
 #[test]

@@ -1,6 +1,7 @@
 //! States that books begin with.
 
 use pfx_columns::Columns;
+use pfx_jobs::job::Job;
 use pfx_kinds::any::AnyJob;
 use pfx_kit::states;
 use pfx_kit::states::state_at;
@@ -8,9 +9,16 @@ use pfx_machine::{Command, State};
 use pfx_weights::TaskSet;
 use std::alloc::Global;
 
-/// A count of five steps.
-pub fn count() -> Option<AnyJob> {
-    AnyJob::start("count", 5, b"").ok()
+/// A kind of which the trials begin jobs. They know no more of it, so that their proofs are over any kind.
+pub trait Trial: Job {
+    /// A job of five steps.
+    fn count() -> Option<Self>;
+}
+
+impl Trial for AnyJob {
+    fn count() -> Option<AnyJob> {
+        AnyJob::start("count", 5, b"").ok()
+    }
 }
 
 /// Three tasks of 2/3 on two workers, before the first command.
@@ -25,7 +33,7 @@ pub fn later(alloc: Global) -> Option<State<AnyJob>> {
     state
         .apply(Command::Submit {
             task: 2,
-            job: count()?,
+            job: AnyJob::count()?,
         })
         .ok()?;
     Some(state)
@@ -47,7 +55,7 @@ fn ledger_at(
 pub fn at_the_limits(alloc: Global) -> Option<State<AnyJob>> {
     let allocs = [1 << 39, (1 << 39) - 1];
     let ledger = ledger_at(alloc, 1, &[(1, 2)], (1 << 40) - 1, &allocs)?;
-    state_at(alloc, (1 << 48) - 2, ledger, Some(count()?))
+    state_at(alloc, (1 << 48) - 2, ledger, Some(AnyJob::count()?))
 }
 
 /// Four tasks in slot 2, of which two are urgent for one worker.

@@ -3,12 +3,11 @@ ghost use Rattle.std.specs.Prelude.{◌≡◌};
 
 use crate::asking::{is_first_slot, is_submitted, open, submit};
 use crate::flusher::{Flusher, batch_room, begin};
-use crate::states::thirds;
+use crate::states::{Trial, thirds};
 use pfx_book::book::{Book, Pass};
 use pfx_book::name::Named;
 use pfx_book::note::Note;
 use pfx_crew::gathering::GatherFault;
-use pfx_jobs::job::Job;
 use pfx_jobs::quantum::Quantum;
 use pfx_kinds::any::AnyJob;
 use pfx_machine::State;
@@ -18,12 +17,12 @@ use std::alloc::Global;
 use std::marker::Brand;
 
 /// A copy of a quantum, with this number.
-fn again(quantum: &Quantum<AnyJob>, number: u64) -> Quantum<AnyJob> {
+fn again<J: Trial>(quantum: &Quantum<J>, number: u64) -> Quantum<J> {
     Quantum::new(number, quantum.slot, quantum.task, quantum.before.copy_of())
 }
 
 /// Whether this task's is the first result that is missing.
-fn misses<B: Named<AnyJob>>(book: &Book<AnyJob, B>, task: u16) -> bool {
+fn misses<J: Trial, B: Named<J>>(book: &Book<J, B>, task: u16) -> bool {
     match book.missing() {
         Some(quantum) => quantum.task == task,
         None => false,
@@ -31,15 +30,15 @@ fn misses<B: Named<AnyJob>>(book: &Book<AnyJob, B>, task: u16) -> bool {
 }
 
 /// Whether a quantum was dealt by command 3 in slot 0 for this task, with five steps left.
-fn is_dealt(quantum: &Quantum<AnyJob>, task: u16) -> bool {
+fn is_dealt<J: Trial>(quantum: &Quantum<J>, task: u16) -> bool {
     quantum.number == 3 && quantum.slot == 0 && quantum.task == task && quantum.before.left() == 5
 }
 
 /// The two quanta of the slot that this pass opens, if they are as they should be.
-fn dealt<B: Named<AnyJob>>(
-    book: &mut Book<AnyJob, B>,
-    pass: &mut Pass<AnyJob, B>,
-) -> Option<(Quantum<AnyJob>, Quantum<AnyJob>)> {
+fn dealt<J: Trial, B: Named<J>>(
+    book: &mut Book<J, B>,
+    pass: &mut Pass<J, B>,
+) -> Option<(Quantum<J>, Quantum<J>)> {
     let mut quanta = open(book, pass)?.ok()?;
     let second = quanta.pop()?;
     let first = quanta.pop()?;
@@ -50,11 +49,11 @@ fn dealt<B: Named<AnyJob>>(
 }
 
 /// How many of the results of these two quanta, doubles and strangers among them, are answered as expected.
-fn results<B: Named<AnyJob>>(
-    book: &mut Book<AnyJob, B>,
-    pass: &mut Pass<AnyJob, B>,
-    first: Quantum<AnyJob>,
-    second: Quantum<AnyJob>,
+fn results<J: Trial, B: Named<J>>(
+    book: &mut Book<J, B>,
+    pass: &mut Pass<J, B>,
+    first: Quantum<J>,
+    second: Quantum<J>,
 ) -> u32 {
     let double = again(&second, 3);
     let stranger = again(&first, 2);
@@ -77,7 +76,7 @@ fn results<B: Named<AnyJob>>(
 }
 
 /// Whether this is the place of a task whose job has four steps left.
-fn is_stepped(place: &Place<AnyJob>, task: u16) -> bool {
+fn is_stepped<J: Trial>(place: &Place<J>, task: u16) -> bool {
     match &place.state {
         Some(job) => place.task == task && job.left() == 4,
         None => false,
@@ -85,10 +84,10 @@ fn is_stepped(place: &Place<AnyJob>, task: u16) -> bool {
 }
 
 /// Whether the next batch begins with command 1, and its third record is that of a slot in which tasks 0 and 1 took a step.
-fn records<B: Named<AnyJob>>(
+fn records<J: Trial, B: Named<J>>(
     alloc: Global,
-    book: &mut Book<AnyJob, B>,
-    flusher: &mut Flusher<B>,
+    book: &mut Book<J, B>,
+    flusher: &mut Flusher<J, B>,
 ) -> Option<bool> {
     let batch = flusher.take(book, batch_room(alloc)?).ok()?;
     if batch.first != 1 || batch.records.len() != 3 {
@@ -101,15 +100,15 @@ fn records<B: Named<AnyJob>>(
 }
 
 /// Two passes submit, the first one opens a slot, and its results come back, wrong ones too. How far all is as expected.
-fn serve<B: Named<AnyJob>>(
+fn serve<J: Trial, B: Named<J>>(
     alloc: Global,
-    tokens: Opened<Note<AnyJob>>,
-    state: &State<AnyJob>,
+    tokens: Opened<Note<J>>,
+    state: &State<J>,
 ) -> Option<u32>
     requires table { tokens.table.shared.table_id ≡ B.table }
     requires start { state.now ≡ B.start }
 {
-    let (mut book, mut flusher) = begin::<B>(alloc, tokens, state)?;
+    let (mut book, mut flusher) = begin::<J, B>(alloc, tokens, state)?;
     let mut one = book.pass()?;
     let mut other = book.pass()?;
     if !is_submitted(&submit(&mut book, &mut one, 0), 1, 0) {
@@ -136,7 +135,7 @@ fn serve<B: Named<AnyJob>>(
 fn slot_is_worked(alloc: Global) -> Option<u32> {
     let state = thirds(alloc)?;
     let tokens = Opened::new(alloc).ok()?;
-    serve::<Brand>(alloc, tokens, &state)
+    serve::<AnyJob, Brand>(alloc, tokens, &state)
 }
 
 #[test]

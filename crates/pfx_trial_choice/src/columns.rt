@@ -120,6 +120,31 @@ fn goes_on_by_rows(rt: HostRuntime) {
     assert!(rt; wrong.is_none(), "row {wrong:?}");
 }
 
+/// Whether the ledger takes the row, and this is the first task that is ahead or behind then.
+fn is_first_unlevel(ledger: &mut Columns, numbers: &[u16], first: Option<u16>) -> bool {
+    let Some(row) = Row::new(numbers) else {
+        return false;
+    };
+    takes(ledger, &row).is_ok() && ledger.first_unlevel() == first
+}
+
+/// Whether a half and two quarters on one worker are level at first and after four slots, and are found not to be between.
+fn finds_the_unlevel(alloc: Global) -> bool {
+    let Some(mut ledger) = start(alloc, 1, &[(1, 2), (1, 4), (1, 4)]) else {
+        return false;
+    };
+    ledger.first_unlevel().is_none()
+        && is_first_unlevel(&mut ledger, &[0], Some(0))
+        && is_first_unlevel(&mut ledger, &[1], Some(1))
+        && is_first_unlevel(&mut ledger, &[0], Some(0))
+        && is_first_unlevel(&mut ledger, &[2], None)
+}
+
+#[test]
+fn tells_who_is_ahead_or_behind(rt: HostRuntime) {
+    assert!(rt; finds_the_unlevel(rt.alloc()));
+}
+
 /// Whether a row is refused that would leave task 2 4/3 behind, and nothing changes by that.
 fn refuses_a_second_row(ledger: &mut Columns) -> bool {
     let Some(row) = Row::new(&[0, 1]) else {

@@ -1,6 +1,6 @@
 //! Worked rows, and what no clause says: that calls succeed with ample memory.
 
-use pfx_weights::{Row, SetFault, TaskSet};
+use pfx_weights::{Row, SetFault, TaskSet, Weights};
 use std::alloc::Global;
 
 /// Whether the set has these weights from task `first` on.
@@ -250,4 +250,36 @@ fn says_why_in_words(rt: HostRuntime) {
             "task 7: the weight is not between 0 and 1"
         )
     );
+}
+
+/// Whether these are the weights.
+fn are(weights: &Weights, given: &[(u32, u32)]) -> bool {
+    let items = weights.as_slice();
+    if items.len() != given.len() {
+        return false;
+    }
+    for x in 0..items.len() {
+        if items[x].0 != given[x].0 || items[x].1 != given[x].1 {
+            return false;
+        }
+    }
+    true
+}
+
+/// Whether weights, and a copy of them, are as they were given.
+fn keeps(alloc: Global, given: &[(u32, u32)]) -> bool {
+    let Ok(items) = Vec::from_slice(alloc, given) else {
+        return false;
+    };
+    let weights = Weights::new(items);
+    match weights.copy_of(alloc) {
+        Ok(copy) => are(&weights, given) && are(&copy, given),
+        Err(_) => false,
+    }
+}
+
+#[test]
+fn keeps_weights_of_no_set(rt: HostRuntime) {
+    assert!(rt; keeps(rt.alloc(), &[]));
+    assert!(rt; keeps(rt.alloc(), &[(0, 0), (5, 3), (4_294_967_295, 1)]));
 }

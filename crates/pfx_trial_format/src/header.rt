@@ -238,7 +238,6 @@ fn says_why_in_words(rt: HostRuntime) {
 
 #[test]
 fn laws_hold() {
-    laws::sets_are_the_accepted_ones();
     laws::bytes_are_read_as_they_are_written();
     laws::what_is_read_is_a_header();
     laws::what_is_written_is_read();

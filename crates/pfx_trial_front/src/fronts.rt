@@ -43,7 +43,8 @@ pub fn begin<
 where
     K::Seat: Drop + Send + 'static,
     requires named { (names.tokens.table.shared.table_id ≡ B.table) × (names.list.seen.book ≡ B.book) × (B.origin ≡ B.start) }
-    requires begins { Begins any_kind B.start B.failures B.clock store.file.broken store.state (D.view store.file.disk) }
+    requires calls { names.calls.seen.book ≡ B.calls }
+    requires begins { Begins any_kind B.start B.failures B.clock B.held B.image store (D.view store.file.disk) }
 {
     Front::<AnyJob, B, K>::start::<D, R>(rt, alloc, names, store, desk, workers, 1).ok()
 }

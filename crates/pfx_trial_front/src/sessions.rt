@@ -1,7 +1,7 @@
 //! What the clients of a front do in each test, and the front of a new store at which they do it.
 ghost use Rattle.std.specs.Prelude.{◌≡◌};
 ghost use Rattle.pfx_kinds.specs.AnyKind.{any_kind};
-ghost use Rattle.pfx_front.specs.Starting.{Begins};
+ghost use Rattle.pfx_front.specs.Starting.{Begins, BeginsHonest};
 
 use crate::fronts::begin;
 use crate::stores::{SEGMENT, desk, memory, thirds_by};
@@ -70,7 +70,8 @@ fn serve<
 where
     K::Seat: Drop + Send + 'static,
     requires named { (names.tokens.table.shared.table_id ≡ B.table) × (names.list.seen.book ≡ B.book) × (B.origin ≡ B.start) }
-    requires begins { Begins any_kind B.start B.failures B.clock store.file.broken store.state (D.view store.file.disk) }
+    requires calls { names.calls.seen.book ≡ B.calls }
+    requires begins { Begins any_kind B.start B.failures B.clock B.held B.image store (D.view store.file.disk) }
 {
     let workers = workers_of(&session);
     let served = begin::<B, K, D, R>(rt, alloc, names, store, desk, workers)?;
@@ -103,8 +104,7 @@ fn serve_named<
 ) -> Option<bool>
 where
     K::Seat: Drop + Send + 'static,
-    requires { Begins any_kind store.state (D.view store.file.disk).failures
-        (D.view store.file.disk).clock store.file.broken store.state (D.view store.file.disk) }
+    requires { BeginsHonest any_kind store (D.view store.file.disk) }
 {
     serve::<Brand, K, D, R>(rt, alloc, names, store, desk, session)
 }

@@ -1,21 +1,22 @@
 //! Stores of three tasks of weight 2/3 on two workers, the desk of their fronts, and what clients ask.
 ghost use Rattle.std.specs.Prelude.{IfSome};
 ghost use Rattle.pfx_kinds.specs.AnyKind.{any_kind};
-ghost use Rattle.pfx_front.specs.Starting.{Begins};
+ghost use Rattle.pfx_front.specs.Starting.{BeginsHonest};
 
 use pfx_board::reader::Reader;
-use pfx_board::receipt::Receipt;
 use pfx_book::book::Pass;
 use pfx_crew::channel::ChannelDesk;
 use pfx_crew::desk::Desk;
 use pfx_disk::{Disk, MemoryDisk};
 use pfx_front::calls::Front;
+use pfx_front::durable::Acknowledged;
 use pfx_front::faults::CallFault;
 use pfx_front::name::Since;
 use pfx_jobs::quantum::{Done, Quantum};
 use pfx_kinds::any::AnyJob;
 use pfx_machine::{Command, JobStatus, Reply};
 use pfx_store::Store;
+use pfx_store::laws::honest_disks_hold;
 use pfx_weights::TaskSet;
 use std::alloc::Global;
 use std::sync::Wait;
@@ -41,11 +42,14 @@ pub fn memory(alloc: Global) -> Option<MemoryDisk> {
 
 /// A new store on a disk, with segments of this length in bytes.
 pub fn thirds_by<D: Disk + Drop>(alloc: Global, disk: D, segment: u32) -> Option<Store<D, AnyJob>>
-    ensures { IfSome result (λ s. Begins any_kind s.state (D.view s.file.disk).failures (D.view s.file.disk).clock s.file.broken s.state (D.view s.file.disk)) }
+    ensures { IfSome result (λ s. BeginsHonest any_kind s (D.view s.file.disk)) }
 {
     let set = TaskSet::new(alloc, 2, &[(2, 3), (2, 3), (2, 3)]).ok()?;
     match Store::init(alloc, disk, &set, segment) {
-        Ok(store) => Some(store),
+        Ok(store) => {
+            honest_disks_hold(&store);
+            Some(store)
+        }
         Err(_) => None,
     }
 }
@@ -87,7 +91,7 @@ pub fn settle_last<B: Since<AnyJob>, K: Desk<Quantum<AnyJob>, Done<AnyJob>> + Dr
     rt: &R,
     front: &Front<AnyJob, B, K>,
     pass: &mut Pass<AnyJob, B>,
-) -> Option<Result<Receipt<AnyJob, B>, CallFault>>
+) -> Option<Result<Acknowledged<AnyJob, B>, CallFault>>
 where
     K::Seat: Drop,
 {
@@ -108,7 +112,12 @@ where
     K::Seat: Drop,
 {
     match settle_last(rt, front, pass) {
-        Some(Ok(receipt)) => receipt.number == pass.greatest() && receipt.clock > 0,
+        Some(Ok(acknowledged)) => {
+            let receipt = &acknowledged.receipt;
+            receipt.number == pass.greatest()
+                && receipt.clock > 0
+                && acknowledged.moment.reaches(receipt.clock)
+        }
         _ => false,
     }
 }
@@ -127,9 +136,9 @@ where
     K::Seat: Drop,
 {
     match settle_last(rt, front, pass) {
-        Some(Ok(receipt)) => {
-            reader.told(&receipt);
-            is_shown(alloc, reader, receipt.number, jobs)
+        Some(Ok(acknowledged)) => {
+            reader.told(&acknowledged.receipt);
+            is_shown(alloc, reader, acknowledged.receipt.number, jobs)
         }
         _ => false,
     }

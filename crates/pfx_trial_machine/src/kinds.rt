@@ -1,4 +1,4 @@
-//! Worked jobs of the three kinds, and their encodings.
+//! Worked jobs of the four kinds, and their encodings.
 
 use pfx_jobs::job::{Job, JobFault, are_same};
 use pfx_jobs::quantum::{Done, Quantum};
@@ -48,6 +48,13 @@ fn colons_vector() -> [u8; 128] {
     bytes
 }
 
+/// `s=500;ck=9f2c`, the answer of unit 258: between the answer and the last byte all are 0, the five that are kept for an epoch's start too.
+fn own_vector() -> [u8; 128] {
+    let mut bytes = with_zeros(b"\x04\0\0\0\0\x02\x01\0\0\0\0\0\0\x0ds=500;ck=9f2c");
+    bytes[127] = 4;
+    bytes
+}
+
 /// Whether a job that is started so is written as these bytes.
 fn starts_as(kind: &str, goal: u64, text: &[u8], want: &[u8; 128]) -> bool {
     match AnyJob::start(kind, goal, text) {
@@ -64,6 +71,10 @@ fn starts_and_encodes(rt: HostRuntime) {
     let empty = with_zeros(&[1, 1]);
     assert!(rt; starts_as("count", 1, b"", &empty), "empty");
     assert!(rt; starts_as("scan", 0, b"a::a:", &colons_vector()), "colons");
+    assert!(rt;
+        starts_as("own", 258, b"s=500;ck=9f2c", &own_vector()),
+        "own"
+    );
 }
 
 /// Whether rule 110 has so many steps left after so many, and these cells.
@@ -184,12 +195,14 @@ fn is_answered(kind: &str, goal: u64, text: &[u8], want: Option<StartFault>) -> 
 type Start = (&'static str, u64, &'static [u8]);
 
 /// Starts that give a job.
-const STARTED: [Start; 5] = [
+const STARTED: [Start; 7] = [
     ("count", 4294967295, b"4294967295"),
     ("count", 1, b"0000000007"),
     ("rule", 4294967295, b"255:000"),
     ("rule", 1, b"000:010"),
     ("scan", 0, b" :~ ~"),
+    ("own", 0, b""),
+    ("own", 1099511627775, b"!#+-[]~"),
 ];
 
 /// Starts of no kind, whatever goal and data they have.
@@ -201,16 +214,17 @@ const NO_KINDS: [Start; 4] = [
 ];
 
 /// Starts with a goal that the kind hasn't, whatever data they have.
-const BAD_GOALS: [Start; 5] = [
+const BAD_GOALS: [Start; 6] = [
     ("count", 0, b"x"),
     ("count", 4294967296, b"4294967295"),
     ("rule", 0, b"x"),
     ("rule", 4294967296, b"255:000"),
     ("scan", 1, b"x"),
+    ("own", 1099511627776, b"a,b"),
 ];
 
 /// A kind's name, a goal that it has, and data that it hasn't.
-const BAD_DATA: [(&str, u64, &[&[u8]]); 3] = [
+const BAD_DATA: [(&str, u64, &[&[u8]]); 4] = [
     ("count", 1, &[b"4294967296", b"00000000007", b"+7", b"7 "]),
     (
         "rule",
@@ -228,6 +242,11 @@ const BAD_DATA: [(&str, u64, &[&[u8]]); 3] = [
             b"a:b\x7fa",
             b"\x1f:ba",
         ],
+    ),
+    (
+        "own",
+        1,
+        &[b"a b", b"a\"b", b"a,b", b"a\\b", b"a\x7f", b"\xe9", b"\x1f"],
     ),
 ];
 
@@ -278,8 +297,16 @@ fn refuses_17_bytes() -> bool {
     is_answered("scan", 0, &search[..82], Some(StartFault::BadData))
 }
 
+/// Whether an answer of 106 bytes is taken, and not one of 107.
+fn takes_106_bytes() -> bool {
+    let answer = [b'a'; 107];
+    is_answered("own", 0, &answer[..106], None)
+        && is_answered("own", 0, &answer, Some(StartFault::BadData))
+}
+
 #[test]
 fn takes_the_greatest_data(rt: HostRuntime) {
+    assert!(rt; takes_106_bytes());
     assert!(rt; takes_512_cells());
     assert!(rt; takes_64_bytes());
     assert!(rt; refuses_17_bytes());
@@ -287,6 +314,10 @@ fn takes_the_greatest_data(rt: HostRuntime) {
 
 fn is_printable(byte: u8) -> bool {
     32 <= byte && byte <= 126
+}
+
+fn is_visible(byte: u8) -> bool {
+    33 <= byte && byte <= 126 && byte != b'"' && byte != b',' && byte != b'\\'
 }
 
 /// Whether the format names the bytes an encoding.
@@ -325,6 +356,18 @@ fn is_encoding(bytes: &[u8; 128]) -> bool {
                     .all(|byte| is_printable(*byte) && *byte != b':')
                 && bytes[8 + a..72].iter().all(|byte| *byte == 0)
                 && bytes[72 + b..].iter().all(|byte| *byte == 0)
+        }
+        4 => {
+            let answered = u64::from_le_bytes([
+                bytes[5], bytes[6], bytes[7], bytes[8], bytes[9], bytes[10], bytes[11], bytes[12],
+            ]);
+            let length = bytes[13] as usize;
+            left == 0
+                && answered < 1 << 40
+                && length <= 106
+                && bytes[14..14 + length].iter().all(|byte| is_visible(*byte))
+                && bytes[14 + length..127].iter().all(|byte| *byte == 0)
+                && bytes[127] == 4
         }
         _ => false,
     }
@@ -370,6 +413,8 @@ fn decodes_encodings_alone(rt: HostRuntime) {
     assert!(rt; rule == 128, "rule, byte {rule}");
     let scan = first_misread(&scan_vector());
     assert!(rt; scan == 128, "scan, byte {scan}");
+    let own = first_misread(&own_vector());
+    assert!(rt; own == 128, "own, byte {own}");
     let whole = first_misread_of_whole();
     assert!(rt; whole == 128, "whole scan, byte {whole}");
 }

@@ -7,6 +7,7 @@
 //! - `fault`: the refusals as a reader of the output sees them.
 //! - `words`: words as a shell passes them, and the texts that answer them.
 //! - `notes`: what stands below a fault's line, and what is said of each fault.
+//! - `objects`: the same as JSON.
 //! - `program`: plans of whole set files.
 //! - `scripts`: scripts over a state in memory.
 //! - `shown`: what is printed of a new store, of a state as its board, and of its jobs.
@@ -30,6 +31,8 @@ mod long;
 mod notes;
 #[cfg(test)]
 mod numerals;
+#[cfg(test)]
+mod objects;
 #[cfg(test)]
 mod program;
 #[cfg(test)]

@@ -34,6 +34,7 @@ fn runs_slots(alloc: Global, script: &[u8], slots: u32) -> bool {
         alloc,
         &mut Script::new(alloc, script),
         1,
+        0,
         Form::Text,
         &mut written,
         &mut state,
@@ -97,6 +98,7 @@ fn is_written_slowly(alloc: Global) -> bool {
         alloc,
         &mut Script::new(alloc, script),
         1,
+        0,
         Form::Text,
         &mut output,
         &mut state,
@@ -162,7 +164,15 @@ fn answers_worked(alloc: Global) -> bool {
     };
     let mut written = Vec::new(alloc);
     let mut script = Script::new(alloc, WORKED.as_bytes());
-    let end = run_script(alloc, &mut script, 1, Form::Text, &mut written, &mut state);
+    let end = run_script(
+        alloc,
+        &mut script,
+        1,
+        0,
+        Form::Text,
+        &mut written,
+        &mut state,
+    );
     end.is_ok() && written.as_slice() == ANSWERS.as_bytes()
 }
 

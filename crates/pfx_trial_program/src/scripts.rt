@@ -38,6 +38,7 @@ pub fn prints_as(
         alloc,
         &mut Script::new(alloc, script.as_bytes()),
         1,
+        0,
         form,
         &mut written,
         state,
@@ -165,6 +166,48 @@ fn goes_on_after_refusals(rt: HostRuntime) {
     assert!(rt; goes_on(rt.alloc()));
 }
 
+const ANSWERS: &str = "submit,0,own,1,early
+submit,0,own,0,start
+slot,,,,
+submit,0,own,1,s=500;ck=9f2c
+submit,0,own,1,s=500;ck=9f2c
+submit,0,own,2,s=900
+submit,2,own,1,late
+submit,3,own,1,none
+show,,,,
+withdraw,0,,,
+submit,0,own,2,ahead
+submit,0,own,1,again
+";
+
+const ANSWERED: &str = "refused 45 NotNext task=0
+1 submitted 0
+2 ran 0: 0 1
+3 submitted 0
+refused 45 NotNext task=0
+refused 45 NotNext task=0
+refused 45 NotNext task=2
+refused 31 NoSuchTask task=3
+0 own answered=1 text=s=500;ck=9f2c
+4 withdrawn 0
+refused 45 NotNext task=0
+5 submitted 0
+closed 5
+";
+
+/// Whether only the answer of the next unit that a task was given is taken.
+fn takes_next_answers(alloc: Global) -> bool {
+    match thirds(alloc) {
+        Some(mut state) => prints(alloc, &mut state, ANSWERS, ANSWERED, Ok(())),
+        None => false,
+    }
+}
+
+#[test]
+fn takes_only_next_answers(rt: HostRuntime) {
+    assert!(rt; takes_next_answers(rt.alloc()));
+}
+
 const IDLE_BOARD: &str = "1 ran 0: 0
 2 ran 1: 1
 board 2 slot 2
@@ -237,6 +280,7 @@ fn runs_up_to_the_tear(alloc: Global, state: &mut State<AnyJob>) -> bool {
         alloc,
         &mut Script::new(alloc, input),
         1,
+        0,
         Form::Text,
         &mut written,
         state,
@@ -277,6 +321,25 @@ fn answers_before_it_asks(alloc: Global, state: &mut State<AnyJob>) -> bool {
     first == Ok(true) && answered && accepted == 2 && second == Err(Fault::InputFailed)
 }
 
+/// Whether two records that stand ready are answered together by a reader that fails if it is asked for anything after them.
+fn answers_a_group_before_it_asks(alloc: Global, state: &mut State<AnyJob>) -> bool {
+    let input = Torn {
+        left: b"submit,0,own,0,a\nsubmit,1,own,0,b\n",
+    };
+    let mut written = Vec::new(alloc);
+    let end = run_script(
+        alloc,
+        &mut Script::new(alloc, input),
+        1,
+        16,
+        Form::Text,
+        &mut written,
+        state,
+    );
+    end == Err(Fault::InputFailed)
+        && written.as_slice() == b"1 submitted 0\n2 submitted 1\n".as_slice()
+}
+
 /// Whether a record at a time is answered, up to the end of the script, which prints nothing.
 fn answers_one_by_one(alloc: Global, state: &mut State<AnyJob>) -> bool {
     let mut script = Script::new(alloc, b"settle,,,,\nleap,,,,\n".as_slice());
@@ -303,11 +366,13 @@ fn answers_one_by_one(alloc: Global, state: &mut State<AnyJob>) -> bool {
     ended.as_slice() == want.as_slice() && written.as_slice() == b"settled 0\n".as_slice()
 }
 
-/// Whether both are so.
+/// Whether all three are so.
 fn answers_records(alloc: Global) -> bool {
-    match (thirds(alloc), thirds(alloc)) {
-        (Some(mut first), Some(mut second)) => {
-            answers_before_it_asks(alloc, &mut first) && answers_one_by_one(alloc, &mut second)
+    match (thirds(alloc), thirds(alloc), thirds(alloc)) {
+        (Some(mut first), Some(mut second), Some(mut third)) => {
+            answers_before_it_asks(alloc, &mut first)
+                && answers_one_by_one(alloc, &mut second)
+                && answers_a_group_before_it_asks(alloc, &mut third)
         }
         _ => false,
     }
@@ -328,6 +393,7 @@ fn writes_the_beginning(alloc: Global, state: &mut State<AnyJob>) -> bool {
         alloc,
         &mut Script::new(alloc, WEEK.as_bytes()),
         1,
+        0,
         Form::Text,
         &mut output,
         state,

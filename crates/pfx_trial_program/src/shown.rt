@@ -10,11 +10,18 @@ use pfx_weights::TaskSet;
 use std::alloc::Global;
 
 /// Whether this is the line of a new store of this set and size.
-fn has_line(alloc: Global, m: u32, tasks: &[(u32, u32)], size: usize, line: &str) -> bool {
+fn has_line(
+    alloc: Global,
+    form: Form,
+    m: u32,
+    tasks: &[(u32, u32)],
+    size: usize,
+    line: &str,
+) -> bool {
     let Ok(set) = TaskSet::new(alloc, m, tasks) else {
         return false;
     };
-    match created_line(alloc, &set, size) {
+    match created_line(alloc, form, &set, size) {
         Ok(text) => text.as_str() == line,
         Err(_) => false,
     }
@@ -24,11 +31,22 @@ fn has_line(alloc: Global, m: u32, tasks: &[(u32, u32)], size: usize, line: &str
 fn tells_what_was_created(rt: HostRuntime) {
     let thirds = [(2, 3), (2, 3), (2, 3)];
     let line = "created m=2 real=3 idle=0 hyper=3 size=17281\n";
-    assert!(rt; has_line(rt.alloc(), 2, &thirds, 17_281, line), "thirds");
+    assert!(rt;
+        has_line(rt.alloc(), Form::Text, 2, &thirds, 17_281, line),
+        "thirds"
+    );
+    let line = "{\"created\":{\"hyper\":3,\"idle\":0,\"m\":2,\"real\":3,\"size\":17281}}\n";
+    assert!(rt;
+        has_line(rt.alloc(), Form::Json, 2, &thirds, 17_281, line),
+        "an object"
+    );
     // One idle task of 1/6 fills the worker.
     let most = [(1, 2), (1, 3)];
     let line = "created m=1 real=2 idle=1 hyper=6 size=0\n";
-    assert!(rt; has_line(rt.alloc(), 1, &most, 0, line), "an idle task");
+    assert!(rt;
+        has_line(rt.alloc(), Form::Text, 1, &most, 0, line),
+        "an idle task"
+    );
 }
 
 const BOARD: &str = "board 1 slot 1
@@ -109,7 +127,7 @@ fn shows_objects(alloc: Global) -> bool {
     };
     let mut script = Script::new(alloc, WHOLE_WEEK.as_bytes());
     let mut lines = Vec::new(alloc);
-    if run_script(alloc, &mut script, 1, Form::Text, &mut lines, &mut state).is_err() {
+    if run_script(alloc, &mut script, 1, 0, Form::Text, &mut lines, &mut state).is_err() {
         return false;
     }
     has_shown(alloc, Form::Json, &state, None, OBJECTS)
@@ -128,7 +146,7 @@ fn shows_two_jobs(alloc: Global) -> bool {
     };
     let mut script = Script::new(alloc, WEEK.as_bytes());
     let mut lines = Vec::new(alloc);
-    if run_script(alloc, &mut script, 1, Form::Text, &mut lines, &mut state).is_err() {
+    if run_script(alloc, &mut script, 1, 0, Form::Text, &mut lines, &mut state).is_err() {
         return false;
     }
     has_jobs(alloc, &state, None, JOBS)

@@ -84,10 +84,11 @@ fn passes_a_ledger_on(rt: HostRuntime) {
     each_asks(&rt, rt.alloc(), LEDGERS);
 }
 
-const STORES: &str = r#"pfx|init|a.toml|a.pfx => Init { set: "a.toml", file: "a.pfx" }
-pfx|init||b c => Init { set: "", file: "b c" }
-pfx|init|init|help => Init { set: "init", file: "help" }
-pfx|init|--|-a|-b => Init { set: "-a", file: "-b" }"#;
+const STORES: &str = r#"pfx|init|a.toml|a.pfx => Init { set: "a.toml", file: "a.pfx", json: false }
+pfx|init||b c => Init { set: "", file: "b c", json: false }
+pfx|init|init|help => Init { set: "init", file: "help", json: false }
+pfx|init|--|-a|-b => Init { set: "-a", file: "-b", json: false }
+pfx|init|--json|a.toml|a.pfx => Init { set: "a.toml", file: "a.pfx", json: true }"#;
 
 #[test]
 fn reads_a_new_store(rt: HostRuntime) {
@@ -129,9 +130,10 @@ fn reads_a_wish_for_json(rt: HostRuntime) {
     each_asks(&rt, rt.alloc(), OBJECTS);
 }
 
-const EXPLAINS: &str = r#"pfx|explain|14 => Explain { fault: "14" }
-pfx|explain|BadWeight => Explain { fault: "BadWeight" }
-pfx|explain|explain => Explain { fault: "explain" }"#;
+const EXPLAINS: &str = r#"pfx|explain|14 => Explain { fault: "14", json: false }
+pfx|explain|BadWeight => Explain { fault: "BadWeight", json: false }
+pfx|explain|explain => Explain { fault: "explain", json: false }
+pfx|explain|14|--json => Explain { fault: "14", json: true }"#;
 
 #[test]
 fn reads_an_explain(rt: HostRuntime) {
@@ -156,18 +158,20 @@ fn reads_a_status(rt: HostRuntime) {
     each_asks(&rt, rt.alloc(), FILES);
 }
 
-const REPLAYS: &str = r#"pfx|replay|a.pfx => Replay { file: "a.pfx" }
-pfx|replay|replay => Replay { file: "replay" }
-pfx|replay|--|--help => Replay { file: "--help" }"#;
+const REPLAYS: &str = r#"pfx|replay|a.pfx => Replay { file: "a.pfx", json: false }
+pfx|replay|replay => Replay { file: "replay", json: false }
+pfx|replay|--|--help => Replay { file: "--help", json: false }
+pfx|replay|a.pfx|--json => Replay { file: "a.pfx", json: true }"#;
 
 #[test]
 fn reads_a_replay(rt: HostRuntime) {
     each_asks(&rt, rt.alloc(), REPLAYS);
 }
 
-const CHECKS: &str = r#"pfx|check|a.toml => Check { set: "a.toml" }
-pfx|check|- => Check { set: "-" }
-pfx|check|--|--help => Check { set: "--help" }"#;
+const CHECKS: &str = r#"pfx|check|a.toml => Check { set: "a.toml", json: false }
+pfx|check|- => Check { set: "-", json: false }
+pfx|check|--|--help => Check { set: "--help", json: false }
+pfx|check|--json|- => Check { set: "-", json: true }"#;
 
 #[test]
 fn reads_a_check(rt: HostRuntime) {
@@ -253,7 +257,7 @@ fn answers_with_help_and_version(rt: HostRuntime) {
     each_is_answered(&rt, rt.alloc(), 0, HELP);
 }
 
-const PAGES: &str = r#"pfx|init|--help => Usage: pfx init <SET> <FILE>~
+const PAGES: &str = r#"pfx|init|--help => Usage: pfx init [OPTIONS] <SET> <FILE>~
 pfx|init|--help =>   created m=2 real=3 idle=0 hyper=3 size=2098049~
 pfx|init|--help =>   pfx init examples/thirds.toml thirds.pfx 
 pfx|run|--help => Usage: pfx run [OPTIONS] <FILE> <SCRIPT>~
@@ -266,10 +270,10 @@ pfx|status|--help =>   pfx status thirds.pfx
 pfx|status|--help => {"alloc":1,"job":"none","lag":-1,"period":3,"task":0}
 pfx|run|--help =>   {"settled":3}~
 pfx|show|--help =>   {"found":2,"job":"scan","left":0,"of":"ab","task":2}
-pfx|replay|--help => Usage: pfx replay <FILE>~
+pfx|replay|--help => Usage: pfx replay [OPTIONS] <FILE>~
 pfx|replay|--help =>   differs 10 Checkpoint 
 pfx|replay|--help =>   pfx replay thirds.pfx 
-pfx|explain|--help => Usage: pfx explain <FAULT>~
+pfx|explain|--help => Usage: pfx explain [OPTIONS] <FAULT>~
 pfx|explain|--help =>   pfx explain BadWeight "#;
 
 #[test]

@@ -5,6 +5,7 @@ use pfx_disk::{Disk, MemoryDisk};
 use pfx_engine::DurableEngine;
 use pfx_fault::Part;
 use pfx_kinds::any::AnyJob;
+use pfx_kit::places::{END, FIRST_FRAME, HEADER, SECOND_AREA, TASK, TASKS};
 use pfx_machine::Command;
 use pfx_recover::{OpenFault, Refusal};
 use pfx_replay::{Difference, Verdict, replay};
@@ -15,10 +16,10 @@ use std::alloc::Global;
 
 /// A disk with these bytes, and room for the file and for so many calls.
 fn disk_of(alloc: Global, bytes: &[u8]) -> Option<MemoryDisk> {
-    if bytes.len() > 17_281 {
+    if bytes.len() > END {
         return None;
     }
-    MemoryDisk::new(alloc, bytes, 17_281, 400, 60_000).ok()
+    MemoryDisk::new(alloc, bytes, END, 400, 60_000).ok()
 }
 
 /// The engine over a new store.
@@ -56,6 +57,23 @@ fn worked(alloc: Global) -> Option<Vec<u8>> {
         .ok()?;
     for _ in 0..5 {
         engine.execute(alloc, Command::Slot).ok()?;
+    }
+    file_of(alloc, engine.into_store())
+}
+
+/// The answer of a unit of task 0.
+fn answer(unit: u64) -> Option<Command<AnyJob>> {
+    let job = AnyJob::start("own", unit, b"s=500;ck=9f2c").ok()?;
+    Some(Command::Submit { task: 0, job })
+}
+
+/// The file after the start of task 0, one slot, and the answers of these of its units: a store takes any.
+fn answered(alloc: Global, units: &[u64]) -> Option<Vec<u8>> {
+    let mut engine = begun(alloc)?;
+    engine.execute(alloc, answer(0)?).ok()?;
+    engine.execute(alloc, Command::Slot).ok()?;
+    for unit in units {
+        engine.execute(alloc, answer(*unit)?).ok()?;
     }
     file_of(alloc, engine.into_store())
 }
@@ -128,6 +146,21 @@ fn differs(number: u64, what: Difference) -> Option<Verdict> {
 }
 
 #[test]
+fn answers_have_to_be_of_the_next_unit(rt: HostRuntime) {
+    let alloc = rt.alloc();
+    let none = verdict_of(alloc, answered(alloc, &[]));
+    check(&rt, none == agrees(2), "a start");
+    let one = verdict_of(alloc, answered(alloc, &[1]));
+    check(&rt, one == agrees(3), "an answer");
+    let rows: [(&[u64], u64); 4] = [(&[0], 3), (&[2], 3), (&[1, 1], 4), (&[1, 2, 3], 4)];
+    for (at, (units, number)) in rows.iter().enumerate() {
+        let found = verdict_of(alloc, answered(alloc, units));
+        let holds = found == differs(*number, Difference::Answer);
+        check_at(&rt, holds, "row", at);
+    }
+}
+
+#[test]
 fn whole_files_agree(rt: HostRuntime) {
     let alloc = rt.alloc();
     check(&rt, verdict_of(alloc, slots(alloc, 0)) == agrees(0), "new");
@@ -148,7 +181,7 @@ fn whole_files_agree(rt: HostRuntime) {
 #[test]
 fn a_changed_state_differs(rt: HostRuntime) {
     let alloc = rt.alloc();
-    let changed = with_byte(worked(alloc), 1229, 7, 6);
+    let changed = with_byte(worked(alloc), FIRST_FRAME + 323, 7, 6);
     check(
         &rt,
         verdict_of(alloc, changed) == differs(3, Difference::State),
@@ -159,7 +192,7 @@ fn a_changed_state_differs(rt: HostRuntime) {
 #[test]
 fn a_changed_row_differs(rt: HostRuntime) {
     let alloc = rt.alloc();
-    let changed = with_byte(slots(alloc, 1), 925, 1, 2);
+    let changed = with_byte(slots(alloc, 1), FIRST_FRAME + 19, 1, 2);
     check(
         &rt,
         verdict_of(alloc, changed) == differs(1, Difference::Row),
@@ -170,8 +203,9 @@ fn a_changed_row_differs(rt: HostRuntime) {
 #[test]
 fn a_changed_checkpoint_differs(rt: HostRuntime) {
     let alloc = rt.alloc();
-    let first = with_byte(checkpointed(alloc), 623, 7, 6);
-    let changed = with_byte(first, 760, 6, 7);
+    let second = SECOND_AREA + TASKS + TASK;
+    let first = with_byte(checkpointed(alloc), second, 7, 6);
+    let changed = with_byte(first, second + TASK, 6, 7);
     check(
         &rt,
         verdict_of(alloc, changed) == differs(10, Difference::Checkpoint),
@@ -185,12 +219,12 @@ fn other_files_are_refused(rt: HostRuntime) {
     let bytes = slots(alloc, 1).unwrap_or(Vec::new(alloc));
     let none = OpenFault::Refused(Refusal::NotAStore);
     check(&rt, fault_of(alloc, &[]) == Some(none), "empty");
-    check(&rt, bytes.len() == 17_281, "length");
-    for cut in [0, 16, 40, 41, 906, 17_280] {
+    check(&rt, bytes.len() == END, "length");
+    for cut in [0, 16, HEADER - 1, HEADER, FIRST_FRAME, END - 1] {
         let Some(front) = bytes.get(..cut) else {
             continue;
         };
-        let wanted = if cut < 41 {
+        let wanted = if cut < HEADER {
             none
         } else {
             OpenFault::Refused(Refusal::Damaged {

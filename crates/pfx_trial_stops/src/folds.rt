@@ -3,6 +3,7 @@
 use pfx_disk::MemoryDisk;
 use pfx_jobs::job::Job;
 use pfx_kinds::any::AnyJob;
+use pfx_kit::places::FIRST_SEGMENT;
 use pfx_machine::{Command, State};
 use pfx_replay::{PlainLedger, PlainState, plain_state};
 use pfx_weights::TaskSet;
@@ -21,7 +22,7 @@ pub const MADE: u64 = 9;
 pub const CALLS: u64 = 272;
 
 /// How long the file is.
-pub const LONGEST: usize = 9363;
+pub const LONGEST: usize = FIRST_SEGMENT + 2 * SEGMENT as usize;
 
 /// How many bytes the run and what comes after it write at most.
 pub const WRITTEN: usize = 60_000;

@@ -1,7 +1,7 @@
 //! The run of the trials through a front, asked by two clients in turn: each waits for each receipt, or all is asked first.
 ghost use Rattle.std.specs.Prelude.{◌≡◌, IfSome};
 ghost use Rattle.pfx_kinds.specs.AnyKind.{any_kind};
-ghost use Rattle.pfx_front.specs.Starting.{Begins};
+ghost use Rattle.pfx_front.specs.Starting.{Begins, BeginsHonest};
 
 use crate::folds::{COMMANDS, MADE, SEGMENT, command, thirds};
 use pfx_board::reader::Reader;
@@ -18,6 +18,7 @@ use pfx_front::start::Crew;
 use pfx_jobs::quantum::{Done, Quantum};
 use pfx_kinds::any::AnyJob;
 use pfx_store::Store;
+use pfx_store::laws::honest_disks_hold;
 use std::alloc::Global;
 use std::marker::Brand;
 use std::sync::Wait;
@@ -85,7 +86,8 @@ where
         return;
     }
     match front.settled(rt, &mut visit.pass, number) {
-        Ok(receipt) => {
+        Ok(acknowledged) => {
+            let receipt = &acknowledged.receipt;
             let is_noted = visit.receipts.push((receipt.number, receipt.clock)).is_ok();
             visit.stays = visit.stays && is_noted && visit.fault.is_none();
         }
@@ -230,7 +232,8 @@ fn serve<
 where
     K::Seat: Drop + Send + 'static,
     requires named { (names.tokens.table.shared.table_id ≡ B.table) × (names.list.seen.book ≡ B.book) × (B.origin ≡ B.start) }
-    requires begins { Begins any_kind B.start B.failures B.clock store.file.broken store.state (D.view store.file.disk) }
+    requires calls { names.calls.seen.book ≡ B.calls }
+    requires begins { Begins any_kind B.start B.failures B.clock B.held B.image store (D.view store.file.disk) }
 {
     let started = Front::<AnyJob, B, K>::start::<D, R>(rt, alloc, names, store, desk, 0, 1);
     let served = started.ok()?;
@@ -242,11 +245,14 @@ where
 
 /// A new store on a disk, with segments of the least length.
 pub fn store_on<D: Disk + Drop>(alloc: Global, disk: D) -> Option<Store<D, AnyJob>>
-    ensures { IfSome result (λ s. Begins any_kind s.state (D.view s.file.disk).failures (D.view s.file.disk).clock s.file.broken s.state (D.view s.file.disk)) }
+    ensures { IfSome result (λ s. BeginsHonest any_kind s (D.view s.file.disk)) }
 {
     let set = thirds(alloc)?;
     match Store::init(alloc, disk, &set, SEGMENT) {
-        Ok(store) => Some(store),
+        Ok(store) => {
+            honest_disks_hold(&store);
+            Some(store)
+        }
         Err(_) => None,
     }
 }
@@ -263,8 +269,7 @@ fn serve_named<
     desk: JobDesk,
     gate: Option<Gate>,
 ) -> Option<(Outcome, D)>
-    requires { Begins any_kind store.state (D.view store.file.disk).failures
-        (D.view store.file.disk).clock store.file.broken store.state (D.view store.file.disk) }
+    requires { BeginsHonest any_kind store (D.view store.file.disk) }
 {
     serve::<Brand, JobDesk, D, R>(rt, alloc, names, store, desk, gate)
 }

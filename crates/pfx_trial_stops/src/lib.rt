@@ -9,11 +9,14 @@
 //! | `failing` | each call of a store's run fails in turn, and each call of its opening |
 //! | `fronts` | the run through a front, asked by two clients |
 //! | `through` | the same two trials through the front |
+//! | `answers` | a run of grants and of answers to them is stopped twice |
 //! | `weeks` | a script through a front, by none, one and two workers |
 //!
 //! A case is a plain `bool`; `check` and `check_at` name the one that doesn't hold.
 #![tactic(auto)]
 
+#[cfg(test)]
+mod answers;
 #[cfg(test)]
 mod check;
 #[cfg(test)]

@@ -1,7 +1,7 @@
 //! A script over a store through a front, with workers and without: what it prints is what it prints on one thread.
 ghost use Rattle.std.specs.Prelude.{IfSome};
 ghost use Rattle.pfx_kinds.specs.AnyKind.{any_kind};
-ghost use Rattle.pfx_front.specs.Starting.{Begins};
+ghost use Rattle.pfx_front.specs.Starting.{BeginsHonest};
 ghost use Rattle.pfx_disk.specs.Memory.{memory_view};
 
 use crate::check::check_at;
@@ -15,17 +15,22 @@ use pfx_kit::week::{FIRST_WEEK, SECOND_WEEK, WEEK};
 use pfx_program::Form;
 use pfx_script::Script;
 use pfx_store::Store;
+use pfx_store::laws::honest_disks_hold;
 use std::alloc::Global;
+use std::marker::Brand;
 use std::sync::Wait;
 use std::thread::Threads;
 use std::time::Clock;
 
 /// The store that a disk holds.
 fn reopened<D: Disk + Drop>(alloc: Global, disk: D) -> Option<Store<D, AnyJob>>
-    ensures { IfSome result (λ s. Begins any_kind s.state (D.view s.file.disk).failures (D.view s.file.disk).clock s.file.broken s.state (D.view s.file.disk)) }
+    ensures { IfSome result (λ s. BeginsHonest any_kind s (D.view s.file.disk)) }
 {
     match Store::open(alloc, disk) {
-        Ok(store) => Some(store),
+        Ok(store) => {
+            honest_disks_hold(&store);
+            Some(store)
+        }
         Err(_) => None,
     }
 }
@@ -38,13 +43,12 @@ fn printed<R: Threads + Wait + Clock + Copy + Drop + Send + Sync + 'static>(
     workers: u32,
     wanted: &str,
 ) -> Option<MemoryDisk>
-    requires { Begins any_kind store.state (memory_view store.file.disk).failures
-        (memory_view store.file.disk).clock store.file.broken store.state (memory_view store.file.disk) }
+    requires { BeginsHonest any_kind store (memory_view store.file.disk) }
 {
     let desk: JobDesk = ChannelDesk::new(alloc).ok()?;
     let mut script = Script::new(alloc, WEEK.as_bytes());
     let mut output = Vec::new(alloc);
-    let served = run_served(
+    let served = run_served::<_, _, MemoryDisk, Brand, JobDesk, R>(
         rt,
         alloc,
         store,
@@ -52,6 +56,7 @@ fn printed<R: Threads + Wait + Clock + Copy + Drop + Send + Sync + 'static>(
         workers,
         &mut script,
         2,
+        0,
         Form::Text,
         &mut output,
     );

@@ -3,13 +3,14 @@
 use pfx_disk::{Disk, MemoryDisk};
 use pfx_engine::DurableEngine;
 use pfx_kinds::any::AnyJob;
+use pfx_kit::places::END;
 use pfx_store::Store;
 use pfx_weights::TaskSet;
 use std::alloc::Global;
 
 /// An empty disk with room for the file of three tasks, and for so many calls.
 pub fn empty(alloc: Global, calls: usize) -> Option<MemoryDisk> {
-    MemoryDisk::new(alloc, &[], 17_281, calls, 60_000).ok()
+    MemoryDisk::new(alloc, &[], END, calls, 60_000).ok()
 }
 
 /// The new store on a disk, with segments of this length.

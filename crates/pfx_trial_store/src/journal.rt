@@ -6,13 +6,12 @@ use crate::turns::append_slot;
 use pfx_disk::{Disk, Fate, FaultDisk, MemoryDisk};
 use pfx_fault::Part;
 use pfx_kinds::any::AnyJob;
+use pfx_kit::places::{AREA, END, FIRST_FRAME, FIRST_SEGMENT, HEADER, SECOND_AREA, TASK, TASKS};
 use pfx_recover::{OpenFault, Refusal};
 use pfx_store::{InitFault, Store};
 use pfx_store_file::Tended;
 use pfx_weights::TaskSet;
 use std::alloc::Global;
-
-const LEN: usize = 17_281;
 
 /// The header, and where it ends the first checkpoint area's gate.
 const HEAD: [u8; 42] = [
@@ -42,7 +41,7 @@ fn made<D: Disk + Drop>(
 
 /// The bytes of a new store's file.
 pub fn new_file(alloc: Global) -> Option<Vec<u8>> {
-    let disk = MemoryDisk::new(alloc, &[], LEN, 40, 20_000).ok()?;
+    let disk = MemoryDisk::new(alloc, &[], END, 40, 20_000).ok()?;
     let store = made(alloc, disk, 8192).ok()?;
     held(alloc, &mut store.into_disk())
 }
@@ -50,10 +49,10 @@ pub fn new_file(alloc: Global) -> Option<Vec<u8>> {
 /// The bytes of a new store's file, with its first frame.
 fn file_of_one_slot(alloc: Global) -> Option<Vec<u8>> {
     let mut bytes = new_file(alloc)?;
-    if bytes.len() != LEN {
+    if bytes.len() != END {
         return None;
     }
-    bytes[906..928].copy_from_slice(&FRAME);
+    bytes[FIRST_FRAME..FIRST_FRAME + 22].copy_from_slice(&FRAME);
     Some(bytes)
 }
 
@@ -62,19 +61,22 @@ fn opened(alloc: Global, bytes: &[u8]) -> Option<Store<MemoryDisk, AnyJob>> {
     Store::open(alloc, disk).ok()
 }
 
+/// Where the first segment's number stands.
+const FIRST_NUMBER: usize = FIRST_SEGMENT + 1;
+
 /// The byte of the new file at a place.
 fn byte_of_new_file(i: usize) -> u8 {
     match i {
         0..42 => HEAD[i],
-        897 => 0xc3,
-        898 => 1,
+        FIRST_SEGMENT => 0xc3,
+        FIRST_NUMBER => 1,
         _ => 0,
     }
 }
 
 /// Whether these are the bytes of the new file.
 fn is_whole(bytes: &[u8]) -> bool {
-    let mut same = bytes.len() == LEN;
+    let mut same = bytes.len() == END;
     for (i, byte) in bytes.iter().enumerate() {
         if *byte != byte_of_new_file(i) {
             same = false;
@@ -165,7 +167,7 @@ fn is_new_refused(alloc: Global, at: usize, byte: u8, wanted: Refusal) -> bool {
 /// Whether a file with a frame, with these bytes at these places, is damaged so in the frame.
 fn is_frame_refused(alloc: Global, changes: &[(usize, u8)], what: Part) -> bool {
     let bytes = file_of_one_slot(alloc).unwrap_or(Vec::new(alloc));
-    is_refused_with(alloc, &bytes, changes, damaged(906, what)) == Some(true)
+    is_refused_with(alloc, &bytes, changes, damaged(FIRST_FRAME, what)) == Some(true)
 }
 
 #[test]
@@ -179,8 +181,8 @@ fn a_file_that_ends_in_its_header_is_not_a_store(rt: HostRuntime) {
 
 #[test]
 fn a_byte_too_few_is_a_damaged_length(rt: HostRuntime) {
-    let short = damaged(LEN - 1, Part::Length);
-    check(&rt, is_front_refused(rt.alloc(), LEN - 1, short), "short");
+    let short = damaged(END - 1, Part::Length);
+    check(&rt, is_front_refused(rt.alloc(), END - 1, short), "short");
 }
 
 #[test]
@@ -197,48 +199,61 @@ fn no_workers_are_a_damaged_header(rt: HostRuntime) {
 
 #[test]
 fn a_closed_area_alone_is_a_damaged_checkpoint(rt: HostRuntime) {
-    let area = damaged(41, Part::Checkpoint);
-    check(&rt, is_new_refused(rt.alloc(), 41, 0, area), "its gate");
+    let area = damaged(HEADER, Part::Checkpoint);
+    check(&rt, is_new_refused(rt.alloc(), HEADER, 0, area), "its gate");
 }
 
 #[test]
 fn a_closed_segment_is_a_damaged_segment(rt: HostRuntime) {
-    let segment = damaged(897, Part::Segment);
-    check(&rt, is_new_refused(rt.alloc(), 897, 0, segment), "its gate");
+    let segment = damaged(FIRST_SEGMENT, Part::Segment);
+    let holds = is_new_refused(rt.alloc(), FIRST_SEGMENT, 0, segment);
+    check(&rt, holds, "its gate");
 }
 
 #[test]
 fn a_frame_that_ends_nowhere_is_a_damaged_frame(rt: HostRuntime) {
-    let endless = [(907, 0xff), (908, 0xff), (909, 0xff), (910, 0xff)];
+    let endless = [
+        (FIRST_FRAME + 1, 0xff),
+        (FIRST_FRAME + 2, 0xff),
+        (FIRST_FRAME + 3, 0xff),
+        (FIRST_FRAME + 4, 0xff),
+    ];
     let holds = is_frame_refused(rt.alloc(), &endless, Part::Frame);
     check(&rt, holds, "its length");
 }
 
 #[test]
 fn a_row_that_falls_is_a_damaged_record(rt: HostRuntime) {
-    let holds = is_frame_refused(rt.alloc(), &[(922, 1), (925, 0)], Part::Record);
+    let row = [(FIRST_FRAME + 16, 1), (FIRST_FRAME + 19, 0)];
+    let holds = is_frame_refused(rt.alloc(), &row, Part::Record);
     check(&rt, holds, "its row");
 }
+
+/// Where the text of a search stands if the first frame submits it.
+const TEXT: usize = FIRST_FRAME + 26;
+
+/// Where its needle stands.
+const NEEDLE: usize = TEXT + 64;
 
 /// The bytes of a new store's file, with the frame that submits the search for `ab` in `abcab` as task 0.
 fn file_of_a_scan(alloc: Global) -> Option<Vec<u8>> {
     let mut bytes = new_file(alloc)?;
-    if bytes.len() != LEN {
+    if bytes.len() != END {
         return None;
     }
     let numbers = [
-        (906, 0xc3),
-        (907, 0x83),
-        (911, 1),
-        (919, 1),
-        (921, 1),
-        (924, 3),
-        (925, 4),
-        (929, 5),
-        (930, 2),
+        (FIRST_FRAME, 0xc3),
+        (FIRST_FRAME + 1, 0x83),
+        (FIRST_FRAME + 5, 1),
+        (FIRST_FRAME + 13, 1),
+        (FIRST_FRAME + 15, 1),
+        (FIRST_FRAME + 18, 3),
+        (FIRST_FRAME + 19, 4),
+        (FIRST_FRAME + 23, 5),
+        (FIRST_FRAME + 24, 2),
     ];
-    bytes[932..937].copy_from_slice(b"abcab");
-    bytes[996..998].copy_from_slice(b"ab");
+    bytes[TEXT..TEXT + 5].copy_from_slice(b"abcab");
+    bytes[NEEDLE..NEEDLE + 2].copy_from_slice(b"ab");
     for (at, byte) in numbers {
         *bytes.get_mut(at)? = byte;
     }
@@ -252,32 +267,32 @@ fn a_letter_that_no_search_has_is_a_damaged_record(rt: HostRuntime) {
     let bytes = file_of_a_scan(alloc).unwrap_or(Vec::new(alloc));
     let whole = opened(alloc, &bytes);
     check(&rt, whole.is_some(), "opened");
-    let record = damaged(906, Part::Record);
-    for (at, byte) in [(932, 0xa0), (932, 0x1f), (996, 0xa0), (996, b':')] {
+    let record = damaged(FIRST_FRAME, Part::Record);
+    for (at, byte) in [(TEXT, 0xa0), (TEXT, 0x1f), (NEEDLE, 0xa0), (NEEDLE, b':')] {
         let holds = is_refused_with(alloc, &bytes, &[(at, byte)], record);
         check_at(&rt, holds == Some(true), "byte", at);
     }
-    let colon = is_refused_with(alloc, &bytes, &[(932, b':')], record);
+    let colon = is_refused_with(alloc, &bytes, &[(TEXT, b':')], record);
     check(&rt, colon == Some(false), "a text with a colon");
 }
 
 /// The fault of making a store on a disk in memory that holds so many zeros.
 fn fault_of(alloc: Global, zeros: &[u8], segment: u32) -> Option<InitFault> {
-    if zeros.len() > LEN {
+    if zeros.len() > END {
         return None;
     }
-    let disk = MemoryDisk::new(alloc, zeros, LEN, 40, 20_000).ok()?;
+    let disk = MemoryDisk::new(alloc, zeros, END, 40, 20_000).ok()?;
     made(alloc, disk, segment).err()
 }
 
 fn least_is_made(alloc: Global) -> Option<bool> {
-    let disk = MemoryDisk::new(alloc, &[], LEN, 40, 20_000).ok()?;
+    let disk = MemoryDisk::new(alloc, &[], END, 40, 20_000).ok()?;
     Some(made(alloc, disk, 4233).is_ok())
 }
 
 /// Why no store is made on a disk whose k-th call fails.
 fn fault_at(alloc: Global, k: u64) -> Option<InitFault> {
-    let disk = MemoryDisk::new(alloc, &[], LEN, 40, 20_000).ok()?;
+    let disk = MemoryDisk::new(alloc, &[], END, 40, 20_000).ok()?;
     made(alloc, FaultDisk::new(disk, k), 8192).err()
 }
 
@@ -303,7 +318,7 @@ fn stores_that_cant_be_made(rt: HostRuntime) {
 
 /// The new store on a disk in memory.
 fn store_in_memory(alloc: Global) -> Option<Store<MemoryDisk, AnyJob>> {
-    let disk = MemoryDisk::new(alloc, &[], LEN, 80, 30_000).ok()?;
+    let disk = MemoryDisk::new(alloc, &[], END, 80, 30_000).ok()?;
     made(alloc, disk, 8192).ok()
 }
 
@@ -321,19 +336,22 @@ fn appended(alloc: Global) -> Option<Vec<u8>> {
 fn an_appended_frame_is_its_bytes(rt: HostRuntime) {
     let alloc = rt.alloc();
     let bytes = appended(alloc).unwrap_or(Vec::new(alloc));
-    check(&rt, bytes.len() == LEN, "appended");
+    check(&rt, bytes.len() == END, "appended");
     let wanted = file_of_one_slot(alloc).unwrap_or(Vec::new(alloc));
     for (i, byte) in bytes.iter().enumerate() {
         check_at(&rt, wanted.get(i) == Some(byte), "byte", i);
     }
 }
 
+/// Where the second task stands in a checkpoint's area.
+const SECOND_TASK: usize = TASKS + TASK;
+
 /// The byte of the checkpoint area with the state after one slot of tasks 0 and 1: its gate, the number, the slot, and a row of 137
 /// bytes for each task, which begins with what the task got.
 fn byte_of_checkpoint(i: usize) -> u8 {
     match i {
         0 => 0xc3,
-        1 | 9 | 17 | 154 => 1,
+        1 | 9 | TASKS | SECOND_TASK => 1,
         _ => 0,
     }
 }
@@ -357,9 +375,9 @@ fn checkpointed(alloc: Global) -> Option<Vec<u8>> {
 fn a_checkpoint_is_its_bytes(rt: HostRuntime) {
     let alloc = rt.alloc();
     let bytes = checkpointed(alloc).unwrap_or(Vec::new(alloc));
-    check(&rt, bytes.len() == LEN, "checkpointed");
-    for i in 0..428 {
-        let holds = bytes.get(469 + i) == Some(&byte_of_checkpoint(i));
+    check(&rt, bytes.len() == END, "checkpointed");
+    for i in 0..AREA {
+        let holds = bytes.get(SECOND_AREA + i) == Some(&byte_of_checkpoint(i));
         check_at(&rt, holds, "byte", i);
     }
 }

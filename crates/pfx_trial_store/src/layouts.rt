@@ -6,6 +6,7 @@ use crate::journal::new_file;
 use pfx_disk::{Disk, FaultDisk, MemoryDisk};
 use pfx_fault::Part;
 use pfx_kinds::any::AnyJob;
+use pfx_kit::places::{FIRST_SEGMENT, HEADER};
 use pfx_recover::{OpenFault, Refusal};
 use pfx_store::Store;
 use std::alloc::Global;
@@ -60,8 +61,8 @@ fn a_header_tells_the_layout(rt: HostRuntime) {
             Err(OpenFault::Refused(Refusal::WrongVersion { version: 9 })),
         ),
         (10, 0, Err(OpenFault::Refused(damaged))),
-        (41, 0, Ok(NEW)),
-        (897, 0, Ok(NEW)),
+        (HEADER, 0, Ok(NEW)),
+        (FIRST_SEGMENT, 0, Ok(NEW)),
     ];
     for (at, byte, wanted) in rows {
         check_at(

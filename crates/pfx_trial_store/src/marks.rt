@@ -4,6 +4,7 @@ use crate::check::{check, check_at};
 use crate::engines::{last_of, new_store};
 use pfx_disk::{Disk, Fate, MemoryDisk};
 use pfx_kinds::any::AnyJob;
+use pfx_kit::places::END;
 use pfx_store::{Mark, Store};
 use std::alloc::Global;
 
@@ -36,7 +37,7 @@ fn is_left(alloc: Global, disk: &MemoryDisk, calls: u64, fate: Fate, number: u64
 
 /// The first call of the ten, by their clocks, after which a stop loses a mark.
 fn first_loss(alloc: Global, fate: Fate) -> Option<u64> {
-    let disk = MemoryDisk::new(alloc, &[], 17_281, 200, 60_000).ok()?;
+    let disk = MemoryDisk::new(alloc, &[], END, 200, 60_000).ok()?;
     let mut store = new_store(alloc, disk, 8192)?;
     let made = store.disk().clock();
     let marks = run_ten(alloc, &mut store)?;
@@ -67,7 +68,7 @@ fn ten_calls_keep_their_marks(rt: HostRuntime) {
 
 /// Where the store stands behind the ten calls, and the numbers of its marks.
 fn stands_at_last(alloc: Global) -> Option<(u64, u64, bool)> {
-    let disk = MemoryDisk::new(alloc, &[], 17_281, 200, 60_000).ok()?;
+    let disk = MemoryDisk::new(alloc, &[], END, 200, 60_000).ok()?;
     let mut store = new_store(alloc, disk, 8192)?;
     let marks = run_ten(alloc, &mut store)?;
     let places = store.places();
@@ -115,7 +116,7 @@ fn least_and_most(calls: u64, clocks: [u64; 4]) -> (u64, u64) {
 
 /// The first call after which a stop leaves another number than that of the last mark or of the next one.
 fn first_part(alloc: Global, fate: Fate) -> Option<u64> {
-    let disk = MemoryDisk::new(alloc, &[], 17_281, 200, 60_000).ok()?;
+    let disk = MemoryDisk::new(alloc, &[], END, 200, 60_000).ok()?;
     let mut store = new_store(alloc, disk, 8192)?;
     let made = store.disk().clock();
     let clocks = run_batches(alloc, &mut store)?;

@@ -5,6 +5,7 @@ use crate::engines::{begun, empty, in_memory, opened};
 use pfx_disk::{Disk, FaultDisk, FileDisk, MemoryDisk};
 use pfx_engine::{DurableEngine, laws};
 use pfx_fault::{Cause, Fault};
+use pfx_kit::places::END;
 use pfx_kit::week::{FIRST_WEEK, SECOND_WEEK, WEEK};
 use pfx_machine::{Command, Reply};
 use pfx_program::{CallFault, Engine, Form, run_script};
@@ -27,6 +28,7 @@ fn prints<D: Disk>(
         alloc,
         &mut Script::new(alloc, script.as_bytes()),
         1,
+        0,
         Form::Text,
         &mut written,
         engine,
@@ -143,7 +145,7 @@ fn file_runs(rt: &HostRuntime, alloc: Global, path: &PathBuf) -> Option<bool> {
     let are_run = first_runs(alloc, file_at(rt, path)?) && second_runs(alloc, file_at(rt, path)?);
     let bytes = fs::read(rt, path).ok()?;
     fs::remove_file(rt, path).ok()?;
-    Some(are_run && bytes.len() == 17_281 && bytes.starts_with(b"\xc3PFXSTORE"))
+    Some(are_run && bytes.len() == END && bytes.starts_with(b"\xc3PFXSTORE"))
 }
 
 fn temporary_file_runs(rt: &HostRuntime, alloc: Global) -> Option<bool> {
@@ -178,6 +180,7 @@ fn segments_are_turned(rt: HostRuntime) {
         alloc,
         &mut Script::new(alloc, b"slot,,,800,\n".as_slice()),
         1,
+        0,
         Form::Text,
         &mut written,
         &mut engine,

@@ -6,6 +6,7 @@ use pfx_disk::{Disk, Fate, MemoryDisk};
 use pfx_engine::DurableEngine;
 use pfx_jobs::job::Job;
 use pfx_kinds::any::AnyJob;
+use pfx_kit::places::FIRST_SEGMENT;
 use pfx_machine::Command;
 use std::alloc::Global;
 
@@ -129,7 +130,7 @@ fn the_file_holds_the_states_of_jobs(rt: HostRuntime) {
 
 /// The engine over a store with the least segments of two workers.
 fn over_least_segments(alloc: Global) -> Option<DurableEngine<MemoryDisk>> {
-    let disk = MemoryDisk::new(alloc, &[], 9363, 1000, 60_000).ok()?;
+    let disk = MemoryDisk::new(alloc, &[], SECOND + 4233, 1000, 60_000).ok()?;
     over(alloc, new_store(alloc, disk, 4233)?)
 }
 
@@ -144,8 +145,10 @@ fn count() -> Option<AnyJob> {
     AnyJob::start("count", 1000, b"").ok()
 }
 
-// Two frames of 146 bytes, and each slot's of 278 or 150, as two of its tasks have a job or one. The first segment begins at
-// 897, the second at 5130.
+/// Where the second segment stands if segments have the least length.
+const SECOND: usize = FIRST_SEGMENT + 4233;
+
+// Two frames of 146 bytes, and each slot's of 278 or 150, as two of its tasks have a job or one.
 #[test]
 fn a_full_segment_is_left(rt: HostRuntime) {
     let alloc = rt.alloc();
@@ -155,11 +158,13 @@ fn a_full_segment_is_left(rt: HostRuntime) {
     check(&rt, submit(alloc, 0, count(), &mut engine), "task 0");
     check(&rt, submit(alloc, 1, count(), &mut engine), "task 1");
     check(&rt, run_slots(alloc, 20, &mut engine), "20 slots");
-    check(&rt, is_at(&engine, false, 897 + 4197), "the first is full");
+    let is_full = is_at(&engine, false, FIRST_SEGMENT + 4197);
+    check(&rt, is_full, "the first is full");
     check(&rt, run_slots(alloc, 1, &mut engine), "21 slots");
     check(&rt, engine.store.places().segment, "the second");
     check(&rt, run_slots(alloc, 21, &mut engine), "42 slots");
-    check(&rt, is_at(&engine, true, 5130 + 4205), "the second is full");
+    let is_full = is_at(&engine, true, SECOND + 4205);
+    check(&rt, is_full, "the second is full");
     check(&rt, run_slots(alloc, 1, &mut engine), "43 slots");
     check(&rt, !engine.store.places().segment, "the first again");
     check(&rt, run_slots(alloc, 17, &mut engine), "60 slots");

@@ -7,6 +7,7 @@ use pfx_disk::{Disk, Fate, MemoryDisk};
 use pfx_engine::DurableEngine;
 use pfx_jobs::job::Job;
 use pfx_kinds::any::AnyJob;
+use pfx_kit::places::{END, FIRST_FRAME, FIRST_SEGMENT, SECOND_AREA};
 use pfx_machine::{Command, State};
 use pfx_record::{Batch, Record, fits};
 use pfx_redo::{apply_all, run_recorded};
@@ -164,19 +165,19 @@ fn old_frames_stand_behind_a_closed_gate(rt: HostRuntime) {
     let alloc = rt.alloc();
     let bytes = file_turned_twice(alloc).unwrap_or(Vec::new(alloc));
     let held = [
-        (469, 0xc3),
-        (470, 10),
-        (897, 0xc3),
-        (898, 12),
-        (906, 0xc3),
-        (928, 0),
+        (SECOND_AREA, 0xc3),
+        (SECOND_AREA + 1, 10),
+        (FIRST_SEGMENT, 0xc3),
+        (FIRST_SEGMENT + 1, 12),
+        (FIRST_FRAME, 0xc3),
+        (FIRST_FRAME + 22, 0),
     ];
-    check(&rt, bytes.len() == 17_281, "two turns");
+    check(&rt, bytes.len() == END, "two turns");
     for (at, byte) in held {
         check_at(&rt, byte_at(&bytes, at) == byte, "byte", at);
     }
     for frame in 2..10 {
-        let holds = byte_at(&bytes, 906 + 22 * frame) == 0xc3;
+        let holds = byte_at(&bytes, FIRST_FRAME + 22 * frame) == 0xc3;
         check_at(&rt, holds, "frame", frame);
     }
 }
@@ -305,7 +306,7 @@ fn kept_whole(engine: &DurableEngine<MemoryDisk>) -> Option<u64> {
 
 /// The engine over a new store with segments of the least length.
 fn over_least_segments(alloc: Global) -> Option<DurableEngine<MemoryDisk>> {
-    let disk = MemoryDisk::new(alloc, &[], 9363, 1000, 60_000).ok()?;
+    let disk = MemoryDisk::new(alloc, &[], FIRST_SEGMENT + 2 * 4233, 1000, 60_000).ok()?;
     over(alloc, new_store(alloc, disk, 4233)?)
 }
 

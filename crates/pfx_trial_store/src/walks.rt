@@ -3,6 +3,7 @@
 use crate::check::{check, check_at, check_pair};
 use crate::turns::append_command;
 use pfx_disk::{Disk, Fate, MemoryDisk};
+use pfx_kit::places::END;
 use pfx_machine::{Command, State};
 use pfx_store::Store;
 use pfx_store_file::Tended;
@@ -12,7 +13,7 @@ use std::alloc::Global;
 
 /// The new store of three tasks of weight 2/3 on two workers.
 fn begun(alloc: Global) -> Option<Store<MemoryDisk, Walk>> {
-    let disk = MemoryDisk::new(alloc, &[], 17_281, 200, 60_000).ok()?;
+    let disk = MemoryDisk::new(alloc, &[], END, 200, 60_000).ok()?;
     let set = TaskSet::new(alloc, 2, &[(2, 3), (2, 3), (2, 3)]).ok()?;
     Store::init(alloc, disk, &set, 8192).ok()
 }

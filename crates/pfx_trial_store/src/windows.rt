@@ -1,4 +1,4 @@
-//! Scripts whose slots share frames: what they print, what survives if the disk fails, and stops after each call.
+//! Scripts whose slots or records share frames: what they print, what survives if the disk fails, and stops after each call.
 
 use crate::check::{check, check_at, check_pair};
 use crate::engines::{begun, empty, in_memory, last_of, opened};
@@ -11,7 +11,7 @@ use pfx_script::Script;
 use std::alloc::Global;
 use std::io::Write;
 
-/// What a script prints over an engine with this window, and how it ends.
+/// What a script prints over an engine with this window, which records share too, and how it ends.
 fn run<D: Disk>(
     alloc: Global,
     script: &str,
@@ -23,6 +23,7 @@ fn run<D: Disk>(
         alloc,
         &mut Script::new(alloc, script.as_bytes()),
         window.max(1),
+        window.min(16),
         Form::Text,
         &mut written,
         engine,
@@ -91,6 +92,38 @@ fn a_frame_takes_four_calls(rt: HostRuntime) {
         let holds = calls_of(rt.alloc(), window) == Some(calls);
         check_at(&rt, holds, "window", window as usize);
     }
+}
+
+/// The texts before three tasks' first units.
+const TEXTS: &str = "submit,0,own,0,a
+submit,1,own,0,b
+submit,2,own,0,c
+";
+
+/// A record that is of the same task as the one before it: it has a frame of its own.
+const SAME: &str = "submit,0,own,0,a
+withdraw,0,,,
+submit,1,own,0,b
+";
+
+/// How many calls of the disk a script takes of which up to so many records share a frame.
+fn calls_of_group(alloc: Global, script: &str, group: u32) -> Option<u64> {
+    let mut engine = in_memory(alloc, 300)?;
+    let before = engine.store.disk().clock();
+    let (_written, end) = run(alloc, script, group, &mut engine);
+    end.ok()?;
+    engine.store.disk().clock().checked_sub(before)
+}
+
+#[test]
+fn records_that_stand_ready_share_frames(rt: HostRuntime) {
+    let rows = [(0, 12), (1, 12), (2, 8), (3, 4), (16, 4)];
+    for (group, calls) in rows {
+        let holds = calls_of_group(rt.alloc(), TEXTS, group) == Some(calls);
+        check_at(&rt, holds, "group", group as usize);
+    }
+    let is_apart = calls_of_group(rt.alloc(), SAME, 16) == Some(12);
+    check(&rt, is_apart, "the same task");
 }
 
 /// Forty slots.

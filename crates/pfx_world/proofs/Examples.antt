@@ -19,34 +19,34 @@ use Rattle.pfx_world.specs.World.{World, new_world}
 use Rattle.pfx_world.proofs.Worked.{can_join}
 
 -- three tasks of 2/3 on two workers
-abbrev thirds : FilledSet
+abbrev pub thirds : FilledSet
 thirds = record { workers = 2; real = 3; hyper = 3; weights = (2, 3) ∷ (2, 3) ∷ (2, 3) ∷ [] }
 
 -- jobs whose states are how many steps are left
-abbrev down : Kind ℕ
+abbrev pub down : Kind ℕ
 down = record { left = λ n. n; stepped = λ n. n - 1; spelling = λ n. []; decoded = λ bytes. None }
 
 first_row : chosen (empty {J = ℕ} thirds).ledger ≡ Ok (0 ∷ 1 ∷ [])
 unfolding substring_at
 first_row = refl
 
-abbrev begin : Plain ℕ
+abbrev pub begin : Plain ℕ
 begin = empty thirds
 
 -- a job of three steps for task 0, a slot, and the job of task 1
-abbrev commands : List (Command ℕ)
+abbrev pub commands : List (Command ℕ)
 commands = Submit 0 3 ∷ Slot ∷ Submit 1 5 ∷ []
 
 -- A store of one byte, which says how many of these commands it has. Each append is a turn too, and leaves a checkpoint's
 -- step to come, which writes the byte behind it.
-abbrev counts : ℕ → Plain ℕ
+abbrev pub counts : ℕ → Plain ℕ
 counts n = outcome down begin (take n commands)
 
 abbrev small_tends : ℕ → List Act
 small_tends zero = []
 small_tends (suc p) = Write 1 (suc p ∷ []) ∷ Sync ∷ []
 
-abbrev small : Setting ℕ
+abbrev pub small : Setting ℕ
 small = record {
   kind = down;
   Parts = ℕ;
@@ -59,7 +59,7 @@ small = record {
   tended = λ p. p - 1;
 }
 
-abbrev at_first : World small
+abbrev pub at_first : World small
 at_first = new_world small begin (0 ∷ 0 ∷ []) 0
 
 -- a command is asked, taken, appended by two calls, published, marked and receipted

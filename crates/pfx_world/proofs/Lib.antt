@@ -5,3 +5,4 @@ pub mod Keeping
 pub mod Claiming
 pub mod Worked
 mod Examples
+mod Refuted

@@ -40,13 +40,17 @@ complete -c pfx -n __fish_use_subcommand -a help -d 'Print this message or the h
 
 complete -c pfx -n '__fish_seen_subcommand_from plan' -l at -x -d 'Begin with a ledger, T:A,A,..'
 complete -c pfx -n '__fish_seen_subcommand_from plan' -l json -d 'Print an object of JSON a line'
+complete -c pfx -n '__fish_seen_subcommand_from init' -l json -d 'Print an object of JSON a line'
 complete -c pfx -n '__fish_seen_subcommand_from run' -l workers -x -d 'How many workers run the jobs, 0 to 64'
 complete -c pfx -n '__fish_seen_subcommand_from run' -l batch -x -d 'How many slots of a record are kept at once, 1 to 16'
 complete -c pfx -n '__fish_seen_subcommand_from run' -l strict -d 'End at the first refused record, with status 7'
 complete -c pfx -n '__fish_seen_subcommand_from run' -l json -d 'Print an object of JSON a line'
 complete -c pfx -n '__fish_seen_subcommand_from status' -l json -d 'Print an object of JSON a line'
+complete -c pfx -n '__fish_seen_subcommand_from replay' -l json -d 'Print an object of JSON a line'
 complete -c pfx -n '__fish_seen_subcommand_from show' -l json -d 'Print an object of JSON a line'
 complete -c pfx -n '__fish_seen_subcommand_from draw' -l at -x -d 'Begin with a ledger, T:A,A,..'
+complete -c pfx -n '__fish_seen_subcommand_from check' -l json -d 'Print an object of JSON a line'
+complete -c pfx -n '__fish_seen_subcommand_from explain' -l json -d 'Print an object of JSON a line'
 
 complete -c pfx -k -n '__pfx_at plan 1' -a '(__fish_complete_suffix .toml)'
 complete -c pfx -k -n '__pfx_at init 1' -a '(__fish_complete_suffix .toml)'

@@ -15,7 +15,8 @@ use Rattle.pfx_program.specs.Promises.{slots_for}
 use Rattle.pfx_program.proofs.SlotLemmas.{answered_more, none_yet, slots_more}
 use Rattle.pfx_record.specs.Records.{plain}
 use Rattle.pfx_record.specs.Records as recorded
-use Rattle.pfx_engine.proofs.WindowLemmas.{none_recorded, recorded_more}
+use Rattle.pfx_engine.specs.Executing.{Fills}
+use Rattle.pfx_engine.proofs.WindowLemmas.{ends_early, none_recorded, recorded_more}
 use Rattle.pfx_engine.proofs.windows.run_slots.Goals as goal
 
 pub loop-init : goal.loop-init
@@ -46,6 +47,11 @@ returns-in-Err-clause-ran c =
       state = c.in-Err.ensures.kept ∙ c.loop.invariant.state;
     }
 
+pub returns-in-Err-clause-fills : goal.returns-in-Err-clause-fills
+returns-in-Err-clause-fills c =
+    subst (λ (t : Plain AnyJob). Fills c.args.count c.loop.said.items t c.is_memory.result) (sym c.in-Err.ensures.kept)
+    (ends_early c.args.count c.loop.said.items c.loop.state c.in-Err.fault c.is_memory.result c.in-Err.ensures.exact c.is_memory.ensures)
+
 pub returns-in-Err-2-clause-stays : goal.returns-in-Err-2-clause-stays
 returns-in-Err-2-clause-stays c =
     let none : length c.loop.said.items ≡ 0 = search rules in
@@ -63,8 +69,8 @@ pub returns-in-Err-3-clause-refused : goal.returns-in-Err-3-clause-refused
 returns-in-Err-3-clause-refused c =
     let none : length c.loop.said.items ≡ 0 = search rules in
     let same : c.loop.state ≡ c.args.state.now = none_yet c.args.state.now c.loop.state c.loop.said.items none c.loop.invariant.state in
-    let why : answer any_kind c.loop.state Slot ≡ Err c.in-Err.field-0 = search rules in
-    (subst (λ (s : Plain AnyJob). answer any_kind s Slot ≡ Err c.in-Err.field-0) same why, c.in-Err.ensures.kept ∙ same)
+    let why : answer any_kind c.loop.state Slot ≡ Err c.in-Err.fault = search rules in
+    (subst (λ (s : Plain AnyJob). answer any_kind s Slot ≡ Err c.in-Err.fault) same why, c.in-Err.ensures.kept ∙ same)
 
 pub returns-in-Err-3-clause-why : goal.returns-in-Err-3-clause-why
 returns-in-Err-3-clause-why c = returns-in-Err-3-clause-stays c

@@ -46,7 +46,7 @@ returns-clause-store g c =
       | else-is_none-via-then-is_none+else-not-is_settled w ↦ inl (w.if-not-is_settled.ensures.0 refl)
       | else-is_none-via-else-is_none w ↦ inr (λ none. false≢true (sym (ap is_some (c.failure.ensures ∙ none)) ∙ w.if-is_none.ensures))
     ]) in
-    stored K g.met.J.Job.laws start g.B.Since.failures g.B.Since.clock c.flushed.inside.share c.flushed.inside.store.state (g.D.Disk.view c.flushed.inside.store.file.disk) c.flushed.invariant.0
+    stored K g.met.J.Job.laws start g.B.Charted.failures g.B.Charted.clock c.flushed.inside.share c.flushed.inside.store.state (g.D.Disk.view c.flushed.inside.store.file.disk) c.flushed.invariant.0
     r.session.accepted r.session.taken c.legal.ensures.start c.legal.ensures.accepted c.legal.ensures.taken
     (c.settled.ensures.records ∙ ap (λ q. records_of K start (take q.session.taken q.session.accepted)) same)
     r refl (subst (λ q. Noted (Marked (start.number + q.session.marked) q.session.marked_at) c.flushed.inside.share) same c.settled.ensures.mark) over
@@ -59,22 +59,28 @@ returns-clause-images g c = λ honest.
     let start = g.B.Named.start in
     let r = c.settled.new.self in
     let same = sym c.settled.ensures.same.0 in
-    held K g.met.J.Job.laws start g.B.Since.failures g.B.Since.clock c.flushed.inside.share c.flushed.inside.store.state (g.D.Disk.view c.flushed.inside.store.file.disk) c.flushed.invariant.0
+    held K g.met.J.Job.laws start g.B.Charted.failures g.B.Charted.clock c.flushed.inside.share c.flushed.inside.store.state (g.D.Disk.view c.flushed.inside.store.file.disk) c.flushed.invariant.0
     r.session.accepted r.session.taken c.legal.ensures.start c.legal.ensures.accepted c.legal.ensures.taken
     (c.settled.ensures.records ∙ ap (λ q. records_of K start (take q.session.taken q.session.accepted)) same)
     r refl (subst (λ q. AllBacked c.flushed.inside.share q.history) same c.settled.ensures.backed) honest
 
 pub returns-clause-readers : goal.returns-clause-readers
-returns-clause-readers g c = λ k was is before now.
-    let K = g.J.Job.kind in
-    let start = g.B.Named.start in
-    let r = c.settled.new.self in
-    let s = c.flushed.inside.store.state in
-    let h = c.look_all.ensures k was is before now in
-    let begins = subst (λ w. IsPrefix w c.flushed.inside.publisher.batches) (sym c.published.ensures.shown) c.published.ensures.durable in
-    let same = sym c.settled.ensures.same.0 in (
-      h.0,
-      λ flag. subst (IsSeen K start r s) (sym (h.1 flag))
-          (seen K g.met.J.Job.laws start c.flushed.inside.share c.flushed.inside.publisher.batches c.published.result.now s r c.flushed.invariant.1 begins c.legal.ensures.taken
-          (c.settled.ensures.records ∙ ap (λ q. records_of K start (take q.session.taken q.session.accepted)) same)),
-    )
+returns-clause-readers g c =
+    let looked = c.if-not-look_all.ensures refl in
+    record {
+      readers = looked.0;
+      answers = looked.1;
+      each = λ k was is before now.
+          let K = g.J.Job.kind in
+          let start = g.B.Named.start in
+          let r = c.settled.new.self in
+          let s = c.flushed.inside.store.state in
+          let h = looked.2 k was is before now in
+          let begins = subst (λ w. IsPrefix w c.flushed.inside.publisher.batches) (sym c.published.ensures.shown) c.published.ensures.durable in
+          let same = sym c.settled.ensures.same.0 in (
+            h.0,
+            λ flag. subst (IsSeen K start r s) (sym (h.1 flag))
+                (seen K g.met.J.Job.laws start c.flushed.inside.share c.flushed.inside.publisher.batches c.published.result.now s r c.flushed.invariant.1 begins c.legal.ensures.taken
+                (c.settled.ensures.records ∙ ap (λ q. records_of K start (take q.session.taken q.session.accepted)) same)),
+          );
+    }

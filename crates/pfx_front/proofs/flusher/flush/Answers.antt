@@ -15,8 +15,8 @@ home-requires g c =
     let start = g.B.Named.start in
     record {
       behind =
-          subst (λ n. Behind K start g.B.Since.failures g.B.Since.clock n c.loop.store.state (g.D.Disk.view c.loop.store.file.disk)) (sym c.in-End.ensures)
-          (step_behind K start g.B.Since.failures g.B.Since.clock c.loop.share c.loop.store.file.broken c.loop.store.state (g.D.Disk.view c.loop.store.file.disk) c.loop.invariant.0);
+          subst (λ n. Behind K start g.B.Charted.failures g.B.Charted.clock n c.loop.store.state (g.D.Disk.view c.loop.store.file.disk)) (sym c.in-End.ensures)
+          (step_behind K start g.B.Charted.failures g.B.Charted.clock c.loop.share c.loop.store.file.broken c.loop.store.state (g.D.Disk.view c.loop.store.file.disk) c.loop.invariant.0);
       shown =
           subst (λ n. IsShown K start n c.loop.publisher.batches c.loop.store.state) (sym c.in-End.ensures)
           (step_shown K start c.loop.share c.loop.publisher.batches c.loop.store.state c.loop.invariant.1 c.loop.invariant.0.state);
@@ -32,13 +32,13 @@ tend-requires g c =
     let start = g.B.Named.start in
     elim c.match-next_work.branch [
       | in-Tend w ↦
-          subst (λ n. InStep K start g.B.Since.failures g.B.Since.clock n c.match-next_work.store.file.broken c.match-next_work.store.state (g.D.Disk.view c.match-next_work.store.file.disk))
+          subst (λ n. InStep K start g.B.Charted.failures g.B.Charted.clock n c.match-next_work.store.file.broken c.match-next_work.store.state (g.D.Disk.view c.match-next_work.store.file.disk))
           (sym (w.share-is ∙ w.in-Tend.ensures.0))
-          (subst (λ st. InStep K start g.B.Since.failures g.B.Since.clock c.loop.share st.file.broken st.state (g.D.Disk.view st.file.disk)) (sym w.store-is) c.loop.invariant.0)
+          (subst (λ st. InStep K start g.B.Charted.failures g.B.Charted.clock c.loop.share st.file.broken st.state (g.D.Disk.view st.file.disk)) (sym w.store-is) c.loop.invariant.0)
       | in-Append+in-Some-commit w ↦
-          subst (λ n. InStep K start g.B.Since.failures g.B.Since.clock n c.match-next_work.store.file.broken c.match-next_work.store.state (g.D.Disk.view c.match-next_work.store.file.disk))
+          subst (λ n. InStep K start g.B.Charted.failures g.B.Charted.clock n c.match-next_work.store.file.broken c.match-next_work.store.state (g.D.Disk.view c.match-next_work.store.file.disk))
           (sym w.share-is)
-          (subst (λ st. InStep K start g.B.Since.failures g.B.Since.clock w.commit.new.share st.file.broken st.state (g.D.Disk.view st.file.disk)) (sym w.store-is) w.in-Some-commit.ensures.step)
+          (subst (λ st. InStep K start g.B.Charted.failures g.B.Charted.clock w.commit.new.share st.file.broken st.state (g.D.Disk.view st.file.disk)) (sym w.store-is) w.in-Some-commit.ensures.step)
     ]
 
 pub home-requires-then-not-tend-clause-behind : goal.home-requires-then-not-tend-clause-behind

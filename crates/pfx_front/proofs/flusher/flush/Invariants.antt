@@ -6,6 +6,6 @@ use Rattle.pfx_front.proofs.flusher.flush.Given as goal
 
 abbrev pub invariant-loop : goal.invariant-loop
 invariant-loop g l =
-    InStep g.J.Job.kind g.B.Named.start g.B.Since.failures g.B.Since.clock l.share l.store.file.broken l.store.state (g.D.Disk.view l.store.file.disk)
+    InStep g.J.Job.kind g.B.Named.start g.B.Charted.failures g.B.Charted.clock l.share l.store.file.broken l.store.state (g.D.Disk.view l.store.file.disk)
     × AreShown l.share l.publisher.batches × (g.B.Begun.origin ≡ g.B.Named.start)
     × (l.room.items ≡ []) × (16 ≤ vec_capacity l.room)

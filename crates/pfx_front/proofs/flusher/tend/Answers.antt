@@ -9,14 +9,14 @@ use Rattle.pfx_front.proofs.flusher.tend.Goals as goal
 -- src/flusher.rt:188:1
 pub returns-in-Ok-clause-step : goal.returns-in-Ok-clause-step
 returns-in-Ok-clause-step g c = λ _.
-    step_tended g.J.Job.kind g.B.Named.start g.B.Since.failures g.B.Since.clock c.args.share.now c.args.store.now.file.broken c.tend.new.self.file.broken
+    step_tended g.J.Job.kind g.B.Named.start g.B.Charted.failures g.B.Charted.clock c.args.share.now c.args.store.now.file.broken c.tend.new.self.file.broken
     c.args.store.now.state c.tend.new.self.state (g.D.Disk.view c.args.store.now.file.disk) (g.D.Disk.view c.tend.new.self.file.disk) c.requires
     c.in-Ok.ensures.state (c.in-Ok.ensures.call.works.whole refl) c.in-Ok.ensures.call.takes.no_fewer c.in-Ok.ensures.call.honest.1 c.in-Ok.ensures.marks
 
 -- src/flusher.rt:188:1
 pub returns-in-Err-clause-behind : goal.returns-in-Err-clause-behind
 returns-in-Err-clause-behind g c = λ _.
-    failed_behind g.J.Job.kind g.B.Named.start g.B.Since.failures g.B.Since.clock c.args.share.now c.fail_in.new.share c.args.store.now.file.broken
+    failed_behind g.J.Job.kind g.B.Named.start g.B.Charted.failures g.B.Charted.clock c.args.share.now c.fail_in.new.share c.args.store.now.file.broken
     c.args.store.now.state c.tend.new.self.state (g.D.Disk.view c.args.store.now.file.disk) (g.D.Disk.view c.tend.new.self.file.disk) c.requires
     c.fail_in.ensures c.in-Err.ensures.state
     (failed_of (g.D.Disk.view c.args.store.now.file.disk) (g.D.Disk.view c.tend.new.self.file.disk) c.args.store.now.file.broken c.tend.new.self.file.broken

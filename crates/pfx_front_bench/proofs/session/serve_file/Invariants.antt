@@ -1,3 +1,4 @@
+use Rattle.pfx_disk.specs.Disk.{IsHonest}
 use Rattle.pfx_disk.specs.File.{file_view}
 use Rattle.pfx_front_bench.proofs.session.serve_file.Given as goal
 
@@ -13,5 +14,11 @@ ghosts-serve-B-Begun g a = record { origin = a.store.state }
 abbrev pub ghosts-serve-B-Named : goal.ghosts-serve-B-Named
 ghosts-serve-B-Named g a = record { start = a.store.state }
 
-abbrev pub ghosts-serve-B-Since : goal.ghosts-serve-B-Since
-ghosts-serve-B-Since g a = record { failures = (file_view a.store.file.disk).failures; clock = (file_view a.store.file.disk).clock }
+abbrev pub ghosts-serve-B-Charted : goal.ghosts-serve-B-Charted
+ghosts-serve-B-Charted g a = record {
+  calls = a.names.calls.seen.book;
+  clock = (file_view a.store.file.disk).clock;
+  failures = (file_view a.store.file.disk).failures;
+  image = (file_view a.store.file.disk).contents;
+  held = IsHonest (file_view a.store.file.disk);
+}

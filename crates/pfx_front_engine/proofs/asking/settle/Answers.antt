@@ -9,7 +9,7 @@ use Rattle.pfx_front_engine.proofs.asking.settle.Goals as goal
 
 pub invariant_of-client : goal.invariant_of-client
 invariant_of-client g c =
-    kept_receipt g.B.Named.start c.client.inside.pass.1 c.settled.new.pass.1 c.client.inside.number c.client.inside.kept c.client.invariant c.in-Ok._receipt.clock (ap (λ p. p.1) c.in-Ok.ensures.ok.1)
+    kept_receipt g.B.Named.start c.client.inside.pass.1 c.settled.new.pass.1 c.client.inside.number c.client.inside.kept c.client.invariant c.in-Ok._receipt.receipt.clock (ap (λ p. p.1) c.in-Ok.ensures.ok.1)
 
 pub invariant_of-client-in-Err-StoreFailed : goal.invariant_of-client-in-Err-StoreFailed
 invariant_of-client-in-Err-StoreFailed g c =
@@ -19,11 +19,11 @@ invariant_of-client-in-Err-StoreFailed g c =
 
 pub returns-in-Ok-clause-settled : goal.returns-in-Ok-clause-settled
 returns-in-Ok-clause-settled g c =
-    let same = ap (λ p. alone p.1) c.in-Ok.ensures.ok.1 ∙ alone_more c.client.inside.pass.1 (Receipt c.client.inside.number c.in-Ok._receipt.clock) refl in
-    settled_by g.B.Named.start c.client.inside.pass.1 c.settled.new.pass.1 c.client.inside.number c.in-Ok._receipt.clock same c.client.invariant.number_is
+    let same = ap (λ p. alone p.1) c.in-Ok.ensures.ok.1 ∙ alone_more c.client.inside.pass.1 (Receipt c.client.inside.number c.in-Ok._receipt.receipt.clock) refl in
+    settled_by g.B.Named.start c.client.inside.pass.1 c.settled.new.pass.1 c.client.inside.number c.in-Ok._receipt.receipt.clock same c.client.invariant.number_is
 
 pub returns-in-Ok-clause-stays : goal.returns-in-Ok-clause-stays
 returns-in-Ok-clause-stays g c =
-    let receipt = Receipt c.client.inside.number c.in-Ok._receipt.clock in
+    let receipt = Receipt c.client.inside.number c.in-Ok._receipt.receipt.clock in
     let same = ap (λ p. alone p.1) c.in-Ok.ensures.ok.1 ∙ alone_more c.client.inside.pass.1 receipt refl in
     subst (λ was. KeepsBy g.B.Named.start.number was _ 0 c.settled.new.pass.1) c.client.view_is (stays_with g.B.Named.start.number c.client.inside.pass.1 c.settled.new.pass.1 receipt refl same)

@@ -12,5 +12,11 @@ ghosts-serve-B-Begun g a = record { origin = a.store.state }
 abbrev pub ghosts-serve-B-Named : goal.ghosts-serve-B-Named
 ghosts-serve-B-Named g a = record { start = a.store.state }
 
-abbrev pub ghosts-serve-B-Since : goal.ghosts-serve-B-Since
-ghosts-serve-B-Since g a = record { failures = (g.D.Disk.view a.store.file.disk).failures; clock = (g.D.Disk.view a.store.file.disk).clock }
+abbrev pub ghosts-serve-B-Charted : goal.ghosts-serve-B-Charted
+ghosts-serve-B-Charted g a = record {
+  calls = a.names.calls.seen.book;
+  clock = (g.D.Disk.view a.store.file.disk).clock;
+  failures = (g.D.Disk.view a.store.file.disk).failures;
+  image = g.N.Charted.image;
+  held = g.N.Charted.held;
+}

@@ -1,4 +1,4 @@
-use Rattle.std.proofs.Common.{List, ℕ, Err, Ok, ap, inr, refl, subst, sym, [], ◌∷◌, ◌++◌, ◌≡◌, ◌∙◌}
+use Rattle.std.proofs.Common.{List, ℕ, Err, Ok, ap, inr, refl, subst, sym, [], ◌∷◌, ◌++◌, ◌≡◌, ◌∙◌, max}
 use Rattle.std.specs.Prelude.{IsPermutation}
 use Rattle.pfx_book.specs.declared.note.Note.{Note}
 use Rattle.pfx_fault.specs.declared.refusals.Fault.TheVariants.{NoMemory}
@@ -13,7 +13,7 @@ use Rattle.pfx_front_engine.proofs.scripts.serve.Goals as goal
 pub returns-in_default : goal.returns-in_default
 returns-in_default g c =
     let begins = c.requires.begins in
-    unserved c.args.form g.B.Named.start (g.D.Disk.view c.args.store.file.disk) c.args.script.now c.args.script.now.failed (g.W.Write.contents c.args.output.now) NoMemory (inr refl) (λ honest image here. begins.images honest image here ∙ ap Ok begins.state)
+    unserved c.args.form g.B.Named.start (g.D.Disk.view c.args.store.file.disk) c.args.script.now c.args.script.now.failed (g.W.Write.contents c.args.output.now) NoMemory (inr refl) (λ honest image here. c.is_broken-broken.ensures.recovered begins.whole honest image here ∙ ap Ok begins.state)
 
 pub returns-in-Ok-close : goal.returns-in-Ok-close
 returns-in-Ok-close g c =
@@ -24,7 +24,7 @@ returns-in-Ok-close g c =
     let only : closed.given.passes.items ≡ pass ∷ [] = one_pass pass closed.given.passes.items (subst (λ (l : List (ℕ × List (Note AnyJob))). IsPermutation l closed.given.passes.items) given c.in-Ok-close.ensures.passes) in
     let session : IsSession any_kind B closed.book (pass ∷ []) = subst (λ (l : List (ℕ × List (Note AnyJob))). IsSession any_kind B closed.book l) only c.in-Ok-close.ensures.session in
     served c.args.form B closed.book (g.D.Disk.view closed.store.file.disk) _ pass.1 (session_alone any_kind B closed.book pass.0 pass.1 session) session.commands
-    {E = FrontEngine g.row.B.Denot g.row.K.Denot g.row.R.Denot g.row.K-Seat.Denot} (λ e. e.client) c.args.window _ c.run_script-result.new.engine c.new-client.ensures (sym c.into_pass.ensures) c.in-Ok-close.ensures.images c.args.script.now
+    {E = FrontEngine g.row.B.Denot g.row.K.Denot g.row.R.Denot g.row.K-Seat.Denot g.B.Named g.B.Room g.B.Begun g.B.Naming g.B.Charted} (λ e. e.client) (max c.args.window c.args.group) _ c.run_script-result.new.engine c.new-client.ensures (sym c.into_pass.ensures) c.in-Ok-close.ensures.images c.args.script.now
     c.run_script-result.new.script.failed (g.W.Write.contents c.args.output.now) (g.W.Write.contents c.run_script-result.new.output) c.run_script-result.result c.run_script-result.ensures
 
 pub returns-after-pass : goal.returns-after-pass
@@ -34,4 +34,4 @@ pub returns-in-Err : goal.returns-in-Err
 returns-in-Err g c =
     let begins = c.requires.begins in
     subst (λ store. IsServedRun c.args.form g.B.Named.start c.args.script.now c.args.script.now.failed (g.W.Write.contents c.args.output.now) (g.W.Write.contents c.args.output.now) (g.D.Disk.view store.file.disk) (Err c.start_fault.result)) (sym c.in-Err.ensures.given_back)
-    (unserved c.args.form g.B.Named.start (g.D.Disk.view c.args.store.file.disk) c.args.script.now c.args.script.now.failed (g.W.Write.contents c.args.output.now) c.start_fault.result c.start_fault.ensures (λ honest image here. begins.images honest image here ∙ ap Ok begins.state))
+    (unserved c.args.form g.B.Named.start (g.D.Disk.view c.args.store.file.disk) c.args.script.now c.args.script.now.failed (g.W.Write.contents c.args.output.now) c.start_fault.result c.start_fault.ensures (λ honest image here. c.is_broken-broken.ensures.recovered begins.whole honest image here ∙ ap Ok begins.state))

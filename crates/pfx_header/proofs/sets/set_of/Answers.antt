@@ -2,7 +2,7 @@ use Rattle.std.proofs.Common.{sym, subst}
 use Rattle.std.specs.Prelude.{◌≢◌}
 use Rattle.pfx_weights.specs.Sets.{Refuses}
 use Rattle.pfx_weights.specs.declared.faults.SetFault.TheVariants.{NoTasks, TooManyTasks, BadWorkers, BadWeight, HyperperiodTooLarge, Overload, NoMemory}
-use Rattle.pfx_header.proofs.SetLemmas.{sets_ok, sets_refused}
+use Rattle.pfx_weights.proofs.Tests.{sets_ok, sets_refused}
 use Rattle.pfx_header.proofs.sets.set_of.Goals as goal
 
 pub returns-in-Ok : goal.returns-in-Ok

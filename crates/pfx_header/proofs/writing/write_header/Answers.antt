@@ -1,8 +1,9 @@
 use Rattle.std.proofs.Common.{◌≡◌, ◌+◌, ◌*◌, ◌<◌, ◌≤◌, ◌++◌, ◌∷◌, [], sym, ◌∙◌, ap, arith, take, length, append_assoc, append-nil}
 use Rattle.std.specs.Prelude.{ℕ}
 use Rattle.std.proofs.lemmas.List.{take_all, take_more}
-use Rattle.pfx_header.specs.Headers.{Header, front_bytes, header_bytes, task_bytes, tasks_bytes}
-use Rattle.pfx_header.proofs.Written.{tasks_push}
+use Rattle.pfx_weights.specs.Bytes.{weight_bytes, weights_bytes}
+use Rattle.pfx_weights.proofs.Written.{weights_push}
+use Rattle.pfx_header.specs.Headers.{Header, front_bytes, header_bytes}
 use Rattle.pfx_header.proofs.writing.write_header.Goals as goal
 
 pub loop-task-init : goal.loop-task-init
@@ -22,9 +23,9 @@ loop-task-preserved c =
     take_more set.weights n (0, 0) within ∙ ap (λ w. take n set.weights ++ w ∷ []) (sym weight) in (
       ap (λ (k : ℕ). take k c.put_task.new.out) end
           ∙ (c.put_task.ensures.front
-          ∙ (ap (λ t. t ++ task_bytes c.weight.result) before
-          ∙ (append_assoc (front_bytes h) (tasks_bytes (take n set.weights)) (task_bytes c.weight.result)
-          ∙ ap (λ t. front_bytes h ++ t) (sym (ap tasks_bytes more ∙ tasks_push (take n set.weights) c.weight.result))))),
+          ∙ (ap (λ t. t ++ weight_bytes c.weight.result) before
+          ∙ (append_assoc (front_bytes h) (weights_bytes (take n set.weights)) (weight_bytes c.weight.result)
+          ∙ ap (λ t. front_bytes h ++ t) (sym (ap weights_bytes more ∙ weights_push (take n set.weights) c.weight.result))))),
       c.put_task.ensures.long ∙ c.loop-task.invariant.1,
     )
 
@@ -37,4 +38,4 @@ returns c =
     let end : n ≡ set.real = omega (arith, c.loop-task-test.false, c.loop-task.auto.task-end) in
     let out = c.loop-task.out in
     let long : length out ≤ 17 + 8 * n = omega (arith, c.loop-task.invariant.1) in
-    sym (take_all (17 + 8 * n) out long) ∙ (c.loop-task.invariant.0 ∙ ap (λ k. front_bytes h ++ tasks_bytes (take k set.weights)) end)
+    sym (take_all (17 + 8 * n) out long) ∙ (c.loop-task.invariant.0 ∙ ap (λ k. front_bytes h ++ weights_bytes (take k set.weights)) end)

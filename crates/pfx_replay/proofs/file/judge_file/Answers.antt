@@ -28,9 +28,9 @@ returns-in-None g c =
     let same = base_is K L h image p t is c.args.area c.args.segment c.args.turned area segment turned c.area_at-at.result c.sizes-sizes.result.body base
     (c.area_at-at.ensures.at (layout h) c.sizes-sizes.ensures.sizes) c.sizes-sizes.ensures.sizes.body read in
     let all = found_by K L h image p t is c.args.area c.args.segment c.args.turned area segment turned (λ before frames. map plain c.in-Some-2.behind.items ≡ records_in K h.set.workers (before ++ frames)) records in
-    verdict_none K L h image p t is c.args.area c.args.segment c.args.turned area segment turned found base behind same (ap (λ l. map plain l) c.deref-in-None.ensures.value ∙ all)
+    verdict_none K L h image p t is c.args.area c.args.segment c.args.turned area segment turned g.J.Units.unit found base behind same (ap (λ l. map plain l) c.deref-in-None.ensures.value ∙ all)
     (way p area segment (ap (λ (s : Plain _). s.number) (sym same) ∙ sym c.number.ensures.number))
-    (answered_as K L h image p t is c.args.area c.args.segment c.args.turned area segment turned found c.in_ok-start-in-None.start base (map plain c.deref.result.now) [] base behind
+    (answered_as K L h image p t is c.args.area c.args.segment c.args.turned area segment turned g.J.Units.unit found c.in_ok-start-in-None.start base (map plain c.deref.result.now) [] base behind
     c.in_ok-start-in-None.ensures (ap (λ l. map plain l) (c.deref.ensures.value ∙ c.new-before.ensures.items)) given)) c.judge_trail.ensures
 
 pub judge_trail-requires-in-Some-3 : goal.judge_trail-requires-in-Some-3
@@ -65,5 +65,5 @@ returns g c =
     let same = base_is K L h image p t is c.args.area c.args.segment c.args.turned area segment turned c.area_at-at.result c.sizes-sizes.result.body base
     (c.area_at-at.ensures.at (layout h) c.sizes-sizes.ensures.sizes) c.sizes-sizes.ensures.sizes.body read in
     let all = found_by K L h image p t is c.args.area c.args.segment c.args.turned area segment turned (λ before frames. map plain c.in-Some-2.behind.items ≡ records_in K h.set.workers (before ++ frames)) records in
-    verdict_some K L h image p t is c.args.area c.args.segment c.args.turned area segment turned found start base frames before behind same led (ap (λ l. map plain l) c.deref-in-Some-3-3.ensures.value ∙ all)
+    verdict_some K L h image p t is c.args.area c.args.segment c.args.turned area segment turned g.J.Units.unit found start base frames before behind same led (ap (λ l. map plain l) c.deref-in-Some-3-3.ensures.value ∙ all)
     (way p area segment (ap (λ (s : Plain _). s.number) (sym same) ∙ sym c.number.ensures.number)) given) c.judge_trail-in-Some-3.ensures

@@ -12,5 +12,5 @@ returns-in-Agrees-2 g c =
     let then = rw c.in-Agrees-2.is at c.in_ok-last.ensures in
     let yes : IsTrue c.are_states.result = search rules in
     let same = c.are_states.ensures.0 yes in
-    let number = ap (λ (s : Plain _). s.number) then.1 ∙ follow_number K g.met.J.Job.laws (plain_of c.args.checkpoint) (map plain c.args.behind.now) c.args.checkpoint.kept then.0 in
+    let number = ap (λ (s : Plain _). s.number) then.1 ∙ follow_number K g.met.J.Job.laws g.J.Units.unit (plain_of c.args.checkpoint) (map plain c.args.behind.now) c.args.checkpoint.kept then.0 in
     (record { follow = first.0; checkpoint = sym same ∙ first.1 }, then.0, number)

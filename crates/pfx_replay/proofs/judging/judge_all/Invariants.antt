@@ -12,5 +12,5 @@ invariant-loop-entry g l =
     let K = g.J.Job.kind in
     record {
       right : (t : Plain _) × (applied K (plain_of l.reached) (map plain (drop l.entry-index l.records)) ≡ Some t);
-      gives : (v : Judged _) → GivesAll K (plain_of l.reached) (map plain (drop l.entry-index l.records)) v → GivesAll K (plain_of l.fn.state) (map plain l.records) v;
+      gives : (v : Judged _) → GivesAll K g.J.Units.unit (plain_of l.reached) (map plain (drop l.entry-index l.records)) v → GivesAll K g.J.Units.unit (plain_of l.fn.state) (map plain l.records) v;
     }

@@ -77,10 +77,10 @@ returns-then-is_open-clause-run g c = record {
   durable = search rules;
 }
 
-pub returns-in_err-read-clause-run : goal.returns-in_err-read-clause-run
-returns-in_err-read-clause-run g c = record {
+pub returns-in_err-look_at-clause-run : goal.returns-in_err-look_at-clause-run
+returns-in_err-look_at-clause-run g c = record {
   call =
-      let time = c.read.ensures.time in
+      let time = c.look_at.ensures.time in
       record {
         takes = record {
           ok = search rules;
@@ -89,18 +89,18 @@ returns-in_err-read-clause-run g c = record {
           no_fewer = time.no_fewer;
         };
         failed = search rules;
-        honest = ((λ honest. (c.read.ensures.leaves honest).honest), c.read.ensures.honest);
-        longer = λ honest. omega (arith, ap length (c.read.ensures.leaves honest).contents);
+        honest = ((λ honest. (c.look_at.ensures.leaves honest).honest), c.look_at.ensures.honest);
+        longer = λ honest. omega (arith, ap length (c.look_at.ensures.leaves honest).contents);
       };
   makes =
-      some_made _ _ _ c.from_residual-in_err-read.result _ c.from_residual-in_err-read.ensures.1 (λ honest.
+      some_made _ _ _ c.from_residual-in_err-look_at.result _ c.from_residual-in_err-look_at.ensures.1 (λ honest.
       (let view = g.D.Disk.view in
       let a = view c.args.disk.now in
-      let b = view c.read.new.self in (
+      let b = view c.look_at.new.self in (
         subst (λ (o : Bool). HasBrokenOff (close_acts c.args.gate o) a b) (sym c.if-is_open.false)
-            (broken_first (Look ∷ []) (Sync ∷ []) a b (look_broken a b (c.read.ensures.leaves honest))),
+            (broken_first (Look ∷ []) (Sync ∷ []) a b (look_broken a b (c.look_at.ensures.leaves honest))),
         subst (λ (o : Bool). HasKeptTo (close_acts c.args.gate o) a b) (sym c.if-is_open.false)
-            (within_first (Look ∷ []) (Sync ∷ []) a b (look_within a b (c.read.ensures.leaves honest))),
+            (within_first (Look ∷ []) (Sync ∷ []) a b (look_within a b (c.look_at.ensures.leaves honest))),
       )));
   durable = search rules;
 }
@@ -117,13 +117,13 @@ returns-in_err-sync-2-clause-run g c = record {
       some_made _ _ _ c.from_residual-in_err-sync-2.result _ c.from_residual-in_err-sync-2.ensures.1 (λ honest.
       (let view = g.D.Disk.view in
       let a = view c.args.disk.now in
-      let b = view c.read.new.self in
+      let b = view c.look_at.new.self in
       let e = view c.sync-2.new.self in
-      let l1 = c.read.ensures.leaves honest in (
+      let l1 = c.look_at.ensures.leaves honest in (
         subst (λ (o : Bool). HasBrokenOff (close_acts c.args.gate o) a e) (sym c.if-is_open.false)
             (broken_then (Look ∷ []) (Sync ∷ []) a b e (look_made a b l1) (sync_broken b e (c.sync-2.ensures.leaves l1.honest))),
         subst (λ (o : Bool). HasKeptTo (close_acts c.args.gate o) a e) (sym c.if-is_open.false)
-            (within_then (Look ∷ []) (Sync ∷ []) a b e (look_made a b l1) c.read.ensures.time.later (look_within a b l1) (sync_within b e (c.sync-2.ensures.leaves l1.honest))),
+            (within_then (Look ∷ []) (Sync ∷ []) a b e (look_made a b l1) c.look_at.ensures.time.later (look_within a b l1) (sync_within b e (c.sync-2.ensures.leaves l1.honest))),
       )));
   durable = search rules;
 }
@@ -140,13 +140,13 @@ returns-clause-run g c = record {
       all_made _ _ _ _ (λ honest.
       (let view = g.D.Disk.view in
       let a = view c.args.disk.now in
-      let b = view c.read.new.self in
+      let b = view c.look_at.new.self in
       let e = view c.sync-2.new.self in
-      let l1 = c.read.ensures.leaves honest in (
+      let l1 = c.look_at.ensures.leaves honest in (
         subst (λ (o : Bool). HasMade (close_acts c.args.gate o) a e) (sym c.if-is_open.false)
             (made_then (Look ∷ []) (Sync ∷ []) a b e (look_made a b l1) (sync_made b e (c.sync-2.ensures.leaves l1.honest) (c.in_ok-sync-2.ensures.durable l1.honest))),
         subst (λ (o : Bool). HasKeptTo (close_acts c.args.gate o) a e) (sym c.if-is_open.false)
-            (within_then (Look ∷ []) (Sync ∷ []) a b e (look_made a b l1) c.read.ensures.time.later (look_within a b l1) (sync_within b e (c.sync-2.ensures.leaves l1.honest))),
+            (within_then (Look ∷ []) (Sync ∷ []) a b e (look_made a b l1) c.look_at.ensures.time.later (look_within a b l1) (sync_within b e (c.sync-2.ensures.leaves l1.honest))),
       )));
   durable = search rules;
 }

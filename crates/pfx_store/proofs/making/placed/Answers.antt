@@ -48,6 +48,7 @@ returns-in-Ok g c = record {
       let body = ap length (c.deref.ensures.value ∙ c.requires.spelled) ∙ state_long g.J.Job.kind g.met.J.Job.laws (empty c.args.set.now) state in
       record {
         calls_made = search rules;
+        only = λ honest. (c.in-Ok.ensures.made honest).durable;
         takes = takes_told _ _ _ _ _ _ (made_calls h (length c.args.head.now) (length c.deref.result.now) c.args.segment c.requires.header head body refl) (λ _. refl) c.in-Ok.ensures.call.takes;
         honest = c.in-Ok.ensures.call.honest;
       };
@@ -87,6 +88,7 @@ returns-in-Err-Device-default g c = record {
       let body = ap length (c.deref.ensures.value ∙ c.requires.spelled) ∙ state_long g.J.Job.kind g.met.J.Job.laws (empty c.args.set.now) state in
       record {
         calls_made = search rules;
+        only = search rules;
         takes = takes_told _ _ _ _ _ _ (made_calls h (length c.args.head.now) (length c.deref.result.now) c.args.segment c.requires.header head body refl) (λ is. absurd (true≢false (sym is))) c.in-Err-Device-default.ensures.call.takes;
         honest = c.in-Err-Device-default.ensures.call.honest;
       };
@@ -120,6 +122,7 @@ returns g c = record {
       let body = ap length (c.deref.ensures.value ∙ c.requires.spelled) ∙ state_long g.J.Job.kind g.met.J.Job.laws (empty c.args.set.now) state in
       record {
         calls_made = search rules;
+        only = search rules;
         takes = takes_told _ _ _ _ _ _ (made_calls h (length c.args.head.now) (length c.deref.result.now) c.args.segment c.requires.header head body refl) (λ is. absurd (true≢false (sym is))) c.in-Err-NotEmpty-default.ensures.call.takes;
         honest = c.in-Err-NotEmpty-default.ensures.call.honest;
       };

@@ -7,5 +7,6 @@ returns-in-Ok g c = record {
   state = refl;
   failures = refl;
   clock = refl;
-  images = λ honest. (c.in-Ok.ensures.durable (c.in-Ok.ensures.calls.honest.1 honest)).images;
+  honest = λ honest. (honest, refl, c.in-Ok.ensures.calls.only (c.in-Ok.ensures.calls.honest.1 honest));
+  stands = c.honest_disks_hold.ensures c.in-Ok.ensures.made.whole;
 }

@@ -1,3 +1,4 @@
+use Rattle.pfx_disk.specs.Disk.{IsHonest}
 use Rattle.pfx_trial_stops.proofs.fronts.serve_named.Given as goal
 
 abbrev pub ghosts-serve-B-Room : goal.ghosts-serve-B-Room
@@ -12,5 +13,11 @@ ghosts-serve-B-Begun g a = record { origin = a.store.state }
 abbrev pub ghosts-serve-B-Named : goal.ghosts-serve-B-Named
 ghosts-serve-B-Named g a = record { start = a.store.state }
 
-abbrev pub ghosts-serve-B-Since : goal.ghosts-serve-B-Since
-ghosts-serve-B-Since g a = record { failures = (g.D.Disk.view a.store.file.disk).failures; clock = (g.D.Disk.view a.store.file.disk).clock }
+abbrev pub ghosts-serve-B-Charted : goal.ghosts-serve-B-Charted
+ghosts-serve-B-Charted g a = record {
+  calls = a.names.calls.seen.book;
+  clock = (g.D.Disk.view a.store.file.disk).clock;
+  failures = (g.D.Disk.view a.store.file.disk).failures;
+  image = (g.D.Disk.view a.store.file.disk).contents;
+  held = IsHonest (g.D.Disk.view a.store.file.disk);
+}

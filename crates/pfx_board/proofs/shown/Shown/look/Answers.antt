@@ -7,10 +7,10 @@ use Rattle.pfx_board.proofs.shown.Shown.look.Goals as goal
 pub returns-clause-number : goal.returns-clause-number
 returns-clause-number g c =
     let o = g.B.Begun.origin in
-    board_number g.J.Job.kind o c.self.inside.word c.self.inside.board c.self.invariant ∙ sym (ap (last_of o) c.again.ensures)
+    board_number g.J.Job.kind o c.self.inside.word c.self.inside.board c.self.invariant.0 ∙ sym (ap (last_of o) c.again.ensures)
 
 pub returns-clause-least : goal.returns-clause-least
 returns-clause-least g c =
     let o = g.B.Begun.origin in
-    let number = board_number g.J.Job.kind o c.self.inside.word c.self.inside.board c.self.invariant in
+    let number = board_number g.J.Job.kind o c.self.inside.word c.self.inside.board c.self.invariant.0 in
     omega (arith, number, last_begins o c.args.known.now c.self.inside.word c.if-not-begins.ensures.begins)

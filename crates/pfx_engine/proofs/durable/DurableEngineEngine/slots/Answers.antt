@@ -20,6 +20,11 @@ returns-then-is_broken-clause-not_done g c =
     let old = c.args.self.now in
     rw c.stopped.ensures (refl, inl (record { state = refl; keeps = keeps_none (g.D.Disk.view old.store.file.disk) old.store.file.broken old.store.state }))
 
+pub returns-then-self-clause-not_done : goal.returns-then-self-clause-not_done
+returns-then-self-clause-not_done g c =
+    let old = c.args.self.now in
+    (tt, record { state = refl; keeps = keeps_none (g.D.Disk.view old.store.file.disk) old.store.file.broken old.store.state })
+
 pub run_slots-requires : goal.run_slots-requires
 run_slots-requires g c = omega (arith, c.min.ensures, c.requires.some)
 

@@ -1,16 +1,13 @@
-use Rattle.std.proofs.Common.{sym, ap, ◌∙◌}
-use Rattle.pfx_board.specs.Publisher.{Published}
-use Rattle.pfx_board.specs.Word.{records_of}
-use Rattle.pfx_book.specs.Notes.{records_in}
-use Rattle.pfx_front.proofs.Steps.{begins_in_step}
+use Rattle.std.proofs.Common.{◌∙◌}
+use Rattle.pfx_front.proofs.Telling.{noted_fresh, told_back}
 use Rattle.pfx_front.proofs.calls.Front.start.Goals as goal
 
-pub invariant_of-owned : goal.invariant_of-owned
-invariant_of-owned g c = (
-  begins_in_step g.J.Job.kind g.B.Named.start g.B.Since.failures g.B.Since.clock c.in-Ok-furnish.share c.args.store.file.broken c.args.store.state (g.D.Disk.view c.args.store.file.disk)
-      c.requires.begins c.in-Ok-furnish.ensures.share,
-  ap (λ (p : Published g.row.J.Denot). records_of p.batches) c.in-Ok.ensures.publisher ∙ sym (ap records_in c.in-Ok-furnish.ensures.share),
-  c.requires.named.2,
-  c.in-Ok-furnish.ensures.room.0,
-  c.in-Ok-furnish.ensures.room.1,
-)
+pub manned-requires-clause-fresh : goal.manned-requires-clause-fresh
+manned-requires-clause-fresh g c = λ lifetimes outlive.
+    noted_fresh g.B.Charted.held g.B.Charted.image g.B.Charted.clock g.B.Charted.failures g.J.Job.kind g.B.Named.start c.args.store (g.D.Disk.view c.args.store.file.disk)
+    c.noted-noted.result c.requires.begins c.noted-noted.ensures c.is_broken-broken.ensures.recovered
+
+pub returns-in-Err-clause-given_back : goal.returns-in-Err-clause-given_back
+returns-in-Err-clause-given_back g c =
+    told_back c.args.store c.told.result c.in-Err.back c.requires.begins.whole (c.in-Err.ensures.given_back ∙ c.noted-noted.ensures)
+    c.told.ensures.disk c.told.ensures.broken c.told.ensures.places c.told.ensures.state

@@ -1,0 +1,224 @@
+//! What is said on standard error: refusals, further faults of a set, and warnings, each by one write.
+
+use crate::notes::{note_of, text_of};
+use crate::traces::{Seen, Traces};
+use pfx_args::Request;
+use pfx_check::put_also;
+use pfx_explain::Note;
+use pfx_fault::{Fault, put_fault};
+use pfx_notes::{further_note, passed_over_note, refused_note, set_note};
+use pfx_objects::{also_line, error_line, warning_line};
+use pfx_program::Form;
+use std::alloc::{AllocError, Global};
+use std::io::{ErrorKind, Write};
+
+/// What is said where there is no memory to say it in.
+const NO_MEMORY: &[u8] =
+    b"pfx: error 90 NoMemory\n  the system gives no more memory to this process\n  What was printed stands. Give it more, as by ulimit -v, or run less beside it.\n";
+
+/// The same as an object.
+const NO_MEMORY_OBJECT: &[u8] =
+    b"{\"error\":{\"fields\":{},\"name\":\"NoMemory\",\"number\":90},\"note\":{\"change\":\"What was printed stands. Give it more, as by ulimit -v, or run less beside it.\",\"more\":null,\"what\":\"the system gives no more memory to this process\"}}\n";
+
+/// How what a request prints and what is said of it are written.
+pub(crate) fn form_of(request: &Request<'_>) -> Form {
+    let json = match request {
+        Request::Plan { json, .. }
+        | Request::Init { json, .. }
+        | Request::Run { json, .. }
+        | Request::Status { json, .. }
+        | Request::Replay { json, .. }
+        | Request::Show { json, .. }
+        | Request::Check { json, .. }
+        | Request::Explain { json, .. } => *json,
+        Request::Draw { .. } => false,
+    };
+    if json { Form::Json } else { Form::Text }
+}
+
+/// What a line says.
+#[derive(Clone, Copy)]
+enum Line {
+    /// A refusal.
+    Error(Fault),
+    /// A further fault of a set.
+    Also(Fault),
+    /// A warning.
+    Warning(&'static str),
+}
+
+// The line, without its note.
+fn put_line(alloc: Global, text: &mut Vec<u8>, line: Line) -> bool {
+    match line {
+        Line::Error(fault) => put_fault(text, fault).is_ok(),
+        Line::Also(fault) => put_also(text, fault).is_ok(),
+        Line::Warning(words) => match format!(in alloc; "pfx: warning: {words}\n") {
+            Ok(line) => text.extend_from_slice(line.as_bytes()).is_ok(),
+            Err(_) => false,
+        },
+    }
+}
+
+// The line and the lines of its note.
+fn put_lines(alloc: Global, text: &mut Vec<u8>, line: Line, note: Option<&Note>) -> bool {
+    if !put_line(alloc, text, line) {
+        return false;
+    }
+    if let Some(note) = note
+        && let Ok(lines) = note.text(alloc)
+    {
+        let _ = text.extend_from_slice(lines.as_slice());
+    }
+    true
+}
+
+// The same as an object.
+fn put_object(alloc: Global, text: &mut Vec<u8>, line: Line, note: Option<&Note>) -> bool {
+    let object = match line {
+        Line::Error(fault) => error_line(alloc, fault, note),
+        Line::Also(fault) => also_line(alloc, fault, note),
+        Line::Warning(words) => warning_line(alloc, words, note),
+    };
+    match object {
+        Ok(object) => text.extend_from_slice(object.as_bytes()).is_ok(),
+        Err(_) => false,
+    }
+}
+
+// Puts a line and its note behind a text, in this form; `false` if there was no memory for the line.
+fn put(
+    alloc: Global,
+    form: Form,
+    text: &mut Vec<u8>,
+    line: Line,
+    note: Result<Option<Note>, AllocError>,
+) -> bool {
+    let note = note.ok().flatten();
+    match form {
+        Form::Text => put_lines(alloc, text, line, note.as_ref()),
+        Form::Json => put_object(alloc, text, line, note.as_ref()),
+    }
+}
+
+// Prints a text on standard error, by one write where the system takes it whole.
+fn print(rt: &HostRuntime, text: &Vec<u8>) {
+    let _ = rt.stderr().write_all(text.as_slice());
+}
+
+/// Prints the line of a fault, and below it where the mistake stands, what is wrong and what to change, as far as that is known; or an
+/// object of the same.
+pub(crate) fn tell(
+    rt: &HostRuntime,
+    alloc: Global,
+    request: &Request<'_>,
+    traces: &Traces,
+    fault: Fault,
+) {
+    let form = form_of(request);
+    if fault == Fault::NoMemory {
+        let _ = rt.stderr().write_all(match form {
+            Form::Text => NO_MEMORY,
+            Form::Json => NO_MEMORY_OBJECT,
+        });
+        return;
+    }
+    let note = note_of(rt, alloc, request, traces, fault);
+    let mut text = Vec::new(alloc);
+    if put(alloc, form, &mut text, Line::Error(fault), note) {
+        print(rt, &text);
+    } else {
+        let _ = put_fault(&mut rt.stderr(), fault);
+    }
+}
+
+// The task that a fault names, so that the further ones are those without it.
+fn task_in(fault: Fault) -> Option<u16> {
+    match fault {
+        Fault::BadWeight { task } | Fault::HyperperiodTooLarge { task } => Some(task),
+        _ => None,
+    }
+}
+
+/// Prints the line of the first fault of a set and those of the further ones, each with what is said below it.
+pub(crate) fn tell_all(
+    rt: &HostRuntime,
+    alloc: Global,
+    form: Form,
+    set: &str,
+    traces: &Traces,
+    first: Fault,
+    further: &[Fault],
+) {
+    let set_text = traces.set.text.as_slice();
+    let mut text = Vec::new(alloc);
+    let mut out = Vec::new(alloc);
+    let note = set_note(alloc, set, set_text, None, first);
+    let _ = put(alloc, form, &mut text, Line::Error(first), note);
+    if let Some(task) = task_in(first) {
+        let _ = out.push(task);
+    }
+    for fault in further {
+        let note = further_note(alloc, set, set_text, out.as_slice(), *fault);
+        let _ = put(alloc, form, &mut text, Line::Also(*fault), note);
+        if let Some(task) = task_in(*fault) {
+            let _ = out.push(task);
+        }
+    }
+    print(rt, &text);
+}
+
+/// Whether an output failed because its reader has gone.
+pub(crate) fn is_closed(traces: &Traces, fault: Fault) -> bool {
+    fault == Fault::OutputFailed && traces.seen.get().failed == Some(ErrorKind::BrokenPipe)
+}
+
+// Prints a warning and its note.
+fn warn_of(rt: &HostRuntime, alloc: Global, form: Form, words: &'static str, note: Note) {
+    let mut text = Vec::new(alloc);
+    if put(alloc, form, &mut text, Line::Warning(words), Ok(Some(note))) {
+        print(rt, &text);
+    }
+}
+
+// Says that records were refused: the first of them, and how many.
+fn warn_refused(rt: &HostRuntime, alloc: Global, form: Form, script: &str, seen: &Seen) {
+    let Some(text) = text_of(rt, script) else {
+        return;
+    };
+    let refusal = &seen.refusal[..seen.len.min(seen.refusal.len())];
+    let note = refused_note(
+        alloc,
+        script,
+        text.as_slice(),
+        seen.answers,
+        seen.shown,
+        refusal,
+        seen.refused,
+    );
+    if let Ok(note) = note {
+        warn_of(rt, alloc, form, "a record was refused", note);
+    }
+}
+
+/// Warns of what a command that went well has passed over: keys of a set, refused records of a script.
+pub(crate) fn warn(rt: &HostRuntime, alloc: Global, request: &Request<'_>, traces: &Traces) {
+    let form = form_of(request);
+    match request {
+        Request::Plan { set, .. }
+        | Request::Draw { set, .. }
+        | Request::Init { set, .. }
+        | Request::Check { set, .. } => {
+            if let Ok(Some(note)) = passed_over_note(alloc, set, traces.set.text.as_slice()) {
+                let words = "the set has a key that is passed over";
+                warn_of(rt, alloc, form, words, note);
+            }
+        }
+        Request::Run { script, .. } => {
+            let seen = traces.seen.get();
+            if seen.refused > 0 {
+                warn_refused(rt, alloc, form, script, &seen);
+            }
+        }
+        _ => {}
+    }
+}

@@ -1,5 +1,0 @@
-use Rattle.pfx_header.proofs.SetLemmas.{sets_ok, sets_from}
-use Rattle.pfx_header.proofs.laws.sets_are_the_accepted_ones.Goals as goal
-
-pub returns : goal.returns
-returns c = λ m tasks s. (sets_from m tasks s, sets_ok m tasks s)

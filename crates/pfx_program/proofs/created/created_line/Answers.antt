@@ -1,0 +1,9 @@
+use Rattle.std.proofs.Common.{ap, ◌∙◌}
+use Rattle.serde_json.specs.Written.{has_float}
+use Rattle.pfx_program.proofs.ObjectLemmas.{created_whole}
+use Rattle.pfx_program.proofs.created.created_line.Goals as goal
+
+pub object_line-requires : goal.object_line-requires
+object_line-requires c = record {
+  whole = ap has_float c.in_ok-object-in-Json.ensures ∙ created_whole c.args.set.now c.args.size;
+}

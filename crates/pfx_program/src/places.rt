@@ -1,0 +1,34 @@
+//! What a task of a state has.
+
+ghost use Rattle.std.specs.Prelude.{◌≡◌};
+ghost use Rattle.pfx_program.specs.Promises.{IsPlace};
+
+use crate::engine::Place;
+use pfx_jobs::job::Job;
+use pfx_kinds::any::AnyJob;
+use pfx_machine::State;
+
+fn copied(job: &Option<AnyJob>) -> Option<AnyJob>
+    ensures { result ≡ job.now }
+{
+    match job {
+        None => None,
+        Some(job) => Some(job.copy_of()),
+    }
+}
+
+/// What a task of a state has: how many slots it got, and a copy of its job; `None` if the state has no real task of this number. It takes
+/// no memory.
+pub fn place_of(state: &State<AnyJob>, task: u16) -> Option<Place>
+    ensures { IsPlace state.now task result }
+{
+    let _number = state.number();
+    let task = usize::from(task);
+    match state.jobs().get(task) {
+        None => None,
+        Some(job) => Some(Place {
+            allocation: state.columns().alloc(task),
+            job: copied(job),
+        }),
+    }
+}
