@@ -8,7 +8,7 @@ use Rattle.std.specs.Prelude.{MatchBool}
 use mathlib.Core.List.{IsPrefix}
 use Rattle.pfx_machine.specs.Plain.{Plain}
 use Rattle.pfx_record.specs.Batches.{all_fit, counts_fit}
-use Rattle.pfx_record.specs.Records.{plain}
+use Rattle.pfx_record.specs.Records.{form_of, plain}
 use Rattle.pfx_record.specs.declared.batch.Batch.{Batch}
 use Rattle.pfx_record.proofs.Rising.{both}
 use Rattle.pfx_board.specs.Word.{records_of, last_of}
@@ -53,7 +53,7 @@ module _ {J : Type 0} where
   has_record : (b : Batch J) → 0 < length b.records.items
   has_record b =
       let count = length (map plain b.records.items) in
-      let fit = both (counts_fit b.workers b.first count) (all_fit b.workers (map plain b.records.items)) b.fits in
+      let fit = both (counts_fit b.workers b.first count) (all_fit (form_of b.workers b.real count) (map plain b.records.items)) b.fits in
       let few = nat_lt 0 count && nat_le count 16 in
       let numbers = nat_lt 0 b.first && nat_le (b.first + count) (2 ^ 48) in
       let counts = both (nat_lt 0 b.workers && nat_le b.workers 64) (few && numbers) fit.0 in

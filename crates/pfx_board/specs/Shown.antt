@@ -1,7 +1,7 @@
 -- What is shown of batches.
 use Rattle.std.specs.Prelude.{◌≡◌, List, Some}
 use Rattle.pfx_jobs.specs.Kind.{Kind}
-use Rattle.pfx_machine.specs.Plain.{Plain}
+use Rattle.pfx_machine.specs.Plain.{Plain, whole}
 use Rattle.pfx_machine.specs.Board.{all_lines}
 use Rattle.pfx_machine.specs.declared.board.Board.{Board}
 use Rattle.pfx_record.specs.declared.batch.Batch.{Batch}
@@ -13,5 +13,6 @@ pub record IsBoardOf {J : Type 0} (K : Kind J) (origin : Plain J) (batches : Lis
   pub state : Plain J
   pub leads : applied K origin (records_of batches) ≡ Some state
   pub number : board.number ≡ state.number
-  pub slot : board.slot ≡ state.ledger.slot
+  pub slot : board.slot ≡ whole state
+  pub from : board.from ≡ state.from
   pub lines : board.lines.items ≡ all_lines K state

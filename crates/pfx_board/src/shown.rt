@@ -64,6 +64,7 @@ impl<J: Job, B: Begun<J>> Shown<J, B> {
         let Board {
             number,
             slot,
+            from,
             lines,
         } = state.board(alloc)?;
         let mut room = Vec::with_capacity(alloc, MOST_LINES)?;
@@ -72,6 +73,7 @@ impl<J: Job, B: Begun<J>> Shown<J, B> {
             board: Board {
                 number,
                 slot,
+                from,
                 lines: room,
             },
             word: word.again(),
@@ -116,6 +118,7 @@ impl<J: Job, B: Begun<J>> Shown<J, B> {
         Ok(Board {
             number: self.board.number,
             slot: self.board.slot,
+            from: self.board.from,
             lines,
         })
     }
@@ -138,6 +141,7 @@ impl<J: Job, B: Begun<J>> Absorb<Shown<J, B>> for Shown<J, B> {
         let Shown { board, word } = self;
         board.number = operation.board.number;
         board.slot = operation.board.slot;
+        board.from = operation.board.from;
         put_lines(&mut board.lines, &operation.board.lines);
         *word = operation.word.again();
         Ok(())

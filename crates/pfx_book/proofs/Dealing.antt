@@ -5,9 +5,10 @@ use Rattle.std.proofs.lemmas.Bool.{leb-false, lt-leb, true≢false}
 use Rattle.std.proofs.lemmas.Option.{none-some}
 use Rattle.pfx_weights.specs.Rows.{is_in}
 use Rattle.pfx_columns.specs.Ledgers.{after}
-use Rattle.pfx_choice.specs.PfRows.{chosen}
 use Rattle.pfx_jobs.specs.Kind.{Kind}
-use Rattle.pfx_machine.specs.Plain.{Plain, IsState}
+use Rattle.pfx_machine.specs.Plain.{Plain, whole, IsState}
+use Rattle.pfx_machine.specs.Choosing.{row_in}
+use Rattle.pfx_machine.proofs.Rowing.{row_chosen}
 use Rattle.pfx_machine.specs.Happenings.{row_or_none}
 use Rattle.pfx_machine.specs.Refusals.{refusal}
 use Rattle.pfx_machine.specs.Steps.{state_step, happening_in, jobs_step}
@@ -94,9 +95,9 @@ module _ {J : Type 0} where
 
     pub opening_is : (s : Plain J) (o : Dealt J) → StandsAt K s o → o.back ≡ map (λ d. None) o.quanta → shown K o ≡ opening_of K s
     opening_is s o h none =
-        let row : o.row ≡ row_or_none (chosen s.ledger) = sym (ap row_or_none h.row) in
-        let quanta : o.quanta ≡ deals_in K s (row_or_none (chosen s.ledger)) = h.quanta ∙ ap (deals_in K s) row in
-        let back : map (option_map stepped) o.back ≡ map (λ d. None) (deals_in K s (row_or_none (chosen s.ledger))) =
+        let row : o.row ≡ row_or_none (row_in s) = sym (ap row_or_none h.row) in
+        let quanta : o.quanta ≡ deals_in K s (row_or_none (row_in s)) = h.quanta ∙ ap (deals_in K s) row in
+        let back : map (option_map stepped) o.back ≡ map (λ d. None) (deals_in K s (row_or_none (row_in s))) =
         ap (map (option_map stepped)) none ∙ none_shown_of stepped o.quanta ∙ ap (map (λ d. None)) quanta in
         λ i. record { row = row i; quanta = quanta i; back = back i }
 
@@ -111,16 +112,16 @@ module _ {J : Type 0} where
     -- the results written back are the machine's step
     pub sealed_is : (s : Plain J) (o : Dealt J) → IsState s → StandsAt K s o → Answers o.quanta o.back → AllBack o.back → sealed_in s (Some (shown K o)) ≡ state_step K s (happening_in s Slot)
     sealed_is s o state h right all =
-        let row = row_or_none (chosen s.ledger) in
+        let row = row_or_none (row_in s) in
         let row_is : o.row ≡ row = sym (ap row_or_none h.row) in
-        let apart = apart_of o.row (chosen_rises s.ledger o.row state.ledger h.row) in
+        let apart = apart_of o.row (chosen_rises s.ledger o.row state.ledger (row_chosen s o.row h.row)) in
         let jobs : given_back o.quanta (map (option_map stepped) o.back) s.jobs ≡ jobs_step K 0 (happening_in s Slot) s.jobs =
         given_all o.quanta o.back s.jobs right all
-        ∙ (ap (λ q. written_back K q s.jobs) h.quanta ∙ (written-dealt K (s.number + 1) s.ledger.slot o.row s.jobs apart ∙ (served-slot K 0 s.ledger.slot o.row s.jobs ∙ ap (λ (r : List ℕ). jobs_step K 0 (ran s.ledger.slot r) s.jobs) row_is))) in
+        ∙ (ap (λ q. written_back K q s.jobs) h.quanta ∙ (written-dealt K (s.number + 1) (whole s) o.row s.jobs apart ∙ (served-slot K 0 (whole s) o.row s.jobs ∙ ap (λ (r : List ℕ). jobs_step K 0 (ran (whole s) r) s.jobs) row_is))) in
         ap (λ j. same_but o.row j) jobs ∙ ap (λ r. same_but r (jobs_step K 0 (happening_in s Slot) s.jobs)) row_is
       where
         same_but : List ℕ → List (Option J) → Plain J
-        same_but row jobs = record { number = s.number + 1; ledger = after s.ledger (is_in row); jobs = jobs }
+        same_but row jobs = record { number = s.number + 1; from = s.from; ledger = after s.ledger (is_in row); jobs = jobs; segment = s.segment }
 
     -- the first quantum that is missing
     pub missing_shown : (o : Dealt J) (d : Deal J) → IsMissing o.quanta o.back d → IsFirstMissing (Some (shown K o)) d

@@ -13,12 +13,13 @@ use Rattle.pfx_machine.specs.declared.command.Command.{Command}
 use Rattle.pfx_machine.proofs.Compose.{outcome-none, outcome-outcome}
 use Rattle.pfx_machine.specs.Fitting.{fits}
 use Rattle.pfx_columns.specs.Ledgers.{total}
-use Rattle.pfx_redo.specs.Applying.{applied, is_right, is_apt, after_record}
+use Rattle.pfx_redo.specs.Applying.{applied, form_at, is_right, is_apt, after_record}
 use Rattle.pfx_redo.specs.Recording.{record_of, records_of}
 use Rattle.pfx_redo.proofs.Outcomes.{records_outcome}
 use Rattle.pfx_redo.proofs.States.{applied_behind}
 use Rattle.pfx_record.specs.Batches.{all_fit, batch_fits, counts_fit}
-use Rattle.pfx_record.specs.Records.{plain, Recorded, record_fits}
+use Rattle.pfx_record.specs.Records.{form_of, plain, Recorded, record_fits}
+use Rattle.pfx_record.proofs.Renewed.{fits_anywhere}
 use Rattle.pfx_record.proofs.Rising.{both, of_both}
 use Rattle.std.specs.Global.{Vec}
 use Rattle.pfx_record.specs.declared.record.Record.{Record}
@@ -58,13 +59,13 @@ module _ {J : Type 0} (K : Kind J) where
       let r = applied_front (after_record s x) xs ys u f.1 in
       (r.0, ap (λ q. if q then applied K (after_record s x) xs else None) f.0 ∙ r.1, r.2)
 
-  all_fit_of : (s t : Plain J) (records : List (Recorded J)) → applied K s records ≡ Some t → IsTrue (all_fit s.ledger.set.workers records)
-  all_fit_of s t [] h = refl
-  all_fit_of s t (done ∷ records) h =
+  all_fit_of : (count : ℕ) (s t : Plain J) (records : List (Recorded J)) → applied K s records ≡ Some t → IsTrue (all_fit (form_of s.ledger.set.workers 0 count) records)
+  all_fit_of count s t [] h = refl
+  all_fit_of count s t (done ∷ records) h =
       let f = split_if (is_right K s done) (applied K (after_record s done) records) t h in
-      of_both (record_fits s.ledger.set.workers done) (all_fit s.ledger.set.workers records)
-      (both (record_fits s.ledger.set.workers done) (is_apt K (total s.ledger) s.jobs done && fits (after_record s done)) f.0).0
-      (all_fit_of (after_record s done) t records f.1)
+      of_both (record_fits (form_of s.ledger.set.workers 0 count) done) (all_fit (form_of s.ledger.set.workers 0 count) records)
+      (fits_anywhere s.ledger.set.workers 1 count done (both (record_fits (form_at s) done) (is_apt K (total s.ledger) s.jobs done && fits (after_record s done)) f.0).0)
+      (all_fit_of count (after_record s done) t records f.1)
 
   module _ (L : Laws K) (start : Plain J) (session : List (ℕ × Note J)) (lists : List (List (Note J))) (n : ℕ) (state : Plain J) (batch rest : List (Recorded J)) (taken marked clock : ℕ) (failure : Option Cause) where
     abbrev Now : Type 0
@@ -99,7 +100,7 @@ module _ {J : Type 0} (K : Kind J) where
     enough h = let l = leads h in omega (arith, l.number)
 
     pub fits_next : (workers first : ℕ) → Now → workers ≡ state.ledger.set.workers → first + length (batch ++ rest) ≡ state.number + 1
-        → 0 < length batch → length batch ≤ 16 → IsTrue (batch_fits workers (record { first = first; records = batch }))
+        → 0 < length batch → length batch ≤ 16 → IsTrue (batch_fits workers 0 (record { first = first; records = batch }))
     fits_next workers first h is begins some few =
         let l = leads h in
         let w : workers ≡ l.t.ledger.set.workers = is ∙ ap (λ s. s.workers) (sym l.set) in
@@ -111,17 +112,17 @@ module _ {J : Type 0} (K : Kind J) where
         of_both _ _ (of_both _ _ (lt-ltb 0 workers (omega (arith, m.0, w))) (le-leb workers 64 (omega (arith, m.1, w))))
         (of_both _ _ (of_both _ _ (lt-ltb 0 (length batch) some) (le-leb (length batch) 16 few))
         (of_both _ _ (lt-ltb 0 first (omega (arith, begins, long))) (le-leb (first + length batch) (2 ^ 48) (omega (arith, begins, long, last, top))))) in
-        of_both _ _ counts (subst (λ k. IsTrue (all_fit k batch)) (sym w) (all_fit_of l.t l.u batch l.next))
+        of_both _ _ counts (subst (λ k. IsTrue (all_fit (form_of k 0 (length batch)) batch)) (sym w) (all_fit_of (length batch) l.t l.u batch l.next))
 
     pub goes_on : (mine : List (Note J)) (workers first : ℕ) → Now → slice_get lists 0 ≡ Some mine → workers ≡ state.ledger.set.workers → first + length (batch ++ rest) ≡ state.number + 1
-        → GoesOn K start mine workers first batch
+        → GoesOn K start mine workers 0 first batch
     goes_on mine workers first h known is begins s at =
         let l = leads h in
         let same : l.t ≡ s = some_is l.t s (sym l.at ∙ ap (λ v. applied K start (records_in v)) (flushed_is K start session lists n state (batch ++ rest) taken marked clock failure mine h known) ∙ at) in
         let long = l.number in
         let w : workers ≡ l.t.ledger.set.workers = is ∙ ap (λ v. v.workers) (sym l.set) in
         let f : first ≡ l.t.number + 1 = omega (arith, begins, long) in
-        subst (λ (v : Plain J). (workers ≡ v.ledger.set.workers) × (first ≡ v.number + 1) × ((u : Plain J) × (applied K v batch ≡ Some u))) same (w, f, (l.u, l.next))
+        subst (λ (v : Plain J). (workers ≡ v.ledger.set.workers) × (◌≡◌ {A = ℕ} 0 0) × (first ≡ v.number + 1) × ((u : Plain J) × (applied K v batch ≡ Some u))) same (w, refl, f, (l.u, l.next))
 
     -- what was taken and what waits, by the commands
     halves : (h : Now) → records_in h.flushed ++ (batch ++ rest)

@@ -108,11 +108,11 @@ module _ {J : Type 0} where
   AllBacked notes [] = ⊤
   AllBacked notes (x ∷ xs) = Backed notes x.1 × AllBacked notes xs
 
-  -- these records may come next after the notes: where the noted ones lead to a state, they are of its set, begin after its
-  -- number, and lead on
-  abbrev pub GoesOn : Kind J → Plain J → List (Note J) → ℕ → ℕ → List (Recorded J) → Type 0
-  GoesOn K start notes workers first records = (t : Plain J) → applied K start (records_in notes) ≡ Some t →
-      (workers ≡ t.ledger.set.workers) × (first ≡ t.number + 1) × ((u : Plain J) × (applied K t records ≡ Some u))
+  -- these records may come next after the notes: where the noted ones lead to a state, they are of its set, say of no task that it
+  -- is real, begin after its number, and lead on
+  abbrev pub GoesOn : Kind J → Plain J → List (Note J) → ℕ → ℕ → ℕ → List (Recorded J) → Type 0
+  GoesOn K start notes workers real first records = (t : Plain J) → applied K start (records_in notes) ≡ Some t →
+      (workers ≡ t.ledger.set.workers) × (real ≡ 0) × (first ≡ t.number + 1) × ((u : Plain J) × (applied K t records ≡ Some u))
 
   -- a session has no losses: these are for the clients alone
   abbrev pub is_entry : Note J → Bool

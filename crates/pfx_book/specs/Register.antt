@@ -10,7 +10,7 @@ use Rattle.pfx_book.specs.Notes.{commands_of, receipts_of}
 
 -- the state of no book
 abbrev pub nowhere : {J : Type 0} → Plain J
-nowhere = record { number = 0; ledger = record { set = record { workers = 0; real = 0; hyper = 0; weights = [] }; slot = 0; allocs = [] }; jobs = [] }
+nowhere = record { number = 0; from = 0; ledger = record { set = record { workers = 0; real = 0; hyper = 0; weights = [] }; slot = 0; allocs = [] }; jobs = []; segment = 0 }
 
 -- the events' book; the session, each entry with its pass's number; how many passes there are; the pass whose slot is open; why
 -- the flusher gave up, if it did; and whether no more is accepted

@@ -2,6 +2,7 @@
 ghost use Rattle.std.specs.Prelude.{◌≡◌, ◌≢◌, ◌↔◌, ℕ, List, [], ◌∷◌, ◌<◌, ◌≤◌, ◌+◌, length, map, IfOk, IfErr, IfSome, IfNone, Some, None};
 ghost use Rattle.std.specs.Prelude.{false, IsTrue, vec_capacity};
 ghost use Rattle.pfx_machine.specs.Board.{all_lines};
+ghost use Rattle.pfx_machine.specs.Plain.{whole};
 ghost use Rattle.pfx_world.specs.Session.{IsQuick, MayAsk, asked};
 ghost use Rattle.pfx_book.specs.Calls.{TakesCommands, IsAccepted, Refuses};
 ghost use Rattle.pfx_book.specs.Notes.{greatest, lost_in};
@@ -212,7 +213,8 @@ impl<J: Job, B: Named<J>> Book<J, B> {
     /// The board of the state after all that was accepted. `AllocError` if an allocation fails.
     pub fn board(&self) -> Result<Board, AllocError>
         ensures number { IfOk result (λ b. b.number ≡ self.now.session.state.number) }
-        ensures slot { IfOk result (λ b. b.slot ≡ self.now.session.state.ledger.slot) }
+        ensures slot { IfOk result (λ b. b.slot ≡ whole self.now.session.state) }
+        ensures from { IfOk result (λ b. b.from ≡ self.now.session.state.from) }
         ensures lines { IfOk result (λ b. b.lines.items ≡ all_lines J.kind self.now.session.state) }
     {
         self.state.board(self.alloc)

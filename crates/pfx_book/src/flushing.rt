@@ -40,7 +40,7 @@ impl<J: Job, B: Named<J>> Book<J, B> {
     ) -> Result<Batch<J>, Vec<Record<J>>>
         requires empty { room.items ≡ [] }
         requires room { 16 ≤ vec_capacity room }
-        ensures taken { IfOk result (λ b. IsTaken J.kind B.start b.workers b.first b.records self.old self.new share.old share.new) }
+        ensures taken { IfOk result (λ b. IsTaken J.kind B.start b.workers b.real b.first b.records self.old self.new share.old share.new) }
         ensures err { OnErr result ((self.old.session.taken ≡ length self.old.session.accepted) × (self.new ≡ self.old) × (share.new ≡ share.old)) }
         ensures width { IfOk result (λ b. vec_capacity b.records ≡ vec_capacity room) }
         ensures back { IfErr result (λ v. (v.items ≡ []) × (vec_capacity v ≡ vec_capacity room)) }
@@ -65,7 +65,7 @@ impl<J: Job, B: Named<J>> Book<J, B> {
         keeper.note(&mut share.token, &note);
         *taken += more;
         match took_of(note) {
-            Some(records) => return Ok(Batch::new(workers, first, records)),
+            Some(records) => return Ok(Batch::new(workers, 0, first, records)),
             None => return Err(Vec::new(*alloc)),
         }
     }

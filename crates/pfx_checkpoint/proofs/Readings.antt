@@ -8,12 +8,12 @@ use Rattle.std.proofs.lemmas.Option.{slice_get-get_or, none-some}
 use Rattle.std.specs.Str.{bytes_eq}
 use Rattle.byteorder.specs.Endian.{little_bytes, little_number}
 use Rattle.byteorder.specs.Numbers.{little_number-reads_back}
-use Rattle.pfx_weights.specs.Sets.{FilledSet, IsFilled}
+use Rattle.pfx_weights.specs.Sets.{FilledSet, IsFilled, IsOfItsTasks}
 use Rattle.pfx_columns.specs.Ledgers.{Ledger, IsLedger, ledger_at, total}
 use Rattle.pfx_columns.proofs.Shown.{alloc_within}
 use Rattle.pfx_jobs.specs.Kind.{Kind, Laws}
 use Rattle.pfx_jobs.proofs.Codings.{bytes_eq-same, bytes_eq-true}
-use Rattle.pfx_machine.specs.Plain.{Plain, IsState}
+use Rattle.pfx_machine.specs.Plain.{Plain, whole, IsState}
 use Rattle.pfx_checkpoint.specs.Spelling.{job_bytes, task_bytes, front_bytes, state_bytes, place_of}
 use Rattle.pfx_machine.specs.Fitting.{fits}
 use Rattle.pfx_checkpoint.specs.Found.{number_at, allocs_at, job_at, jobs_at, plain_at, read_state, Reads}
@@ -24,20 +24,20 @@ use Rattle.pfx_checkpoint.proofs.Fronts.{length-front, length-eight, front_split
 
 -- what is read
 
-pub read_is : {J : Type 0} (K : Kind J) (set : FilledSet) (bytes : List ℕ) (s : Plain J) → s ≡ plain_at K set bytes → Fitting s → bytes ≡ state_bytes K s → read_state K set bytes ≡ Some s
+pub read_is : {J : Type 0} (K : Kind J) (from segment : ℕ) (set : FilledSet) (bytes : List ℕ) (s : Plain J) → s ≡ plain_at K from segment set bytes → Fitting s → bytes ≡ state_bytes K s → read_state K from segment set bytes ≡ Some s
 unfolding read_state
-read_is K set bytes s is h spelled =
-    let fit : fits (plain_at K set bytes) ≡ true = subst (λ t. fits t ≡ true) is (fits_of s h) in
-    let same : bytes_eq bytes (state_bytes K (plain_at K set bytes)) ≡ true = bytes_eq-same _ _ (spelled ∙ ap (state_bytes K) is) in
+read_is K from segment set bytes s is h spelled =
+    let fit : fits (plain_at K from segment set bytes) ≡ true = subst (λ t. fits t ≡ true) is (fits_of s h) in
+    let same : bytes_eq bytes (state_bytes K (plain_at K from segment set bytes)) ≡ true = bytes_eq-same _ _ (spelled ∙ ap (state_bytes K) is) in
     cond-true _ _ _ (and_true _ _ fit same) ∙ ap Some (sym is)
 
-pub read_none : {J : Type 0} (K : Kind J) (set : FilledSet) (bytes : List ℕ) →
-    (Fitting (plain_at K set bytes) → bytes ≢ state_bytes K (plain_at K set bytes)) → read_state K set bytes ≡ None
+pub read_none : {J : Type 0} (K : Kind J) (from segment : ℕ) (set : FilledSet) (bytes : List ℕ) →
+    (Fitting (plain_at K from segment set bytes) → bytes ≢ state_bytes K (plain_at K from segment set bytes)) → read_state K from segment set bytes ≡ None
 unfolding read_state
-read_none K set bytes h =
+read_none K from segment set bytes h =
     cond-false _ _ _ (false_from_ne_true _ (λ all.
     let parts = and_parts _ _ all in
-    h (fitting (plain_at K set bytes) parts.0) (bytes_eq-true _ _ parts.1)))
+    h (fitting (plain_at K from segment set bytes) parts.0) (bytes_eq-true _ _ parts.1)))
 
 some_is : {A : Type 0} (x y : A) → Some x ≡ Some y → x ≡ y
 some_is x y e = ap (from x) e
@@ -69,21 +69,23 @@ pub jobs_long : {J : Type 0} (K : Kind J) (x : ℕ) (bytes : List ℕ) → lengt
 jobs_long K x bytes = length-jobs_at K x bytes
 
 -- a state that fits, of a set, is one
-pub is_state : {J : Type 0} (K : Kind J) (set : FilledSet) (bytes : List ℕ) → IsFilled set → Fitting (plain_at K set bytes) → IsState (plain_at K set bytes)
-is_state K set bytes filled h = record {
+pub is_state : {J : Type 0} (K : Kind J) (from segment : ℕ) (set : FilledSet) (bytes : List ℕ) → IsOfItsTasks set → IsFilled set → Fitting (plain_at K from segment set bytes) → IsState (plain_at K from segment set bytes)
+is_state K from segment set bytes of filled h = record {
   number = h.number;
-  ledger = record { set = filled; slot = h.slot; length = length-allocs_at set.real (length set.weights) bytes; fair = h.fair; sum = h.sum };
+  slot = h.slot;
+  set = of;
+  ledger = record { set = filled; slot = (let a = h.slot in omega (arith, a)); length = length-allocs_at set.real (length set.weights) bytes; fair = h.fair; sum = h.sum };
   jobs = length-jobs_at K set.real bytes;
 }
 
-pub only_states : {J : Type 0} (K : Kind J) (set : FilledSet) (bytes : List ℕ) (s : Plain J) → IsFilled set → read_state K set bytes ≡ Some s →
+pub only_states : {J : Type 0} (K : Kind J) (from segment : ℕ) (set : FilledSet) (bytes : List ℕ) (s : Plain J) → IsOfItsTasks set → IsFilled set → read_state K from segment set bytes ≡ Some s →
     IsState s × (s.ledger.set ≡ set) × (state_bytes K s ≡ bytes)
 unfolding read_state
-only_states K set bytes s filled h =
-    let t = plain_at K set bytes in
+only_states K from segment set bytes s of filled h =
+    let t = plain_at K from segment set bytes in
     let by = read_by K t s bytes (fits t && bytes_eq bytes (state_bytes K t)) h in
     let parts = and_parts _ _ by.0 in (
-      subst IsState by.1 (is_state K set bytes filled (fitting t parts.0)),
+      subst IsState by.1 (is_state K from segment set bytes of filled (fitting t parts.0)),
       sym (ap (λ (u : Plain _). u.ledger.set) by.1),
       sym (ap (state_bytes K) by.1) ∙ sym (bytes_eq-true _ _ parts.1),
     )
@@ -174,7 +176,7 @@ unfolding state_bytes
 bytes_begin K s = front_begins K s (total s.ledger)
 
 -- a state's own bytes are read as it
-pub plain_back : {J : Type 0} (K : Kind J) (L : Laws K) (s : Plain J) → IsState s → s ≡ plain_at K s.ledger.set (state_bytes K s)
+pub plain_back : {J : Type 0} (K : Kind J) (L : Laws K) (s : Plain J) → IsState s → s ≡ plain_at K s.from s.segment s.ledger.set (state_bytes K s)
 plain_back K L s h =
     let bytes = bytes_begin K s in
     let n = h.number in
@@ -185,42 +187,49 @@ plain_back K L s h =
     allocs_back K L s (total s.ledger) h (omega arith) ∙ take_all (total s.ledger) s.ledger.allocs (let long = h.ledger.length in omega arith) in
     let jobs : jobs_at K s.ledger.set.real (state_bytes K s) ≡ s.jobs =
     ap (λ k. jobs_at K k (state_bytes K s)) (sym h.jobs) ∙ (jobs_back K L s (length s.jobs) h (omega arith) ∙ take_all (length s.jobs) s.jobs (omega arith)) in
-    sym (λ i. record { number = number i; ledger = record { set = s.ledger.set; slot = slot i; allocs = allocs i }; jobs = jobs i })
+    sym (λ i. record { number = number i; from = s.from; ledger = record { set = s.ledger.set; slot = slot i; allocs = allocs i }; jobs = jobs i; segment = s.segment })
 
-pub frozen_read : {J : Type 0} (K : Kind J) (L : Laws K) (s : Plain J) → IsState s → read_state K s.ledger.set (state_bytes K s) ≡ Some s
-frozen_read K L s h = read_is K s.ledger.set (state_bytes K s) s (plain_back K L s h) (state_fits s h) refl
+pub frozen_read : {J : Type 0} (K : Kind J) (L : Laws K) (s : Plain J) → IsState s → read_state K s.from s.segment s.ledger.set (state_bytes K s) ≡ Some s
+frozen_read K L s h = read_is K s.from s.segment s.ledger.set (state_bytes K s) s (plain_back K L s h) (state_fits s h) refl
 
 -- what the reader's tests say
 
-pub none_number : {J : Type 0} (K : Kind J) (set : FilledSet) (bytes : List ℕ) (n : ℕ) → n ≡ number_at 0 bytes → 2 ^ 48 ≤ n → read_state K set bytes ≡ None
-none_number K set bytes n is above = read_none K set bytes (λ h e. let below = h.number in omega arith)
+pub none_number : {J : Type 0} (K : Kind J) (from segment : ℕ) (set : FilledSet) (bytes : List ℕ) (n : ℕ) → n ≡ number_at 0 bytes → 2 ^ 48 ≤ n → read_state K from segment set bytes ≡ None
+none_number K from segment set bytes n is above = read_none K from segment set bytes (λ h e. let below = h.number in omega arith)
 
-pub none_slot : {J : Type 0} (K : Kind J) (set : FilledSet) (bytes : List ℕ) (t : ℕ) → t ≡ number_at 8 bytes → 2 ^ 40 ≤ t → read_state K set bytes ≡ None
-none_slot K set bytes t is above = read_none K set bytes (λ h e. let below = h.slot in omega arith)
+pub none_slot : {J : Type 0} (K : Kind J) (from segment : ℕ) (set : FilledSet) (bytes : List ℕ) (t : ℕ) → t ≡ number_at 8 bytes → 2 ^ 40 ≤ from + t → read_state K from segment set bytes ≡ None
+none_slot K from segment set bytes t is above = read_none K from segment set bytes (λ h e. let below = h.slot in omega arith)
 
-same_ledger : {J : Type 0} (K : Kind J) (set : FilledSet) (bytes : List ℕ) (t : ℕ) (allocs : List ℕ) → t ≡ number_at 8 bytes → allocs ≡ allocs_at set.real (length set.weights) bytes →
-    ledger_at set t allocs ≡ (plain_at K set bytes).ledger
-same_ledger K set bytes t allocs slot is = λ i. record { set = set; slot = slot i; allocs = is i }
+same_ledger : {J : Type 0} (K : Kind J) (from segment : ℕ) (set : FilledSet) (bytes : List ℕ) (t : ℕ) (allocs : List ℕ) → t ≡ number_at 8 bytes → allocs ≡ allocs_at set.real (length set.weights) bytes →
+    ledger_at set t allocs ≡ (plain_at K from segment set bytes).ledger
+same_ledger K from segment set bytes t allocs slot is = λ i. record { set = set; slot = slot i; allocs = is i }
 
-pub reads_fault : {J : Type 0} (K : Kind J) (set : FilledSet) (bytes : List ℕ) (t : ℕ) (allocs : List ℕ) (f : CheckpointFault) → IsFilled set → t ≡ number_at 8 bytes →
-    allocs ≡ allocs_at set.real (length set.weights) bytes → (f ≡ Damaged → IsLedger (ledger_at set t allocs) → ⊥) → Reads (read_state K set bytes) (Err f)
-reads_fault K set bytes t allocs Damaged filled slot is h =
-    read_none K set bytes (λ fit e. h refl (subst IsLedger (sym (same_ledger K set bytes t allocs slot is)) (is_state K set bytes filled fit).ledger))
-reads_fault K set bytes t allocs NoMemory filled slot is h = tt
+pub reads_fault : {J : Type 0} (K : Kind J) (from segment : ℕ) (set : FilledSet) (bytes : List ℕ) (t : ℕ) (allocs : List ℕ) (f : CheckpointFault) → IsOfItsTasks set → IsFilled set → t ≡ number_at 8 bytes →
+    allocs ≡ allocs_at set.real (length set.weights) bytes → (f ≡ Damaged → IsLedger (ledger_at set t allocs) → ⊥) → Reads (read_state K from segment set bytes) (Err f)
+reads_fault K from segment set bytes t allocs Damaged of filled slot is h =
+    read_none K from segment set bytes (λ fit e. h refl (subst IsLedger (sym (same_ledger K from segment set bytes t allocs slot is)) (is_state K from segment set bytes of filled fit).ledger))
+reads_fault K from segment set bytes t allocs NoMemory of filled slot is h = tt
 
 -- the state of the parts that were read is the one that stands at the places
-pub parts_are : {J : Type 0} (K : Kind J) (set : FilledSet) (bytes : List ℕ) (s : Plain J) (n t : ℕ) (allocs : List ℕ) (jobs : List (Option J)) (g : Ledger) →
+pub parts_are : {J : Type 0} (K : Kind J) (from segment : ℕ) (set : FilledSet) (bytes : List ℕ) (s : Plain J) (n t : ℕ) (allocs : List ℕ) (jobs : List (Option J)) (g : Ledger) →
     n ≡ number_at 0 bytes → t ≡ number_at 8 bytes → allocs ≡ allocs_at set.real (length set.weights) bytes → jobs ≡ jobs_at K set.real bytes → g ≡ ledger_at set t allocs →
-    s.number ≡ n → s.ledger ≡ g → s.jobs ≡ jobs → s ≡ plain_at K set bytes
-parts_are K set bytes s n t allocs jobs g ns ts xs js gs sn sl sj =
+    s.number ≡ n → s.ledger ≡ g → s.jobs ≡ jobs → s.from ≡ from → s.segment ≡ segment → s ≡ plain_at K from segment set bytes
+parts_are K from segment set bytes s n t allocs jobs g ns ts xs js gs sn sl sj sf ss =
     let number = sn ∙ ns in
-    let ledger = sl ∙ (gs ∙ same_ledger K set bytes t allocs ts xs) in
+    let ledger = sl ∙ (gs ∙ same_ledger K from segment set bytes t allocs ts xs) in
     let all = sj ∙ js in
-    λ i. record { number = number i; ledger = ledger i; jobs = all i }
+    λ i. record { number = number i; from = sf i; ledger = ledger i; jobs = all i; segment = ss i }
 
-pub reads_compared : {J : Type 0} (K : Kind J) (set : FilledSet) (bytes : List ℕ) (s : Plain J) (r : Result (Plain J) CheckpointFault) → s ≡ plain_at K set bytes → s.number < 2 ^ 48 → IsLedger s.ledger →
-    MatchResult r (λ t. (t ≡ s) × (bytes ≡ state_bytes K s)) (λ f. f ≡ Damaged → bytes ≢ state_bytes K s) → Reads (read_state K set bytes) r
-reads_compared K set bytes s (Ok t) is number ledger h =
-    read_is K set bytes s is (record { number = number; slot = ledger.slot; fair = ledger.fair; sum = ledger.sum }) h.1 ∙ ap Some (sym h.0)
-reads_compared K set bytes s (Err Damaged) is number ledger h = read_none K set bytes (λ fit e. h refl (e ∙ sym (ap (state_bytes K) is)))
-reads_compared K set bytes s (Err NoMemory) is number ledger h = tt
+pub reads_compared : {J : Type 0} (K : Kind J) (from segment : ℕ) (set : FilledSet) (bytes : List ℕ) (s : Plain J) (r : Result (Plain J) CheckpointFault) → s ≡ plain_at K from segment set bytes → s.number < 2 ^ 48 → whole s < 2 ^ 40 → IsLedger s.ledger →
+    MatchResult r (λ t. (t ≡ s) × (bytes ≡ state_bytes K s)) (λ f. f ≡ Damaged → bytes ≢ state_bytes K s) → Reads (read_state K from segment set bytes) r
+reads_compared K from segment set bytes s (Ok t) is number below ledger h =
+    read_is K from segment set bytes s is (record { number = number; slot = below; fair = ledger.fair; sum = ledger.sum }) h.1 ∙ ap Some (sym h.0)
+reads_compared K from segment set bytes s (Err Damaged) is number below ledger h = read_none K from segment set bytes (λ fit e. h refl (e ∙ sym (ap (state_bytes K) is)))
+reads_compared K from segment set bytes s (Err NoMemory) is number below ledger h = tt
+
+pub read_segment : {J : Type 0} (K : Kind J) (from segment : ℕ) (set : FilledSet) (bytes : List ℕ) (s : Plain J) → read_state K from segment set bytes ≡ Some s → s.segment ≡ segment
+unfolding read_state
+read_segment K from segment set bytes s h =
+    let t = plain_at K from segment set bytes in
+    let by = read_by K t s bytes (fits t && bytes_eq bytes (state_bytes K t)) h in
+    sym (ap (λ (u : Plain _). u.segment) by.1)

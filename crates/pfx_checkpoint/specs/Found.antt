@@ -29,17 +29,20 @@ abbrev pub jobs_at : {J : Type 0} → Kind J → ℕ → List ℕ → List (Opti
 jobs_at K zero bytes = []
 jobs_at K (suc x) bytes = jobs_at K x bytes ++ job_at K (16 + 137 * x + 8) bytes ∷ []
 
--- what stands at a state's places
-abbrev pub plain_at : {J : Type 0} → Kind J → FilledSet → List ℕ → Plain J
-plain_at K s bytes = record {
+-- what stands at a state's places, of a set that came into force at this slot and a store with segments of this length
+abbrev pub plain_at : {J : Type 0} → Kind J → ℕ → ℕ → FilledSet → List ℕ → Plain J
+plain_at K from segment s bytes = record {
   number = number_at 0 bytes;
+  from = from;
   ledger = record { set = s; slot = number_at 8 bytes; allocs = allocs_at s.real (length s.weights) bytes };
   jobs = jobs_at K s.real bytes;
+  segment = segment;
 }
 
 -- the state that stands at its places, if it is one and is written as these very bytes
-unfoldable pub read_state : {J : Type 0} → Kind J → FilledSet → List ℕ → Option (Plain J)
-read_state K s bytes = if fits (plain_at K s bytes) && bytes_eq bytes (state_bytes K (plain_at K s bytes)) then Some (plain_at K s bytes) else None
+unfoldable pub read_state : {J : Type 0} → Kind J → ℕ → ℕ → FilledSet → List ℕ → Option (Plain J)
+read_state K from segment s bytes =
+    if fits (plain_at K from segment s bytes) && bytes_eq bytes (state_bytes K (plain_at K from segment s bytes)) then Some (plain_at K from segment s bytes) else None
 
 -- what was answered is the state that the bytes are, or that they are none, unless an allocation failed
 abbrev pub Reads : {J : Type 0} → Option (Plain J) → Result (Plain J) CheckpointFault → Type 0

@@ -1,7 +1,7 @@
 //! What holds of the bytes of states, each the contract of a function without a body.
 
 ghost use Rattle.std.specs.Prelude.{◌≡◌, ℕ, List, Some};
-ghost use Rattle.pfx_weights.specs.Sets.{FilledSet, IsFilled};
+ghost use Rattle.pfx_weights.specs.Sets.{FilledSet, IsFilled, IsOfItsTasks};
 ghost use Rattle.pfx_machine.specs.Plain.{Plain, IsState};
 ghost use Rattle.pfx_checkpoint.specs.Spelling.{state_bytes};
 ghost use Rattle.pfx_checkpoint.specs.Found.{read_state};
@@ -10,11 +10,11 @@ use pfx_jobs::job::Job;
 
 /// The bytes of a state are read as that state.
 pub fn frozen_states_are_read<J: Job>()
-    ensures { (s : Plain J) → IsState s → read_state J.kind s.ledger.set (state_bytes J.kind s) ≡ Some s }
+    ensures { (s : Plain J) → IsState s → read_state J.kind s.from s.segment s.ledger.set (state_bytes J.kind s) ≡ Some s }
 {}
 
 /// What is read of a set's bytes is a state of the set, and these are its bytes.
 pub fn only_states_are_read<J: Job>()
-    ensures { (set : FilledSet) (bytes : List ℕ) (s : Plain J) → IsFilled set → read_state J.kind set bytes ≡ Some s
+    ensures { (from segment : ℕ) (set : FilledSet) (bytes : List ℕ) (s : Plain J) → IsOfItsTasks set → IsFilled set → read_state J.kind from segment set bytes ≡ Some s
         → IsState s × (s.ledger.set ≡ set) × (state_bytes J.kind s ≡ bytes) }
 {}

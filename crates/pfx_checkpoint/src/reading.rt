@@ -60,12 +60,20 @@ fn jobs_at<J: Job>(alloc: Global, real: usize, bytes: &[u8]) -> Result<Vec<Optio
     Ok(jobs)
 }
 
-/// The state of a set that the bytes are, or `Damaged` if they are none.
+/// The state that the bytes are, of a set that came into force at a slot and of a store whose segments have so many bytes,
+/// or `Damaged` if they are none: the slot in them is counted from there.
 ///
 /// There are as many bytes as `state_len` says. `NoMemory` comes only if an allocation failed.
-pub fn read<J: Job>(alloc: Global, set: &TaskSet, bytes: &[u8]) -> Result<State<J>, CheckpointFault>
-    requires { length bytes.now ≡ state_len set.now }
-    ensures { Reads (read_state J.kind set.now bytes.now) result }
+pub fn read<J: Job>(
+    alloc: Global,
+    from: u64,
+    segment: u32,
+    set: &TaskSet,
+    bytes: &[u8],
+) -> Result<State<J>, CheckpointFault>
+    requires from { from < 2 ^ 40 }
+    requires long { length bytes.now ≡ state_len set.now }
+    ensures { Reads (read_state J.kind from segment set.now bytes.now) result }
 {
     let _total = set.total();
     let number = number_at(bytes, 0);
@@ -79,11 +87,16 @@ pub fn read<J: Job>(alloc: Global, set: &TaskSet, bytes: &[u8]) -> Result<State<
     if number >= 1 << 48 {
         return Err(CheckpointFault::Damaged);
     }
-    if slot >= 1 << 40 {
+    if slot >= (1 << 40) - from {
         return Err(CheckpointFault::Damaged);
     }
+    set.is_of_its_tasks();
     match ledger_of(alloc, set, slot, &allocs) {
-        Ok(ledger) => compare(alloc, State::from_parts(alloc, number, ledger, jobs), bytes),
+        Ok(ledger) => compare(
+            alloc,
+            State::from_parts(alloc, number, from, ledger, jobs, segment),
+            bytes,
+        ),
         Err(fault) => Err(fault),
     }
 }

@@ -50,13 +50,13 @@ endless_after s new c h endless accepted at =
     subst (λ (t : Plain AnyJob). IsEndless t.ledger) (sym at) (endless_behind any_kind any_laws s (c ∷ []) h.ledger endless all)
 
 -- the empty state, and what is recovered
-pub made_endless : (set : FilledSet) → IsFilled set → (s : Plain AnyJob) → s ≡ empty set → IsEndless s.ledger
-made_endless set filled s is = subst (λ (t : Plain AnyJob). IsEndless t.ledger) (sym is) (start_endless set filled)
+pub made_endless : (set : FilledSet) (segment : ℕ) → IsFilled set → (s : Plain AnyJob) → s ≡ empty set segment → IsEndless s.ledger
+made_endless set segment filled s is = subst (λ (t : Plain AnyJob). IsEndless t.ledger) (sym is) (start_endless set filled)
 
-pub survived_endless : (set : FilledSet) → IsFilled set → (H : List (Command AnyJob)) → IsAcceptable any_kind (empty set) H → (n : ℕ) (image : List ℕ) → Survives (empty set) H n image →
+pub survived_endless : (set : FilledSet) (segment : ℕ) → IsFilled set → (H : List (Command AnyJob)) → IsAcceptable any_kind (empty set segment) H → (n : ℕ) (image : List ℕ) → Survives (empty set segment) H n image →
     (s : Plain AnyJob) → recovered (format any_kind) image ≡ Ok s → IsEndless s.ledger
-survived_endless set filled H all n image v s is =
-    let reached = outcome any_kind (empty set) (joined (take v.count (alone H))) in
+survived_endless set segment filled H all n image v s is =
+    let reached = outcome any_kind (empty set segment) (joined (take v.count (alone H))) in
     let same : reached ≡ s = ok_same reached s (sym v.recovered ∙ is) in
     subst (λ (t : Plain AnyJob). IsEndless t.ledger) same
-    (endless_behind any_kind any_laws (empty set) (joined (take v.count (alone H))) (start_ledger set filled) (start_endless set filled) (take_accepted (empty set) H v.count all))
+    (endless_behind any_kind any_laws (empty set segment) (joined (take v.count (alone H))) (start_ledger set filled) (start_endless set filled) (take_accepted (empty set segment) H v.count all))

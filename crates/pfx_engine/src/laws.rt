@@ -24,8 +24,8 @@ pub fn frames_lead_to_outcomes()
 /// Fair schedules of every length go on from the empty state of each filled set, and from each state that an image is recovered
 /// to in which commands from there survive.
 pub fn stores_are_endless()
-    ensures made { (set : FilledSet) → IsFilled set → (s : Plain AnyJob) → s ≡ empty set → IsEndless s.ledger }
-    ensures survived { (set : FilledSet) → IsFilled set → (H : List (Command AnyJob)) → IsAcceptable any_kind (empty set) H
-        → (n : ℕ) → (image : List ℕ) → Survives (empty set) H n image
+    ensures made { (set : FilledSet) (segment : ℕ) → IsFilled set → (s : Plain AnyJob) → s ≡ empty set segment → IsEndless s.ledger }
+    ensures survived { (set : FilledSet) (segment : ℕ) → IsFilled set → (H : List (Command AnyJob)) → IsAcceptable any_kind (empty set segment) H
+        → (n : ℕ) → (image : List ℕ) → Survives (empty set segment) H n image
         → (s : Plain AnyJob) → recovered (format any_kind) image ≡ Ok s → IsEndless s.ledger }
 {}

@@ -16,11 +16,12 @@ use Rattle.pfx_machine.specs.Sessions.{IsAcceptable}
 use Rattle.pfx_machine.specs.declared.command.Command.{Command}
 use Rattle.pfx_record.specs.Batches.{PlainBatch, batch_bytes, batch_fits}
 use Rattle.pfx_record.specs.Numbers.{number_bytes}
+use Rattle.pfx_record.specs.Records.{records_bytes}
 use Rattle.pfx_record.proofs.Again.{length-number_bytes}
-use Rattle.pfx_store.proofs.Behinds.{behind_is}
+use Rattle.pfx_store.proofs.Behinds.{behind_is, most_of_rows}
 use Rattle.pfx_store.proofs.Grouping as grouping
 use Rattle.pfx_store.specs.Standing.{IsBehind}
-use Rattle.pfx_record.proofs.Bodies.{Short, short_batch}
+use Rattle.pfx_record.proofs.Bodies.{Short, short_batch, short_most}
 use Rattle.pfx_segment.specs.Frames.{IsFrame}
 use Rattle.pfx_store_file.specs.Holding.{IsStart}
 use Rattle.pfx_store.specs.Files.{behind_of, start_of}
@@ -33,18 +34,21 @@ module _ {J : Type 0} (K : Kind J) (L : Laws K) (s : Plain J) (H : List (Command
   abbrev workers : ℕ
   workers = s.ledger.set.workers
 
-  batch_fits_here : IsTrue (batch_fits s.ledger.set.workers (record { first = s.number + 1; records = records_of K s H }))
+  batch_fits_here : IsTrue (batch_fits s.ledger.set.workers 0 (record { first = s.number + 1; records = records_of K s H }))
   batch_fits_here = grouping.group_fits K L s H state all some few
 
   pub frame_led : state_after K s (frame_of K s H) ≡ Some (outcome K s H)
   frame_led = grouping.frame_led K L s H state all some few
 
   -- its length, and that it is one frame
-  short : Short K L workers batch.first batch.records
-  short = short_batch K L workers batch.first batch.records batch_fits_here
+  short : Short K L workers 0 batch.first batch.records
+  short = short_batch K L workers 0 batch.first batch.records batch_fits_here
+
+  most : 15 + length (records_bytes K batch.records) ≤ 31 + 2096 * workers
+  most = omega (arith, short_most K L workers 0 batch.first batch.records short, most_of_rows workers)
 
   spelled_so : IsBehind (batch_bytes K batch) (take (length (batch_bytes K batch ++ 0 ∷ []) - 1) (drop 1 (batch_bytes K batch ++ 0 ∷ [])))
-  spelled_so = behind_is K L batch workers (batch_bytes K batch ++ 0 ∷ []) batch_fits_here (omega (arith, short.body, short.whole)) refl
+  spelled_so = behind_is K L batch workers 0 (batch_bytes K batch ++ 0 ∷ []) batch_fits_here (omega (arith, most, most_of_rows workers, short.whole)) refl
 
   pub opens_here : frame_of K s H ≡ GATE_OPEN ∷ drop 1 (frame_of K s H)
   opens_here = spelled_so.1 ∙ ap (λ l. GATE_OPEN ∷ drop 1 l) (sym spelled_so.1)
@@ -52,7 +56,7 @@ module _ {J : Type 0} (K : Kind J) (L : Laws K) (s : Plain J) (H : List (Command
   pub frame_long : length (behind_of (frame_of K s H)) ≤ 31 + 2096 * s.ledger.set.workers
   frame_long =
       let one = ap length opens_here in
-      omega (arith, short.body, short.whole, one, length-append (drop 1 (frame_of K s H)) (0 ∷ []))
+      omega (arith, most, short.whole, one, length-append (drop 1 (frame_of K s H)) (0 ∷ []))
 
   pub frame_there : IsFrame (GATE_OPEN ∷ drop 1 (frame_of K s H))
   frame_there = subst IsFrame (sym spelled_so.1 ∙ opens_here) spelled_so.2.frame

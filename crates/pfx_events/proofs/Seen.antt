@@ -6,7 +6,7 @@ use Rattle.pfx_checkpoint.specs.Spelling.{state_bytes}
 use Rattle.pfx_checkpoint.proofs.Readings.{only_states}
 use Rattle.pfx_disk.specs.Disk.{View}
 use Rattle.pfx_format.specs.Format.{format}
-use Rattle.pfx_header.proofs.Meanings.{read_filled}
+use Rattle.pfx_header.proofs.Meanings.{read_filled, read_a_header}
 use Rattle.pfx_jobs.specs.Kind.{Kind}
 use Rattle.pfx_store.specs.Files.{FileOf}
 use Rattle.pfx_store.specs.Standing.{Stands}
@@ -28,7 +28,7 @@ module _ {J : Type 0} (K : Kind J) (places : Places) (s : Plain J) (body : List 
   same : st.parts.turned ≡ true → body ≡ state_bytes K st.parts.middle
   same turned =
       let here = each disk.contents st.holds.honest.here in
-      sym (only_states K st.header.set body st.parts.middle (read_filled disk.contents st.header here.store.head) (st.middle turned)).2
+      sym (only_states K 0 st.header.segment st.header.set body st.parts.middle (read_a_header disk.contents st.header here.store.head).accepted (read_filled disk.contents st.header here.store.head) (st.middle turned)).2
 
   pub seen : (f : FileOf J) × IsSeen K places s body f disk
   seen = (

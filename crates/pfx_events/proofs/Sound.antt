@@ -126,13 +126,13 @@ module _ {J : Type 0} (K : Kind J) (L : Laws K) where
         (frame_there K L s H some few state all)
         (subst (λ (l : List ℕ). state_after K s l ≡ Some t) (opens_here K L s H some few state all) (frame_led K L s H some few state all))
         f (state_bytes K) (start_of s) (spells_of f s x was.file.store) (start_is K s state)
-        (small of.set header.segment.0)
+        (small of.set.set header.segment.0)
         (λ turned. spelled_then of)
       where
         small : s.ledger.set ≡ f.head.set → 41 + 2096 * f.head.set.workers ≤ f.head.segment → length bytes + 9 < (layout f.head).segment
         small same least = let m = ap (λ (z : FilledSet). z.workers) same in omega (arith, frame_long K L s H some few state all, le-max_right 10 f.head.segment, least, m)
 
-        spelled_then : IsOf f.head s → (read_state K (ended_file (format K) f).head.set (state_bytes K s) ≡ Some s) × (length (state_bytes K s) ≡ state_len (ended_file (format K) f).head.set)
+        spelled_then : IsOf f.head s → (read_state K 0 (ended_file (format K) f).head.segment (ended_file (format K) f).head.set (state_bytes K s) ≡ Some s) × (length (state_bytes K s) ≡ state_len (ended_file (format K) f).head.set)
         spelled_then of = spelled_read K L (ended_file (format K) f).head s (subst (λ h. IsOf h s) (sym (stepped_kept (format K) (2 + (layout f.head).body) f).head) of)
 
     appending_leads : Leads (store_of K) s f (append_acts (format K) f s (spelled K f) (start_of s) bytes) t (appended_file (format K) f s bytes frame)

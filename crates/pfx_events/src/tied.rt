@@ -40,7 +40,8 @@ pub fn append<D: Disk, J: Job>(
     store: &mut Store<D, J>,
     batch: &Batch<J>,
 ) -> Result<Mark, StoreFault>
-    requires next { IsNext J.kind store.old.state batch.now.workers batch.now.first (map plain batch.now.records.items) }
+    requires next { IsNext J.kind store.old.state batch.now.workers batch.now.real batch.now.first
+        (map plain batch.now.records.items) }
     ensures takes { let S = store_of J.kind in (B : Plain J) → (w : World (store_of J.kind)) → (n : ℕ) → MayHappen S B w (Take n)
         → IsIn J.kind w store.old.file.places store.old.spelled (D.view store.old.file.disk)
         → store.old.state ≡ state_at S B w.book.accepted w.book.taken

@@ -4,11 +4,12 @@ use Rattle.std.specs.Prelude.{All, slice_get}
 use Rattle.std.proofs.lemmas.List.Elements.{All-cons, All-nil}
 use Rattle.pfx_columns.specs.Ledgers.{IsLedger}
 use Rattle.pfx_choice.specs.declared.faults.ChoiceFault.TheVariants as of_choice
-use Rattle.pfx_choice.specs.PfRows.{chosen}
 use Rattle.pfx_jobs.specs.Kind.{Kind, Laws}
 use Rattle.pfx_machine.specs.Happenings.{row_or_none}
 use Rattle.pfx_machine.specs.Outcome.{outcome}
-use Rattle.pfx_machine.specs.Plain.{Plain}
+use Rattle.pfx_machine.specs.Plain.{Plain, whole}
+use Rattle.pfx_machine.specs.Choosing.{row_in}
+use Rattle.pfx_machine.proofs.Rowing.{row_chosen}
 use Rattle.pfx_machine.specs.Refusals.{refusal, command_fault, slot_fault, submit_fault, withdraw_fault, reply}
 use Rattle.pfx_machine.specs.Runs.{with_accepted, answer_by, answer, answers_behind, answers}
 use Rattle.pfx_machine.specs.Sessions.{AllAccepted, IsAcceptable}
@@ -31,7 +32,7 @@ use Rattle.pfx_feasible.proofs.Rows.{GoesOn, ledger_goes_on, row_goes_on, row_th
 step_goes_on : {J : Type 0} (K : Kind J) (s : Plain J) (c : Command J) → GoesOn s.ledger → command_fault K s c ≡ None → GoesOn (ledger_step s.ledger (happening_in s c))
 step_goes_on K s (Submit task job) h accepted = h
 step_goes_on K s (Withdraw task) h accepted = h
-step_goes_on K s Slot h accepted = row_goes_on s.ledger (row_or_none (chosen s.ledger)) (slot_row (chosen s.ledger) accepted) h
+step_goes_on K s Slot h accepted = row_goes_on s.ledger (row_or_none (row_in s)) (row_chosen s (row_or_none (row_in s)) (slot_row (row_in s) accepted)) h
 
 -- behind what was accepted so far
 next_goes_on : {J : Type 0} (K : Kind J) (L : Laws K) (B : Plain J) (before : List (Command J)) (c : Command J) (o : Option MachineFault) → refusal K (outcome K B before) c ≡ o →
@@ -63,7 +64,7 @@ limit_alone false row = refl
 pub slot_refusal : {J : Type 0} (K : Kind J) (s : Plain J) → GoesOn s.ledger → refusal K s Slot ≡ limit_fault s
 slot_refusal K s h =
     let r = row_there s.ledger h in
-    let below = nat_lt (s.ledger.slot + 1) (2 ^ 40) in
+    let below = nat_lt (whole s + 1) (2 ^ 40) in
     ap (λ o. if nat_lt (s.number + 1) (2 ^ 48) then slot_fault (if below then o else Err of_choice.SlotLimit) else Some NumberLimit) r.1
     ∙ ap (λ o. if nat_lt (s.number + 1) (2 ^ 48) then o else Some NumberLimit) (limit_alone below r.0)
 
@@ -105,7 +106,7 @@ answer_had K s (Withdraw task) h = withdraw_had task (slice_get s.jobs task) (na
 answer_had K s Slot h =
     let said = reply s Slot in
     let Had : Option MachineFault → Type 0 = λ o. HadARow (answer_by said o) in
-    subst Had (sym (slot_refusal K s h)) (limit_had (nat_lt (s.number + 1) (2 ^ 48)) (nat_lt (s.ledger.slot + 1) (2 ^ 40)) said)
+    subst Had (sym (slot_refusal K s h)) (limit_had (nat_lt (s.number + 1) (2 ^ 48)) (nat_lt (whole s + 1) (2 ^ 40)) said)
 
 answers_behind_had : {J : Type 0} (K : Kind J) (L : Laws K) (B : Plain J) (before H : List (Command J)) → GoesOn (outcome K B before).ledger → All HadARow (answers_behind K B before H)
 answers_behind_had K L B before [] h = All-nil HadARow

@@ -39,19 +39,19 @@ module _ {J : Type 0} (K : Kind J) (s : Plain J) (frame : List ℕ) where
       each (Some batch) found = wrong batch found
 
   module _ (L : Laws K) where
-    pub no_batch : NoBatch K s.ledger.set.workers frame → None ≡ state_after K s frame
+    pub no_batch : NoBatch K s.ledger.set.workers 0 frame → None ≡ state_after K s frame
     no_batch h = none_found (none_of _ (λ batch found.
         let spelled = batch_spelled K L s.ledger.set.workers frame batch found in
         h batch spelled.0 (record { rest = []; is = spelled.1 ∙ sym (append-nil (batch_bytes K batch)) })))
 
     -- a batch that is shorter than the frame: then the frame is none
-    pub too_long : (batch : PlainBatch J) (taken : ℕ) → IsBatch K s.ledger.set.workers frame batch taken → taken ≢ length frame → None ≡ state_after K s frame
+    pub too_long : (batch : PlainBatch J) (taken : ℕ) → IsBatch K s.ledger.set.workers 0 frame batch taken → taken ≢ length frame → None ≡ state_after K s frame
     too_long batch taken h other = none_found (none_of _ (λ found is.
         let spelled = batch_spelled K L s.ledger.set.workers frame found is in
-        let same = one_batch K L s.ledger.set.workers frame batch found h.fits spelled.0 h.begins (record { rest = []; is = spelled.1 ∙ sym (append-nil (batch_bytes K found)) }) in
+        let same = one_batch K L s.ledger.set.workers 0 frame batch found h.fits spelled.0 h.begins (record { rest = []; is = spelled.1 ∙ sym (append-nil (batch_bytes K found)) }) in
         other (h.long ∙ ap length (sym (spelled.1 ∙ ap (batch_bytes K) same)))))
 
-    whole : (batch : PlainBatch J) (taken : ℕ) → IsBatch K s.ledger.set.workers frame batch taken → taken ≡ length frame → batch_in K s.ledger.set.workers frame ≡ Some batch
+    whole : (batch : PlainBatch J) (taken : ℕ) → IsBatch K s.ledger.set.workers 0 frame batch taken → taken ≡ length frame → batch_in K s.ledger.set.workers frame ≡ Some batch
     whole batch taken h same =
         let none : length h.begins.rest ≡ 0 = (let long = ap length h.begins.is ∙ length-append (batch_bytes K batch) h.begins.rest in omega (arith, h.long, same, long)) in
         let is : frame ≡ batch_bytes K batch = h.begins.is ∙ (ap (λ l. batch_bytes K batch ++ l) (empty h.begins.rest none) ∙ append-nil (batch_bytes K batch)) in
@@ -61,10 +61,10 @@ module _ {J : Type 0} (K : Kind J) (s : Plain J) (frame : List ℕ) where
         empty [] h = refl
         empty (x ∷ l) h = absurd (omega (arith, h))
 
-    pub leads : (t : Plain J) (last : ℕ) (batch : PlainBatch J) (taken : ℕ) → number_after s.number frame ≡ Some last → IsBatch K s.ledger.set.workers frame batch taken → taken ≡ length frame → applied K s batch.records ≡ Some t → Some t ≡ state_after K s frame
+    pub leads : (t : Plain J) (last : ℕ) (batch : PlainBatch J) (taken : ℕ) → number_after s.number frame ≡ Some last → IsBatch K s.ledger.set.workers 0 frame batch taken → taken ≡ length frame → applied K s batch.records ≡ Some t → Some t ≡ state_after K s frame
     leads t last batch taken number h same done = sym (after_is K s frame t last batch number (whole batch taken h same) done)
 
-    pub leads_nowhere : (batch : PlainBatch J) (taken : ℕ) → IsBatch K s.ledger.set.workers frame batch taken → taken ≡ length frame → applied K s batch.records ≡ None → None ≡ state_after K s frame
+    pub leads_nowhere : (batch : PlainBatch J) (taken : ℕ) → IsBatch K s.ledger.set.workers 0 frame batch taken → taken ≡ length frame → applied K s batch.records ≡ None → None ≡ state_after K s frame
     unfolding state_after
     leads_nowhere batch taken h same done =
         sym (ap (λ o. if_some (number_after s.number frame) (λ last. if_some o (λ batch. applied K s batch.records))) (whole batch taken h same)

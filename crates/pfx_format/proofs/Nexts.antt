@@ -9,6 +9,7 @@ use Rattle.pfx_redo.proofs.States.{applied_behind}
 use Rattle.pfx_jobs.specs.Kind.{Kind, Laws}
 use Rattle.pfx_machine.specs.Plain.{Plain, IsState}
 use Rattle.pfx_record.specs.Batches.{PlainBatch, all_fit, batch_bytes, batch_fits, counts_fit}
+use Rattle.pfx_record.specs.Records.{form_of}
 use Rattle.pfx_record.proofs.Heads.{counts_of}
 use Rattle.pfx_record.proofs.Rising.{both, of_both}
 use Rattle.pfx_format.specs.Batches.{batch_in, count_in, first_in, if_some}
@@ -83,7 +84,7 @@ pub number_agrees : {J : Type 0} (K : Kind J) (L : Laws K) (s : Plain J) (frame 
 number_agrees K L s frame t h =
     let after = after_of K s frame t h in
     let spelled = batch_spelled K L s.ledger.set.workers frame after.batch after.found in
-    let head = head_there K L s.ledger.set.workers after.batch spelled.0 in
+    let head = head_there K L s.ledger.set.workers 0 after.batch spelled.0 in
     let count : count_in frame ≡ length after.batch.records = ap count_in spelled.1 ∙ head.count in
     let behind = (applied_behind K s t after.batch.records after.taken).number in
     let is = (next_of s.number frame after.last after.number).is in
@@ -91,10 +92,10 @@ number_agrees K L s frame t h =
 
 -- a frame of right records leads to the state after them
 
-pub frame_leads : {J : Type 0} (K : Kind J) (L : Laws K) (s t : Plain J) (batch : PlainBatch J) → IsTrue (batch_fits s.ledger.set.workers batch) → batch.first ≡ s.number + 1 → s.number + length batch.records < 2 ^ 48 → applied K s batch.records ≡ Some t →
+pub frame_leads : {J : Type 0} (K : Kind J) (L : Laws K) (s t : Plain J) (batch : PlainBatch J) → IsTrue (batch_fits s.ledger.set.workers 0 batch) → batch.first ≡ s.number + 1 → s.number + length batch.records < 2 ^ 48 → applied K s batch.records ≡ Some t →
     state_after K s (batch_bytes K batch) ≡ Some t
 frame_leads K L s t batch fits first small taken =
-    let head = head_there K L s.ledger.set.workers batch fits in
-    let counts = counts_of s.ledger.set.workers batch.first (length batch.records) (both (counts_fit s.ledger.set.workers batch.first (length batch.records)) (all_fit s.ledger.set.workers batch.records) fits).0 in
+    let head = head_there K L s.ledger.set.workers 0 batch fits in
+    let counts = counts_of s.ledger.set.workers batch.first (length batch.records) (both (counts_fit s.ledger.set.workers batch.first (length batch.records)) (all_fit (form_of s.ledger.set.workers 0 (length batch.records)) batch.records) fits).0 in
     let number = next_is s.number (batch_bytes K batch) (length batch.records) (let long = head.long in omega (arith, long)) counts.some counts.few (head.first ∙ first) small head.count in
     after_is K s (batch_bytes K batch) t _ batch number (batch_there K L s.ledger.set.workers batch fits) taken

@@ -9,7 +9,7 @@ use Rattle.byteorder.specs.Endian.{little_number}
 use Rattle.pfx_weights.specs.Rows.{is_in, IsFullRow, IsRow}
 use Rattle.pfx_columns.specs.Ledgers.{IsFair, IsLedger, after, total}
 use Rattle.pfx_machine.specs.Jobs.{is_busy}
-use Rattle.pfx_redo.specs.Applying.{is_flagged}
+use Rattle.pfx_redo.specs.Applying.{form_at, is_flagged}
 use Rattle.pfx_redo.proofs.Effects.{after-ran}
 use Rattle.pfx_redo.proofs.Rightness.{row_right}
 use Rattle.pfx_redo.proofs.Rows.{row_is}
@@ -20,6 +20,7 @@ use Rattle.pfx_record.specs.Effect.{instead_of, jobs_from, state_in}
 use Rattle.pfx_record.specs.Numbers.{number_bytes}
 use Rattle.pfx_record.specs.Reading.{IsRecord}
 use Rattle.pfx_record.specs.Records.{ran, record_fits, rises_from, tasks_of}
+use Rattle.pfx_record.specs.declared.form.Form.{Form}
 use Rattle.pfx_record.specs.declared.record.Place.{Place}
 use Rattle.pfx_record.proofs.Again.{begins_number}
 use Rattle.pfx_record.proofs.Places.{length_without, without_state}
@@ -60,22 +61,22 @@ module _ {J : Type 0} (K : Kind J) where
       of_both _ _ (of_both _ _ (lt-ltb x n (All-head (λ (k : ℕ). k < n) x xs below)) parts.0) (idle_flags n jobs xs (All-tail (λ (k : ℕ). k < n) x xs below) parts.1)
 
   -- a row that was read and passed
-  pub idle_passed : (workers : ℕ) (bytes : List ℕ) (s t u : machine.Plain J) (row : List ℕ) → IsRecord K workers bytes (ran (idle row)) (idle_len workers)
+  pub idle_passed : (form : Form) (bytes : List ℕ) (s t u : machine.Plain J) (row : List ℕ) → IsRecord K form bytes (ran (idle row)) (idle_len form.workers)
       → IsLedger s.ledger → s.number + 1 < 2 ^ 48 → IsTrue (list_all (λ task. not (is_busy K (slice_get s.jobs task))) row)
-      → IsFullRow s.ledger.set.workers (total s.ledger) row → s.ledger.slot + 1 < 2 ^ 40 → IsFair (after s.ledger (is_in row))
-      → t ≡ record s { ledger = after s.ledger (is_in row) } → u ≡ record t { number = t.number + 1 } → IsPassed K workers bytes s u
-  idle_passed workers bytes s t u row stands ledger below free full less fair passed counted =
+      → IsFullRow s.ledger.set.workers (total s.ledger) row → machine.whole s + 1 < 2 ^ 40 → IsFair (after s.ledger (is_in row))
+      → t ≡ record s { ledger = after s.ledger (is_in row) } → u ≡ record t { number = t.number + 1 } → IsPassed K form bytes s u
+  idle_passed form bytes s t u row stands ledger below free full less fair passed counted =
       let tasks : tasks_of (idle {J = J} row) ≡ row = idle_tasks J row in
       let rising : IsTrue (rises_from 0 (tasks_of (idle {J = J} row))) = (both _ _ stands.fits).1 in
-      let fits : IsTrue (record_fits s.ledger.set.workers (ran (idle {J = J} row))) = of_both _ _ (eq-eqb (length (idle {J = J} row)) s.ledger.set.workers (idle_long J row ∙ full.full)) rising in
+      let fits : IsTrue (record_fits (form_at s) (ran (idle {J = J} row))) = of_both _ _ (eq-eqb (length (idle {J = J} row)) s.ledger.set.workers (idle_long J row ∙ full.full)) rising in
       record {
         row = row;
         stands = stands;
         right = sym (row_right K s (idle row) ledger below fits (idle_flags (total s.ledger) s.jobs row full.below free)
             (subst (IsFullRow s.ledger.set.workers (total s.ledger)) (sym tasks) full) less (subst (λ (r : List ℕ). IsFair (after s.ledger (is_in r))) (sym tasks) fair));
         leads = counted ∙ ap (λ (v : machine.Plain J). record v { number = v.number + 1 }) passed ∙ sym (after-ran s (idle row)
-            ∙ ap (λ (r : List ℕ). record { number = s.number + 1; ledger = after s.ledger (is_in r); jobs = jobs_from (ran (idle row)) 0 s.jobs }) tasks
-            ∙ ap (λ (l : List (Option J)). record { number = s.number + 1; ledger = after s.ledger (is_in row); jobs = l }) (idle_jobs row 0 s.jobs));
+            ∙ ap (λ (r : List ℕ). record { number = s.number + 1; from = s.from; ledger = after s.ledger (is_in r); jobs = jobs_from (ran (idle row)) 0 s.jobs; segment = s.segment }) tasks
+            ∙ ap (λ (l : List (Option J)). record { number = s.number + 1; from = s.from; ledger = after s.ledger (is_in row); jobs = l; segment = s.segment }) (idle_jobs row 0 s.jobs));
       }
 
   module _ (bytes : List ℕ) where
@@ -104,9 +105,9 @@ module _ {J : Type 0} (K : Kind J) where
       pub idle_is_row : n ≤ 64 → IsRow (take n tasks)
       idle_is_row few = row_is (take n tasks) (take n tasks) refl (omega (arith, few, length-take-le n tasks long)) (subst (λ (l : List ℕ). IsTrue (rises_from 0 l)) (idle_tasks J (take n tasks)) so_far.rising)
 
-      pub idle_stands : 0 < length bytes → get_or bytes 0 0 ≡ 2 → IsRecord K n bytes (ran (idle (take n tasks))) (idle_len n)
-      idle_stands some tag = record {
-        fits = row_fits K bytes (idle (take n tasks)) (1 + 3 * n) low n so_far (idle_long J (take n tasks) ∙ length-take-le n tasks long);
+      pub idle_stands : (form : Form) → n ≡ form.workers → 0 < length bytes → get_or bytes 0 0 ≡ 2 → IsRecord K form bytes (ran (idle (take n tasks))) (idle_len form.workers)
+      idle_stands form all some tag = record {
+        fits = row_fits K bytes (idle (take n tasks)) (1 + 3 * n) low form so_far (idle_long J (take n tasks) ∙ length-take-le n tasks long ∙ all);
         begins = row_stands K bytes (idle (take n tasks)) (1 + 3 * n) low so_far some tag;
-        long = so_far.place ∙ omega arith;
+        long = omega (arith, so_far.place, all);
       }

@@ -9,8 +9,9 @@ use Rattle.pfx_machine.specs.Plain as machine
 use Rattle.pfx_record.specs.Batches.{PlainBatch, all_fit, batch_bytes}
 use Rattle.pfx_record.specs.Begins.{Begins}
 use Rattle.pfx_record.specs.Reading.{IsHead, IsRecord, NoRecord, body_of}
-use Rattle.pfx_record.specs.Records.{Recorded, records_bytes}
+use Rattle.pfx_record.specs.Records.{Recorded, form_of, records_bytes}
 use Rattle.pfx_record.specs.declared.faults.FramePart.TheVariants.{Record}
+use Rattle.pfx_record.specs.declared.form.Form.{Form}
 use Rattle.pfx_record.proofs.Bodies.{SoFar, so_far_begins, so_far_more, so_far_inside, stop_short, stop_over, all_read, no_head, no_records, is_batch, same_as, goes}
 use Rattle.pfx_format.specs.Frames.{number_after, state_after}
 use Rattle.pfx_format.specs.Taking.{AreTaken, AreWrong}
@@ -42,27 +43,27 @@ module _ {J : Type 0} (K : Kind J) where
       by true on h = on h
       by false on h = refl
 
-  module _ (L : Laws K) (workers : ℕ) (body : List ℕ) (s : machine.Plain J) where
+  module _ (L : Laws K) (form : Form) (body : List ℕ) (s : machine.Plain J) where
     -- the records so far, which lead to this state
     pub record TakenSoFar (at n : ℕ) (t : machine.Plain J) : Type 0 where
       pub read : List (Recorded J)
-      pub so_far : SoFar K L workers body read at
+      pub so_far : SoFar K L form body read at
       pub number : length read ≡ n
       pub leads : applied K s read ≡ Some t
 
     pub taken_none : TakenSoFar 0 0 s
-    taken_none = record { read = []; so_far = so_far_begins K L workers body; number = refl; leads = refl }
+    taken_none = record { read = []; so_far = so_far_begins K L form body; number = refl; leads = refl }
 
     module _ (at n count : ℕ) (t : machine.Plain J) (now : TakenSoFar at n t) where
       pub taken_inside : at ≤ length body
-      taken_inside = so_far_inside K L workers body now.read at now.so_far
+      taken_inside = so_far_inside K L form body now.read at now.so_far
 
-      pub none_next : n < count → NoRecord K workers (drop at body) → AreWrong K workers body count s
-      none_next more none = inl (15 + at, Record, stop_short K L workers body now.read at count now.so_far (omega (arith, now.number, more)) none)
+      pub none_next : n < count → NoRecord K form (drop at body) → AreWrong K form body count s
+      none_next more none = inl (15 + at, Record, stop_short K L form body now.read at count now.so_far (omega (arith, now.number, more)) none)
 
-      pub wrong_next : (next : Recorded J) (taken : ℕ) → n < count → IsRecord K workers (drop at body) next taken → is_right K t next ≡ false → AreWrong K workers body count s
+      pub wrong_next : (next : Recorded J) (taken : ℕ) → n < count → IsRecord K form (drop at body) next taken → is_right K t next ≡ false → AreWrong K form body count s
       wrong_next next taken more is wrong =
-          let so_far = so_far_more K L workers body now.read at next taken now.so_far is in
+          let so_far = so_far_more K L form body now.read at next taken now.so_far is in
           inr (
             now.read ++ next ∷ [],
             so_far.fit,
@@ -71,26 +72,26 @@ module _ {J : Type 0} (K : Kind J) where
             applied_push s t now.read next now.leads ∙ ap (λ b. cond b (applied K (after_record t next) []) None) wrong,
           )
 
-      pub taken_more : (next : Recorded J) (taken : ℕ) (then : machine.Plain J) → IsRecord K workers (drop at body) next taken → is_right K t next ≡ true → then ≡ after_record t next → TakenSoFar (at + taken) (n + 1) then
+      pub taken_more : (next : Recorded J) (taken : ℕ) (then : machine.Plain J) → IsRecord K form (drop at body) next taken → is_right K t next ≡ true → then ≡ after_record t next → TakenSoFar (at + taken) (n + 1) then
       taken_more next taken then is right after = record {
         read = now.read ++ next ∷ [];
-        so_far = so_far_more K L workers body now.read at next taken now.so_far is;
+        so_far = so_far_more K L form body now.read at next taken now.so_far is;
         number = omega (arith, now.number, length_push now.read next);
         leads = applied_push s t now.read next now.leads ∙ ap (λ b. cond b (applied K (after_record t next) []) None) right ∙ ap Some (sym after);
       }
 
-      pub taken_over : n ≡ count → at < length body → AreWrong K workers body count s
-      taken_over all over = inl (15 + at, Record, stop_over K L workers body now.read at count now.so_far (now.number ∙ all) over)
+      pub taken_over : n ≡ count → at < length body → AreWrong K form body count s
+      taken_over all over = inl (15 + at, Record, stop_over K L form body now.read at count now.so_far (now.number ∙ all) over)
 
-      pub taken_all : n ≡ count → length body ≤ at → AreTaken K workers body count s t
-      taken_all all end = (now.read, all_read K L workers body now.read at count now.so_far (now.number ∙ all) end, now.leads)
+      pub taken_all : n ≡ count → length body ≤ at → AreTaken K form body count s t
+      taken_all all end = (now.read, all_read K L form body now.read at count now.so_far (now.number ∙ all) end, now.leads)
 
   module _ (L : Laws K) (s : machine.Plain J) (frame : List ℕ) where
     abbrev rows : ℕ
     rows = s.ledger.set.workers
 
     pub no_head_there : ((len first count : ℕ) → IsHead rows frame len first count → ⊥) → None ≡ state_after K s frame
-    no_head_there none = no_batch K s frame L (no_head K L rows frame none)
+    no_head_there none = no_batch K s frame L (no_head K L rows 0 frame none)
 
     module _ (len first count : ℕ) (head : IsHead rows frame len first count) where
       spells : (batch : PlainBatch J) → frame ≡ batch_bytes K batch → Begins frame (batch_bytes K batch)
@@ -99,21 +100,21 @@ module _ {J : Type 0} (K : Kind J) where
       pub other_len : 15 + len ≢ length frame → None ≡ state_after K s frame
       other_len other = none_found K s frame (none_of _ (λ batch found.
           let spelled = batch_spelled K L rows frame batch found in
-          let long = (head_there K L rows batch spelled.0).long in
-          let lens = (same_as K L rows frame len first count head batch spelled.0 (spells batch spelled.1)).0 in
+          let long = (head_there K L rows 0 batch spelled.0).long in
+          let lens = (same_as K L rows 0 frame len first count head batch spelled.0 (spells batch spelled.1)).0 in
           other (omega (arith, ap length spelled.1, long, lens))))
 
-      pub wrong_there : AreWrong K rows (body_of len frame) count s → None ≡ state_after K s frame
+      pub wrong_there : AreWrong K (form_of rows 0 count) (body_of len frame) count s → None ≡ state_after K s frame
       wrong_there wrong = elim wrong [
-        | inl stop ↦ no_batch K s frame L (no_records K L rows frame len first count head stop.0 stop.1 stop.2)
+        | inl stop ↦ no_batch K s frame L (no_records K L rows 0 frame len first count head stop.0 stop.1 stop.2)
         | inr bad ↦ by bad.0 bad.1 bad.2 bad.3 bad.4
       ]
         where
-          by : (read : List (Recorded J)) → IsTrue (all_fit rows read) → Begins (body_of len frame) (records_bytes K read) → length read ≤ count → applied K s read ≡ None → None ≡ state_after K s frame
+          by : (read : List (Recorded J)) → IsTrue (all_fit (form_of rows 0 count) read) → Begins (body_of len frame) (records_bytes K read) → length read ≤ count → applied K s read ≡ None → None ≡ state_after K s frame
           by read fit begins few none = leads_none K s frame (λ batch found.
               let spelled = batch_spelled K L rows frame batch found in
-              let more = goes K L rows frame len first count head read batch spelled.0 (spells batch spelled.1) fit begins few in
+              let more = goes K L rows 0 frame len first count head read batch spelled.0 (spells batch spelled.1) fit begins few in
               ap (λ (l : List (Recorded J)). applied K s l) more.1 ∙ applied_none s read more.0 none)
 
-      pub taken_there : (t : machine.Plain J) (last : ℕ) → number_after s.number frame ≡ Some last → 15 + len ≡ length frame → AreTaken K rows (body_of len frame) count s t → Some t ≡ state_after K s frame
-      taken_there t last number same taken = leads K s frame L t last _ (15 + len) number (is_batch K L rows frame len first count head taken.0 taken.1) same taken.2
+      pub taken_there : (t : machine.Plain J) (last : ℕ) → number_after s.number frame ≡ Some last → 15 + len ≡ length frame → AreTaken K (form_of rows 0 count) (body_of len frame) count s t → Some t ≡ state_after K s frame
+      taken_there t last number same taken = leads K s frame L t last _ (15 + len) number (is_batch K L rows 0 frame len first count head taken.0 taken.1) same taken.2

@@ -47,9 +47,9 @@ count_in frame = little_number 2 (drop 13 frame)
 abbrev pub begun : {J : Type 0} → List ℕ → List (Recorded J) → PlainBatch J
 begun frame records = record { first = first_in frame; records = records }
 
--- the batch, if it has a spelling and these very bytes are it
+-- the batch, if it has a spelling where no task is said to be real, and these very bytes are it
 abbrev pub checked : {J : Type 0} → Kind J → ℕ → List ℕ → List (Recorded J) → Option (PlainBatch J)
-checked K workers frame records = if batch_fits workers (begun frame records) && bytes_eq frame (batch_bytes K (begun frame records))
+checked K workers frame records = if batch_fits workers 0 (begun frame records) && bytes_eq frame (batch_bytes K (begun frame records))
     then Some (begun frame records) else None
 
 -- the batch that these bytes are, of rows of so many tasks

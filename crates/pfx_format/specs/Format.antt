@@ -22,13 +22,15 @@ format K = record {
   read_head = read_header;
   layout = layout;
   area_number = number_at 0;
-  read_state = λ h bytes. read_state K h.set bytes;
+  read_state = λ h bytes. read_state K 0 h.segment h.set bytes;
   number = λ s. s.number;
   segment_number = little_number 8;
   after = number_after;
   apply = state_after K;
 }
 
--- the state is of the header's set
-abbrev pub IsSetOf : {J : Type 0} → Header → Plain J → Type 0
-IsSetOf h s = s.ledger.set ≡ h.set
+-- the state is of the header's set, which is in force since the first slot, and of its length of segments
+pub record IsSetOf {J : Type 0} (h : Header) (s : Plain J) : Type 0 where
+  pub set : s.ledger.set ≡ h.set
+  pub from : s.from ≡ 0
+  pub segment : s.segment ≡ h.segment

@@ -8,12 +8,13 @@ use Rattle.pfx_record.specs.Begins.{Begins}
 use Rattle.pfx_record.specs.Reading.{AreRecords, StopAt}
 use Rattle.pfx_record.specs.Records.{Recorded, records_bytes}
 use Rattle.pfx_record.specs.declared.faults.FramePart.{FramePart}
+use Rattle.pfx_record.specs.declared.form.Form.{Form}
 
 -- so many records fill the body, and lead from one state to the other
-abbrev pub AreTaken : {J : Type 0} → Kind J → ℕ → List ℕ → ℕ → machine.Plain J → machine.Plain J → Type 0
-AreTaken {J} K workers body count s t = (read : List (Recorded J)) × AreRecords K workers body count read × (applied K s read ≡ Some t)
+abbrev pub AreTaken : {J : Type 0} → Kind J → Form → List ℕ → ℕ → machine.Plain J → machine.Plain J → Type 0
+AreTaken {J} K form body count s t = (read : List (Recorded J)) × AreRecords K form body count read × (applied K s read ≡ Some t)
 
 -- the body isn't filled by so many records, or the first of them aren't right at the state
-abbrev pub AreWrong : {J : Type 0} → Kind J → ℕ → List ℕ → ℕ → machine.Plain J → Type 0
-AreWrong {J} K workers body count s = ((at : ℕ) × (what : FramePart) × StopAt K workers body count at what)
-    ⊎ ((read : List (Recorded J)) × IsTrue (all_fit workers read) × Begins body (records_bytes K read) × (length read ≤ count) × (applied K s read ≡ None))
+abbrev pub AreWrong : {J : Type 0} → Kind J → Form → List ℕ → ℕ → machine.Plain J → Type 0
+AreWrong {J} K form body count s = ((at : ℕ) × (what : FramePart) × StopAt K form body count at what)
+    ⊎ ((read : List (Recorded J)) × IsTrue (all_fit form read) × Begins body (records_bytes K read) × (length read ≤ count) × (applied K s read ≡ None))

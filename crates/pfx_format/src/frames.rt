@@ -8,7 +8,7 @@ use crate::idle::{idle_len, pass_idle};
 use byteorder::{ByteOrder, LittleEndian};
 use pfx_jobs::job::Job;
 use pfx_machine::State;
-use pfx_record::{head_of, read_head, read_next};
+use pfx_record::{Form, head_of, read_head, read_next};
 use pfx_redo::apply_record;
 use pfx_segment::frame::FRAME_HEAD;
 use std::alloc::{AllocError, Global};
@@ -46,21 +46,21 @@ pub fn number_after(last: u64, frame: &[u8]) -> Option<u64>
 fn take_records<J: Job>(
     alloc: Global,
     state: &mut State<J>,
-    workers: u32,
+    form: Form,
     count: u16,
     body: &[u8],
 ) -> Result<bool, AllocError>
-    requires few { workers ≤ 64 }
-    ensures taken { IfOk result (λ right. IsTrue right → AreTaken J.kind workers body.now count state.old state.new) }
-    ensures wrong { IfOk result (λ right. IsFalse right → AreWrong J.kind workers body.now count state.old) }
+    requires few { form.workers ≤ 64 }
+    ensures taken { IfOk result (λ right. IsTrue right → AreTaken J.kind form body.now count state.old state.new) }
+    ensures wrong { IfOk result (λ right. IsFalse right → AreWrong J.kind form body.now count state.old) }
 {
     let mut at = 0;
     for i in 0..count {
-        if pass_idle(state, workers, &body[at..]) {
-            at += idle_len(workers);
+        if pass_idle(state, form, &body[at..]) {
+            at += idle_len(form.workers);
             continue;
         }
-        match read_next(alloc, workers, &body[at..])? {
+        match read_next(alloc, form, &body[at..])? {
             None => return Ok(false),
             Some((entry, taken)) => {
                 if !apply_record(state, &entry) {
@@ -98,7 +98,12 @@ pub fn apply_frame<J: Job>(
             if end != frame.len() {
                 return Ok(false);
             }
-            take_records(alloc, state, workers, head.count, &frame[FRAME_HEAD..end])
+            let form = Form {
+                workers,
+                real: 0,
+                alone: head.count == 1,
+            };
+            take_records(alloc, state, form, head.count, &frame[FRAME_HEAD..end])
         }
     }
 }

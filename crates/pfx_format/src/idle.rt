@@ -9,6 +9,7 @@ ghost use Rattle.pfx_format.specs.Idle.{idle, idle_len, IsPassed};
 use byteorder::{ByteOrder, LittleEndian};
 use pfx_jobs::job::Job;
 use pfx_machine::{State, is_busy};
+use pfx_record::Form;
 use pfx_weights::Row;
 
 /// How many bytes the record of such a slot takes.
@@ -19,14 +20,14 @@ pub(crate) fn idle_len(workers: u32) -> usize
 }
 
 // Whether the bytes begin with a slot's record in which no task has a state, whose row then becomes the given one.
-fn read_idle<J: Job>(workers: u32, bytes: &[u8], row: &mut Row) -> bool
-    requires few { workers ≤ 64 }
-    ensures { IsTrue result → IsRecord J.kind workers bytes.now (ran (idle row.new)) (idle_len workers) }
+fn read_idle<J: Job>(form: Form, bytes: &[u8], row: &mut Row) -> bool
+    requires few { form.workers ≤ 64 }
+    ensures { IsTrue result → IsRecord J.kind form bytes.now (ran (idle row.new)) (idle_len form.workers) }
 {
-    if bytes.len() < idle_len(workers) || bytes[0] != 2 {
+    if bytes.len() < idle_len(form.workers) || bytes[0] != 2 {
         return false;
     }
-    let count = workers as usize;
+    let count = form.workers as usize;
     let mut tasks = [0; 64];
     let mut low: u32 = 0;
     for i in 0..count {
@@ -56,9 +57,9 @@ fn are_idle<J: Job>(jobs: &[Option<J>], tasks: &[u16]) -> bool
 
 /// Takes over the slot's record that the bytes begin with, if no task of its row has a state, and it is right at the state.
 /// Else nothing changes.
-pub(crate) fn pass_idle<J: Job>(state: &mut State<J>, workers: u32, bytes: &[u8]) -> bool
-    requires few { workers ≤ 64 }
-    ensures taken { IsTrue result → IsPassed J.kind workers bytes.now state.old state.new }
+pub(crate) fn pass_idle<J: Job>(state: &mut State<J>, form: Form, bytes: &[u8]) -> bool
+    requires few { form.workers ≤ 64 }
+    ensures taken { IsTrue result → IsPassed J.kind form bytes.now state.old state.new }
     ensures kept { IsFalse result → state.new ≡ state.old }
 {
     let _total = state.columns().total();
@@ -66,7 +67,7 @@ pub(crate) fn pass_idle<J: Job>(state: &mut State<J>, workers: u32, bytes: &[u8]
         return false;
     }
     let mut row = Row::empty();
-    if !read_idle::<J>(workers, bytes, &mut row) {
+    if !read_idle::<J>(form, bytes, &mut row) {
         return false;
     }
     if !are_idle(state.jobs(), row.as_slice()) {

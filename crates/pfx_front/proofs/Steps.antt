@@ -13,7 +13,7 @@ use Rattle.pfx_fault.specs.declared.parts.Cause.TheVariants.{Device, Memory}
 use Rattle.pfx_jobs.specs.Kind.{Kind}
 use Rattle.pfx_machine.specs.Plain.{Plain}
 use Rattle.pfx_record.specs.Batches.{batch_bytes, batch_of, batch_fits, counts_fit, all_fit}
-use Rattle.pfx_record.specs.Records.{plain, Recorded}
+use Rattle.pfx_record.specs.Records.{form_of, plain, Recorded}
 use Rattle.pfx_record.specs.declared.batch.Batch.{Batch}
 use Rattle.pfx_record.specs.declared.record.Record.{Record}
 use Rattle.pfx_record.proofs.Rising.{both}
@@ -111,9 +111,9 @@ module _ {J : Type 0} where
     counted_more (n + length (taken_in y)) ys x h.1 (subst (λ k. IsNext k x) (let long = length-append (taken_in y) (records_in ys) in omega (arith, long)) next),
   )
 
-  pub batch_small : (workers first : ℕ) (records : List (Record J)) → IsTrue (batch_fits workers (batch_of first records)) → (0 < length records) × (length records ≤ 16)
-  batch_small workers first records fits =
-      let counts = (both (counts_fit workers first (length (map plain records))) (all_fit workers (map plain records)) fits).0 in
+  pub batch_small : (workers real first : ℕ) (records : List (Record J)) → IsTrue (batch_fits workers real (batch_of first records)) → (0 < length records) × (length records ≤ 16)
+  batch_small workers real first records fits =
+      let counts = (both (counts_fit workers first (length (map plain records))) (all_fit (form_of workers real (length (map plain records))) (map plain records)) fits).0 in
       let second = (both _ _ (both _ _ counts).1).0 in
       let some = ltb-true 0 (length (map plain records)) (both _ _ second).0 in
       let few = leb-true (length (map plain records)) 16 (both _ _ second).1 in
@@ -202,7 +202,7 @@ module _ {J : Type 0} where
 
     counted_here : AreCounted start.number notes
     counted_here =
-        let next = (h.goes s h.step.state).1 in
+        let next = (h.goes s h.step.state).2 in
         subst (AreCounted start.number) (sym h.noted) (counted_more start.number h.before Last h.step.counted (omega (arith, next, number_before), small.0, small.1))
 
     began_here : Noted (Marked start.number clock) notes

@@ -1,7 +1,7 @@
 -- What the only client of a front knows.
 use Rattle.std.specs.Prelude.{◌≡◌, ℕ, List, []}
 use Rattle.pfx_jobs.specs.Kind.{Kind}
-use Rattle.pfx_machine.specs.Plain.{Plain}
+use Rattle.pfx_machine.specs.Plain.{Plain, whole}
 use Rattle.pfx_machine.specs.Outcome.{outcome}
 use Rattle.pfx_machine.specs.Board.{all_lines}
 use Rattle.pfx_machine.specs.declared.board.Board.{Board}
@@ -20,5 +20,6 @@ module _ {J : Type 0} (K : Kind J) (start : Plain J) where
 -- the board is that of the state
 pub record IsShownBy {J : Type 0} (K : Kind J) (s : Plain J) (board : Board) : Type 0 where
   pub number : board.number ≡ s.number
-  pub slot : board.slot ≡ s.ledger.slot
+  pub slot : board.slot ≡ whole s
+  pub from : board.from ≡ s.from
   pub lines : board.lines.items ≡ all_lines K s

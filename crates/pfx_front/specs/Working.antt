@@ -16,7 +16,7 @@ module _ {J : Type 0} where
   -- a batch that goes on is taken, and noted; else nothing is noted
   abbrev pub Gives : Kind J → Plain J → List (Note J) → List (Note J) → Work J → Type 0
   Gives K start old new (Append b) = (new ≡ old ++ Took b.first b.records ∷ [])
-      × GoesOn K start old b.workers b.first (map plain b.records.items) × (16 ≤ vec_capacity b.records)
+      × GoesOn K start old b.workers b.real b.first (map plain b.records.items) × (16 ≤ vec_capacity b.records)
   Gives K start old new (Tend room) = (new ≡ old) × (room.items ≡ []) × (16 ≤ vec_capacity room)
   Gives K start old new End = new ≡ old
 
@@ -25,5 +25,5 @@ module _ {J : Type 0} where
       (broken : Bool) (s : Plain J) (disk : View) : Type 0 where
     pub before : List (Note J)
     pub noted : notes ≡ before ++ Took batch.first batch.records ∷ []
-    pub goes : GoesOn K start before batch.workers batch.first (map plain batch.records.items)
+    pub goes : GoesOn K start before batch.workers batch.real batch.first (map plain batch.records.items)
     pub step : InStep K start failures clock before broken s disk

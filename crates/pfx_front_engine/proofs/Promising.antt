@@ -68,7 +68,7 @@ module _ {E : Type 0} (notes : E → List (Note AnyJob)) (B : Plain AnyJob) wher
 
     -- the board of the state after the same commands
     pub shown : KeepsBy B.number (notes old) [] 0 (notes new) → (board : Board) → IsShownBy any_kind (state_of any_kind B (notes new)) board → Shows (state_of any_kind B (notes old)) board
-    shown h board b = subst (λ (s : Plain AnyJob). Shows s board) (same h).state (record { number = b.number; slot = b.slot; lines = b.lines })
+    shown h board b = subst (λ (s : Plain AnyJob). Shows s board) (same h).state (record { number = b.number; slot = b.slot; from = b.from; lines = b.lines })
 
     -- a copy of that state
     pub copied : KeepsBy B.number (notes old) [] 0 (notes new) → (copy : Plain AnyJob) → copy ≡ state_of any_kind B (notes new) → copy ≡ state_of any_kind B (notes old)

@@ -24,7 +24,7 @@ outcome-none K s =
     let number : s.number + 0 ≡ s.number = add-zero s.number in
     let ledger = past_none s.ledger in
     let jobs = jobs-none K 0 s.jobs in
-    λ i. record { number = number i; ledger = ledger i; jobs = jobs i }
+    λ i. record { number = number i; from = s.from; ledger = ledger i; jobs = jobs i; segment = s.segment }
 
 pub outcome-outcome : {J : Type 0} (K : Kind J) (L : Laws K) (B : Plain J) (H G : List (Command J)) → outcome K (outcome K B H) G ≡ outcome K B (H ++ G)
 outcome-outcome K L B H G =

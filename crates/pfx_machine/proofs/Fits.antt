@@ -2,10 +2,10 @@
 use Rattle.std.specs.Prelude.{◌≡◌, ℕ, zero, suc, ◌*◌, length, ◌^◌, ◌<◌, ◌&&◌, nat_lt, Bool, true, false, sum, refl}
 use Rattle.std.proofs.Common.{sym, ◌∙◌, subst, arith, eq-eqb, inl, inr}
 use Rattle.std.proofs.lemmas.Bool.{cases_lt, lt-ltb, le-ltb, eqb-true, false≢true}
-use Rattle.pfx_weights.specs.Sets.{IsFilled}
+use Rattle.pfx_weights.specs.Sets.{IsFilled, IsOfItsTasks}
 use Rattle.pfx_columns.specs.Ledgers.{Ledger, Task, task, total, IsFair, IsFairTask}
 use Rattle.pfx_columns.proofs.Steps.{fair_low, fair_high, fair_from}
-use Rattle.pfx_machine.specs.Plain.{Plain, IsState}
+use Rattle.pfx_machine.specs.Plain.{Plain, whole, IsState}
 use Rattle.pfx_machine.specs.Fitting.{is_fair_at, are_fair, fits}
 
 pub and_true : (a b : Bool) → a ≡ true → b ≡ true → (a && b) ≡ true
@@ -47,7 +47,7 @@ tests_fair g (suc n) h x l =
 
 pub record Fitting {J : Type 0} (s : Plain J) : Type 0 where
   pub number : s.number < 2 ^ 48
-  pub slot : s.ledger.slot < 2 ^ 40
+  pub slot : whole s < 2 ^ 40
   pub fair : IsFair s.ledger
   pub sum : sum s.ledger.allocs ≡ s.ledger.set.workers * s.ledger.slot
 
@@ -70,10 +70,10 @@ fitting s h =
     }
 
 pub state_fits : {J : Type 0} (s : Plain J) → IsState s → Fitting s
-state_fits s h = record { number = h.number; slot = h.ledger.slot; fair = h.ledger.fair; sum = h.ledger.sum }
+state_fits s h = record { number = h.number; slot = h.slot; fair = h.ledger.fair; sum = h.ledger.sum }
 
-pub fitting_state : {J : Type 0} (s : Plain J) → IsFilled s.ledger.set → length s.ledger.allocs ≡ length s.ledger.set.weights →
+pub fitting_state : {J : Type 0} (s : Plain J) → IsOfItsTasks s.ledger.set → IsFilled s.ledger.set → length s.ledger.allocs ≡ length s.ledger.set.weights →
     length s.jobs ≡ s.ledger.set.real → fits s ≡ true → IsState s
-fitting_state s filled long jobs test =
+fitting_state s of filled long jobs test =
     let h = fitting s test in
-    record { number = h.number; ledger = record { set = filled; slot = h.slot; length = long; fair = h.fair; sum = h.sum }; jobs = jobs }
+    record { number = h.number; slot = h.slot; set = of; ledger = record { set = filled; slot = (let a = h.slot in omega (arith, a)); length = long; fair = h.fair; sum = h.sum }; jobs = jobs }

@@ -5,6 +5,7 @@ pub mod Keeping
 pub mod Places
 pub mod PlainLemmas
 pub mod Rising
+pub mod Rowing
 pub mod RowsLemmas
 pub mod RunLemmas
 pub mod Serving

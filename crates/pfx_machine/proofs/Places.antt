@@ -5,8 +5,8 @@ use Rattle.std.proofs.lemmas.Bool.{cond-true, cond-false, ne_eqb}
 use Rattle.pfx_jobs.specs.Kind.{Kind}
 use Rattle.pfx_weights.specs.Rows.{is_in}
 use Rattle.pfx_columns.specs.Ledgers.{Ledger, after}
-use Rattle.pfx_choice.specs.PfRows.{chosen}
-use Rattle.pfx_machine.specs.Plain.{Plain}
+use Rattle.pfx_machine.specs.Plain.{Plain, whole}
+use Rattle.pfx_machine.specs.Choosing.{row_in}
 use Rattle.pfx_machine.specs.Happenings.{given, taken, ran, row_or_none}
 use Rattle.pfx_machine.specs.Steps.{jobs_step, served, state_step, happening_in}
 use Rattle.pfx_machine.specs.declared.command.Command.TheVariants.{Slot}
@@ -39,23 +39,23 @@ jobs_step-taken K t jobs = taken_from K t 0 t jobs (omega arith)
 -- the whole state after a command, by what changed
 
 pub state_step-given : {J : Type 0} (K : Kind J) (s : Plain J) (t : ℕ) (job : J) →
-    record { number = s.number + 1; ledger = s.ledger; jobs = slice_set s.jobs t (Some job) } ≡ state_step K s (given t job)
+    record { number = s.number + 1; from = s.from; ledger = s.ledger; jobs = slice_set s.jobs t (Some job); segment = s.segment } ≡ state_step K s (given t job)
 state_step-given K s t job =
     let jobs = sym (jobs_step-given K t job s.jobs) in
-    λ i. record { number = s.number + 1; ledger = s.ledger; jobs = jobs i }
+    λ i. record { number = s.number + 1; from = s.from; ledger = s.ledger; jobs = jobs i; segment = s.segment }
 
 pub state_step-taken : {J : Type 0} (K : Kind J) (s : Plain J) (t : ℕ) →
-    record { number = s.number + 1; ledger = s.ledger; jobs = slice_set s.jobs t None } ≡ state_step K s (taken t)
+    record { number = s.number + 1; from = s.from; ledger = s.ledger; jobs = slice_set s.jobs t None; segment = s.segment } ≡ state_step K s (taken t)
 state_step-taken K s t =
     let jobs = sym (jobs_step-taken K t s.jobs) in
-    λ i. record { number = s.number + 1; ledger = s.ledger; jobs = jobs i }
+    λ i. record { number = s.number + 1; from = s.from; ledger = s.ledger; jobs = jobs i; segment = s.segment }
 
 pub state_step-row : {J : Type 0} (K : Kind J) (s : Plain J) (row : List ℕ) (jobs : List (Option J)) (ledger : Ledger) →
-    chosen s.ledger ≡ Ok row → jobs ≡ served K row s.jobs → ledger ≡ after s.ledger (is_in row) →
-    record { number = s.number + 1; ledger = ledger; jobs = jobs } ≡ state_step K s (happening_in s Slot)
+    row_in s ≡ Ok row → jobs ≡ served K row s.jobs → ledger ≡ after s.ledger (is_in row) →
+    record { number = s.number + 1; from = s.from; ledger = ledger; jobs = jobs; segment = s.segment } ≡ state_step K s (happening_in s Slot)
 state_step-row K s row jobs ledger is served_is given_is =
-    let row_is : row ≡ row_or_none (chosen s.ledger) = sym (ap row_or_none is) in
-    let ledgers : ledger ≡ after s.ledger (is_in (row_or_none (chosen s.ledger))) = given_is ∙ ap (λ r. after s.ledger (is_in r)) row_is in
-    let jobs_are : jobs ≡ jobs_step K 0 (ran s.ledger.slot (row_or_none (chosen s.ledger))) s.jobs =
-    served_is ∙ (served-slot K 0 s.ledger.slot row s.jobs ∙ ap (λ r. jobs_step K 0 (ran s.ledger.slot r) s.jobs) row_is) in
-    λ i. record { number = s.number + 1; ledger = ledgers i; jobs = jobs_are i }
+    let row_is : row ≡ row_or_none (row_in s) = sym (ap row_or_none is) in
+    let ledgers : ledger ≡ after s.ledger (is_in (row_or_none (row_in s))) = given_is ∙ ap (λ r. after s.ledger (is_in r)) row_is in
+    let jobs_are : jobs ≡ jobs_step K 0 (ran (whole s) (row_or_none (row_in s))) s.jobs =
+    served_is ∙ (served-slot K 0 (whole s) row s.jobs ∙ ap (λ r. jobs_step K 0 (ran (whole s) r) s.jobs) row_is) in
+    λ i. record { number = s.number + 1; from = s.from; ledger = ledgers i; jobs = jobs_are i; segment = s.segment }

@@ -1,9 +1,9 @@
 -- No slot is among a job's quanta twice.
-use Rattle.std.specs.Prelude.{◌≡◌, ℕ, ◌+◌, ◌≤◌, if◌then◌else◌, Bool, true, false, List, [], ◌∷◌, ◌++◌, length, take, Option, Some, None, refl, ⊤}
+use Rattle.std.specs.Prelude.{◌≡◌, ℕ, ◌+◌, ◌≤◌, if◌then◌else◌, Bool, true, false, List, [], ◌∷◌, ◌++◌, length, take, Option, Some, None, ⊤}
 use Rattle.std.proofs.Common.{zero, suc, sym, subst, arith}
 use Rattle.pfx_weights.specs.Rows.{is_in}
 use Rattle.pfx_jobs.specs.Kind.{Kind}
-use Rattle.pfx_machine.specs.Plain.{Plain}
+use Rattle.pfx_machine.specs.Plain.{Plain, whole}
 use Rattle.pfx_machine.specs.Happenings.{Happening, given, taken, ran, rows_of, happening, happenings_behind, happenings}
 use Rattle.pfx_machine.specs.Outcome.{last_that, rest_of, behind_last, changes_task, job_at_start, span_of, slots_of, first_slots, quanta_of}
 use Rattle.pfx_machine.specs.Rising.{RisesFrom}
@@ -35,12 +35,12 @@ goes_taken n (given t j ∷ happened) task h = goes_taken n happened task h
 goes_taken n (taken t ∷ happened) task h = goes_taken n happened task h
 goes_taken n (ran s r ∷ happened) task h = (h.0, goes_taken (n + 1) happened task h.1)
 
-goes_next : {J : Type 0} (B : Plain J) (happened : List (Happening J)) (c : Command J) → Goes B.ledger.slot happened → Goes B.ledger.slot (happened ++ happening B happened c ∷ [])
-goes_next B happened (Submit task job) h = goes_given B.ledger.slot happened task job h
-goes_next B happened (Withdraw task) h = goes_taken B.ledger.slot happened task h
-goes_next B happened Slot h = goes_on B.ledger.slot happened _ _ h refl
+goes_next : {J : Type 0} (B : Plain J) (happened : List (Happening J)) (c : Command J) → Goes (whole B) happened → Goes (whole B) (happened ++ happening B happened c ∷ [])
+goes_next B happened (Submit task job) h = goes_given (whole B) happened task job h
+goes_next B happened (Withdraw task) h = goes_taken (whole B) happened task h
+goes_next B happened Slot h = goes_on (whole B) happened _ _ h (omega arith)
 
-goes_behind : {J : Type 0} (B : Plain J) (happened : List (Happening J)) (H : List (Command J)) → Goes B.ledger.slot happened → Goes B.ledger.slot (happenings_behind B happened H)
+goes_behind : {J : Type 0} (B : Plain J) (happened : List (Happening J)) (H : List (Command J)) → Goes (whole B) happened → Goes (whole B) (happenings_behind B happened H)
 goes_behind B happened [] h = h
 goes_behind B happened (c ∷ H) h = goes_behind B (happened ++ happening B happened c ∷ []) H (goes_next B happened c h)
 
@@ -91,9 +91,9 @@ first_rise : {J : Type 0} (K : Kind J) (n : ℕ) (o : Option J) (slots : List �
 first_rise K n None slots h = tt
 first_rise K n (Some s) slots h = rises_take n (K.left s) slots h
 
-pub quanta_rise : {J : Type 0} (K : Kind J) (B : Plain J) (H : List (Command J)) (task : ℕ) (before : Option J) → RisesFrom B.ledger.slot (quanta_of K task before (happenings B H))
+pub quanta_rise : {J : Type 0} (K : Kind J) (B : Plain J) (H : List (Command J)) (task : ℕ) (before : Option J) → RisesFrom (whole B) (quanta_of K task before (happenings B H))
 quanta_rise K B H task before =
     let happened = happenings B H in
-    let span = span_goes B.ledger.slot (changes_task task) happened (goes_behind B [] H tt) in
-    first_rise K B.ledger.slot (job_at_start task before happened) (slots_of task (span_of task happened))
-    (rises_earlier B.ledger.slot span.from (slots_of task (span_of task happened)) span.later (slots_rise span.from task (span_of task happened) span.goes))
+    let span = span_goes (whole B) (changes_task task) happened (goes_behind B [] H tt) in
+    first_rise K (whole B) (job_at_start task before happened) (slots_of task (span_of task happened))
+    (rises_earlier (whole B) span.from (slots_of task (span_of task happened)) span.later (slots_rise span.from task (span_of task happened) span.goes))

@@ -1,11 +1,11 @@
 -- The rows of an acceptable list are a plan.
 use Rattle.std.specs.Prelude.{◌≡◌, List, [], ◌∷◌, ◌++◌, None}
 use Rattle.std.proofs.Common.{sym, ◌∙◌, ap, subst, append_assoc, append-nil, arith}
-use Rattle.pfx_choice.specs.Plans.{past, IsPlan}
-use Rattle.pfx_choice.specs.PfRows.{chosen}
+use Rattle.pfx_choice.specs.Plans.{IsPlan}
 use Rattle.pfx_choice.proofs.Planning.{plan_push}
 use Rattle.pfx_jobs.specs.Kind.{Kind}
 use Rattle.pfx_machine.specs.Plain.{Plain}
+use Rattle.pfx_machine.specs.Choosing.{row_in}
 use Rattle.pfx_machine.specs.Happenings.{rows_of, row_or_none, happening, happenings}
 use Rattle.pfx_machine.specs.Outcome.{outcome}
 use Rattle.pfx_machine.specs.Refusals.{refusal, command_fault}
@@ -13,6 +13,7 @@ use Rattle.pfx_machine.specs.Sessions.{AllAccepted, IsAcceptable}
 use Rattle.pfx_machine.specs.declared.command.Command.{Command}
 use Rattle.pfx_machine.specs.declared.command.Command.TheVariants.{Submit, Slot, Withdraw}
 use Rattle.pfx_machine.proofs.Keeping.{chosen_is, slot_row, below_limit}
+use Rattle.pfx_machine.proofs.Rowing.{row_chosen}
 use Rattle.pfx_machine.proofs.Snoc.{happenings-snoc, rows-snoc}
 
 -- one command more: a Slot's row is chosen where it stands, and no other command has a row
@@ -22,9 +23,10 @@ plan_more K B before (Submit task job) plan accepted = subst (IsPlan B.ledger) (
 plan_more K B before (Withdraw task) plan accepted = subst (IsPlan B.ledger) (sym (append-nil (rows_of (happenings B before)))) plan
 plan_more K B before Slot plan accepted =
     let rows = rows_of (happenings B before) in
-    let g = past B.ledger rows in
-    let is = slot_row (chosen g) (below_limit (outcome K B before).number (command_fault K (outcome K B before) Slot) accepted).1 in
-    plan_push B.ledger rows (row_or_none (chosen g)) plan (chosen_is g (row_or_none (chosen g)) is)
+    let s = outcome K B before in
+    let row = row_or_none (row_in s) in
+    let is = slot_row (row_in s) (below_limit s.number (command_fault K s Slot) accepted).1 in
+    plan_push B.ledger rows row plan (chosen_is s.ledger row (row_chosen s row is))
 
 rows_behind : {J : Type 0} (K : Kind J) (B : Plain J) (before H : List (Command J)) → IsPlan B.ledger (rows_of (happenings B before)) → AllAccepted K B before H
     → IsPlan B.ledger (rows_of (happenings B (before ++ H)))

@@ -143,7 +143,7 @@ state-snoc K L B happened h =
     let numbers : B.number + length (happened ++ h ∷ []) ≡ B.number + length happened + 1 = omega (arith, length-append happened (h ∷ [])) in
     let ledger = ledger-snoc B happened h in
     let jobs = jobs-snoc K L 0 B.jobs happened h in
-    λ i. record { number = numbers i; ledger = ledger i; jobs = jobs i }
+    λ i. record { number = numbers i; from = B.from; ledger = ledger i; jobs = jobs i; segment = B.segment }
 
 happening-in : {J : Type 0} (K : Kind J) (B : Plain J) (happened : List (Happening J)) (c : Command J) → happening B happened c ≡ happening_in (state_after K B happened) c
 happening-in K B happened (Submit task job) = refl

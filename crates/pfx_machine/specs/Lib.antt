@@ -1,4 +1,5 @@
 pub mod Board
+pub mod Choosing
 pub mod Faults
 pub mod Fitting
 pub mod Happenings

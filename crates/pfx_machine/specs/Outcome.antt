@@ -78,8 +78,10 @@ jobs_after K task (before ∷ rest) happened = job_after K task before happened 
 abbrev pub state_after : {J : Type 0} → Kind J → Plain J → List (Happening J) → Plain J
 state_after K B happened = record {
   number = B.number + length happened;
+  from = B.from;
   ledger = ledger_after B happened;
   jobs = jobs_after K 0 B.jobs happened;
+  segment = B.segment;
 }
 
 -- the state after a list of commands

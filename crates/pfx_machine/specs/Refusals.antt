@@ -1,9 +1,9 @@
 -- Which commands are refused in a state, and why; what is answered to the others.
 use Rattle.std.specs.Prelude.{◌≡◌, ◌≢◌, ℕ, ◌+◌, ◌^◌, ◌==◌, if◌then◌else◌, nat_lt, slice_get, List, Option, Some, None, Result, Ok, Err}
 use Rattle.pfx_jobs.specs.Kind.{Kind}
-use Rattle.pfx_choice.specs.PfRows.{chosen}
 use Rattle.pfx_choice.specs.declared.faults.ChoiceFault.{ChoiceFault}
-use Rattle.pfx_machine.specs.Plain.{Plain}
+use Rattle.pfx_machine.specs.Plain.{Plain, whole}
+use Rattle.pfx_machine.specs.Choosing.{row_in}
 use Rattle.pfx_machine.specs.Faults.{no_memory}
 use Rattle.pfx_machine.specs.Happenings.{row_or_none}
 use Rattle.pfx_machine.specs.declared.command.Command.{Command}
@@ -33,7 +33,7 @@ slot_fault (Err fault) = Some (NoRow fault)
 abbrev pub command_fault : {J : Type 0} → Kind J → Plain J → Command J → Option MachineFault
 command_fault K s (Submit task job) = submit_fault K task (slice_get s.jobs task)
 command_fault K s (Withdraw task) = withdraw_fault task (slice_get s.jobs task)
-command_fault K s Slot = slot_fault (chosen s.ledger)
+command_fault K s Slot = slot_fault (row_in s)
 
 -- why a command is refused in a state; none if it is accepted
 abbrev pub refusal : {J : Type 0} → Kind J → Plain J → Command J → Option MachineFault
@@ -43,7 +43,7 @@ refusal K s c = if nat_lt (s.number + 1) (2 ^ 48) then command_fault K s c else 
 abbrev pub reply : {J : Type 0} → Plain J → Command J → Reply
 reply s (Submit task job) = Submitted task
 reply s (Withdraw task) = Withdrawn task
-reply s Slot = Ran s.ledger.slot (row_or_none (chosen s.ledger))
+reply s Slot = Ran (whole s) (row_or_none (row_in s))
 
 -- an answered fault is the refusal, unless an allocation failed, which only a Slot takes
 abbrev pub IsFaultOf : {J : Type 0} → Kind J → Plain J → Command J → MachineFault → Type 0

@@ -1,7 +1,7 @@
 -- The quanta of one slot: one for each task of its row with an unfinished job.
 use Rattle.std.specs.Prelude.{ℕ, ◌+◌, ◌==◌, if◌then◌else◌, List, [], ◌∷◌, ◌++◌, Option, Some, None, slice_get, slice_set}
 use Rattle.pfx_jobs.specs.Kind.{Kind}
-use Rattle.pfx_machine.specs.Plain.{Plain}
+use Rattle.pfx_machine.specs.Plain.{Plain, whole}
 
 -- a quantum that is to be run, as plain fields
 pub record Deal (J : Type 0) : Type 0 where
@@ -26,7 +26,7 @@ deals K number slot (task ∷ row) jobs = deal_at K number slot task (slice_get 
 
 -- the quanta of a state's next slot with this row
 abbrev pub deals_in : {J : Type 0} → Kind J → Plain J → List ℕ → List (Deal J)
-deals_in K s row = deals K (s.number + 1) s.ledger.slot row s.jobs
+deals_in K s row = deals K (s.number + 1) (whole s) row s.jobs
 
 -- the jobs after each of these quanta was run and written back
 abbrev pub written_back : {J : Type 0} → Kind J → List (Deal J) → List (Option J) → List (Option J)

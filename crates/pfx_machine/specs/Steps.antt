@@ -2,9 +2,9 @@
 use Rattle.std.specs.Prelude.{ℕ, ◌+◌, ◌==◌, if◌then◌else◌, List, [], ◌∷◌, Option, Some, None}
 use Rattle.pfx_weights.specs.Rows.{is_in}
 use Rattle.pfx_columns.specs.Ledgers.{Ledger, after}
-use Rattle.pfx_choice.specs.PfRows.{chosen}
 use Rattle.pfx_jobs.specs.Kind.{Kind}
-use Rattle.pfx_machine.specs.Plain.{Plain}
+use Rattle.pfx_machine.specs.Plain.{Plain, whole}
+use Rattle.pfx_machine.specs.Choosing.{row_in}
 use Rattle.pfx_machine.specs.Happenings.{Happening, given, taken, ran, row_or_none}
 use Rattle.pfx_machine.specs.declared.command.Command.{Command}
 use Rattle.pfx_machine.specs.declared.command.Command.TheVariants.{Submit, Slot, Withdraw}
@@ -40,12 +40,14 @@ ledger_step g (ran slot row) = after g (is_in row)
 abbrev pub state_step : {J : Type 0} → Kind J → Plain J → Happening J → Plain J
 state_step K s h = record {
   number = s.number + 1;
+  from = s.from;
   ledger = ledger_step s.ledger h;
   jobs = jobs_step K 0 h s.jobs;
+  segment = s.segment;
 }
 
 -- what a command does in a state
 abbrev pub happening_in : {J : Type 0} → Plain J → Command J → Happening J
 happening_in s (Submit task job) = given task job
 happening_in s (Withdraw task) = taken task
-happening_in s Slot = ran s.ledger.slot (row_or_none (chosen s.ledger))
+happening_in s Slot = ran (whole s) (row_or_none (row_in s))

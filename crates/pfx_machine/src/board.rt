@@ -2,6 +2,7 @@
 
 ghost use Rattle.std.specs.Prelude.{◌≡◌, ◌<◌, IfOk, slice_get};
 ghost use Rattle.pfx_columns.specs.Ledgers.{total};
+ghost use Rattle.pfx_machine.specs.Plain.{whole};
 ghost use Rattle.pfx_machine.specs.Board.{status_at, line_of, all_lines};
 
 use crate::State;
@@ -39,6 +40,8 @@ pub struct Board {
     pub number: u64,
     /// The slot to come.
     pub slot: u64,
+    /// The slot at which the set came into force.
+    pub from: u64,
     /// A line for each task, idle ones too, by task number.
     pub lines: Vec<TaskLine>,
 }
@@ -78,7 +81,8 @@ impl<J: Job> State<J> {
     /// The board of the state. An error comes only if an allocation failed.
     pub fn board(&self, alloc: Global) -> Result<Board, AllocError>
         ensures number { IfOk result (λ board. board.number ≡ self.now.number) }
-        ensures slot { IfOk result (λ board. board.slot ≡ self.now.ledger.slot) }
+        ensures slot { IfOk result (λ board. board.slot ≡ whole self.now) }
+        ensures from { IfOk result (λ board. board.from ≡ self.now.from) }
         ensures lines { IfOk result (λ board. board.lines.items ≡ all_lines J.kind self.now) }
     {
         let total = self.columns().total();
@@ -88,7 +92,8 @@ impl<J: Job> State<J> {
         }
         Ok(Board {
             number: self.number(),
-            slot: self.columns().slot(),
+            slot: self.slot(),
+            from: self.from(),
             lines,
         })
     }

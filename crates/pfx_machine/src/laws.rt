@@ -1,9 +1,9 @@
 //! What holds of every list of commands, each the contract of a function without a body.
 
 ghost use Rattle.std.specs.Prelude.{◌≡◌, ℕ, List, ◌++◌, length, map, Option, Ok, true};
-ghost use Rattle.pfx_weights.specs.Sets.{IsFilled};
+ghost use Rattle.pfx_weights.specs.Sets.{IsFilled, IsOfItsTasks};
 ghost use Rattle.pfx_machine.specs.Fitting.{fits};
-ghost use Rattle.pfx_machine.specs.Plain.{Plain, IsState};
+ghost use Rattle.pfx_machine.specs.Plain.{Plain, whole, IsState};
 ghost use Rattle.pfx_choice.specs.Plans.{IsPlan};
 ghost use Rattle.pfx_machine.specs.Happenings.{happenings, rows_of};
 ghost use Rattle.pfx_machine.specs.Outcome.{outcome, quanta_of};
@@ -45,13 +45,13 @@ pub fn rows_are_chosen<J: Job>()
 
 /// The quanta of a job are different slots, none before the start: no slot steps a job twice.
 pub fn quanta_are_apart<J: Job>()
-    ensures { (B : Plain J) (H : List (Command J)) (task : ℕ) (before : Option J) → RisesFrom B.ledger.slot (quanta_of J.kind task before (happenings B H)) }
+    ensures { (B : Plain J) (H : List (Command J)) (task : ℕ) (before : Option J) → RisesFrom (whole B) (quanta_of J.kind task before (happenings B H)) }
 {}
 
 /// The tests of a state, of its numbers and of each lag, are passed exactly by states, if its set is filled, and there is a
 /// number of allocations for each task and a place for a job for each real one.
 pub fn tests_tell_states<J: Job>()
     ensures passed { (s : Plain J) → IsState s → fits s ≡ true }
-    ensures states { (s : Plain J) → IsFilled s.ledger.set → length s.ledger.allocs ≡ length s.ledger.set.weights
+    ensures states { (s : Plain J) → IsOfItsTasks s.ledger.set → IsFilled s.ledger.set → length s.ledger.allocs ≡ length s.ledger.set.weights
         → length s.jobs ≡ s.ledger.set.real → fits s ≡ true → IsState s }
 {}

@@ -1,12 +1,14 @@
 //! The machine's state.
 
 ghost use Rattle.std.specs.Prelude.{◌≡◌, ◌↔◌, ◌+◌, ◌<◌, ◌≤◌, ◌^◌, ◌++◌, [], ◌∷◌, List, length, map, replicate, slice_get, slice_set, Some, None, Ok, IsTrue};
-ghost use Rattle.std.specs.Prelude.{IsFalse, MatchResult, IfOk, OnOk, OnErr};
+ghost use Rattle.std.specs.Prelude.{IsFalse, MatchResult, IfOk, IfNone, OnOk, OnErr};
 ghost use Rattle.std.specs.Option.{option_copied};
 ghost use Rattle.pfx_weights.specs.Rows.{is_in, IsFullRow};
+ghost use Rattle.pfx_weights.specs.Sets.{IsOfItsTasks};
 ghost use Rattle.pfx_columns.specs.Ledgers.{start, after, IsFair};
-ghost use Rattle.pfx_choice.specs.PfRows.{chosen};
-ghost use Rattle.pfx_machine.specs.Plain.{Plain, IsState, empty};
+ghost use Rattle.pfx_machine.specs.Plain.{Plain, whole, IsState, empty};
+ghost use Rattle.pfx_choice.specs.PfRows.{AnswersFunction};
+ghost use Rattle.pfx_machine.specs.Choosing.{row_in};
 ghost use Rattle.pfx_machine.specs.Outcome.{outcome};
 ghost use Rattle.pfx_machine.specs.Steps.{state_step, happening_in};
 ghost use Rattle.pfx_machine.specs.Refusals.{submit_fault, withdraw_fault, refusal, reply, IsFaultOf};
@@ -27,14 +29,18 @@ use std::marker::Model;
 /// The greatest command number.
 const LAST_NUMBER: u64 = (1 << 48) - 1;
 
-/// A ledger, a job or none for each real task, and the number of the last command.
+/// A ledger, the slot at which its set came into force, a job or none for each real task, the number of the last command, and
+/// how long a segment of the store is.
 ///
-/// The ledger is fair, the number is below 2^48, and there is a place for a job for each real task.
+/// The ledger is fair, the number is below 2^48 and the slot below 2^40, the set is the one of its tasks, and there is a place
+/// for a job for each real task.
 #[derive(Drop)]
 pub struct State<J: Job> {
     number: u64,
+    from: u64,
     ledger: Columns,
     jobs: Vec<Option<J>>,
+    segment: u32,
     chooser: Chooser,
 }
 
@@ -43,14 +49,15 @@ impl<J: Job> Model for State<J> {
 
     ghost Value = { Plain J };
 
-    ghost view = { λ s. record { number = s.number; ledger = s.ledger; jobs = s.jobs.items } };
+    ghost view = { λ s. record { number = s.number; from = s.from; ledger = s.ledger; jobs = s.jobs.items; segment = s.segment } };
 
-    ghost invariant = { λ s. IsState (record { number = s.number; ledger = s.ledger; jobs = s.jobs.items }) };
+    ghost invariant = { λ s. IsState (record { number = s.number; from = s.from; ledger = s.ledger; jobs = s.jobs.items; segment = s.segment }) };
 }
 
 /// Why a job can't be given to a task.
 fn fault_of_submit<J: Job>(jobs: &[Option<J>], task: u16) -> Option<MachineFault>
-    ensures { result ≡ submit_fault J.kind task (slice_get jobs.now task) }
+    ensures fault { result ≡ submit_fault J.kind task (slice_get jobs.now task) }
+    ensures real { IfNone result (task < length jobs.now) }
 {
     if usize::from(task) >= jobs.len() {
         return Some(MachineFault::NoSuchTask { task });
@@ -63,7 +70,8 @@ fn fault_of_submit<J: Job>(jobs: &[Option<J>], task: u16) -> Option<MachineFault
 
 /// Why a task's job can't be taken away.
 fn fault_of_withdraw<J: Job>(jobs: &[Option<J>], task: u16) -> Option<MachineFault>
-    ensures { result ≡ withdraw_fault task (slice_get jobs.now task) }
+    ensures fault { result ≡ withdraw_fault task (slice_get jobs.now task) }
+    ensures real { IfNone result (task < length jobs.now) }
 {
     if usize::from(task) >= jobs.len() {
         return Some(MachineFault::NoSuchTask { task });
@@ -85,36 +93,50 @@ fn no_jobs<J: Job>(alloc: Global, number: usize) -> Result<Vec<Option<J>>, Alloc
 }
 
 impl<J: Job> State<J> {
-    /// The state of a set before its first command: number 0, slot 0, no allocations and no jobs.
+    /// The state of a set before its first command, in a store whose segments have so many bytes: number 0, slot 0, no
+    /// allocations and no jobs.
     ///
     /// An error comes only if an allocation failed.
-    pub fn new(alloc: Global, set: &TaskSet) -> Result<State<J>, AllocError>
-        ensures { IfOk result (λ s. s ≡ empty set.now) }
+    pub fn new(alloc: Global, set: &TaskSet, segment: u32) -> Result<State<J>, AllocError>
+        ensures { IfOk result (λ s. s ≡ empty set.now segment) }
     {
+        set.is_of_its_tasks();
         let ledger = Columns::zero(alloc, set)?;
         let jobs = no_jobs(alloc, set.real())?;
         let _total = ledger.total();
         Ok(State {
             number: 0,
+            from: 0,
             ledger,
             jobs,
+            segment,
             chooser: Chooser::new(alloc),
         })
     }
 
-    /// The state of a ledger, with the number of the last command and a job or none for each real task.
-    pub fn from_parts(alloc: Global, number: u64, ledger: Columns, jobs: Vec<Option<J>>) -> State<J>
+    /// The state of a ledger whose set came into force at a slot, with the number of the last command, a job or none for each
+    /// real task, and the length of a store's segments.
+    pub fn from_parts(
+        alloc: Global,
+        number: u64,
+        from: u64,
+        ledger: Columns,
+        jobs: Vec<Option<J>>,
+        segment: u32,
+    ) -> State<J>
         requires number { number < 2 ^ 48 }
+        requires slot { from + ledger.slot < 2 ^ 40 }
+        requires set { IsOfItsTasks ledger.set }
         requires jobs { length jobs.items ≡ ledger.set.real }
-        ensures number { result.number ≡ number }
-        ensures ledger { result.ledger ≡ ledger }
-        ensures jobs { result.jobs ≡ jobs.items }
+        ensures { result ≡ record { number = number; from = from; ledger = ledger; jobs = jobs.items; segment = segment } }
     {
         let _total = ledger.total();
         State {
             number,
+            from,
             ledger,
             jobs,
+            segment,
             chooser: Chooser::new(alloc),
         }
     }
@@ -123,13 +145,36 @@ impl<J: Job> State<J> {
     pub fn number(&self) -> u64
         ensures number { result ≡ self.now.number }
 
-        // The ledger is fair, the number is below 2^48, and there is a place for a job for each real task.
+        // The ledger is fair, the number is below 2^48 and the slot below 2^40, the set is the one of its tasks, and there is
+        // a place for a job for each real task.
         ensures state { IsState self.now }
     {
         self.number
     }
 
-    /// The ledger: the set, the slot to come, and each task's allocations, lag and phase.
+    /// The slot at which the set came into force, from which the ledger's slot is counted.
+    pub fn from(&self) -> u64
+        ensures { result ≡ self.now.from }
+    {
+        self.from
+    }
+
+    /// The slot to come, counted from the first one of all.
+    pub fn slot(&self) -> u64
+        ensures slot { result ≡ whole self.now }
+        ensures limit { result < 2 ^ 40 }
+    {
+        self.from + self.ledger.slot()
+    }
+
+    /// How many bytes a segment of the store has.
+    pub fn segment(&self) -> u32
+        ensures { result ≡ self.now.segment }
+    {
+        self.segment
+    }
+
+    /// The ledger: the set, the slot to come since it came into force, and each task's allocations, lag and phase.
     pub fn columns(&self) -> &Columns
         ensures { result.now ≡ self.now.ledger }
     {
@@ -167,14 +212,14 @@ impl<J: Job> State<J> {
     /// nothing changes. This bypasses acceptance: the row need not be the chosen one.
     pub fn pass_row(&mut self, row: &Row) -> bool
         ensures right { IsTrue result ↔ (IsFullRow self.old.ledger.set.workers (length self.old.ledger.set.weights) row.now)
-            × (self.old.ledger.slot + 1 < 2 ^ 40) × IsFair (after self.old.ledger (is_in row.now)) }
+            × (whole self.old + 1 < 2 ^ 40) × IsFair (after self.old.ledger (is_in row.now)) }
         ensures passed { IsTrue result → self.new ≡ record self.old { ledger = after self.old.ledger (is_in row.now) } }
         ensures kept { IsFalse result → self.new ≡ self.old }
     {
         if !self.ledger.fits(row) {
             return false;
         }
-        if self.ledger.slot() + 1 >= 1 << 40 {
+        if self.slot() + 1 >= 1 << 40 {
             return false;
         }
         match self.ledger.advance(row) {
@@ -202,8 +247,10 @@ impl<J: Job> State<J> {
         let jobs = copy_jobs(alloc, &self.jobs)?;
         Ok(State {
             number: self.number,
+            from: self.from,
             ledger,
             jobs,
+            segment: self.segment,
             chooser: Chooser::new(alloc),
         })
     }
@@ -223,33 +270,68 @@ impl<J: Job> State<J> {
                 if let Some(fault) = fault_of_submit(&self.jobs, task) {
                     return Err(fault);
                 }
-                self.jobs[usize::from(task)] = Some(job);
-                self.number += 1;
+                self.put(task, Some(job));
                 Ok(Reply::Submitted { task })
             }
             Command::Withdraw { task } => {
                 if let Some(fault) = fault_of_withdraw(&self.jobs, task) {
                     return Err(fault);
                 }
-                self.jobs[usize::from(task)] = None;
-                self.number += 1;
+                self.put(task, None);
                 Ok(Reply::Withdrawn { task })
             }
-            Command::Slot => match self.chooser.choose(&self.ledger) {
-                Err(fault) => Err(MachineFault::NoRow(fault)),
+            Command::Slot => match self.next_row() {
+                Err(fault) => Err(fault),
                 Ok(row) => Ok(self.run_row(row)),
             },
         }
     }
 
+    /// Puts a job, or none, at a task's place, and takes the next number.
+    fn put(&mut self, task: u16, place: Option<J>)
+        requires number { self.old.number + 1 < 2 ^ 48 }
+        requires task { task < length self.old.jobs }
+        ensures { self.new ≡ record self.old { number = self.old.number + 1; jobs = slice_set self.old.jobs task place } }
+    {
+        self.jobs[usize::from(task)] = place;
+        self.number += 1;
+    }
+
+    /// The row of the next slot.
+    fn next_row(&mut self) -> Result<Row, MachineFault>
+        ensures row { IfOk result (λ row. row_in self.old ≡ Ok row) }
+        ensures number { OnOk result (self.old.number + 1 < 2 ^ 48) }
+        ensures exact { MatchResult result (λ _. refusal J.kind self.old Command.Slot ≡ None) (λ fault. IsFaultOf J.kind self.old Command.Slot fault) }
+        ensures same { self.new ≡ self.old }
+    {
+        if self.number >= LAST_NUMBER {
+            return Err(MachineFault::NumberLimit);
+        }
+        match self.choose() {
+            Ok(row) => Ok(row),
+            Err(fault) => Err(MachineFault::NoRow(fault)),
+        }
+    }
+
+    /// The row of the next slot, by the ledger and the slot limit alone.
+    fn choose(&mut self) -> Result<Row, ChoiceFault>
+        ensures row { AnswersFunction (row_in self.old) result }
+        ensures same { self.new ≡ self.old }
+    {
+        if self.slot() + 1 >= 1 << 40 {
+            return Err(ChoiceFault::SlotLimit);
+        }
+        self.chooser.choose(&self.ledger)
+    }
+
     /// The slot of a chosen row.
     fn run_row(&mut self, row: Row) -> Reply
         requires number { self.old.number + 1 < 2 ^ 48 }
-        requires row { chosen self.old.ledger ≡ Ok row }
+        requires row { row_in self.old ≡ Ok row }
         ensures reply { result ≡ reply self.old Command.Slot }
         ensures step { self.new ≡ state_step J.kind self.old (happening_in self.old Command.Slot) }
     {
-        let slot = self.ledger.slot();
+        let slot = self.slot();
         serve_all(&mut self.jobs, &row);
         give(&mut self.ledger, &row);
         self.number += 1;
@@ -274,27 +356,16 @@ impl<J: Job> State<J> {
     /// The row of the next slot, and a quantum for each of its tasks with an unfinished job, in rising task order. The
     /// state stays as it is. It is refused as a Slot is, in the same order.
     pub fn open_slot(&mut self, alloc: Global) -> Result<(Row, Vec<Quantum<J>>), MachineFault>
-        ensures row { IfOk result (λ opened. chosen self.old.ledger ≡ Ok opened.0) }
+        ensures row { IfOk result (λ opened. row_in self.old ≡ Ok opened.0) }
         ensures number { OnOk result (self.old.number + 1 < 2 ^ 48) }
         ensures quanta { IfOk result (λ opened. map (λ q. deal q.number q.slot q.task q.before) opened.1.items ≡ deals_in J.kind self.old opened.0) }
         ensures exact { MatchResult result (λ _. refusal J.kind self.old Command.Slot ≡ None) (λ fault. IsFaultOf J.kind self.old Command.Slot fault) }
         ensures same { self.new ≡ self.old }
     {
-        if self.number >= LAST_NUMBER {
-            return Err(MachineFault::NumberLimit);
-        }
-        match self.chooser.choose(&self.ledger) {
-            Err(fault) => Err(MachineFault::NoRow(fault)),
-            Ok(row) => match deal_all(
-                alloc,
-                self.number + 1,
-                self.ledger.slot(),
-                &row,
-                &self.jobs,
-            ) {
-                Err(_) => Err(MachineFault::NoRow(ChoiceFault::NoMemory)),
-                Ok(quanta) => Ok((row, quanta)),
-            },
+        let row = self.next_row()?;
+        match deal_all(alloc, self.number + 1, self.slot(), &row, &self.jobs) {
+            Err(_) => Err(MachineFault::NoRow(ChoiceFault::NoMemory)),
+            Ok(quanta) => Ok((row, quanta)),
         }
     }
 
@@ -304,7 +375,7 @@ impl<J: Job> State<J> {
     /// and the state are those of `apply` of a Slot.
     pub fn seal(&mut self, row: Row, dones: Vec<Done<J>>) -> Reply
         requires number { self.old.number + 1 < 2 ^ 48 }
-        requires row { chosen self.old.ledger ≡ Ok row }
+        requires row { row_in self.old ≡ Ok row }
         requires results { map (λ d. deal d.number d.slot d.task d.before) dones.items ≡ deals_in J.kind self.old row }
         ensures reply { result ≡ reply self.old Command.Slot }
         ensures outcome { (B : Plain J) (H : List (Command J)) → self.old ≡ outcome J.kind B H → self.new ≡ outcome J.kind B (H ++ Command.Slot ∷ []) }
@@ -315,12 +386,12 @@ impl<J: Job> State<J> {
     /// The slot of a chosen row, by the results of its quanta.
     fn close_row(&mut self, row: Row, dones: Vec<Done<J>>) -> Reply
         requires number { self.old.number + 1 < 2 ^ 48 }
-        requires row { chosen self.old.ledger ≡ Ok row }
+        requires row { row_in self.old ≡ Ok row }
         requires results { map (λ d. deal d.number d.slot d.task d.before) dones.items ≡ deals_in J.kind self.old row }
         ensures reply { result ≡ reply self.old Command.Slot }
         ensures step { self.new ≡ state_step J.kind self.old (happening_in self.old Command.Slot) }
     {
-        let slot = self.ledger.slot();
+        let slot = self.slot();
         write_back(&mut self.jobs, dones);
         give(&mut self.ledger, &row);
         self.number += 1;

@@ -38,7 +38,8 @@ pub fn append<D: Disk, B: Charted, J: Job>(
     store: &mut Store<Chronicle<D, B>, J>,
     batch: &Batch<J>,
 ) -> Result<Mark, StoreFault>
-    requires next { IsNext J.kind store.old.state batch.now.workers batch.now.first (map plain batch.now.records.items) }
+    requires next { IsNext J.kind store.old.state batch.now.workers batch.now.real batch.now.first
+        (map plain batch.now.records.items) }
     ensures onward { let S = store_of J.kind in (start : Plain J) → (w : World (store_of J.kind)) → (n : ℕ) → MayHappen S start w (Take n)
         → IsTold J.kind B.held B.image B.clock B.failures start w store.old
         → Carries J.kind store.old.state (next_of S w n) (batch_of batch.now.first batch.now.records.items)

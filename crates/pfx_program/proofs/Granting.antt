@@ -7,14 +7,14 @@ use Rattle.std.proofs.lemmas.Bool.Decides.{nat_tests}
 use Rattle.std.proofs.lemmas.Option.{none-some}
 use Rattle.pfx_weights.specs.Rows.{is_in}
 use Rattle.pfx_columns.specs.Ledgers.{task, add}
-use Rattle.pfx_choice.specs.PfRows.{chosen}
+use Rattle.pfx_machine.specs.Choosing.{row_in}
 use Rattle.pfx_jobs.specs.Kind.{Kind}
 use Rattle.pfx_kinds.specs.AnyKind.{any_kind, any_laws, any_left, any_stepped}
 use Rattle.pfx_kinds.specs.Starts.{any_start}
 use Rattle.pfx_kinds.specs.declared.any.AnyJob.{AnyJob}
 use Rattle.pfx_kinds.specs.declared.any.AnyJob.TheVariants.{Count, Rule, Scan, Own}
 use Rattle.pfx_kinds.specs.declared.start.StartFault.{StartFault}
-use Rattle.pfx_machine.specs.Plain.{Plain}
+use Rattle.pfx_machine.specs.Plain.{Plain, whole}
 use Rattle.pfx_machine.specs.declared.plain.Happening.{Happening}
 use Rattle.pfx_machine.specs.declared.plain.Happening.TheVariants.{Given as given, Taken as taken, Ran as ran}
 use Rattle.pfx_machine.specs.Happenings.{row_or_none}
@@ -98,8 +98,8 @@ granted_step s (Withdraw y) h f x last is = by (slice_get s.jobs x) refl (y == x
     by (Some o) p false l = h x last (ap last_at p ∙ l)
     by (Some o) p true l = absurd (none-some last l)
 granted_step s Slot h f x last is =
-    let before : last ≤ (task s.ledger x).alloc = h x last (sym (last_step s (happening_in s Slot) x ∙ last_ran x s.ledger.slot (row_or_none (chosen s.ledger)) (slice_get s.jobs x)) ∙ is) in
-    let grows = alloc_grows (is_in (row_or_none (chosen s.ledger))) 0 s.ledger.allocs x in
+    let before : last ≤ (task s.ledger x).alloc = h x last (sym (last_step s (happening_in s Slot) x ∙ last_ran x (whole s) (row_or_none (row_in s)) (slice_get s.jobs x)) ∙ is) in
+    let grows = alloc_grows (is_in (row_or_none (row_in s))) 0 s.ledger.allocs x in
     omega (arith, before, grows)
 
 -- ---- lists of commands, each of which follows
@@ -261,7 +261,7 @@ units_count s before (Slot ∷ H) x last (one, rest) is keeps =
     let now = outcome any_kind s before in
     let next : last_of (outcome any_kind s (before ++ Slot ∷ [])) x ≡ last_of (state_step any_kind now (happening_in now Slot)) x
     = ap (λ (t : Plain AnyJob). last_of t x) (outcome-snoc any_kind any_laws s before Slot) in
-    units_count s (before ++ Slot ∷ []) H x last rest (next ∙ last_step now (happening_in now Slot) x ∙ last_ran x now.ledger.slot (row_or_none (chosen now.ledger)) (slice_get now.jobs x) ∙ is) keeps
+    units_count s (before ++ Slot ∷ []) H x last rest (next ∙ last_step now (happening_in now Slot) x ∙ last_ran x (whole now) (row_or_none (row_in now)) (slice_get now.jobs x) ∙ is) keeps
 
 pub course_counts : (at : ℕ) (r : Run) (rows : List Fields) (x last : ℕ) → last_of r.state x ≡ Some last → KeepsAnswers x (commands_of (course_from at r rows).steps)
     → CountUp last (units_of x (commands_of (course_from at r rows).steps))

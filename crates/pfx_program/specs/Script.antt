@@ -9,7 +9,7 @@ use Rattle.pfx_kinds.specs.Owns.{own_bytes}
 use Rattle.pfx_kinds.specs.Starts.{AnyFields, a_count, a_rule, a_scan, an_own, any_start, or_bad_data}
 use Rattle.pfx_kinds.specs.declared.any.AnyJob.{AnyJob}
 use Rattle.pfx_kinds.specs.declared.start.StartFault.{StartFault}
-use Rattle.pfx_machine.specs.Plain.{Plain}
+use Rattle.pfx_machine.specs.Plain.{Plain, whole}
 use Rattle.pfx_machine.specs.Outcome.{outcome}
 use Rattle.pfx_machine.specs.Runs.{answer}
 use Rattle.pfx_machine.specs.Board.{all_lines}
@@ -105,7 +105,7 @@ submitted r task (Err f) = refused r.form (fault_of_start f)
 
 -- the board of a state
 abbrev pub board_of : Form → Plain AnyJob → List ℕ
-board_of form s = board_shown form s.number s.ledger.slot (all_lines any_kind s) s.jobs
+board_of form s = board_shown form s.number (whole s) (all_lines any_kind s) s.jobs
 
 -- the lines of jobs, or why there is none
 abbrev pub jobs_step : Form → Result (List ℕ) Fault → Step

@@ -4,6 +4,7 @@ pub mod Examples
 pub mod Fronts
 pub mod Heads
 pub mod Places
+pub mod Renewed
 pub mod Rising
 pub mod Rows
 pub mod Single

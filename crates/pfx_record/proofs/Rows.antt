@@ -4,7 +4,8 @@ use Rattle.std.specs.Bool.{IsTrue}
 use Rattle.std.proofs.lemmas.List.{map-append, drop-drop}
 use Rattle.pfx_jobs.specs.Kind.{Kind, Laws}
 use Rattle.pfx_record.specs.Begins.{Begins}
-use Rattle.pfx_record.specs.Records.{Recorded, submitted, ran, withdrawn, rises_from, tasks_of, place_bytes, row_bytes, record_bytes, record_fits}
+use Rattle.pfx_record.specs.Records.{Recorded, submitted, ran, withdrawn, reweighed, rises_from, tasks_of, place_bytes, row_bytes, record_bytes, record_fits}
+use Rattle.pfx_record.specs.declared.form.Form.{Form}
 use Rattle.pfx_record.specs.declared.record.Place.{Place}
 use Rattle.pfx_record.proofs.Rising.{both, of_both, next_from, rises, rises-push, next-push, rises-behind}
 use Rattle.pfx_record.proofs.Fronts.{Each, goes_on, joined-push, begins_left, begins_join, begins_head, begins_tail, begins_cons, begins_len}
@@ -50,8 +51,8 @@ module _ {J : Type 0} (K : Kind J) where
   NoPlace low bytes = (place : Place J) → low ≤ place.task → place.task < 2 ^ 16 → Begins bytes (place_bytes K place) → ⊥
 
   -- the whole row
-  pub row_fits : (bytes : List ℕ) (row : List (Place J)) (at low m : ℕ) → RowSoFar bytes row at low → length row ≡ m → IsTrue (record_fits m (ran row))
-  row_fits bytes row at low m so_far long = of_both (length row == m) _ (eq-eqb (length row) m long) so_far.rising
+  pub row_fits : (bytes : List ℕ) (row : List (Place J)) (at low : ℕ) (form : Form) → RowSoFar bytes row at low → length row ≡ form.workers → IsTrue (record_fits form (ran row))
+  row_fits bytes row at low form so_far long = of_both (length row == form.workers) _ (eq-eqb (length row) form.workers long) so_far.rising
 
   pub row_stands : (bytes : List ℕ) (row : List (Place J)) (at low : ℕ) → RowSoFar bytes row at low → 0 < length bytes → get_or bytes 0 0 ≡ 2 → Begins bytes (record_bytes K (ran row))
   row_stands bytes row at low so_far some tag = begins_cons bytes 2 (row_bytes K row) some tag so_far.stands
@@ -75,10 +76,11 @@ module _ {J : Type 0} (K : Kind J) (L : Laws K) where
           none z (omega (arith, r.above, so_far.next)) r.small (subst (λ (l : List ℕ). Begins l (place_bytes K z)) there (begins_left _ (place_bytes K z) (row_bytes K zs) behind))
 
   -- no row of so many tasks stands there
-  pub no_row : (bytes : List ℕ) (row : List (Place J)) (at low m : ℕ) → RowSoFar K bytes row at low → NoPlace K low (drop at bytes) → length row < m → get_or bytes 0 0 ≡ 2
-      → (r : Recorded J) → IsTrue (record_fits m r) → Begins bytes (record_bytes K r) → ⊥
-  no_row bytes row at low m so_far none short tag (submitted task job) fits begins = omega (arith, tag, begins_head bytes 1 _ begins)
-  no_row bytes row at low m so_far none short tag (withdrawn task) fits begins = omega (arith, tag, begins_head bytes 3 _ begins)
-  no_row bytes row at low m so_far none short tag (ran whole) fits begins =
-      let parts = both (length whole == m) (rises_from 0 (tasks_of whole)) fits in
-      no_longer_row bytes row at low whole so_far none (omega (arith, short, eqb-true (length whole) m parts.0)) parts.1 (begins_tail bytes 2 (row_bytes K whole) begins)
+  pub no_row : (bytes : List ℕ) (row : List (Place J)) (at low : ℕ) (form : Form) → RowSoFar K bytes row at low → NoPlace K low (drop at bytes) → length row < form.workers → get_or bytes 0 0 ≡ 2
+      → (r : Recorded J) → IsTrue (record_fits form r) → Begins bytes (record_bytes K r) → ⊥
+  no_row bytes row at low form so_far none short tag (submitted task job) fits begins = omega (arith, tag, begins_head bytes 1 _ begins)
+  no_row bytes row at low form so_far none short tag (withdrawn task) fits begins = omega (arith, tag, begins_head bytes 3 _ begins)
+  no_row bytes row at low form so_far none short tag (reweighed workers weights) fits begins = omega (arith, tag, begins_head bytes 4 _ begins)
+  no_row bytes row at low form so_far none short tag (ran whole) fits begins =
+      let parts = both (length whole == form.workers) (rises_from 0 (tasks_of whole)) fits in
+      no_longer_row bytes row at low whole so_far none (omega (arith, short, eqb-true (length whole) form.workers parts.0)) parts.1 (begins_tail bytes 2 (row_bytes K whole) begins)

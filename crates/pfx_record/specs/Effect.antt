@@ -1,6 +1,7 @@
--- What records do to a plain state. They are taken as they stand: no job is stepped, and nothing is chosen.
+-- What records do to a plain state. They are taken as they stand: no job is stepped, and nothing is chosen. New weights leave such a
+-- state as it is but for the number: what they begin is a matter of the set, which isn't in it.
 use Rattle.std.specs.Prelude.{ℕ, ◌+◌, ◌==◌, ◌||◌, if◌then◌else◌, Bool, false, List, [], ◌∷◌, Option, Some, None}
-use Rattle.pfx_record.specs.Records.{Recorded, submitted, ran, withdrawn}
+use Rattle.pfx_record.specs.Records.{Recorded, submitted, ran, withdrawn, reweighed}
 use Rattle.pfx_record.specs.declared.record.Place.{Place}
 
 -- a state without its set of tasks: the number of the last command, the slot to come, what each task got, and each real
@@ -31,6 +32,7 @@ abbrev pub job_after : {J : Type 0} → Recorded J → ℕ → Option J → Opti
 job_after (submitted other given) task job = if other == task then Some given else job
 job_after (ran row) task job = instead_of (state_in row task) job
 job_after (withdrawn other) task job = if other == task then None else job
+job_after (reweighed workers weights) task job = job
 
 -- the jobs after a record, of the tasks from this one on
 abbrev pub jobs_from : {J : Type 0} → Recorded J → ℕ → List (Option J) → List (Option J)
@@ -46,11 +48,13 @@ abbrev pub allocations_after : {J : Type 0} → Recorded J → List ℕ → List
 allocations_after (submitted task job) allocations = allocations
 allocations_after (ran row) allocations = counted_from row 0 allocations
 allocations_after (withdrawn task) allocations = allocations
+allocations_after (reweighed workers weights) allocations = allocations
 
 abbrev pub slot_after : {J : Type 0} → Recorded J → ℕ → ℕ
 slot_after (submitted task job) slot = slot
 slot_after (ran row) slot = slot + 1
 slot_after (withdrawn task) slot = slot
+slot_after (reweighed workers weights) slot = slot
 
 -- the state after one record
 abbrev pub recorded_one : {J : Type 0} → Standing J → Recorded J → Standing J

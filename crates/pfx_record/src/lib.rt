@@ -8,20 +8,23 @@
 //! | a job given | 1; the task (2); the job's encoding (128) |
 //! | a slot | 2; for each task of its row, strictly rising: the task (2), and 1 and the job's encoding (128), or 0 |
 //! | a job taken away | 3; the task (2) |
+//! | new weights | 4; how many workers there are then (1); e (4) and p (4) of each real task |
 //!
 //! What is kept:
 //! 1. a batch has 1 to 16 commands, with numbers from 1 to 2^48 - 1, and all its rows have as many tasks as there are
-//!    workers, 1 to 64;
+//!    workers, 1 to 64; new weights are alone in their batch;
 //! 2. a batch has one spelling, no two have the same, and none begins with that of another;
 //! 3. what is written is just that spelling, and takes no memory; what is read is the batch whose spelling the bytes
 //!    begin with, and bytes that begin with none are refused, with the place of the first fault.
 //!
-//! Spellings are read with the number of workers, which they don't tell. Only form is tested: whether commands are ones
-//! that a state accepts is for those who know the state.
+//! Spellings are read with the number of workers and of real tasks, which they don't tell. Where no task is said to be real,
+//! no new weights have a spelling. Only form is tested: whether commands are ones that a state accepts is for those who know
+//! the state.
 #![tactic(auto)]
 
 mod batch;
 mod faults;
+mod form;
 pub mod laws;
 mod numbers;
 mod read;
@@ -31,6 +34,7 @@ mod write;
 
 pub use batch::{Batch, fits, record_fits};
 pub use faults::{BatchFault, FramePart};
+pub use form::Form;
 pub use read::{FrameHead, head_of, read_batch, read_head, read_next};
 pub use record::{Place, Record};
 pub use write::{batch_len, batch_most, write_batch};

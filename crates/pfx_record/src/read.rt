@@ -9,6 +9,7 @@ ghost use Rattle.pfx_record.specs.Reading.{AreRecords, IsBatch, IsDamaged, IsHea
 
 use crate::batch::{Batch, counts_fit};
 use crate::faults::{BatchFault, FramePart};
+use crate::form::Form;
 use crate::numbers::{u16_at, u32_at, u64_at};
 use crate::read_record::read_record;
 use crate::record::Record;
@@ -64,36 +65,36 @@ pub fn read_head(workers: u32, bytes: &[u8]) -> Option<FrameHead>
     Some(head)
 }
 
-/// The record that bytes begin with, if rows have so many tasks, and how many bytes it takes.
+/// The record of this form that bytes begin with, and how many bytes it takes.
 pub fn read_next<J: Job>(
     alloc: Global,
-    workers: u32,
+    form: Form,
     bytes: &[u8],
 ) -> Result<Option<(Record<J>, usize)>, AllocError>
-    requires { workers ≤ 64 }
-    ensures found { IfOk result (λ read. IfSome read (λ f. IsRecord J.kind workers bytes.now (plain f.0) f.1)) }
-    ensures none { IfOk result (λ read. IfNone read (NoRecord J.kind workers bytes.now)) }
+    requires { form.workers ≤ 64 }
+    ensures found { IfOk result (λ read. IfSome read (λ f. IsRecord J.kind form bytes.now (plain f.0) f.1)) }
+    ensures none { IfOk result (λ read. IfNone read (NoRecord J.kind form bytes.now)) }
 {
-    read_record(alloc, workers, bytes)
+    read_record(alloc, form, bytes)
 }
 
 // So many records, which fill the body.
 fn read_records<J: Job>(
     alloc: Global,
-    workers: u32,
+    form: Form,
     count: u16,
     body: &[u8],
 ) -> Result<Vec<Record<J>>, BatchFault>
-    requires few { workers ≤ 64 }
+    requires few { form.workers ≤ 64 }
     requires short { 15 + length body.now < 2 ^ 64 }
     ensures found { IfOk result (λ records.
-        AreRecords J.kind workers body.now count (map plain records.items)) }
-    ensures stops { IfErr result (λ fault. OnDamage fault (StopAt J.kind workers body.now count)) }
+        AreRecords J.kind form body.now count (map plain records.items)) }
+    ensures stops { IfErr result (λ fault. OnDamage fault (StopAt J.kind form body.now count)) }
 {
     let mut records = Vec::with_capacity(alloc, usize::from(count))?;
     let mut at = 0;
     for i in 0..count {
-        match read_record(alloc, workers, &body[at..])? {
+        match read_record(alloc, form, &body[at..])? {
             None => {
                 return Err(BatchFault::Damaged {
                     at: FRAME_HEAD + at,
@@ -115,7 +116,7 @@ fn read_records<J: Job>(
     Ok(records)
 }
 
-/// The batch that bytes begin with, if rows have so many tasks, and how many bytes it takes.
+/// The batch that bytes begin with, if rows have so many tasks and so many tasks are real, and how many bytes it takes.
 ///
 /// `Damaged` says that the bytes begin with no batch. Its place is 0, with `Frame`, where they begin with no head of a
 /// frame or are shorter than it says; else, with `Record`, that of the first record that is faulty or missing, or of
@@ -123,13 +124,15 @@ fn read_records<J: Job>(
 pub fn read_batch<J: Job>(
     alloc: Global,
     workers: u32,
+    real: u32,
     bytes: &[u8],
 ) -> Result<(Batch<J>, usize), BatchFault>
     ensures found { IfOk result (λ read.
-        IsBatch J.kind workers bytes.now (batch_of read.0.first read.0.records.items) read.1) }
+        IsBatch J.kind workers real bytes.now (batch_of read.0.first read.0.records.items) read.1) }
     ensures workers { IfOk result (λ read. read.0.workers ≡ workers) }
-    ensures none { IfErr result (λ fault. OnDamage fault (λ at what. NoBatch J.kind workers bytes.now)) }
-    ensures place { IfErr result (λ fault. OnDamage fault (IsDamaged J.kind workers bytes.now)) }
+    ensures real { IfOk result (λ read. read.0.real ≡ real) }
+    ensures none { IfErr result (λ fault. OnDamage fault (λ at what. NoBatch J.kind workers real bytes.now)) }
+    ensures place { IfErr result (λ fault. OnDamage fault (IsDamaged J.kind workers real bytes.now)) }
 {
     match read_head(workers, bytes) {
         None => Err(BatchFault::Damaged {
@@ -138,11 +141,17 @@ pub fn read_batch<J: Job>(
         }),
         Some(head) => {
             let end = FRAME_HEAD + head.len as usize;
-            match read_records(alloc, workers, head.count, &bytes[FRAME_HEAD..end]) {
+            let form = Form {
+                workers,
+                real,
+                alone: head.count == 1,
+            };
+            match read_records(alloc, form, head.count, &bytes[FRAME_HEAD..end]) {
                 Err(fault) => Err(fault),
                 Ok(records) => {
                     let batch = Batch {
                         workers,
+                        real,
                         first: head.first,
                         records,
                     };

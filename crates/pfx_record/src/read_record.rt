@@ -1,12 +1,17 @@
 // Reading one record.
-ghost use Rattle.std.specs.Prelude.{◌≡◌, ◌≤◌, ◌<◌, ◌+◌, ◌^◌, ℕ, length, drop, slice_index, IfOk, IfSome, IfNone};
+ghost use Rattle.std.specs.Prelude.{◌≡◌, ◌≤◌, ◌<◌, ◌+◌, ◌*◌, ◌^◌, length, drop, slice_index, IfOk, IfSome, IfNone};
+ghost use Rattle.pfx_weights.specs.Bytes.{weight_of, weights_of};
 ghost use Rattle.pfx_record.specs.Begins.{Begins};
 ghost use Rattle.pfx_record.specs.Records.{place_bytes, plain, ran};
 ghost use Rattle.pfx_record.specs.Reading.{IsRecord, NoRecord};
+ghost use Rattle.pfx_record.specs.declared.form.Form.{Form};
 
-use crate::numbers::u16_at;
-use crate::record::{FULL_PLACE, GIVEN, Place, Record};
+use crate::batch::takes_weights;
+use crate::form::Form;
+use crate::numbers::{u16_at, u32_at};
+use crate::record::{FULL_PLACE, GIVEN, Place, Record, WEIGHT};
 use pfx_jobs::job::Job;
+use pfx_weights::Weights;
 use std::alloc::{AllocError, Global};
 
 // The state that stands at this place.
@@ -59,16 +64,17 @@ fn place_at<J: Job>(bytes: &[u8], at: usize, low: u32) -> Option<(Place<J>, usiz
 // The record of a slot, if the bytes have its tag, and how many bytes it takes.
 fn read_row<J: Job>(
     alloc: Global,
-    workers: u32,
+    form: Form,
     bytes: &[u8],
 ) -> Result<Option<(Vec<Place<J>>, usize)>, AllocError>
     requires some { 0 < length bytes.now }
     requires tag { slice_index bytes.now 0 ≡ 2 }
-    requires few { workers ≤ 64 }
+    requires few { form.workers ≤ 64 }
     ensures found { IfOk result (λ read. IfSome read (λ f.
-        IsRecord J.kind workers bytes.now (ran f.0.items) f.1)) }
-    ensures none { IfOk result (λ read. IfNone read (NoRecord J.kind workers bytes.now)) }
+        IsRecord J.kind form bytes.now (ran f.0.items) f.1)) }
+    ensures none { IfOk result (λ read. IfNone read (NoRecord J.kind form bytes.now)) }
 {
+    let workers = form.workers;
     let mut row = Vec::with_capacity(alloc, workers as usize)?;
     let mut at = 1;
     let mut low: u32 = 0;
@@ -89,8 +95,8 @@ fn read_row<J: Job>(
 fn read_submit<J: Job>(bytes: &[u8]) -> Option<(Record<J>, usize)>
     requires some { 0 < length bytes.now }
     requires tag { slice_index bytes.now 0 ≡ 1 }
-    ensures found { (workers : ℕ) → IfSome result (λ f. IsRecord J.kind workers bytes.now (plain f.0) f.1) }
-    ensures none { (workers : ℕ) → IfNone result (NoRecord J.kind workers bytes.now) }
+    ensures found { (form : Form) → IfSome result (λ f. IsRecord J.kind form bytes.now (plain f.0) f.1) }
+    ensures none { (form : Form) → IfNone result (NoRecord J.kind form bytes.now) }
 {
     if bytes.len() < GIVEN {
         return None;
@@ -106,8 +112,8 @@ fn read_submit<J: Job>(bytes: &[u8]) -> Option<(Record<J>, usize)>
 fn read_withdraw<J: Job>(bytes: &[u8]) -> Option<(Record<J>, usize)>
     requires some { 0 < length bytes.now }
     requires tag { slice_index bytes.now 0 ≡ 3 }
-    ensures found { (workers : ℕ) → IfSome result (λ f. IsRecord J.kind workers bytes.now (plain f.0) f.1) }
-    ensures none { (workers : ℕ) → IfNone result (NoRecord J.kind workers bytes.now) }
+    ensures found { (form : Form) → IfSome result (λ f. IsRecord J.kind form bytes.now (plain f.0) f.1) }
+    ensures none { (form : Form) → IfNone result (NoRecord J.kind form bytes.now) }
 {
     if bytes.len() < 3 {
         return None;
@@ -116,27 +122,72 @@ fn read_withdraw<J: Job>(bytes: &[u8]) -> Option<(Record<J>, usize)>
     Some((Record::Withdraw { task }, 3))
 }
 
-/// The record that the bytes begin with, if rows have so many tasks, 64 at the most, and how many bytes it takes. `None` if they
+// The weight that stands at this place.
+fn weight_at(bytes: &[u8], at: usize) -> (u32, u32)
+    requires { at + 8 ≤ length bytes.now }
+    ensures { result ≡ weight_of (drop at bytes.now) }
+{
+    (u32_at(bytes, at), u32_at(bytes, at + 4))
+}
+
+// So many weights, behind the tag and the workers.
+fn weights_at(alloc: Global, real: u32, bytes: &[u8]) -> Result<Vec<(u32, u32)>, AllocError>
+    requires { 2 + 8 * real ≤ length bytes.now }
+    ensures { IfOk result (λ weights. weights.items ≡ weights_of real (drop 2 bytes.now)) }
+{
+    let count = real as usize;
+    let mut weights = Vec::with_capacity(alloc, count)?;
+    for task in 0..count {
+        weights.push(weight_at(bytes, 2 + WEIGHT * task))?;
+    }
+    Ok(weights)
+}
+
+// The record of new weights, if the bytes have its tag, and how many bytes it takes.
+fn read_reweigh<J: Job>(
+    alloc: Global,
+    form: Form,
+    bytes: &[u8],
+) -> Result<Option<(Record<J>, usize)>, AllocError>
+    requires some { 0 < length bytes.now }
+    requires tag { slice_index bytes.now 0 ≡ 4 }
+    ensures found { IfOk result (λ read. IfSome read (λ f. IsRecord J.kind form bytes.now (plain f.0) f.1)) }
+    ensures none { IfOk result (λ read. IfNone read (NoRecord J.kind form bytes.now)) }
+{
+    if !takes_weights(form) {
+        return Ok(None);
+    }
+    let long = 2 + WEIGHT * form.real as usize;
+    if bytes.len() < long {
+        return Ok(None);
+    }
+    let workers = bytes[1];
+    let weights = Weights::new(weights_at(alloc, form.real, bytes)?);
+    Ok(Some((Record::Reweigh { workers, weights }, long)))
+}
+
+/// The record of this form that the bytes begin with, and how many bytes it takes. Rows have 64 tasks at the most. `None` if they
 /// begin with none; `AllocError` only if an allocation failed.
 pub fn read_record<J: Job>(
     alloc: Global,
-    workers: u32,
+    form: Form,
     bytes: &[u8],
 ) -> Result<Option<(Record<J>, usize)>, AllocError>
-    requires { workers ≤ 64 }
-    ensures found { IfOk result (λ read. IfSome read (λ f. IsRecord J.kind workers bytes.now (plain f.0) f.1)) }
-    ensures none { IfOk result (λ read. IfNone read (NoRecord J.kind workers bytes.now)) }
+    requires { form.workers ≤ 64 }
+    ensures found { IfOk result (λ read. IfSome read (λ f. IsRecord J.kind form bytes.now (plain f.0) f.1)) }
+    ensures none { IfOk result (λ read. IfNone read (NoRecord J.kind form bytes.now)) }
 {
     if bytes.is_empty() {
         return Ok(None);
     }
     match bytes[0] {
         1 => Ok(read_submit(bytes)),
-        2 => match read_row(alloc, workers, bytes)? {
+        2 => match read_row(alloc, form, bytes)? {
             Some((row, taken)) => Ok(Some((Record::Slot { row }, taken))),
             None => Ok(None),
         },
         3 => Ok(read_withdraw(bytes)),
+        4 => read_reweigh(alloc, form, bytes),
         _ => Ok(None),
     }
 }

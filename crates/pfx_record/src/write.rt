@@ -1,11 +1,13 @@
 // Writing a batch.
 ghost use Rattle.std.specs.Prelude.{◌≡◌, ◌≤◌, ◌<◌, ◌+◌, ◌*◌, ◌^◌, ◌++◌, ◌∷◌, [], length, map, vec_len, vec_capacity, IsTrue};
+ghost use Rattle.pfx_weights.specs.Bytes.{weight_bytes};
+ghost use Rattle.pfx_record.specs.Begins.{joined};
 ghost use Rattle.pfx_record.specs.Batches.{batch_bytes, batch_most, batch_of, all_fit};
 ghost use Rattle.pfx_record.specs.Records.{place_bytes, plain, record_bytes, record_fits, records_bytes, row_bytes, state_bytes};
 
 use crate::batch::Batch;
 use crate::numbers::{push_u16, push_u32, push_u64};
-use crate::record::{FULL_PLACE, GIVEN, Place, Record};
+use crate::record::{FULL_PLACE, GIVEN, Place, Record, WEIGHT};
 use pfx_disk::GATE_OPEN;
 use pfx_jobs::job::Job;
 use pfx_segment::frame::FRAME_HEAD;
@@ -56,6 +58,27 @@ fn push_row<J: Job>(out: &mut Vec<u8>, row: &[Place<J>])
     }
 }
 
+#[tactic(auto, unfolding(crate::specs::Numbers::number_bytes))]
+fn push_weight(out: &mut Vec<u8>, weight: (u32, u32))
+    requires { vec_len out.old + 8 ≤ vec_capacity out.old }
+    ensures items { out.new.items ≡ out.old.items ++ weight_bytes weight }
+    ensures len { vec_len out.new ≡ vec_len out.old + 8 }
+    ensures room { vec_capacity out.old ≤ vec_capacity out.new }
+{
+    push_u32(out, weight.0);
+    push_u32(out, weight.1);
+}
+
+fn push_weights(out: &mut Vec<u8>, weights: &[(u32, u32)])
+    requires { vec_len out.old + length (joined weight_bytes weights.now) ≤ vec_capacity out.old }
+    ensures items { out.new.items ≡ out.old.items ++ joined weight_bytes weights.now }
+    ensures room { vec_capacity out.old ≤ vec_capacity out.new }
+{
+    for weight in weights {
+        push_weight(out, *weight);
+    }
+}
+
 fn push_record<J: Job>(out: &mut Vec<u8>, entry: &Record<J>)
     requires { vec_len out.old + length (record_bytes J.kind (plain entry.now)) ≤ vec_capacity out.old }
     ensures items { out.new.items ≡ out.old.items ++ record_bytes J.kind (plain entry.now) }
@@ -74,6 +97,11 @@ fn push_record<J: Job>(out: &mut Vec<u8>, entry: &Record<J>)
         Record::Withdraw { task } => {
             push_byte(out, 3);
             push_u16(out, *task);
+        }
+        Record::Reweigh { workers, weights } => {
+            push_byte(out, 4);
+            push_byte(out, *workers);
+            push_weights(out, weights.as_slice());
         }
     }
 }
@@ -117,6 +145,10 @@ fn record_len<J: Job>(entry: &Record<J>) -> usize
         Record::Submit { task: _, job: _ } => GIVEN,
         Record::Slot { row } => 1 + row_len(row),
         Record::Withdraw { task: _ } => 3,
+        Record::Reweigh {
+            workers: _,
+            weights,
+        } => 2 + WEIGHT * weights.as_slice().len(),
     }
 }
 
@@ -131,18 +163,19 @@ fn records_len<J: Job>(records: &[Record<J>]) -> usize
     len
 }
 
-/// How many bytes a batch has at the most if rows have so many tasks: the head, and 16 slots, each with a tag and a state
-/// for each task.
-pub fn batch_most(workers: u32) -> usize
-    ensures { result ≡ batch_most workers }
+/// How many bytes a batch has at the most if rows have so many tasks and so many tasks are real: the head, and either 16
+/// slots, each with a tag and a state for each task, or a tag, the workers and a weight for each real task.
+pub fn batch_most(workers: u32, real: u32) -> usize
+    ensures { result ≡ batch_most workers real }
 {
-    FRAME_HEAD + 16 * (1 + FULL_PLACE * workers as usize)
+    let rows = 16 * (1 + FULL_PLACE * workers as usize);
+    FRAME_HEAD + rows.max(2 + WEIGHT * real as usize)
 }
 
 /// How many bytes the batch's spelling has.
 pub fn batch_len<J: Job>(batch: &Batch<J>) -> usize
     ensures value { result ≡ length (batch_bytes J.kind (batch_of batch.now.first batch.now.records.items)) }
-    ensures bound { result ≤ batch_most batch.now.workers }
+    ensures bound { result ≤ batch_most batch.now.workers batch.now.real }
 {
     FRAME_HEAD + records_len(&batch.records)
 }

@@ -36,20 +36,20 @@ pub withdrawn-jobs : {J : Type 0} (K : Kind J) (t i : ℕ) (jobs : List (Option 
 withdrawn-jobs K t i [] = refl
 withdrawn-jobs K t i (o ∷ jobs) = ap (λ rest. (if t == i then None else o) ∷ rest) (withdrawn-jobs K t (i + 1) jobs)
 
-pub after-submitted : {J : Type 0} (K : Kind J) (s : machine.Plain J) (t : ℕ) (job : J) → after_record s (submitted t job) ≡ record { number = s.number + 1; ledger = s.ledger; jobs = slice_set s.jobs t (Some job) }
+pub after-submitted : {J : Type 0} (K : Kind J) (s : machine.Plain J) (t : ℕ) (job : J) → after_record s (submitted t job) ≡ record { number = s.number + 1; from = s.from; ledger = s.ledger; jobs = slice_set s.jobs t (Some job); segment = s.segment }
 after-submitted K s t job =
     let jobs = submitted-jobs K t job 0 s.jobs ∙ jobs_step-given K t job s.jobs in
-    λ i. record { number = s.number + 1; ledger = s.ledger; jobs = jobs i }
+    λ i. record { number = s.number + 1; from = s.from; ledger = s.ledger; jobs = jobs i; segment = s.segment }
 
-pub after-withdrawn : {J : Type 0} (K : Kind J) (s : machine.Plain J) (t : ℕ) → after_record s (withdrawn t) ≡ record { number = s.number + 1; ledger = s.ledger; jobs = slice_set s.jobs t None }
+pub after-withdrawn : {J : Type 0} (K : Kind J) (s : machine.Plain J) (t : ℕ) → after_record s (withdrawn t) ≡ record { number = s.number + 1; from = s.from; ledger = s.ledger; jobs = slice_set s.jobs t None; segment = s.segment }
 after-withdrawn K s t =
     let jobs = withdrawn-jobs K t 0 s.jobs ∙ jobs_step-taken K t s.jobs in
-    λ i. record { number = s.number + 1; ledger = s.ledger; jobs = jobs i }
+    λ i. record { number = s.number + 1; from = s.from; ledger = s.ledger; jobs = jobs i; segment = s.segment }
 
-pub after-ran : {J : Type 0} (s : machine.Plain J) (row : List (Place J)) → after_record s (ran row) ≡ record { number = s.number + 1; ledger = after s.ledger (is_in (tasks_of row)); jobs = jobs_from (ran row) 0 s.jobs }
+pub after-ran : {J : Type 0} (s : machine.Plain J) (row : List (Place J)) → after_record s (ran row) ≡ record { number = s.number + 1; from = s.from; ledger = after s.ledger (is_in (tasks_of row)); jobs = jobs_from (ran row) 0 s.jobs; segment = s.segment }
 after-ran s row =
     let allocs = counted-add row 0 s.ledger.allocs in
-    λ i. record { number = s.number + 1; ledger = record { set = s.ledger.set; slot = s.ledger.slot + 1; allocs = allocs i }; jobs = jobs_from (ran row) 0 s.jobs }
+    λ i. record { number = s.number + 1; from = s.from; ledger = record { set = s.ledger.set; slot = s.ledger.slot + 1; allocs = allocs i }; jobs = jobs_from (ran row) 0 s.jobs; segment = s.segment }
 
 -- the states of a row, written one after the other
 

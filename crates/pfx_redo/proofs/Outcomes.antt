@@ -8,12 +8,12 @@ use Rattle.std.proofs.lemmas.List.{length-map}
 use Rattle.std.proofs.lemmas.Option.{none-some, slice_get_past}
 use Rattle.pfx_weights.specs.Rows.{is_in, IsFullRow}
 use Rattle.pfx_columns.specs.Ledgers.{IsFair, after, total}
-use Rattle.pfx_choice.specs.PfRows.{chosen}
 use Rattle.pfx_choice.proofs.Planning.{pf_full}
 use Rattle.pfx_machine.specs.Fitting.{fits}
 use Rattle.pfx_machine.proofs.Fits.{fits_of, state_fits}
 use Rattle.pfx_jobs.specs.Kind.{Kind, Laws}
-use Rattle.pfx_machine.specs.Plain.{IsState}
+use Rattle.pfx_machine.specs.Plain.{whole, IsState}
+use Rattle.pfx_machine.specs.Choosing.{row_in}
 use Rattle.pfx_machine.specs.Plain as machine
 use Rattle.pfx_machine.specs.Happenings.{row_or_none}
 use Rattle.pfx_machine.specs.Outcome.{outcome}
@@ -26,6 +26,7 @@ use Rattle.pfx_machine.specs.declared.command.Command.TheVariants.{Submit, Slot,
 use Rattle.pfx_machine.specs.declared.faults.MachineFault.TheVariants.{NoSuchTask, TaskBusy, NoJob}
 use Rattle.pfx_machine.proofs.Compose.{outcome-none, outcome-outcome}
 use Rattle.pfx_machine.proofs.Keeping.{below_limit, chosen_is, ledger_after_row, slot_row, state_goes_on}
+use Rattle.pfx_machine.proofs.Rowing.{row_below, row_chosen}
 use Rattle.pfx_machine.proofs.Places.{state_step-given, state_step-taken}
 use Rattle.pfx_machine.proofs.Snoc.{outcome-snoc}
 use Rattle.pfx_record.specs.Effect.{holds, instead_of, jobs_from, state_in}
@@ -33,7 +34,7 @@ use Rattle.pfx_record.specs.Records.{Recorded, submitted, ran, withdrawn, record
 use Rattle.pfx_record.specs.declared.record.Place.{Place}
 use Rattle.pfx_record.proofs.Rising.{both, of_both, rises-from}
 use Rattle.pfx_machine.specs.Jobs.{has_job, is_busy, is_free}
-use Rattle.pfx_redo.specs.Applying.{after_record, applied, is_apt, is_flagged, is_right}
+use Rattle.pfx_redo.specs.Applying.{after_record, applied, form_at, is_apt, is_flagged, is_right}
 use Rattle.pfx_redo.specs.Recording.{place_of, record_of, records_of, state_after_step}
 use Rattle.pfx_redo.proofs.Effects.{after-ran, after-submitted, after-withdrawn, submitted-jobs, withdrawn-jobs}
 use Rattle.pfx_redo.proofs.Rightness.{free_is_real, job_is_real, submit_right, withdraw_right, row_right}
@@ -83,10 +84,10 @@ recorded_step : {J : Type 0} (K : Kind J) (s : machine.Plain J) (c : Command J) 
 recorded_step K s (Submit task job) = after-submitted K s task job ∙ state_step-given K s task job
 recorded_step K s (Withdraw task) = after-withdrawn K s task ∙ state_step-taken K s task
 recorded_step K s Slot =
-    let row = row_or_none (chosen s.ledger) in
+    let row = row_or_none (row_in s) in
     let tasks : tasks_of (map (place_of K s.jobs) row) ≡ row = tasks_again K s.jobs row in
-    let jobs = jobs_recorded K s.jobs s.ledger.slot row 0 s.jobs (λ k. let at : k ≡ 0 + k = omega arith in ap (slice_get s.jobs) at) in
-    after-ran s (map (place_of K s.jobs) row) ∙ (λ i. record { number = s.number + 1; ledger = after s.ledger (is_in (tasks i)); jobs = jobs i })
+    let jobs = jobs_recorded K s.jobs (whole s) row 0 s.jobs (λ k. let at : k ≡ 0 + k = omega arith in ap (slice_get s.jobs) at) in
+    after-ran s (map (place_of K s.jobs) row) ∙ (λ i. record { number = s.number + 1; from = s.from; ledger = after s.ledger (is_in (tasks i)); jobs = jobs i; segment = s.segment })
 
 pub record_outcome : {J : Type 0} (K : Kind J) (L : Laws K) (s : machine.Plain J) (c : Command J) → after_record s (record_of K s c) ≡ outcome K s (c ∷ [])
 record_outcome K L s c = recorded_step K s c ∙ sym (outcome-one K L s c)
@@ -139,31 +140,31 @@ flags_of K jobs total [] below = refl
 flags_of K jobs total (x ∷ row) below =
     of_both _ (list_all (λ place. nat_lt place.task total && is_flagged K jobs place) (map (place_of K jobs) row)) (of_both _ _ (lt-ltb x total (below 0 0 (omega arith))) (flagged_of K (slice_get jobs x))) (flags_of K jobs total row (λ k d b. below (suc k) d (omega arith)))
 
-row_is_right : {J : Type 0} (K : Kind J) (s : machine.Plain J) (row : List ℕ) → IsState s → s.number + 1 < 2 ^ 48 → chosen s.ledger ≡ Ok row → IsTrue (is_right K s (ran (map (place_of K s.jobs) row)))
+row_is_right : {J : Type 0} (K : Kind J) (s : machine.Plain J) (row : List ℕ) → IsState s → s.number + 1 < 2 ^ 48 → row_in s ≡ Ok row → IsTrue (is_right K s (ran (map (place_of K s.jobs) row)))
 row_is_right K s row h below is =
     let places = map (place_of K s.jobs) row in
-    let chosen_row = chosen_is s.ledger row is in
+    let chosen_row = chosen_is s.ledger row (row_chosen s row is) in
     let full : IsFullRow s.ledger.set.workers (total s.ledger) row = pf_full s.ledger row h.ledger chosen_row.pf in
     let next = ledger_after_row s.ledger row h.ledger chosen_row in
     let tasks : tasks_of places ≡ row = tasks_again K s.jobs row in
     let long : length places ≡ s.ledger.set.workers = length-map row (place_of K s.jobs) ∙ full.full in
     let few = h.ledger.set.number in
-    let form : IsTrue (record_fits s.ledger.set.workers (ran places)) = of_both _ _ (eq-eqb _ _ long) (subst (λ r. IsTrue (rises_from 0 r)) (sym tasks) (rising_row 0 (total s.ledger) row full.rising.1 full.below (omega (arith, few)) (λ l. omega arith))) in
+    let form : IsTrue (record_fits (form_at s) (ran places)) = of_both _ _ (eq-eqb _ _ long) (subst (λ r. IsTrue (rises_from 0 r)) (sym tasks) (rising_row 0 (total s.ledger) row full.rising.1 full.below (omega (arith, few)) (λ l. omega arith))) in
     sym (row_right K s places h.ledger below form (flags_of K s.jobs (total s.ledger) row full.below)
-    (subst (IsFullRow s.ledger.set.workers (total s.ledger)) (sym tasks) full) chosen_row.slot (subst (λ r. IsFair (after s.ledger (is_in r))) (sym tasks) next.fair))
+    (subst (IsFullRow s.ledger.set.workers (total s.ledger)) (sym tasks) full) (row_below s row is) (subst (λ r. IsFair (after s.ledger (is_in r))) (sym tasks) next.fair))
 
 pub record_right : {J : Type 0} (K : Kind J) (s : machine.Plain J) (c : Command J) → IsState s → refusal K s c ≡ None → IsTrue (is_right K s (record_of K s c))
 record_right K s (Submit task job) h accepted =
     let parts = below_limit s.number (submit_fault K task (slice_get s.jobs task)) accepted in
     let free = free_of K task (slice_get s.jobs task) parts.1 in
-    sym (submit_right K s task job h.ledger parts.0 (small_task s task h (free_is_real K s.jobs task free)) free)
+    sym (submit_right K s task job h parts.0 (small_task s task h (free_is_real K s.jobs task free)) free)
 record_right K s (Withdraw task) h accepted =
     let parts = below_limit s.number (withdraw_fault task (slice_get s.jobs task)) accepted in
     let has = has_of task (slice_get s.jobs task) parts.1 in
-    sym (withdraw_right K s task h.ledger parts.0 (small_task s task h (job_is_real s.jobs task has)) has)
+    sym (withdraw_right K s task h parts.0 (small_task s task h (job_is_real s.jobs task has)) has)
 record_right K s Slot h accepted =
-    let parts = below_limit s.number (slot_fault (chosen s.ledger)) accepted in
-    row_is_right K s (row_or_none (chosen s.ledger)) h parts.0 (slot_row (chosen s.ledger) parts.1)
+    let parts = below_limit s.number (slot_fault (row_in s)) accepted in
+    row_is_right K s (row_or_none (row_in s)) h parts.0 (slot_row (row_in s) parts.1)
 
 -- lists
 

@@ -1,4 +1,4 @@
--- What is behind right records is a state of the same set, with as many numbers more.
+-- What is behind right records is a state of the same set and store, with as many numbers more.
 use Rattle.std.specs.Prelude.{◌≡◌, ℕ, ◌+◌, ◌==◌, ◌&&◌, if◌then◌else◌, Bool, true, false, List, [], ◌∷◌, length, Option, Some, None, IsTrue, refl}
 use Rattle.std.proofs.Common.{suc, sym, ◌∙◌, ap, arith, subst}
 use Rattle.std.proofs.lemmas.Option.{none-some}
@@ -8,11 +8,11 @@ use Rattle.pfx_jobs.specs.Kind.{Kind}
 use Rattle.pfx_machine.specs.Plain.{IsState}
 use Rattle.pfx_machine.specs.Plain as machine
 use Rattle.pfx_record.specs.Effect.{allocations_after, counted_from, jobs_from}
-use Rattle.pfx_record.specs.Records.{Recorded, submitted, ran, withdrawn, record_fits}
+use Rattle.pfx_record.specs.Records.{Recorded, submitted, ran, withdrawn, reweighed, record_fits}
 use Rattle.pfx_record.specs.declared.record.Place.{Place}
 use Rattle.pfx_record.proofs.Rising.{both}
 use Rattle.pfx_columns.specs.Ledgers.{total}
-use Rattle.pfx_redo.specs.Applying.{after_record, applied, is_apt, is_right}
+use Rattle.pfx_redo.specs.Applying.{after_record, applied, form_at, is_apt, is_right}
 
 length-counted : {J : Type 0} (row : List (Place J)) (x : ℕ) (allocs : List ℕ) → length (counted_from row x allocs) ≡ length allocs
 length-counted row x [] = refl
@@ -22,6 +22,7 @@ length-allocations : {J : Type 0} (done : Recorded J) (allocs : List ℕ) → le
 length-allocations (submitted task job) allocs = refl
 length-allocations (ran row) allocs = length-counted row 0 allocs
 length-allocations (withdrawn task) allocs = refl
+length-allocations (reweighed workers weights) allocs = refl
 
 length-jobs : {J : Type 0} (done : Recorded J) (x : ℕ) (jobs : List (Option J)) → length (jobs_from done x jobs) ≡ length jobs
 length-jobs done x [] = refl
@@ -29,11 +30,13 @@ length-jobs done x (o ∷ jobs) = ap suc (length-jobs done (x + 1) jobs)
 
 pub right_is_state : {J : Type 0} (K : Kind J) (s : machine.Plain J) (done : Recorded J) → IsState s → IsTrue (is_right K s done) → IsState (after_record s done)
 right_is_state K s done h right =
-    let rest = (both (record_fits s.ledger.set.workers done) (is_apt K (total s.ledger) s.jobs done && fits (after_record s done)) right).1 in
+    let rest = (both (record_fits (form_at s) done) (is_apt K (total s.ledger) s.jobs done && fits (after_record s done)) right).1 in
     let good = fitting (after_record s done) (both (is_apt K (total s.ledger) s.jobs done) (fits (after_record s done)) rest).1 in
     record {
       number = good.number;
-      ledger = record { set = h.ledger.set; slot = good.slot; length = length-allocations done s.ledger.allocs ∙ h.ledger.length; fair = good.fair; sum = good.sum };
+      slot = good.slot;
+      set = h.set;
+      ledger = record { set = h.ledger.set; slot = (let a = good.slot in omega (arith, a)); length = length-allocations done s.ledger.allocs ∙ h.ledger.length; fair = good.fair; sum = good.sum };
       jobs = length-jobs done 0 s.jobs ∙ h.jobs;
     }
 
@@ -46,12 +49,14 @@ applied_by K s t done records false is h = absurd (none-some t h)
 pub record Behind {J : Type 0} (s t : machine.Plain J) (n : ℕ) : Type 0 where
   pub number : t.number ≡ s.number + n
   pub set : t.ledger.set ≡ s.ledger.set
+  pub from : t.from ≡ s.from
+  pub segment : t.segment ≡ s.segment
   pub state : IsState s → IsState t
 
 same_behind : {J : Type 0} (s t : machine.Plain J) → Some s ≡ Some t → Behind s t 0
 same_behind s t h =
     let same : s ≡ t = ap (λ o. elim o [ Some x ↦ x | None ↦ s ]) h in
-    record { number = (let n : s.number ≡ t.number = ap (λ (r : machine.Plain _). r.number) same in omega arith); set = sym (ap (λ (r : machine.Plain _). r.ledger.set) same); state = λ k. subst IsState same k }
+    record { number = (let n : s.number ≡ t.number = ap (λ (r : machine.Plain _). r.number) same in omega arith); set = sym (ap (λ (r : machine.Plain _). r.ledger.set) same); from = sym (ap (λ (r : machine.Plain _). r.from) same); segment = sym (ap (λ (r : machine.Plain _). r.segment) same); state = λ k. subst IsState same k }
 
 pub applied_behind : {J : Type 0} (K : Kind J) (s t : machine.Plain J) (records : List (Recorded J)) → applied K s records ≡ Some t → Behind s t (length records)
 applied_behind K s t [] h = same_behind s t h
@@ -61,5 +66,7 @@ applied_behind K s t (done ∷ records) h =
     record {
       number = (let n = rest.number in omega arith);
       set = rest.set;
+      from = rest.from;
+      segment = rest.segment;
       state = λ k. rest.state (right_is_state K s done k first.0);
     }

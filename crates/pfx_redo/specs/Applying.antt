@@ -7,10 +7,11 @@ use Rattle.pfx_machine.specs.Plain as machine
 use Rattle.pfx_machine.specs.Jobs.{has_job, is_busy, is_free}
 use Rattle.pfx_machine.specs.Fitting.{fits}
 use Rattle.pfx_record.specs.Effect.{Standing, recorded_one}
-use Rattle.pfx_record.specs.Records.{Recorded, submitted, ran, withdrawn, record_fits}
+use Rattle.pfx_record.specs.Records.{Recorded, form_of, submitted, ran, withdrawn, reweighed, record_fits}
+use Rattle.pfx_record.specs.declared.form.Form.{Form}
 use Rattle.pfx_record.specs.declared.record.Place.{Place}
 
--- a state without its set of tasks
+-- a state without its set of tasks, whose slot is counted from where that came into force
 abbrev pub standing_of : {J : Type 0} → machine.Plain J → Standing J
 standing_of s = record { number = s.number; slot = s.ledger.slot; allocations = s.ledger.allocs; jobs = s.jobs }
 
@@ -18,21 +19,26 @@ standing_of s = record { number = s.number; slot = s.ledger.slot; allocations = 
 abbrev pub after_record : {J : Type 0} → machine.Plain J → Recorded J → machine.Plain J
 after_record s done =
     let next = recorded_one (standing_of s) done in
-    record { number = next.number; ledger = ledger_at s.ledger.set next.slot next.allocations; jobs = next.jobs }
+    record { number = next.number; from = s.from; ledger = ledger_at s.ledger.set next.slot next.allocations; jobs = next.jobs; segment = s.segment }
 
 -- a place of a row has a state exactly if its task has an unfinished job
 abbrev pub is_flagged : {J : Type 0} → Kind J → List (Option J) → Place J → Bool
 is_flagged K jobs place = elim place.state [ Some state ↦ is_busy K (slice_get jobs place.task) | None ↦ not (is_busy K (slice_get jobs place.task)) ]
+
+-- the form of a record at a state; no task is said to be real, so that new weights have no spelling
+abbrev pub form_at : {J : Type 0} → machine.Plain J → Form
+form_at s = form_of s.ledger.set.workers 0 1
 
 -- of so many tasks with these jobs, a job can be given, a row run, or a job taken away
 abbrev pub is_apt : {J : Type 0} → Kind J → ℕ → List (Option J) → Recorded J → Bool
 is_apt K total jobs (submitted task job) = is_free K (slice_get jobs task)
 is_apt K total jobs (ran row) = list_all (λ place. nat_lt place.task total && is_flagged K jobs place) row
 is_apt K total jobs (withdrawn task) = has_job (slice_get jobs task)
+is_apt K total jobs (reweighed workers weights) = false
 
 -- the record is right at a state: it has a spelling, the state lets it pass, and what is after it is a state
 abbrev pub is_right : {J : Type 0} → Kind J → machine.Plain J → Recorded J → Bool
-is_right K s done = record_fits s.ledger.set.workers done && (is_apt K (total s.ledger) s.jobs done && fits (after_record s done))
+is_right K s done = record_fits (form_at s) done && (is_apt K (total s.ledger) s.jobs done && fits (after_record s done))
 
 -- the state after records, if each is right after those before it
 abbrev pub applied : {J : Type 0} → Kind J → machine.Plain J → List (Recorded J) → Option (machine.Plain J)

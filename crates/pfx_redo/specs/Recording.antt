@@ -1,8 +1,8 @@
 -- The records of commands.
 use Rattle.std.specs.Prelude.{ℕ, ◌==◌, if◌then◌else◌, List, [], ◌∷◌, map, slice_get, Option, Some, None}
 use Rattle.pfx_jobs.specs.Kind.{Kind}
-use Rattle.pfx_choice.specs.PfRows.{chosen}
 use Rattle.pfx_machine.specs.Plain as machine
+use Rattle.pfx_machine.specs.Choosing.{row_in}
 use Rattle.pfx_machine.specs.Happenings.{row_or_none}
 use Rattle.pfx_machine.specs.Outcome.{outcome}
 use Rattle.pfx_machine.specs.Slots.{Deal}
@@ -30,7 +30,7 @@ place_of K jobs task = record { task = task; state = state_after_step K (slice_g
 abbrev pub record_of : {J : Type 0} → Kind J → machine.Plain J → Command J → Recorded J
 record_of K s (Submit task job) = submitted task job
 record_of K s (Withdraw task) = withdrawn task
-record_of K s Slot = ran (map (place_of K s.jobs) (row_or_none (chosen s.ledger)))
+record_of K s Slot = ran (map (place_of K s.jobs) (row_or_none (row_in s)))
 
 -- the records of commands, each accepted after those before it
 abbrev pub records_of : {J : Type 0} → Kind J → machine.Plain J → List (Command J) → List (Recorded J)

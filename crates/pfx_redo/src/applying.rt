@@ -6,11 +6,11 @@ ghost use Rattle.pfx_columns.specs.Ledgers.{total};
 ghost use Rattle.pfx_record.specs.Records.{plain, ran, record_fits, rises_from, tasks_of};
 ghost use Rattle.pfx_record.specs.Effect.{jobs_from};
 ghost use Rattle.pfx_machine.specs.Jobs.{has_job, is_busy, is_free};
-ghost use Rattle.pfx_redo.specs.Applying.{after_record, applied, is_flagged, is_right};
+ghost use Rattle.pfx_redo.specs.Applying.{after_record, applied, form_at, is_flagged, is_right};
 
 use pfx_jobs::job::Job;
 use pfx_machine::{State, has_job, is_busy, is_free};
-use pfx_record::{Place, Record, record_fits};
+use pfx_record::{Form, Place, Record, record_fits};
 use pfx_weights::Row;
 
 // Whether a place of a row has a state exactly if its task has an unfinished job.
@@ -70,7 +70,7 @@ fn put_states<J: Job>(state: &mut State<J>, row: &[Place<J>])
 // Takes over a row.
 fn apply_row<J: Job>(state: &mut State<J>, row: &[Place<J>]) -> bool
     requires number { state.old.number + 1 < 2 ^ 48 }
-    requires fits { IsTrue (record_fits state.old.ledger.set.workers (ran row.now)) }
+    requires fits { IsTrue (record_fits (form_at state.old) (ran row.now)) }
     ensures right { result ≡ is_right J.kind state.old (ran row.now) }
     ensures taken { IsTrue result → state.new ≡ after_record state.old (ran row.now) }
     ensures kept { IsFalse result → state.new ≡ state.old }
@@ -88,6 +88,17 @@ fn apply_row<J: Job>(state: &mut State<J>, row: &[Place<J>]) -> bool
     true
 }
 
+// The form of a record at the state.
+fn form_at<J: Job>(state: &State<J>) -> Form
+    ensures { result ≡ form_at state.now }
+{
+    Form {
+        workers: state.columns().workers(),
+        real: 0,
+        alone: true,
+    }
+}
+
 /// Takes over a record, if it is right at the state. Else nothing changes. It takes no memory.
 pub fn apply_record<J: Job>(state: &mut State<J>, entry: &Record<J>) -> bool
     ensures right { result ≡ is_right J.kind state.old (plain entry.now) }
@@ -95,7 +106,7 @@ pub fn apply_record<J: Job>(state: &mut State<J>, entry: &Record<J>) -> bool
     ensures kept { IsFalse result → state.new ≡ state.old }
 {
     let _total = state.columns().total();
-    if !record_fits(state.columns().workers(), entry) {
+    if !record_fits(form_at(state), entry) {
         return false;
     }
     if state.number() >= (1 << 48) - 1 {
@@ -119,6 +130,10 @@ pub fn apply_record<J: Job>(state: &mut State<J>, entry: &Record<J>) -> bool
             state.count();
             true
         }
+        Record::Reweigh {
+            workers: _,
+            weights: _,
+        } => false,
     }
 }
 

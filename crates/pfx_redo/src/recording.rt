@@ -1,6 +1,6 @@
 // Running a command, with its record.
 ghost use Rattle.std.specs.Prelude.{◌≡◌, ◌≤◌, ◌<◌, ◌+◌, ◌∷◌, ◌++◌, [], List, map, length, slice_get, MatchResult, IfOk, OnOk, OnErr, None};
-ghost use Rattle.pfx_choice.specs.PfRows.{chosen};
+ghost use Rattle.pfx_machine.specs.Choosing.{row_in};
 ghost use Rattle.pfx_machine.specs.Plain.{Plain};
 ghost use Rattle.pfx_machine.specs.Outcome.{outcome};
 ghost use Rattle.pfx_machine.specs.Refusals.{refusal, reply, IsFaultOf};

@@ -20,7 +20,7 @@ use Rattle.pfx_recovery.specs.Store.{Parts, Replays}
 use Rattle.pfx_recovery.proofs.Answers.{ok_same}
 use Rattle.pfx_recovery.proofs.Stages.{replay_is}
 use Rattle.pfx_format.specs.Batches.{batch_in}
-use Rattle.pfx_format.specs.Format.{format}
+use Rattle.pfx_format.specs.Format.{format, IsSetOf}
 use Rattle.pfx_format.proofs.Batches.{batch_spelled, batch_there}
 use Rattle.pfx_format.proofs.Keeping.{after_set}
 use Rattle.pfx_format.proofs.Nexts.{after_of}
@@ -66,18 +66,18 @@ module _ {J : Type 0} (K : Kind J) (L : Laws K) where
 
   module _ (workers : ℕ) (frame : List ℕ) where
     -- no records are found in bytes that begin with no batch, or are longer than one
-    pub no_batch : NoBatch K workers frame → [] ≡ records_if K (batch_in K workers frame)
+    pub no_batch : NoBatch K workers 0 frame → [] ≡ records_if K (batch_in K workers frame)
     no_batch h = ap (records_if K) (sym (none_of (batch_in K workers frame) (λ batch found.
         let spelled = batch_spelled K L workers frame batch found in
         h batch spelled.0 (record { rest = []; is = spelled.1 ∙ sym (append-nil (batch_bytes K batch)) }))))
 
-    pub too_long : (batch : PlainBatch J) (taken : ℕ) → IsBatch K workers frame batch taken → taken ≢ length frame → [] ≡ records_if K (batch_in K workers frame)
+    pub too_long : (batch : PlainBatch J) (taken : ℕ) → IsBatch K workers 0 frame batch taken → taken ≢ length frame → [] ≡ records_if K (batch_in K workers frame)
     too_long batch taken h other = ap (records_if K) (sym (none_of (batch_in K workers frame) (λ found is.
         let spelled = batch_spelled K L workers frame found is in
-        let same = one_batch K L workers frame batch found h.fits spelled.0 h.begins (record { rest = []; is = spelled.1 ∙ sym (append-nil (batch_bytes K found)) }) in
+        let same = one_batch K L workers 0 frame batch found h.fits spelled.0 h.begins (record { rest = []; is = spelled.1 ∙ sym (append-nil (batch_bytes K found)) }) in
         other (h.long ∙ ap length (sym (spelled.1 ∙ ap (batch_bytes K) same))))))
 
-    pub whole : (batch : PlainBatch J) (taken : ℕ) → IsBatch K workers frame batch taken → taken ≡ length frame → batch.records ≡ records_if K (batch_in K workers frame)
+    pub whole : (batch : PlainBatch J) (taken : ℕ) → IsBatch K workers 0 frame batch taken → taken ≡ length frame → batch.records ≡ records_if K (batch_in K workers frame)
     whole batch taken h same =
         let none : length h.begins.rest ≡ 0 = (let long = ap length h.begins.is ∙ length-append (batch_bytes K batch) h.begins.rest in omega (arith, h.long, same, long)) in
         let is : frame ≡ batch_bytes K batch = h.begins.is ∙ (ap (λ l. batch_bytes K batch ++ l) (empty h.begins.rest none) ∙ append-nil (batch_bytes K batch)) in
@@ -94,11 +94,11 @@ module _ {J : Type 0} (K : Kind J) (L : Laws K) where
       ap (λ b. if b then applied K (after_record s x) (xs ++ ys) else None) by.0 ∙ applied-append (after_record s x) t u xs ys by.1 next
 
   -- frames whose records lead to a state have these records
-  pub frames_applied : (h : Header) (s t : Plain J) (frames : List (List ℕ)) → s.ledger.set ≡ h.set → Replays (format K) s frames t → applied K s (records_in K h.set.workers frames) ≡ Some t
+  pub frames_applied : (h : Header) (s t : Plain J) (frames : List (List ℕ)) → IsSetOf h s → Replays (format K) s frames t → applied K s (records_in K h.set.workers frames) ≡ Some t
   frames_applied h s t [] set is = ap Some is
   frames_applied h s t (frame ∷ frames) set run =
       let step = after_of K s frame run.0 run.1 in
-      let same : records_if K (batch_in K h.set.workers frame) ≡ step.batch.records = ap (λ k. records_if K (batch_in K k.workers frame)) (sym set) ∙ ap (records_if K) step.found in
+      let same : records_if K (batch_in K h.set.workers frame) ≡ step.batch.records = ap (λ k. records_if K (batch_in K k.workers frame)) (sym set.set) ∙ ap (records_if K) step.found in
       applied-append s run.0 t (records_if K (batch_in K h.set.workers frame)) (records_in K h.set.workers frames)
       (ap (applied K s) same ∙ step.taken) (frames_applied h run.0 t frames (after_set K h s frame run.0 set run.1) run.2)
 
@@ -106,7 +106,7 @@ module _ {J : Type 0} (K : Kind J) (L : Laws K) where
   records-append workers [] ys = refl
   records-append workers (x ∷ xs) ys = ap (λ l. records_if K (batch_in K workers x) ++ l) (records-append workers xs ys) ∙ sym (append_assoc (records_if K (batch_in K workers x)) (records_in K workers xs) (records_in K workers ys))
 
-  pub frames_joined : (h : Header) (s m t : Plain J) (before frames : List (List ℕ)) → s.ledger.set ≡ h.set → m.ledger.set ≡ h.set → Replays (format K) s before m → Replays (format K) m frames t
+  pub frames_joined : (h : Header) (s m t : Plain J) (before frames : List (List ℕ)) → IsSetOf h s → IsSetOf h m → Replays (format K) s before m → Replays (format K) m frames t
       → applied K s (records_in K h.set.workers (before ++ frames)) ≡ Some t
   frames_joined h s m t before frames set also one other =
       ap (applied K s) (records-append h.set.workers before frames)

@@ -3,7 +3,7 @@ use Rattle.std.specs.Prelude.{◌≡◌, ◌+◌, ◌++◌, ℕ, List, [], ◌�
 use Rattle.std.proofs.Common.{sym, ◌∙◌, ap, ap₂, subst}
 use Rattle.pfx_redo.specs.Applying.{applied}
 use Rattle.pfx_checkpoint.specs.Found.{read_state}
-use Rattle.pfx_format.specs.Format.{format, layout}
+use Rattle.pfx_format.specs.Format.{format, layout, IsSetOf}
 use Rattle.pfx_format.proofs.Keeping.{after_set, read_set}
 use Rattle.pfx_header.specs.Headers.{Header}
 use Rattle.pfx_jobs.specs.Kind.{Kind, Laws}
@@ -29,11 +29,11 @@ module _ {J : Type 0} (K : Kind J) (L : Laws K) (h : Header) where
   some_same : {A : Type 0} (a b : A) → Some a ≡ Some b → a ≡ b
   some_same a b is = ap (λ o. elim o [ Some x ↦ x | None ↦ a ]) is
 
-  pub set_of_read : (bytes : List ℕ) (s : Plain J) → Some s ≡ read_state K h.set bytes → s.ledger.set ≡ h.set
+  pub set_of_read : (bytes : List ℕ) (s : Plain J) → Some s ≡ read_state K 0 h.segment h.set bytes → IsSetOf h s
   set_of_read bytes s is = read_set K h bytes s (sym is)
 
-  replays_set : (s t : Plain J) (frames : List (List ℕ)) → s.ledger.set ≡ h.set → Replays (format K) s frames t → t.ledger.set ≡ h.set
-  replays_set s t [] set is = ap (λ (r : Plain J). r.ledger.set) (sym is) ∙ set
+  replays_set : (s t : Plain J) (frames : List (List ℕ)) → IsSetOf h s → Replays (format K) s frames t → IsSetOf h t
+  replays_set s t [] set is = subst (IsSetOf h) is set
   replays_set s t (frame ∷ frames) set run = replays_set run.0 t frames (after_set K h s frame run.0 set run.1) run.2
 
   none_before : (b : Bool) (p : Parts (Plain J)) (t : Plain J) (image : List ℕ) → Other (format K) h b p t image → b ≡ false → p.before ≡ []
@@ -55,11 +55,11 @@ module _ {J : Type 0} (K : Kind J) (L : Laws K) (h : Header) where
         (λ e. subst (λ b. AreIn h image (not b) p.before) segment_is (are_before p.turned p t image is.other (turned_is ∙ e)))
         (subst (λ b. AreIn h image b p.frames) segment_is is.current.are)
 
-    base_set : p.base.ledger.set ≡ h.set
+    base_set : IsSetOf h p.base
     base_set = read_set K h _ p.base is.area.body
 
-    pub base_is : (at body : ℕ) (b : Plain J) → at ≡ area_at (layout h) area → body ≡ (layout h).body → Some b ≡ read_state K h.set (take body (drop (at + 1) image)) → b ≡ p.base
-    base_is at body b at_is body_is read = some_same b p.base (read ∙ ap₂ (λ a n. read_state K h.set (take n (drop (a + 1) image))) (at_is ∙ ap (area_at (layout h)) (sym area_is)) body_is ∙ is.area.body)
+    pub base_is : (at body : ℕ) (b : Plain J) → at ≡ area_at (layout h) area → body ≡ (layout h).body → Some b ≡ read_state K 0 h.segment h.set (take body (drop (at + 1) image)) → b ≡ p.base
+    base_is at body b at_is body_is read = some_same b p.base (read ∙ ap₂ (λ a n. read_state K 0 h.segment h.set (take n (drop (a + 1) image))) (at_is ∙ ap (area_at (layout h)) (sym area_is)) body_is ∙ is.area.body)
 
     behind_applied : applied K p.base (records_in K h.set.workers (p.before ++ p.frames)) ≡ Some t
     behind_applied =

@@ -8,14 +8,15 @@ use Rattle.pfx_machine.specs.Plain.{Plain}
 use Rattle.pfx_machine.specs.Sessions.{IsAcceptable}
 use Rattle.pfx_machine.specs.declared.command.Command.{Command}
 use Rattle.pfx_machine.specs.declared.command.Command.TheVariants.{Submit, Slot, Withdraw}
-use Rattle.pfx_record.specs.Records.{Recorded, submitted, ran, withdrawn}
+use Rattle.pfx_record.specs.Records.{Recorded, submitted, ran, withdrawn, reweighed}
 use Rattle.pfx_redo.specs.Recording.{records_of}
 
--- the command that a record is of
+-- the command that a record is of; new weights are of none yet: they stand as that of a slot, whose record is another
 abbrev pub command_of : {J : Type 0} → Recorded J → Command J
 command_of (submitted task job) = Submit task job
 command_of (ran row) = Slot
 command_of (withdrawn task) = Withdraw task
+command_of (reweighed workers weights) = Slot
 
 abbrev pub commands_of : {J : Type 0} → List (Recorded J) → List (Command J)
 commands_of records = map command_of records
@@ -25,6 +26,7 @@ abbrev pub is_next : {J : Type 0} → (J → Option ℕ) → Plain J → Recorde
 is_next unit s (submitted x job) = is_taken unit (slice_get s.jobs x) (task s.ledger x).alloc (unit job)
 is_next unit s (ran row) = true
 is_next unit s (withdrawn x) = true
+is_next unit s (reweighed workers weights) = true
 
 -- the same of each of these records, at the state after the commands of those before it
 unfoldable pub AreNext : {J : Type 0} → Kind J → (J → Option ℕ) → Plain J → List (Recorded J) → Type 0

@@ -1,8 +1,8 @@
 -- What a plain reading of a store's records finds.
 use Rattle.std.specs.Prelude.{◌≡◌, ◌≢◌, ◌⊎◌, ℕ, ◌+◌, false, List, ◌∷◌, ◌++◌, length, Option, Ok}
 use Rattle.pfx_jobs.specs.Kind.{Kind}
-use Rattle.pfx_choice.specs.PfRows.{chosen}
 use Rattle.pfx_machine.specs.Plain.{Plain}
+use Rattle.pfx_machine.specs.Choosing.{row_in}
 use Rattle.pfx_machine.specs.Outcome.{outcome}
 use Rattle.pfx_machine.specs.declared.command.Command.TheVariants.{Slot}
 use Rattle.pfx_record.specs.Records.{Recorded, ran, tasks_of}
@@ -26,8 +26,8 @@ module _ {J : Type 0} (K : Kind J) (unit : J → Option ℕ) where
   -- A record of a slot, at a state: its row isn't PF's, or none is; its row is PF's, and a state of a job is none after
   -- the row's quanta. A record of an answer: its unit isn't the next one that its task was given.
   abbrev pub IsWrong : Difference → Plain J → Recorded J → Type 0
-  IsWrong Row s one = (row : List (Place J)) × (one ≡ ran row) × (chosen s.ledger ≢ Ok (tasks_of row))
-  IsWrong State s one = (row : List (Place J)) × (one ≡ ran row) × (chosen s.ledger ≡ Ok (tasks_of row)) × (one ≢ record_of K s Slot)
+  IsWrong Row s one = (row : List (Place J)) × (one ≡ ran row) × (row_in s ≢ Ok (tasks_of row))
+  IsWrong State s one = (row : List (Place J)) × (one ≡ ran row) × (row_in s ≡ Ok (tasks_of row)) × (one ≢ record_of K s Slot)
   IsWrong Answer s one = is_next unit s one ≡ false
   IsWrong Checkpoint s one = ⊥
 

@@ -56,7 +56,7 @@ fn step<J: Job>(
             Ok(Some(state.submitted(*task, job.copy_of())))
         }
         Command::Slot => {
-            let Some(row) = state.ledger.row(alloc)? else {
+            let Some(row) = state.row(alloc)? else {
                 return Ok(None);
             };
             Ok(Some(state.ran(&row)))

@@ -45,6 +45,9 @@ fn are_states<J: Job>(one: &PlainState<J>, other: &PlainState<J>) -> bool
     if one.number != other.number {
         return false;
     }
+    if one.from != other.from || one.segment != other.segment {
+        return false;
+    }
     if one.ledger.slot != other.ledger.slot {
         return false;
     }

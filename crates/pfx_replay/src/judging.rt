@@ -1,6 +1,6 @@
 // Records against what their commands do.
 ghost use Rattle.std.specs.Prelude.{◌≡◌, ◌≢◌, ◌↔◌, ◌+◌, ◌∷◌, [], ℕ, List, length, map, slice_get, slice_index_or, IsTrue, IfOk, Some, None, Ok};
-ghost use Rattle.pfx_choice.specs.PfRows.{chosen};
+ghost use Rattle.pfx_machine.specs.Choosing.{row_in};
 ghost use Rattle.pfx_machine.specs.Outcome.{outcome};
 ghost use Rattle.pfx_machine.specs.Plain.{Plain};
 ghost use Rattle.pfx_machine.specs.Refusals.{refusal};
@@ -93,7 +93,7 @@ fn judge_row<J: Job + Units>(
     ensures { IfOk result (GivesOne J.kind J.unit (plain_of state) (ran row.now)) }
 {
     let number = state.number + 1;
-    let Some(tasks) = state.ledger.row(alloc)? else {
+    let Some(tasks) = state.row(alloc)? else {
         return Ok(Judged::Differs {
             number,
             what: Difference::Row,
@@ -180,6 +180,14 @@ fn judge_one<J: Job + Units>(
         }
         Record::Slot { row } => judge_row(alloc, state, row),
         Record::Withdraw { task } => Ok(Judged::Agrees(state.withdrawn(*task))),
+        // No record of new weights is right yet.
+        Record::Reweigh {
+            workers: _,
+            weights: _,
+        } => Ok(Judged::Differs {
+            number: state.number + 1,
+            what: Difference::Row,
+        }),
     }
 }
 

@@ -17,7 +17,7 @@ fn records_of<J: Job>(
 ) -> Result<Vec<Record<J>>, AllocError>
     ensures { IfOk result (λ records. map plain records.items ≡ records_if J.kind (batch_in J.kind workers frame.now)) }
 {
-    match read_batch(alloc, workers, frame) {
+    match read_batch(alloc, workers, 0, frame) {
         Err(BatchFault::NoMemory) => Err(AllocError),
         Err(BatchFault::Damaged { .. }) => Ok(Vec::new(alloc)),
         Ok((batch, taken)) => {

@@ -1,6 +1,6 @@
 // A state as plain numbers and jobs, and the state after a command.
-ghost use Rattle.std.specs.Prelude.{◌≡◌, ◌<◌, ◌+◌, ◌^◌, ◌∷◌, [], if◌then◌else◌, Bool, IfOk, Ok, None};
-ghost use Rattle.pfx_choice.specs.PfRows.{chosen};
+ghost use Rattle.std.specs.Prelude.{◌≡◌, ◌≢◌, ◌<◌, ◌+◌, ◌^◌, ◌∷◌, [], if◌then◌else◌, ℕ, List, Bool, IfOk, MatchOption, Ok, None};
+ghost use Rattle.pfx_machine.specs.Choosing.{row_in};
 ghost use Rattle.pfx_machine.specs.Outcome.{outcome};
 ghost use Rattle.pfx_machine.specs.Refusals.{refusal};
 ghost use Rattle.pfx_machine.specs.Steps.{once_job, served};
@@ -42,8 +42,10 @@ impl<J: Job> PlainState<J> {
     {
         Ok(PlainState {
             number: state.number(),
+            from: state.from(),
             ledger: PlainLedger::of(alloc, state.columns())?,
             jobs: copy_jobs(alloc, state.jobs())?,
+            segment: state.segment(),
         })
     }
 
@@ -54,15 +56,19 @@ impl<J: Job> PlainState<J> {
     {
         let PlainState {
             number,
+            from,
             ledger,
             jobs,
+            segment,
         } = self;
         let mut jobs = jobs;
         jobs[usize::from(task)] = Some(job);
         PlainState {
             number: number + 1,
+            from,
             ledger,
             jobs,
+            segment,
         }
     }
 
@@ -73,35 +79,56 @@ impl<J: Job> PlainState<J> {
     {
         let PlainState {
             number,
+            from,
             ledger,
             jobs,
+            segment,
         } = self;
         let mut jobs = jobs;
         jobs[usize::from(task)] = None;
         PlainState {
             number: number + 1,
+            from,
             ledger,
             jobs,
+            segment,
         }
+    }
+
+    /// PF's row at the state, or `None` if there is none, as where its slot, counted from the first one of all, is the last.
+    /// An error comes only if an allocation failed.
+    pub(crate) fn row(&self, alloc: Global) -> Result<Option<Vec<u16>>, AllocError>
+        ensures { IfOk result (λ found. MatchOption found
+            ((row : List ℕ) → row_in (plain_of self.now) ≢ Ok row)
+            (λ row. row_in (plain_of self.now) ≡ Ok row.items)) }
+    {
+        if self.from + self.ledger.slot + 1 >= 1 << 40 {
+            return Ok(None);
+        }
+        self.ledger.row(alloc)
     }
 
     /// The state after a slot with this row, which is PF's.
     pub(crate) fn ran(self, row: &[u16]) -> PlainState<J>
         requires number { (plain_of self).number + 1 < 2 ^ 48 }
-        requires row { chosen (plain_of self).ledger ≡ Ok row.now }
+        requires row { row_in (plain_of self) ≡ Ok row.now }
         ensures { plain_of result ≡ outcome J.kind (plain_of self) (Slot ∷ []) }
     {
         let PlainState {
             number,
+            from,
             ledger,
             jobs,
+            segment,
         } = self;
         let mut jobs = jobs;
         step_all(&mut jobs, row);
         PlainState {
             number: number + 1,
+            from,
             ledger: ledger.after(row),
             jobs,
+            segment,
         }
     }
 }

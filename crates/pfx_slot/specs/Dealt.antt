@@ -1,8 +1,8 @@
 -- An open slot: what was dealt, and what is back.
 use Rattle.std.specs.Prelude.{◌≡◌, ◌≢◌, ◌<◌, slice_get, ℕ, List, [], ◌∷◌, Option, Some, None, ⊤, map, option_map, ◌+◌, ◌^◌, Ok}
 use Rattle.pfx_jobs.specs.Kind.{Kind}
-use Rattle.pfx_choice.specs.PfRows.{chosen}
 use Rattle.pfx_machine.specs.Plain.{Plain}
+use Rattle.pfx_machine.specs.Choosing.{row_in}
 use Rattle.pfx_machine.specs.Refusals.{refusal}
 use Rattle.pfx_machine.specs.declared.command.Command.TheVariants as command
 use Rattle.pfx_machine.specs.Slots.{Deal, deals_in}
@@ -41,6 +41,6 @@ module _ {J : Type 0} where
 -- the slot is the one that may be run next in this state: its row is PF's, its quanta are those of the state's jobs
 pub record StandsAt {J : Type 0} (K : Kind J) (s : Plain J) (o : Dealt J) : Type 0 where
   pub number : s.number + 1 < 2 ^ 48
-  pub row : chosen s.ledger ≡ Ok o.row
+  pub row : row_in s ≡ Ok o.row
   pub quanta : o.quanta ≡ deals_in K s o.row
   pub accepted : refusal K s command.Slot ≡ None

@@ -6,9 +6,11 @@ use Rattle.pfx_checkpoint.specs.Spelling.{place_of, state_bytes, state_len}
 use Rattle.pfx_checkpoint.proofs.Fronts.{length-front}
 use Rattle.pfx_checkpoint.proofs.Readings.{frozen_read, only_states}
 use Rattle.pfx_columns.specs.Ledgers.{total}
+use Rattle.pfx_format.specs.Format.{IsSetOf}
+use Rattle.pfx_header.specs.Headers.{Header}
 use Rattle.pfx_jobs.specs.Kind.{Kind, Laws}
 use Rattle.pfx_machine.specs.Plain.{Plain, IsState}
-use Rattle.pfx_weights.specs.Sets.{FilledSet, IsFilled}
+use Rattle.pfx_weights.specs.Sets.{FilledSet, IsFilled, IsOfItsTasks}
 
 none_of : {A : Type 0} (o : Option A) → ((a : A) → o ≡ Some a → ⊥) → None ≡ o
 none_of None h = refl
@@ -20,11 +22,15 @@ unfolding state_bytes
 state_long K L s h = length-front K L s (total s.ledger) ∙ ap (λ n. place_of n (total s.ledger)) h.jobs
 
 -- bytes of another length are no state of the set
-pub other_length : {J : Type 0} (K : Kind J) (L : Laws K) (set : FilledSet) (bytes : List ℕ) → IsFilled set → length bytes ≢ state_len set → None ≡ read_state K set bytes
-other_length K L set bytes filled other = none_of _ (λ s is.
-    let only = only_states K set bytes s filled is in
+pub other_length : {J : Type 0} (K : Kind J) (L : Laws K) (from segment : ℕ) (set : FilledSet) (bytes : List ℕ) → IsOfItsTasks set → IsFilled set → length bytes ≢ state_len set → None ≡ read_state K from segment set bytes
+other_length K L from segment set bytes of filled other = none_of _ (λ s is.
+    let only = only_states K from segment set bytes s of filled is in
     other (ap length (sym only.2) ∙ (state_long K L s only.0 ∙ ap state_len only.1)))
 
--- a frozen state of the set is read
-pub spelled_read : {J : Type 0} (K : Kind J) (L : Laws K) (set : FilledSet) (s : Plain J) (bytes : List ℕ) → IsState s → s.ledger.set ≡ set → bytes ≡ state_bytes K s → read_state K set bytes ≡ Some s
-spelled_read K L set s bytes h same is = ap (read_state K set) is ∙ (ap (λ t. read_state K t (state_bytes K s)) (sym same) ∙ frozen_read K L s h)
+-- a frozen state of the header is read
+pub spelled_read : {J : Type 0} (K : Kind J) (L : Laws K) (h : Header) (s : Plain J) (bytes : List ℕ) → IsState s → IsSetOf h s → bytes ≡ state_bytes K s → read_state K 0 h.segment h.set bytes ≡ Some s
+spelled_read K L h s bytes state of is =
+    ap (read_state K 0 h.segment h.set) is
+    ∙ (ap (λ (n : ℕ). read_state K n h.segment h.set (state_bytes K s)) (sym of.from)
+    ∙ (ap (λ (n : ℕ). read_state K s.from n h.set (state_bytes K s)) (sym of.segment)
+    ∙ (ap (λ (t : FilledSet). read_state K s.from s.segment t (state_bytes K s)) (sym of.set) ∙ frozen_read K L s state)))

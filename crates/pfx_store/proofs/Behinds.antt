@@ -3,18 +3,23 @@ use Rattle.std.specs.Prelude.{◌≡◌, ℕ, ◌+◌, ◌*◌, ◌-◌, ◌<◌
 use Rattle.std.proofs.Common.{sym, ◌∙◌, ap, arith, length-append}
 use Rattle.std.proofs.lemmas.List.{length-drop, take_all}
 use Rattle.std.proofs.lemmas.Option.{none-some}
+use Rattle.std.proofs.Math.Nat.{max-eq_left}
 use Rattle.byteorder.specs.Endian.{little_number}
 use Rattle.pfx_disk.specs.declared.gates.TheConstants.{GATE_OPEN}
 use Rattle.pfx_jobs.specs.Kind.{Kind, Laws}
-use Rattle.pfx_record.specs.Batches.{PlainBatch, all_fit, batch_bytes, batch_fits, counts_fit}
+use Rattle.pfx_record.specs.Batches.{PlainBatch, all_fit, batch_bytes, batch_fits, batch_most, counts_fit}
 use Rattle.pfx_record.specs.Numbers.{number_bytes}
-use Rattle.pfx_record.specs.Records.{records_bytes}
+use Rattle.pfx_record.specs.Records.{form_of, records_bytes}
 use Rattle.pfx_record.proofs.Heads.{counts_of, parts_of}
 use Rattle.pfx_record.proofs.Rising.{both}
 use Rattle.pfx_segment.specs.Frames.{IsFrame, number_4}
 use Rattle.pfx_format.proofs.Batches.{head_there, number_there, split_batch}
 use Rattle.pfx_store.specs.Files.{behind_of}
 use Rattle.pfx_store.specs.Standing.{IsBehind}
+
+-- the longest batch where no task is said to be real
+pub most_of_rows : (workers : ℕ) → batch_most workers 0 ≡ 31 + 2096 * workers
+most_of_rows workers = max-eq_left (omega arith)
 
 module _ {J : Type 0} (K : Kind J) (L : Laws K) (batch : PlainBatch J) where
   -- the head behind the gate, and the records
@@ -24,9 +29,9 @@ module _ {J : Type 0} (K : Kind J) (L : Laws K) (batch : PlainBatch J) where
   opens : batch_bytes K batch ≡ GATE_OPEN ∷ rest
   opens = split_batch K L batch
 
-  frame_is : (workers : ℕ) → IsTrue (batch_fits workers batch) → length (batch_bytes K batch) < 2 ^ 32 → IsFrame (GATE_OPEN ∷ rest)
-  frame_is workers fits short =
-      let head = head_there K L workers batch fits in
+  frame_is : (workers real : ℕ) → IsTrue (batch_fits workers real batch) → length (batch_bytes K batch) < 2 ^ 32 → IsFrame (GATE_OPEN ∷ rest)
+  frame_is workers real fits short =
+      let head = head_there K L workers real batch fits in
       let long = head.long in
       let len = length (records_bytes K batch.records) in
       let places = parts_of (batch_bytes K batch) len batch.first (length batch.records) (record { rest = records_bytes K batch.records; is = split_batch K L batch }) in
@@ -38,14 +43,14 @@ module _ {J : Type 0} (K : Kind J) (L : Laws K) (batch : PlainBatch J) where
         whole = whole ∙ (let same : number_4 1 (GATE_OPEN ∷ rest) ≡ little_number 4 rest = omega arith in omega (arith, same, there));
       }
 
-  pub behind_is : (workers : ℕ) (frame : List ℕ) → IsTrue (batch_fits workers batch) → length (batch_bytes K batch) ≤ 31 + 2096 * workers → frame ≡ batch_bytes K batch ++ 0 ∷ [] → IsBehind (batch_bytes K batch) (take (length frame - 1) (drop 1 frame))
-  behind_is workers frame fits bound is =
-      let counts = counts_of workers batch.first (length batch.records) (both (counts_fit workers batch.first (length batch.records)) (all_fit workers batch.records) fits).0 in
+  pub behind_is : (workers real : ℕ) (frame : List ℕ) → IsTrue (batch_fits workers real batch) → length (batch_bytes K batch) ≤ batch_most workers 0 → frame ≡ batch_bytes K batch ++ 0 ∷ [] → IsBehind (batch_bytes K batch) (take (length frame - 1) (drop 1 frame))
+  behind_is workers real frame fits bound is =
+      let counts = counts_of workers batch.first (length batch.records) (both (counts_fit workers batch.first (length batch.records)) (all_fit (form_of workers real (length batch.records)) batch.records) fits).0 in
       let few = counts.few_workers in
-      let short : length (batch_bytes K batch) < 2 ^ 32 = omega (arith, bound, few) in
+      let short : length (batch_bytes K batch) < 2 ^ 32 = omega (arith, bound, most_of_rows workers, few) in
       let spelled : frame ≡ GATE_OPEN ∷ (rest ++ 0 ∷ []) = is ∙ ap (λ l. l ++ 0 ∷ []) opens in
       let split : take (length frame - 1) (drop 1 frame) ≡ rest ++ 0 ∷ [] = ap (λ l. take (length l - 1) (drop 1 l)) spelled ∙ take_all _ (rest ++ 0 ∷ []) (omega arith) in
-      (rest, opens, record { split = split; frame = frame_is workers fits short })
+      (rest, opens, record { split = split; frame = frame_is workers real fits short })
 
 -- records that lead somewhere are taken over
 pub taken_by : {A : Type 0} (b : Bool) (o : Option A) (new t : A) → (IsTrue b → o ≡ Some new) → (IsFalse b → o ≡ None) → o ≡ Some t → o ≡ Some new

@@ -1,15 +1,17 @@
 -- How a call behind another one answers, and how many calls of the disk the two take.
-use Rattle.std.specs.Prelude.{◌≡◌, ◌≤◌, ◌+◌, ◌-◌, ℕ, Bool, true, false, Result, Err, IsErrAnd, IsOk, nat_lt, if◌then◌else◌}
-use Rattle.std.proofs.Common.{sym, ◌∙◌, subst, arith, inl, inr}
-use Rattle.std.proofs.lemmas.Bool.{true≢false}
+use Rattle.std.specs.Prelude.{◌≡◌, ◌≤◌, ◌<◌, ◌+◌, ◌-◌, ℕ, Bool, true, false, Result, Ok, Err, IsErrAnd, IsOk, nat_lt, if◌then◌else◌}
+use Rattle.std.proofs.Common.{sym, ◌∙◌, ap, subst, arith, inl, inr}
+use Rattle.std.proofs.lemmas.Bool.{true≢false, false≢true, cond-true, lt-ltb}
 use Rattle.pfx_disk.specs.Disk.{View, HasFailed}
 use Rattle.pfx_segment.specs.Segment.{Takes}
 use Rattle.pfx_store_file.specs.Calls.{Works}
-use Rattle.pfx_store_file.specs.Fitting.{HasRoom}
-use Rattle.pfx_store_file.specs.Tending.{IsTurnedBefore, MovesOn, TakesFrame, append_calls, calls_left, calls_to_end, pieces}
+use Rattle.pfx_store_file.specs.Checkpoints.{in_progress}
+use Rattle.pfx_store_file.specs.Fitting.{HasRoom, IsTurnable}
+use Rattle.pfx_store_file.specs.Tending.{IsTurnedBefore, MovesOn, TakesFrame, append_calls, calls_left, calls_to_end, pieces, turn_calls}
 use Rattle.pfx_store_file.specs.declared.progress.Checkpoint.{Checkpoint}
 use Rattle.pfx_store_file.specs.declared.progress.Checkpoint.TheVariants.{Ended, Pending, Writing}
 use Rattle.pfx_store_file.specs.declared.faults.StoreFault.{StoreFault}
+use Rattle.pfx_store_file.specs.declared.faults.StoreFault.TheVariants.{Device, Broken}
 use Rattle.pfx_store_file.specs.declared.places.Places.{Places}
 use Rattle.pfx_store_file.proofs.Calling.{works_handed}
 
@@ -71,3 +73,40 @@ module _ (n a b : ℕ) (old mid new : Places) (is_a : a ≡ n) (is_b : b ≡ n) 
 -- the same calls, told of another answer
 pub takes_told : {S T E F : Type 0} (m n : ℕ) (a b : View) (first : Result S E) (result : Result T F) → m ≡ n → (IsOk result → IsOk first) → Takes m a b first → Takes n a b result
 takes_told m n a b first result is ok one = subst (λ (k : ℕ). Takes k a b result) is (record { ok = λ here. one.ok (ok here); later = one.later; at_most = one.at_most; no_fewer = one.no_fewer })
+
+-- a call that answered, on a file that wasn't broken
+
+abbrev answer_of : {T : Type 0} → T → Result T StoreFault
+answer_of t = Ok t
+
+pub no_fault : {T C : Type 0} (t : T) (f : StoreFault) → answer_of t ≡ Err f → C
+no_fault t f is = cc
+
+pub works_answered : {T : Type 0} (a b : View) (was is : Bool) (t : T) → was ≡ false → is ≡ false → Works a b was is (answer_of t)
+works_answered a b was is t whole goes = record {
+  whole = λ _. goes;
+  device = λ here. no_fault t Device here;
+  breaks = λ here. no_fault t Device here;
+  broken = (λ here. no_fault t Broken here, λ here. absurd (true≢false (sym here ∙ whole)));
+}
+
+pub takes_answered : {T E : Type 0} (m n : ℕ) (a b : View) (result : Result T E) → m ≡ n → (b.clock ≡ a.clock + m) × (b.failures ≡ a.failures) → Takes n a b result
+takes_answered m n a b result is first =
+    let (clock, fails) = first in
+    record {
+      ok = λ _. (omega (arith, is, clock), fails);
+      later = omega (arith, clock);
+      at_most = omega (arith, is, clock);
+      no_fewer = omega (arith, fails);
+    }
+
+-- one whose fault was handed on
+
+pub not_ok : {T C : Type 0} (result : Result T StoreFault) (e : StoreFault) → IsErrAnd result (λ x. x ≡ e) → IsOk result → C
+not_ok (Ok t) e of ok = absurd of
+not_ok (Err x) e of ok = absurd (false≢true ok)
+
+-- a turn that is lawful takes six
+pub six_calls : (places : Places) → IsTurnable places → 6 ≡ turn_calls places
+six_calls places lawful =
+    sym (ap (λ b. if b then 0 else (if nat_lt (places.end + 9) (places.gate + places.sizes.segment) then 6 else 0)) (ap in_progress lawful.0) ∙ cond-true _ _ _ (lt-ltb _ _ lawful.1))

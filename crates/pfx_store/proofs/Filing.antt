@@ -12,7 +12,7 @@ use Rattle.pfx_disk.specs.Stop.{Act}
 use Rattle.pfx_disk.proofs.CallsMade.{made_none, made_then, broken_first, broken_then, within_first, within_then}
 use Rattle.pfx_format.specs.Format.{format}
 use Rattle.pfx_header.specs.Headers.{Header}
-use Rattle.pfx_header.proofs.Meanings.{read_filled}
+use Rattle.pfx_header.proofs.Meanings.{read_filled, read_a_header}
 use Rattle.pfx_jobs.specs.Kind.{Kind}
 use Rattle.pfx_machine.specs.Plain.{Plain}
 use Rattle.pfx_recovery.specs.Layout.{segment_end}
@@ -166,12 +166,12 @@ module _ {J : Type 0} (K : Kind J) (f : FileOf J) (places : Places) (body : List
 
 -- if the bytes of a checkpoint area are read as a state, they are that state's
 module _ {J : Type 0} (K : Kind J) (h : Header) (p : Parts (Plain J)) (s : Plain J) (body image : List ℕ) where
-  pub body_same : IsStore (format K) h p s image → read_state K h.set body ≡ Some p.middle → body ≡ state_bytes K p.middle
-  body_same store read = sym (only_states K h.set body p.middle (read_filled image h store.head) read).2
+  pub body_same : IsStore (format K) h p s image → read_state K 0 h.segment h.set body ≡ Some p.middle → body ≡ state_bytes K p.middle
+  body_same store read = sym (only_states K 0 h.segment h.set body p.middle (read_a_header image h store.head).accepted (read_filled image h store.head) read).2
 
 -- a store that was opened has the file that is found
 pub opened_file : {J : Type 0} (K : Kind J) (h : Header) (bytes : List ℕ) (places : Places) (s : Plain J) (middle : Option (Vec ℕ Global)) (body : List ℕ) (disk : View) →
-    (o : IsOpened (format K) h bytes places s middle disk) → (o.parts.turned ≡ true → read_state K h.set body ≡ Some o.parts.middle) →
+    (o : IsOpened (format K) h bytes places s middle disk) → (o.parts.turned ≡ true → read_state K 0 h.segment h.set body ≡ Some o.parts.middle) →
     (f : FileOf J) × (recovered_file K bytes ≡ Some (s, f)) × HasFile K f places body
 opened_file K h bytes places s middle body disk o reads = (
   file_in (format K) bytes h o.parts,

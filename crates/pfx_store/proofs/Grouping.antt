@@ -6,7 +6,7 @@ use Rattle.std.proofs.lemmas.Option.{none-some, same_Some}
 use Rattle.pfx_machine.specs.Fitting.{fits}
 use Rattle.pfx_columns.specs.Ledgers.{total}
 use Rattle.pfx_disk.specs.Disk.{View}
-use Rattle.pfx_redo.specs.Applying.{applied, is_right, is_apt, after_record}
+use Rattle.pfx_redo.specs.Applying.{applied, form_at, is_right, is_apt, after_record}
 use Rattle.pfx_redo.specs.Recording.{record_of, records_of}
 use Rattle.pfx_redo.proofs.Outcomes.{records_outcome}
 use Rattle.pfx_redo.proofs.States.{applied_behind}
@@ -23,7 +23,8 @@ use Rattle.pfx_machine.specs.declared.command.Command.{Command}
 use Rattle.pfx_machine.proofs.Compose.{outcome-none, outcome-outcome}
 use Rattle.pfx_machine.proofs.Keeping.{prefix_is_state}
 use Rattle.pfx_record.specs.Batches.{PlainBatch, all_fit, batch_bytes, batch_fits, counts_fit}
-use Rattle.pfx_record.specs.Records.{Recorded, record_fits}
+use Rattle.pfx_record.specs.Records.{Recorded, form_of, record_fits}
+use Rattle.pfx_record.proofs.Renewed.{fits_anywhere}
 use Rattle.pfx_record.proofs.Rising.{both, of_both}
 use Rattle.pfx_recovery.specs.Codec.{Codec}
 use Rattle.pfx_recovery.specs.Store.{Replays}
@@ -32,15 +33,15 @@ use Rattle.pfx_store.specs.Groups.{AreRecordsOf, AreSmall, KeepsAll, Survives, a
 
 -- records that are right have spellings
 fit_by : {J : Type 0} (K : Kind J) (s t : Plain J) (done : Recorded J) (records : List (Recorded J)) (b : Bool) → is_right K s done ≡ b → (if b then applied K (after_record s done) records else None) ≡ Some t →
-    IsTrue (record_fits s.ledger.set.workers done) × (applied K (after_record s done) records ≡ Some t)
-fit_by K s t done records true is h = ((both (record_fits s.ledger.set.workers done) (is_apt K (total s.ledger) s.jobs done && fits (after_record s done)) is).0, h)
+    IsTrue (record_fits (form_at s) done) × (applied K (after_record s done) records ≡ Some t)
+fit_by K s t done records true is h = ((both (record_fits (form_at s) done) (is_apt K (total s.ledger) s.jobs done && fits (after_record s done)) is).0, h)
 fit_by K s t done records false is h = absurd (none-some t h)
 
-all_fit_of : {J : Type 0} (K : Kind J) (s t : Plain J) (records : List (Recorded J)) → applied K s records ≡ Some t → IsTrue (all_fit s.ledger.set.workers records)
-all_fit_of K s t [] h = refl
-all_fit_of K s t (done ∷ records) h =
+all_fit_of : {J : Type 0} (K : Kind J) (s t : Plain J) (count : ℕ) (records : List (Recorded J)) → applied K s records ≡ Some t → IsTrue (all_fit (form_of s.ledger.set.workers 0 count) records)
+all_fit_of K s t count [] h = refl
+all_fit_of K s t count (done ∷ records) h =
     let first = fit_by K s t done records (is_right K s done) refl h in
-    of_both (record_fits s.ledger.set.workers done) (all_fit s.ledger.set.workers records) first.0 (all_fit_of K (after_record s done) t records first.1)
+    of_both (record_fits (form_of s.ledger.set.workers 0 count) done) (all_fit (form_of s.ledger.set.workers 0 count) records) (fits_anywhere s.ledger.set.workers 1 count done first.0) (all_fit_of K (after_record s done) t count records first.1)
 
 pub length-records : {J : Type 0} (K : Kind J) (s : Plain J) (H : List (Command J)) → length (records_of K s H) ≡ length H
 length-records K s [] = refl
@@ -83,7 +84,7 @@ module _ {J : Type 0} (K : Kind J) (L : Laws K) (s : Plain J) (H : List (Command
         let n = (behind.state state).number in
         omega (arith, n, behind.number, length-records K s H)
 
-    pub group_fits : IsTrue (batch_fits s.ledger.set.workers (record { first = s.number + 1; records = records_of K s H }))
+    pub group_fits : IsTrue (batch_fits s.ledger.set.workers 0 (record { first = s.number + 1; records = records_of K s H }))
     group_fits =
         let long = length-records K s H in
         let m = state.ledger.set.workers in
@@ -91,7 +92,7 @@ module _ {J : Type 0} (K : Kind J) (L : Laws K) (s : Plain J) (H : List (Command
         of_both _ _ (of_both _ _ (lt-ltb 0 workers (omega (arith, m.0))) (le-leb workers 64 m.1))
         (of_both _ _ (of_both _ _ (lt-ltb 0 (length (records_of K s H)) (omega (arith, long, some))) (le-leb (length (records_of K s H)) 16 (omega (arith, long, few))))
         (of_both _ _ (lt-ltb 0 (s.number + 1) (omega arith)) (le-leb (s.number + 1 + length (records_of K s H)) (2 ^ 48) (omega (arith, long, below))))) in
-        of_both _ _ counts (all_fit_of K s (outcome K s H) (records_of K s H) group_led)
+        of_both _ _ counts (all_fit_of K s (outcome K s H) (length (records_of K s H)) (records_of K s H) group_led)
 
     pub frame_led : state_after K s (frame_of K s H) ≡ Some (outcome K s H)
     frame_led = frame_leads K L s (outcome K s H) batch group_fits refl (omega (arith, length-records K s H, below)) group_led
@@ -194,9 +195,9 @@ module _ {J : Type 0} (K : Kind J) (L : Laws K) (s : Plain J) (H : List (Command
   long : length H ≡ length records
   long = sym (length-records K s H) ∙ ap length (sym are.of)
 
-  pub records_fit : (workers first : ℕ) → workers ≡ s.ledger.set.workers → first ≡ s.number → 0 < length records → length records ≤ 16 → IsTrue (batch_fits workers (record { first = first + 1; records = records }))
+  pub records_fit : (workers first : ℕ) → workers ≡ s.ledger.set.workers → first ≡ s.number → 0 < length records → length records ≤ 16 → IsTrue (batch_fits workers 0 (record { first = first + 1; records = records }))
   records_fit workers first same next some few =
-      (λ i. batch_fits (same i) (record { first = next i + 1; records = are.of i })) ∙ group_fits K L s H state are.accepted (omega (arith, long, some)) (omega (arith, long, few))
+      (λ i. batch_fits (same i) 0 (record { first = next i + 1; records = are.of i })) ∙ group_fits K L s H state are.accepted (omega (arith, long, some)) (omega (arith, long, few))
 
   pub records_lead : applied K s records ≡ Some (outcome K s H)
   records_lead = ap (applied K s) are.of ∙ group_led K L s H state are.accepted

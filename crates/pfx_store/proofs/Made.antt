@@ -9,7 +9,7 @@ use Rattle.pfx_checkpoint.proofs.Fronts.{place_out}
 use Rattle.pfx_create.specs.Attempts.{IsMadeOf, IsNoneOrMade, RefusesUnmade}
 use Rattle.pfx_disk.specs.Disk.{View, IsHonest, Leaves, Same}
 use Rattle.pfx_disk.specs.declared.gates.TheConstants.{GATE_OPEN}
-use Rattle.pfx_format.specs.Format.{format, layout}
+use Rattle.pfx_format.specs.Format.{format, layout, IsSetOf}
 use Rattle.pfx_format.proofs.Keeping.{format_laws}
 use Rattle.pfx_header.specs.Headers.{Header, IsHeader, front_bytes, header_bytes, header_len, is_store, mark, read_header}
 use Rattle.pfx_header.proofs.Meanings.{accepted_filled, closed_no_store}
@@ -33,16 +33,16 @@ pub segment_same : (h : Header) → IsHeader h → (layout h).segment ≡ h.segm
 segment_same h is = max-eq_right {n = 10} {m = h.segment} (let least = is.segment.0 in omega (arith, least))
 
 -- these are the parts of a new file of the set, at its empty state
-pub made_of : {J : Type 0} (K : Kind J) (L : Laws K) (h : Header) (head body : List ℕ) (segment : ℕ) → IsHeader h → IsState (empty {J = J} h.set) → head ≡ header_bytes h → body ≡ state_bytes K (empty h.set) → segment ≡ h.segment →
-    IsMadeOf (format K) h (empty h.set) head body segment
+pub made_of : {J : Type 0} (K : Kind J) (L : Laws K) (h : Header) (head body : List ℕ) (segment : ℕ) → IsHeader h → IsState (empty {J = J} h.set h.segment) → head ≡ header_bytes h → body ≡ state_bytes K (empty h.set h.segment) → segment ≡ h.segment →
+    IsMadeOf (format K) h (empty h.set h.segment) head body segment
 made_of K L h head body segment is state head_is body_is same = record {
   laws = format_laws K L;
   parts = record {
     header = ap read_header (head_is ∙ sym (append-nil (header_bytes h))) ∙ written_read h [] is;
     head_long = ap length head_is ∙ header_long h is;
-    state = spelled_read K L h.set (empty h.set) body state refl body_is;
+    state = spelled_read K L h (empty h.set h.segment) body state (record { set = refl; from = refl; segment = refl }) body_is;
     number = refl;
-    body_long = ap length body_is ∙ state_long K L (empty h.set) state;
+    body_long = ap length body_is ∙ state_long K L (empty h.set h.segment) state;
     one = refl;
     first_long = refl;
   };
@@ -69,7 +69,7 @@ pub still_none : {J : Type 0} (K : Kind J) (s : Plain J) (a : View) → IsNoneOr
 still_none K s a c le before image is = inl (none_recovered K image (unmade_refused K image (inl (omega (arith, ap length (before image is))))))
 
 -- a new store stands
-pub new_stands : {J : Type 0} (K : Kind J) (h : Header) (places : Places) (s : Plain J) (spelled : List ℕ) (disk : View) → ((code : List ℕ) → Holds (format K) h places (new_parts s) s code disk) → s.ledger.set ≡ h.set → Stands K places s spelled disk
+pub new_stands : {J : Type 0} (K : Kind J) (h : Header) (places : Places) (s : Plain J) (spelled : List ℕ) (disk : View) → ((code : List ℕ) → Holds (format K) h places (new_parts s) s code disk) → IsSetOf h s → Stands K places s spelled disk
 new_stands K h places s spelled disk holds set = record {
   header = h;
   parts = new_parts s;

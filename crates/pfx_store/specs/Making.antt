@@ -36,6 +36,6 @@ pub record IsPrepared {J : Type 0} (K : Kind J) (set : FilledSet) (segment : ℕ
     : Type 0 where
   pub header : IsHeader (record { set = set; segment = segment })
   pub head : head_bytes ≡ header_bytes (record { set = set; segment = segment })
-  pub spelled : spelled_bytes ≡ state_bytes K (empty set)
+  pub spelled : spelled_bytes ≡ state_bytes K (empty set segment)
   pub room : 32 + 2096 * set.workers ≤ capacity
-  pub empty : state ≡ empty set
+  pub empty : state ≡ empty set segment

@@ -4,7 +4,7 @@ use Rattle.pfx_checkpoint.specs.Found.{read_state}
 use Rattle.pfx_checkpoint.specs.Spelling.{state_bytes}
 use Rattle.pfx_disk.specs.Disk.{View}
 use Rattle.pfx_disk.specs.declared.gates.TheConstants.{GATE_OPEN}
-use Rattle.pfx_format.specs.Format.{format}
+use Rattle.pfx_format.specs.Format.{format, IsSetOf}
 use Rattle.pfx_header.specs.Headers.{Header}
 use Rattle.pfx_jobs.specs.Kind.{Kind}
 use Rattle.pfx_machine.specs.Plain.{Plain}
@@ -14,14 +14,14 @@ use Rattle.pfx_store_file.specs.Holding.{Holds, IsPending}
 use Rattle.pfx_store_file.specs.declared.places.Places.{Places}
 use Rattle.pfx_store_file.specs.declared.progress.Checkpoint.TheVariants.{Ended}
 
--- Under some header and with some parts the store holds on the disk at this state, which is of the header's set; if a
+-- Under some header and with some parts the store holds on the disk at this state, which is of the header; if a
 -- checkpoint is in progress, its body is that of the state at the turn.
 pub record Stands {J : Type 0} (K : Kind J) (places : Places) (s : Plain J) (spelled : List ℕ) (disk : View) : Type 0 where
   pub header : Header
   pub parts : Parts (Plain J)
   pub holds : Holds (format K) header places parts s spelled disk
-  pub set : s.ledger.set ≡ header.set
-  pub middle : parts.turned ≡ true → read_state K header.set spelled ≡ Some parts.middle
+  pub set : IsSetOf header s
+  pub middle : parts.turned ≡ true → read_state K 0 header.segment header.set spelled ≡ Some parts.middle
 
 -- a frame of n bytes has room, or a turn can make some: no checkpoint is in progress, and the body of one is this state's
 abbrev pub IsReady : {J : Type 0} → Kind J → ℕ → Places → Plain J → List ℕ → Type 0

@@ -42,9 +42,11 @@ use Rattle.pfx_store.specs.Stores.{PlainStore}
 use Rattle.pfx_store.specs.declared.store.Mark.{Mark}
 use Rattle.pfx_weights.specs.Sets.{FilledSet}
 
--- the records may come next at a state: rows are of its workers, the first number is the next, and each record is right in turn
-pub record IsNext {J : Type 0} (K : Kind J) (s : Plain J) (m n : ℕ) (records : List (Recorded J)) : Type 0 where
+-- the records may come next at a state: rows are of its workers, no task is said to be real, the first number is the next, and each record
+-- is right in turn
+pub record IsNext {J : Type 0} (K : Kind J) (s : Plain J) (m r n : ℕ) (records : List (Recorded J)) : Type 0 where
   pub workers : m ≡ s.ledger.set.workers
+  pub real : r ≡ 0
   pub first : n ≡ s.number + 1
   pub right : (t : Plain J) × (applied K s records ≡ Some t)
 
@@ -67,12 +69,14 @@ pub record IsSpelled (frame bytes : List ℕ) (old_room new_room : ℕ) : Type 0
 -- a frame of rows for m workers, with that gate behind it
 pub record IsFrameOf (m : ℕ) (frame bytes : List ℕ) : Type 0 where
   pub spelled : bytes ≡ frame ++ 0 ∷ []
-  pub short : length frame ≤ batch_most m
+  pub short : length frame ≤ batch_most m 0
 
--- the records lead from one state to the other, of the same set
+-- the records lead from one state to the other, of the same set and store
 pub record LeadsOn {J : Type 0} (K : Kind J) (old : Plain J) (records : List (Recorded J)) (new : Plain J) : Type 0 where
   pub taken : applied K old records ≡ Some new
   pub set : new.ledger.set ≡ old.ledger.set
+  pub from : new.from ≡ old.from
+  pub segment : new.segment ≡ old.segment
 
 -- room for a body of so many bytes; where a body is given that is as long it is this one
 pub record IsBody (given : Option (Vec ℕ Global)) (len : ℕ) (body : List ℕ) : Type 0 where
@@ -143,7 +147,7 @@ pub record IsMaking {D J : Type 0} (view : D → View) (calls : ℕ) (disk : D) 
 pub record IsNew {D J : Type 0} (set : FilledSet) (segment : ℕ) (store : PlainStore D J) : Type 0 where
   pub size : IsSegmentSize set.workers segment
   pub segment_len : store.file.places.sizes.segment ≡ segment
-  pub state : store.state ≡ empty set
+  pub state : store.state ≡ empty set segment
   pub whole : store.file.broken ≡ false
   pub none_left : steps_left store.file.places ≡ 0
 
@@ -159,7 +163,7 @@ pub record MakesStore {D J : Type 0} (view : D → View) (K : Kind J) (set : Fil
   pub made : IfOk result (λ store. IsNew set segment store)
   pub stands : IsHonest (view disk) → IfOk result (λ store. Stands K store.file.places store.state store.spelled (view store.file.disk))
   pub recovers : IsHonest (view disk) → MatchResult result
-      (λ store. IsNoneOrMade (format K) (empty set) (view disk) (view store.file.disk)) (λ e. IsNoneOrMade (format K) (empty set) (view disk) (view e.1))
+      (λ store. IsNoneOrMade (format K) (empty set segment) (view disk) (view store.file.disk)) (λ e. IsNoneOrMade (format K) (empty set segment) (view disk) (view e.1))
 
 -- From now on each image is recovered to the state: a mark stands for it.
 pub record IsDurable {J : Type 0} (K : Kind J) (broken : Bool) (s : Plain J) (disk : View) : Type 0 where

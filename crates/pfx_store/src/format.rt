@@ -109,7 +109,7 @@ impl<J: Job> Format for FileFormat<J> {
         if bytes.len() != state_len(&header.set) {
             return Ok(None);
         }
-        match read(alloc, &header.set, bytes) {
+        match read(alloc, 0, header.segment, &header.set, bytes) {
             Ok(state) => Ok(Some(state)),
             Err(CheckpointFault::Damaged) => Ok(None),
             Err(CheckpointFault::NoMemory) => Err(AllocError),

@@ -19,7 +19,7 @@ use pfx_record::{Batch, Record};
 pub fn batch_of<J: Job>(state: &State<J>, records: Vec<Record<J>>) -> Batch<J>
     requires count { (0 < length records.items) × (length records.items ≤ 16) }
     requires right { (H : List (Command J)) × AreRecordsOf J.kind state.now H (map plain records.items) }
-    ensures next { IsNext J.kind state.now result.workers result.first (map plain result.records.items) }
+    ensures next { IsNext J.kind state.now result.workers result.real result.first (map plain result.records.items) }
     ensures records { result.records ≡ records }
     ensures state { IsState state.now }
 
@@ -31,5 +31,5 @@ pub fn batch_of<J: Job>(state: &State<J>, records: Vec<Record<J>>) -> Batch<J>
 {
     let workers = state.columns().workers();
     let first = state.number() + 1;
-    Batch::new(workers, first, records)
+    Batch::new(workers, 0, first, records)
 }

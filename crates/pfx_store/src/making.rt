@@ -99,7 +99,7 @@ fn made<D: Disk, J: Job>(
     ensures { MakesStore D.view J.kind set.now segment disk (as_store result) }
 {
     set.is_of_its_tasks();
-    let Ok(state) = State::new(alloc, set) else {
+    let Ok(state) = State::new(alloc, set, segment) else {
         return Err((InitFault::NoMemory, disk));
     };
     let Ok(head) = head_of(alloc, set, segment) else {
@@ -143,8 +143,8 @@ impl<D: Disk, J: Job> Store<D, J> {
         // If the disk was empty since some moment, each image since then is no store's, or the empty state's: at every
         // moment of the call, whatever it answers.
         ensures recovers { IsHonest (D.view disk) → MatchResult result
-            (λ store. IsNoneOrMade (format J.kind) (empty set.now) (D.view disk) (D.view store.file.disk))
-            (λ e. IsNoneOrMade (format J.kind) (empty set.now) (D.view disk) (D.view e.1)) }
+            (λ store. IsNoneOrMade (format J.kind) (empty set.now segment) (D.view disk) (D.view store.file.disk))
+            (λ e. IsNoneOrMade (format J.kind) (empty set.now segment) (D.view disk) (D.view e.1)) }
     {
         match check_segment(set, segment) {
             Ok(()) => match made(alloc, disk, set, segment) {

@@ -97,10 +97,11 @@ impl<D: Disk, J: Job> Store<D, J> {
     /// It makes four calls of the disk where the frame fits, and otherwise six more and those of the checkpoint's steps that
     /// are left: never more than 15 and one for each 4,096 bytes of a checkpoint area.
     ///
-    /// The batch begins with the next number, has rows of the state's workers, and is right at the state. `Device` breaks
-    /// the store, and it keeps its state; a broken store answers `Broken` and does nothing.
+    /// The batch begins with the next number, has rows of the state's workers, says of no task that it is real, and is right at
+    /// the state. `Device` breaks the store, and it keeps its state; a broken store answers `Broken` and does nothing.
     pub fn append(&mut self, batch: &Batch<J>) -> Result<Mark, StoreFault>
-        requires next { IsNext J.kind self.old.state batch.now.workers batch.now.first (map plain batch.now.records.items) }
+        requires next { IsNext J.kind self.old.state batch.now.workers batch.now.real batch.now.first
+            (map plain batch.now.records.items) }
         ensures call { let n = length (batch_bytes J.kind (batch_of batch.now.first batch.now.records.items)) in
             IsCall D.view self.old self.new result (append_calls n self.old.file.places) }
         ensures state { MovesBy J.kind (map plain batch.now.records.items) result self.old.state self.new.state }

@@ -104,7 +104,8 @@ impl<D: Disk, J: Job> Journal<D, J> {
 
     // Appends a batch, as a store does.
     pub(crate) fn append(&mut self, batch: &Batch<J>) -> Result<Mark, StoreFault>
-        requires next { IsNext J.kind self.old.state batch.now.workers batch.now.first (map plain batch.now.records.items) }
+        requires next { IsNext J.kind self.old.state batch.now.workers batch.now.real batch.now.first
+            (map plain batch.now.records.items) }
         ensures call { let n = length (batch_bytes J.kind (batch_of batch.now.first batch.now.records.items)) in
             IsCall D.view (stored self.old) (stored self.new) result (append_calls n self.old.file.places) }
         ensures moves { let n = length (batch_bytes J.kind (batch_of batch.now.first batch.now.records.items)) in

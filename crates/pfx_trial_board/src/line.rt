@@ -52,10 +52,10 @@ impl<J: Job, B: Begun<J>, R: Wait + Drop> Line<J, B, R> {
         if records.push(entry).is_err() {
             return false;
         }
-        if !fits(workers, first, &records) {
+        if !fits(workers, 0, first, &records) {
             return false;
         }
-        let batch = Batch::new(workers, first, records);
+        let batch = Batch::new(workers, 0, first, records);
         if !apply_record(state, &batch.records[0]) {
             return false;
         }
@@ -66,7 +66,7 @@ impl<J: Job, B: Begun<J>, R: Wait + Drop> Line<J, B, R> {
 /// Three tasks of 2/3 on two workers, before the first command.
 pub fn thirds(alloc: Global) -> Option<State<AnyJob>> {
     let set = TaskSet::new(alloc, 2, &[(2, 3), (2, 3), (2, 3)]).ok()?;
-    State::new(alloc, &set).ok()
+    State::new(alloc, &set, 1 << 24).ok()
 }
 
 /// The record of a slot in which these two tasks ran, neither of which has a job.

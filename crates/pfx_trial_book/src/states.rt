@@ -1,10 +1,8 @@
 //! States that books begin with.
 
-use pfx_columns::Columns;
 use pfx_jobs::job::Job;
 use pfx_kinds::any::AnyJob;
-use pfx_kit::states;
-use pfx_kit::states::state_at;
+use pfx_kit::states::{SEGMENT, state_at};
 use pfx_machine::{Command, State};
 use pfx_weights::TaskSet;
 use std::alloc::Global;
@@ -24,7 +22,7 @@ impl Trial for AnyJob {
 /// Three tasks of 2/3 on two workers, before the first command.
 pub fn thirds(alloc: Global) -> Option<State<AnyJob>> {
     let set = TaskSet::new(alloc, 2, &[(2, 3), (2, 3), (2, 3)]).ok()?;
-    State::new(alloc, &set).ok()
+    State::new(alloc, &set, SEGMENT).ok()
 }
 
 /// The same after the first command, which gave task 2 a count.
@@ -39,35 +37,30 @@ pub fn later(alloc: Global) -> Option<State<AnyJob>> {
     Some(state)
 }
 
-/// The ledger of a set with these allocations.
-fn ledger_at(
-    alloc: Global,
-    m: u32,
-    tasks: &[(u32, u32)],
-    slot: u64,
-    allocs: &[u64],
-) -> Option<Columns> {
-    let set = TaskSet::new(alloc, m, tasks).ok()?;
-    states::ledger_at(alloc, &set, slot, allocs)
-}
-
 /// One task of 1/2 with a job, at the last slot and before the last number.
 pub fn at_the_limits(alloc: Global) -> Option<State<AnyJob>> {
     let allocs = [1 << 39, (1 << 39) - 1];
-    let ledger = ledger_at(alloc, 1, &[(1, 2)], (1 << 40) - 1, &allocs)?;
-    state_at(alloc, (1 << 48) - 2, ledger, Some(AnyJob::count()?))
+    let set = TaskSet::new(alloc, 1, &[(1, 2)]).ok()?;
+    state_at(
+        alloc,
+        (1 << 48) - 2,
+        &set,
+        (1 << 40) - 1,
+        &allocs,
+        Some(AnyJob::count()?),
+    )
 }
 
 /// Four tasks in slot 2, of which two are urgent for one worker.
 pub fn urgent(alloc: Global) -> Option<State<AnyJob>> {
     let tasks = [(1, 3), (1, 3), (1, 6), (1, 6)];
-    let ledger = ledger_at(alloc, 1, &tasks, 2, &[0, 0, 1, 1])?;
-    state_at(alloc, 7, ledger, None)
+    let set = TaskSet::new(alloc, 1, &tasks).ok()?;
+    state_at(alloc, 7, &set, 2, &[0, 0, 1, 1], None)
 }
 
 /// Four tasks in slot 2, of which two are eligible for three workers.
 pub fn idle(alloc: Global) -> Option<State<AnyJob>> {
     let tasks = [(2, 3), (2, 3), (5, 6), (5, 6)];
-    let ledger = ledger_at(alloc, 3, &tasks, 2, &[2, 2, 1, 1])?;
-    state_at(alloc, 0, ledger, None)
+    let set = TaskSet::new(alloc, 3, &tasks).ok()?;
+    state_at(alloc, 0, &set, 2, &[2, 2, 1, 1], None)
 }

@@ -43,7 +43,7 @@ fn is_thawed(alloc: Global, set: &TaskSet, bytes: &[u8], number: u64, slot: u64)
     if bytes.len() != state_len(set) {
         return false;
     }
-    match read::<AnyJob>(alloc, set, bytes) {
+    match read::<AnyJob>(alloc, 0, 8192, set, bytes) {
         Ok(state) => state.number() == number && state.columns().slot() == slot,
         Err(_) => false,
     }
@@ -108,7 +108,7 @@ fn reads_what_it_froze(rt: HostRuntime) {
 
 fn half_is_frozen_and_read(alloc: Global) -> Option<bool> {
     let set = TaskSet::new(alloc, 2, &[(1, 2)]).ok()?;
-    let state = State::new(alloc, &set).ok()?;
+    let state = State::new(alloc, &set, 8192).ok()?;
     let bytes = frozen(alloc, &state)?;
     Some(bytes.len() == 16 + 137 + 3 * 8 && is_thawed(alloc, &set, &bytes, 0, 0))
 }
@@ -127,7 +127,7 @@ fn is_damaged(alloc: Global, at: usize, byte: u8) -> Option<bool> {
     if bytes.len() != state_len(&set) {
         return None;
     }
-    match read::<AnyJob>(alloc, &set, &bytes) {
+    match read::<AnyJob>(alloc, 0, 8192, &set, &bytes) {
         Ok(_) => Some(false),
         Err(fault) => Some(fault == CheckpointFault::Damaged),
     }

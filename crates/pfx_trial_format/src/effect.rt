@@ -7,6 +7,7 @@ use pfx_kinds::any::AnyJob;
 use pfx_machine::{Command, MachineFault, Reply, State};
 use pfx_record::{Place, Record};
 use pfx_redo::{apply_all, apply_record, laws, run_recorded};
+use pfx_weights::Weights;
 use std::alloc::Global;
 
 /// A submit of rule 110 from one cell to task 0.
@@ -202,6 +203,26 @@ fn is_wrong(alloc: Global, state: &mut State<AnyJob>, record: Option<Record<AnyJ
 fn submit(task: u16) -> Option<Record<AnyJob>> {
     let job = count()?;
     Some(Record::Submit { task, job })
+}
+
+/// New weights for three tasks.
+fn new_weights(alloc: Global) -> Option<Record<AnyJob>> {
+    let weights = Vec::from_array(alloc, [(1, 3), (1, 3), (1, 3)]).ok()?;
+    Some(Record::Reweigh {
+        workers: 1,
+        weights: Weights::new(weights),
+    })
+}
+
+// No task is said to be real.
+#[test]
+fn new_weights_change_nothing(rt: HostRuntime) {
+    let alloc = rt.alloc();
+    let Some(mut state) = busy_thirds(alloc) else {
+        return check(&rt, false, "a job given");
+    };
+    let record = new_weights(alloc);
+    check(&rt, is_wrong(alloc, &mut state, record), "new weights");
 }
 
 // An unfinished job gets none over it; idle and missing tasks get none; nothing is taken if nothing is.

@@ -5,9 +5,10 @@ use pfx_jobs::job::{Job, are_same};
 use pfx_kinds::any::AnyJob;
 use pfx_record::laws::one_spelling;
 use pfx_record::{
-    Batch, BatchFault, FramePart, Place, Record, batch_len, fits, read_batch, read_head, read_next,
-    write_batch,
+    Batch, BatchFault, Form, FramePart, Place, Record, batch_len, fits, read_batch, read_head,
+    read_next, write_batch,
 };
+use pfx_weights::Weights;
 use std::alloc::Global;
 
 /// A frame of one slot whose row is the tasks 0 and 1, without jobs.
@@ -42,8 +43,8 @@ fn slot_of(
 
 /// The batch of two workers with these records.
 fn batch_from(first: u64, records: Vec<Record<AnyJob>>) -> Option<Batch<AnyJob>> {
-    if fits(2, first, &records) {
-        Some(Batch::new(2, first, records))
+    if fits(2, 0, first, &records) {
+        Some(Batch::new(2, 0, first, records))
     } else {
         None
     }
@@ -58,7 +59,7 @@ fn batch_of_one(alloc: Global, first: u64, record: Record<AnyJob>) -> Option<Bat
 
 /// Whether the bytes are read as so many records from this number on, all the bytes, and are written so again.
 fn is_read_whole(alloc: Global, bytes: &[u8], first: u64, records: usize) -> bool {
-    match read_batch::<AnyJob>(alloc, 2, bytes) {
+    match read_batch::<AnyJob>(alloc, 2, 0, bytes) {
         Ok((read, taken)) => {
             read.first == first
                 && taken == bytes.len()
@@ -158,7 +159,7 @@ fn is_submitted(record: &Record<AnyJob>) -> bool {
 }
 
 fn are_read_as_three(alloc: Global, bytes: &[u8]) -> bool {
-    match read_batch::<AnyJob>(alloc, 2, bytes) {
+    match read_batch::<AnyJob>(alloc, 2, 0, bytes) {
         Ok((read, taken)) => match read.records.first() {
             Some(record) => { read.first == (1 << 48) - 3 && taken == 156 && is_submitted(record) }
             None => false,
@@ -179,7 +180,12 @@ fn three_records(rt: HostRuntime) {
 
 /// Whether the bytes begin with a row of two tasks, which takes 7 of them.
 fn is_row_of_two(alloc: Global, bytes: &[u8]) -> bool {
-    match read_next::<AnyJob>(alloc, 2, bytes) {
+    let form = Form {
+        workers: 2,
+        real: 0,
+        alone: true,
+    };
+    match read_next::<AnyJob>(alloc, form, bytes) {
         Ok(Some((Record::Slot { row }, 7))) => row.len() == 2,
         _ => false,
     }
@@ -201,7 +207,7 @@ fn a_head_and_a_record(rt: HostRuntime) {
 
 /// The fault of the bytes, with the place.
 fn fault_of(alloc: Global, bytes: &[u8]) -> Option<BatchFault> {
-    read_batch::<AnyJob>(alloc, 2, bytes).err()
+    read_batch::<AnyJob>(alloc, 2, 0, bytes).err()
 }
 
 /// Whether the bytes are no frame.
@@ -250,7 +256,7 @@ fn faulty_heads(rt: HostRuntime) {
 
 fn is_no_row_of_three(alloc: Global) -> bool {
     let what = FramePart::Record;
-    read_batch::<AnyJob>(alloc, 3, &ONE_SLOT).err() == Some(BatchFault::Damaged { at: 15, what })
+    read_batch::<AnyJob>(alloc, 3, 0, &ONE_SLOT).err() == Some(BatchFault::Damaged { at: 15, what })
 }
 
 fn is_left_over(alloc: Global) -> Option<bool> {
@@ -272,9 +278,10 @@ fn is_no_state(alloc: Global) -> Option<bool> {
 #[test]
 fn faulty_records(rt: HostRuntime) {
     let alloc = rt.alloc();
-    // Another tag, another flag, a job that isn't there, rows that don't rise, a record that is missing.
+    // Other tags, another flag, a job that isn't there, rows that don't rise, a record that is missing.
     for (at, byte, place) in [
         (15, 4, 15),
+        (15, 5, 15),
         (18, 2, 15),
         (18, 1, 15),
         (16, 1, 15),
@@ -290,6 +297,72 @@ fn faulty_records(rt: HostRuntime) {
     check(&rt, is_no_state(alloc) == Some(true), "no encoding");
 }
 
+/// The frame of command 4: from then on there is one worker, and each of three real tasks has the weight 1/3.
+const NEW_WEIGHTS: [u8; 41] = [
+    0xC3, 0x1A, 0, 0, 0, 4, 0, 0, 0, 0, 0, 0, 0, 1, 0, 4, 1, 1, 0, 0, 0, 3, 0, 0, 0, 1, 0, 0, 0, 3,
+    0, 0, 0, 1, 0, 0, 0, 3, 0, 0, 0,
+];
+
+/// That record.
+fn new_weights(alloc: Global) -> Option<Record<AnyJob>> {
+    let weights = Vec::from_array(alloc, [(1, 3), (1, 3), (1, 3)]).ok()?;
+    Some(Record::Reweigh {
+        workers: 1,
+        weights: Weights::new(weights),
+    })
+}
+
+fn new_weights_are_written(alloc: Global) -> Option<bool> {
+    let mut records = Vec::new(alloc);
+    records.push(new_weights(alloc)?).ok()?;
+    if !fits(2, 3, 4, &records) {
+        return None;
+    }
+    let batch = Batch::new(2, 3, 4, records);
+    Some(is_spelled(alloc, &batch, &NEW_WEIGHTS))
+}
+
+/// Whether new weights are a batch with another record, or where another number of tasks is real.
+fn are_new_weights_elsewhere(alloc: Global) -> Option<bool> {
+    let mut records = Vec::new(alloc);
+    records.push(new_weights(alloc)?).ok()?;
+    let other = fits(2, 0, 4, &records) || fits(2, 2, 4, &records) || fits(2, 4, 4, &records);
+    records.push(Record::Withdraw { task: 0 }).ok()?;
+    Some(other || fits(2, 3, 4, &records))
+}
+
+/// Whether the bytes are read as that record, all of them, and are written so again.
+fn are_new_weights(alloc: Global, bytes: &[u8]) -> bool {
+    match read_batch::<AnyJob>(alloc, 2, 3, bytes) {
+        Ok((read, taken)) => {
+            read.first == 4 && taken == bytes.len() && is_spelled(alloc, &read, bytes)
+        }
+        Err(_) => false,
+    }
+}
+
+/// Whether so many real tasks make the frame's record faulty, at this place.
+fn are_faulty(alloc: Global, real: u32, bytes: &[u8], at: usize) -> bool {
+    let what = FramePart::Record;
+    read_batch::<AnyJob>(alloc, 2, real, bytes).err() == Some(BatchFault::Damaged { at, what })
+}
+
+#[test]
+fn weights_for_three_tasks(rt: HostRuntime) {
+    let alloc = rt.alloc();
+    let written = new_weights_are_written(alloc);
+    check(&rt, written == Some(true), "written");
+    let elsewhere = are_new_weights_elsewhere(alloc);
+    check(&rt, elsewhere == Some(false), "nowhere else");
+    check(&rt, are_new_weights(alloc, &NEW_WEIGHTS), "read");
+    check(&rt, are_faulty(alloc, 0, &NEW_WEIGHTS, 15), "none is real");
+    check(&rt, are_faulty(alloc, 2, &NEW_WEIGHTS, 33), "two are real");
+    check(&rt, are_faulty(alloc, 4, &NEW_WEIGHTS, 15), "four are real");
+    let mut two = NEW_WEIGHTS;
+    two[13] = 2;
+    check(&rt, are_faulty(alloc, 3, &two, 15), "one of two");
+}
+
 /// So many times task 7's job taken away.
 fn withdraws(alloc: Global, number: usize) -> Vec<Record<AnyJob>> {
     let mut records = Vec::new(alloc);
@@ -302,13 +375,13 @@ fn withdraws(alloc: Global, number: usize) -> Vec<Record<AnyJob>> {
 /// Whether so many records are there, and whether they are a batch is as wanted.
 fn is_batch_of(alloc: Global, number: usize, wanted: bool) -> bool {
     let records = withdraws(alloc, number);
-    records.len() == number && fits(2, 1, &records) == wanted
+    records.len() == number && fits(2, 0, 1, &records) == wanted
 }
 
 /// Whether 16 records are a batch as wanted.
 fn are_16_batch(alloc: Global, workers: u32, first: u64, wanted: bool) -> bool {
     let records = withdraws(alloc, 16);
-    records.len() == 16 && fits(workers, first, &records) == wanted
+    records.len() == 16 && fits(workers, 0, first, &records) == wanted
 }
 
 /// Whether the slot of two tasks is a batch of two workers as wanted, and none of one or three.
@@ -320,7 +393,7 @@ fn is_row_as(alloc: Global, first: u16, second: u16, wanted: bool) -> bool {
     if records.push(record).is_err() {
         return false;
     }
-    fits(2, 1, &records) == wanted && !fits(1, 1, &records) && !fits(3, 1, &records)
+    fits(2, 0, 1, &records) == wanted && !fits(1, 0, 1, &records) && !fits(3, 0, 1, &records)
 }
 
 #[test]

@@ -12,5 +12,5 @@ pub fn thirds(alloc: Global) -> Option<TaskSet> {
 
 /// Its state before any command.
 pub fn new_state(alloc: Global) -> Option<State<AnyJob>> {
-    State::new(alloc, &thirds(alloc)?).ok()
+    State::new(alloc, &thirds(alloc)?, 8192).ok()
 }

@@ -4,7 +4,7 @@ use pfx_choice::ChoiceFault;
 use pfx_jobs::job::{Job, are_same};
 use pfx_jobs::quantum::{Done, Quantum};
 use pfx_kinds::any::AnyJob;
-use pfx_kit::states::{ledger_at, state_at};
+use pfx_kit::states::{SEGMENT, state_at};
 use pfx_machine::{Answer, Board, Command, JobStatus, MachineFault, Reply, State, run, run_all};
 use pfx_weights::TaskSet;
 use std::alloc::Global;
@@ -12,7 +12,7 @@ use std::alloc::Global;
 /// Three tasks of 2/3 on two workers, before the first command.
 fn thirds(alloc: Global) -> Option<State<AnyJob>> {
     let set = TaskSet::new(alloc, 2, &[(2, 3), (2, 3), (2, 3)]).ok()?;
-    State::new(alloc, &set).ok()
+    State::new(alloc, &set, SEGMENT).ok()
 }
 
 /// A submit of a count of `goal` steps.
@@ -185,9 +185,16 @@ fn refuses_by_name(rt: HostRuntime) {
 /// One task of 1/2 with a job, at the last slot and before the last number.
 fn at_the_limits(alloc: Global) -> Option<State<AnyJob>> {
     let set = TaskSet::new(alloc, 1, &[(1, 2)]).ok()?;
-    let ledger = ledger_at(alloc, &set, (1 << 40) - 1, &[1 << 39, (1 << 39) - 1])?;
+    let allocs = [1 << 39, (1 << 39) - 1];
     let job = AnyJob::start("count", 1, b"").ok()?;
-    state_at(alloc, (1 << 48) - 2, ledger, Some(job))
+    state_at(
+        alloc,
+        (1 << 48) - 2,
+        &set,
+        (1 << 40) - 1,
+        &allocs,
+        Some(job),
+    )
 }
 
 /// Whether a slot at the number limit isn't opened, for that.
@@ -246,8 +253,7 @@ fn cannot_go_on(
     fault: MachineFault,
 ) -> Option<bool> {
     let set = TaskSet::new(alloc, m, tasks).ok()?;
-    let ledger = ledger_at(alloc, &set, 2, &allocs)?;
-    let mut state = state_at(alloc, number, ledger, None)?;
+    let mut state = state_at(alloc, number, &set, 2, &allocs, None)?;
     Some(
         refuses(&mut state, Command::Slot, fault)
             && state.number() == number

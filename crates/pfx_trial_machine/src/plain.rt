@@ -3,7 +3,7 @@
 use pfx_choice::choose;
 use pfx_jobs::job::{Job, are_same};
 use pfx_kinds::any::AnyJob;
-use pfx_kit::states::ledger_at;
+use pfx_kit::states::{SEGMENT, ledger_at};
 use pfx_machine::{Command, Happening, Reply, State, plain_job, plain_slots};
 use pfx_weights::{Row, TaskSet};
 use std::alloc::Global;
@@ -151,7 +151,7 @@ fn agrees_after(
 /// How many commands of a list of 40 the machine and the plain programs agree on, up to the first on which they don't.
 fn list_agrees(alloc: Global, m: u32, tasks: &[(u32, u32)], seed: u32) -> Option<u32> {
     let set = TaskSet::new(alloc, m, tasks).ok()?;
-    let mut state: State<AnyJob> = State::new(alloc, &set).ok()?;
+    let mut state: State<AnyJob> = State::new(alloc, &set, SEGMENT).ok()?;
     let mut happened: Vec<Happening<AnyJob>> = Vec::new(alloc);
     let real = u16::try_from(tasks.len()).ok()?;
     let mut seed = seed;

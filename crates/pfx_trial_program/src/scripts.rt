@@ -4,6 +4,7 @@ use crate::torn::Torn;
 use csv::StringRecord;
 use pfx_fault::Fault;
 use pfx_kinds::any::AnyJob;
+use pfx_kit::states::SEGMENT;
 use pfx_kit::week::{FIRST_WEEK, SECOND_WEEK, WEEK};
 use pfx_machine::State;
 use pfx_program::{Form, run_record, run_script};
@@ -16,7 +17,7 @@ use std::io::Write;
 /// The state of a set before its first command.
 pub fn begun(alloc: Global, workers: u32, weights: &[(u32, u32)]) -> Option<State<AnyJob>> {
     let set = TaskSet::new(alloc, workers, weights).ok()?;
-    State::new(alloc, &set).ok()
+    State::new(alloc, &set, SEGMENT).ok()
 }
 
 /// Three tasks of weight 2/3 on two workers.

@@ -1,9 +1,9 @@
 //! Scripts whose slots are run several at once: the lines are those of slots that are run one at a time, up to a refusal
 //! within a window or at its border, and up to where a writer fails.
 
-use pfx_columns::Columns;
 use pfx_fault::Fault;
 use pfx_kinds::any::AnyJob;
+use pfx_kit::states::state_at;
 use pfx_machine::State;
 use pfx_program::{Form, run_script};
 use pfx_script::Script;
@@ -18,26 +18,14 @@ const WINDOWS: [u32; 3] = [1, 2, 16];
 /// The number after the last one.
 const END: u64 = 1 << 48;
 
-/// The ledger of three tasks of weight 2/3 on two workers, before their first slot.
-fn ledger(alloc: Global) -> Option<Columns> {
-    let set = TaskSet::new(alloc, 2, &[(2, 3), (2, 3), (2, 3)]).ok()?;
-    if set.total() != 3 {
-        return None;
-    }
-    Columns::from_allocations(alloc, &set, 0, &[0, 0, 0]).ok()
-}
-
-/// The state of these tasks that takes so many commands more, 4,096 at the most.
+/// The state of three tasks of weight 2/3 on two workers, before their first slot, that takes so many commands more, 4,096 at
+/// the most.
 fn with_room_for(alloc: Global, room: u64) -> Option<State<AnyJob>> {
-    let ledger = ledger(alloc)?;
-    let mut jobs = Vec::new(alloc);
-    for _task in 0..ledger.real() {
-        jobs.push(None).ok()?;
-    }
-    if room > 4096 || jobs.len() != ledger.real() {
+    let set = TaskSet::new(alloc, 2, &[(2, 3), (2, 3), (2, 3)]).ok()?;
+    if room > 4096 {
         return None;
     }
-    Some(State::from_parts(alloc, END - 1 - room, ledger, jobs))
+    state_at(alloc, END - 1 - room, &set, 0, &[0, 0, 0], None)
 }
 
 /// The rows, which come round every three slots.

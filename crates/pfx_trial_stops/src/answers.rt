@@ -61,7 +61,7 @@ fn command(number: u64) -> Option<Command<AnyJob>> {
 
 /// The folds of the first commands: of none of them, of one, and so on up to all.
 fn folds(alloc: Global) -> Option<Vec<Fold>> {
-    let start = State::new(alloc, &thirds(alloc)?).ok()?;
+    let start = State::new(alloc, &thirds(alloc)?, SEGMENT).ok()?;
     let mut commands = Vec::new(alloc);
     let mut folds = Vec::new(alloc);
     for number in 1..COMMANDS + 2 {

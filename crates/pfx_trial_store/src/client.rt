@@ -22,6 +22,7 @@ pub fn ten_calls<D: Disk, J: Job>(
     second: &Batch<J>,
 ) -> Result<(Mark, Mark), StoreFault>
     requires workers { (first.now.workers ≡ store.old.state.ledger.set.workers) × (second.now.workers ≡ store.old.state.ledger.set.workers) }
+    requires real { (first.now.real ≡ 0) × (second.now.real ≡ 0) }
     requires first { first.now.first ≡ store.old.state.number + 1 }
     requires right { (s : Plain J) × (applied J.kind store.old.state (map plain first.now.records.items) ≡ Some s)
         × (second.now.first ≡ s.number + 1) × (t : Plain J) × (applied J.kind s (map plain second.now.records.items) ≡ Some t) }

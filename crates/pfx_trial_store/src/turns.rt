@@ -33,10 +33,10 @@ fn append<J: Job>(
     };
     let workers = copy.columns().workers();
     let first = copy.number() + 1;
-    if !fits(workers, first, &records) {
+    if !fits(workers, 0, first, &records) {
         return false;
     }
-    let batch = Batch::new(workers, first, records);
+    let batch = Batch::new(workers, 0, first, records);
     apply_all(&mut copy, &batch.records) && store.append(&batch).is_ok()
 }
 

@@ -26,12 +26,12 @@ thirds = record { workers = 2; real = 3; hyper = 3; weights = (2, 3) ∷ (2, 3) 
 abbrev pub down : Kind ℕ
 down = record { left = λ n. n; stepped = λ n. n - 1; spelling = λ n. []; decoded = λ bytes. None }
 
-first_row : chosen (empty {J = ℕ} thirds).ledger ≡ Ok (0 ∷ 1 ∷ [])
+first_row : chosen (empty {J = ℕ} thirds 8192).ledger ≡ Ok (0 ∷ 1 ∷ [])
 unfolding substring_at
 first_row = refl
 
 abbrev pub begin : Plain ℕ
-begin = empty thirds
+begin = empty thirds 8192
 
 -- a job of three steps for task 0, a slot, and the job of task 1
 abbrev pub commands : List (Command ℕ)

@@ -5,7 +5,7 @@ use Rattle.std.proofs.Common.{zero, suc, sym, ◌∙◌, ap, subst, arith, appen
 use Rattle.std.proofs.lemmas.List.{take-append-le, length-take-le, take_all}
 use Rattle.std.proofs.lemmas.Bool.{cases_lt, cases_eq, ne_eqb}
 use Rattle.pfx_jobs.specs.Kind.{Kind}
-use Rattle.pfx_machine.specs.Plain.{Plain, IsState}
+use Rattle.pfx_machine.specs.Plain.{Plain, whole, IsState}
 use Rattle.pfx_machine.specs.Outcome.{outcome}
 use Rattle.pfx_machine.specs.Refusals.{refusal}
 use Rattle.pfx_machine.specs.declared.command.Command.{Command}
@@ -14,7 +14,8 @@ use Rattle.pfx_machine.specs.Happenings.{row_or_none}
 use Rattle.pfx_machine.specs.Slots.{Deal, deals_in, written_back}
 use Rattle.pfx_weights.specs.Rows.{is_in}
 use Rattle.pfx_columns.specs.Ledgers.{after as ledger_behind}
-use Rattle.pfx_choice.specs.PfRows.{chosen}
+use Rattle.pfx_machine.specs.Choosing.{row_in}
+use Rattle.pfx_machine.proofs.Rowing.{row_chosen}
 use Rattle.pfx_machine.specs.Refusals.{command_fault}
 use Rattle.pfx_machine.specs.Steps.{state_step, happening_in, jobs_step}
 use Rattle.pfx_machine.proofs.Dealt.{written-dealt}
@@ -499,22 +500,22 @@ module _ {J : Type 0} (S : Setting J) (sound : IsSound S) (B : Plain J) where
   all_given K [] (b ∷ back) jobs right all = absurd right
   all_given K (d ∷ quanta) [] jobs right all = absurd right
 
-  row_apart : (s : Plain J) → IsState s → refusal S.kind s Slot ≡ None → Apart (row_or_none (chosen s.ledger))
+  row_apart : (s : Plain J) → IsState s → refusal S.kind s Slot ≡ None → Apart (row_or_none (row_in s))
   row_apart s state free =
-      let chosen_is = slot_row (chosen s.ledger) (below_limit s.number (command_fault S.kind s Slot) free).1 in
-      apart_of _ (chosen_rises s.ledger (row_or_none (chosen s.ledger)) state.ledger chosen_is)
+      let chosen_is = slot_row (row_in s) (below_limit s.number (command_fault S.kind s Slot) free).1 in
+      apart_of _ (chosen_rises s.ledger (row_or_none (row_in s)) state.ledger (row_chosen s (row_or_none (row_in s)) chosen_is))
 
   sealed : (s : Plain J) (o : Opened J) → IsState s → IsOpen S s o → AllBack o.back → sealed_in s (Some o) ≡ state_step S.kind s (happening_in s Slot)
   sealed s o state was all =
-      let row = row_or_none (chosen s.ledger) in
+      let row = row_or_none (row_in s) in
       let quanta : o.quanta ≡ deals_in S.kind s row = was.quanta_are ∙ ap (deals_in S.kind s) was.row_is in
       let jobs : given_back o.quanta o.back s.jobs ≡ jobs_step S.kind 0 (happening_in s Slot) s.jobs =
       all_given S.kind o.quanta o.back s.jobs was.back_right all
-      ∙ (ap (λ q. written_back S.kind q s.jobs) quanta ∙ (written-dealt S.kind (s.number + 1) s.ledger.slot row s.jobs (row_apart s state was.free) ∙ served-slot S.kind 0 s.ledger.slot row s.jobs)) in
+      ∙ (ap (λ q. written_back S.kind q s.jobs) quanta ∙ (written-dealt S.kind (s.number + 1) (whole s) row s.jobs (row_apart s state was.free) ∙ served-slot S.kind 0 (whole s) row s.jobs)) in
       ap (λ j. same_but s o.row j) jobs ∙ ap (λ r. same_but s r (jobs_step S.kind 0 (happening_in s Slot) s.jobs)) was.row_is
     where
       same_but : Plain J → List ℕ → List (Option J) → Plain J
-      same_but t row jobs = record { number = t.number + 1; ledger = ledger_behind t.ledger (is_in row); jobs = jobs }
+      same_but t row jobs = record { number = t.number + 1; from = t.from; ledger = ledger_behind t.ledger (is_in row); jobs = jobs; segment = t.segment }
 
   -- the book's state is one
   state_now : (w : World S) → Holds S B w → IsState w.book.state

@@ -4,7 +4,7 @@ use Rattle.std.specs.Prelude.{List, [], ◌∷◌, ◌++◌, take, map, Option, 
 use Rattle.pfx_machine.specs.Plain.{Plain}
 use Rattle.pfx_weights.specs.Rows.{is_in}
 use Rattle.pfx_columns.specs.Ledgers.{after}
-use Rattle.pfx_choice.specs.PfRows.{chosen}
+use Rattle.pfx_machine.specs.Choosing.{row_in}
 use Rattle.pfx_jobs.specs.Kind.{Kind}
 use Rattle.pfx_machine.specs.Happenings.{row_or_none}
 use Rattle.pfx_machine.specs.Steps.{state_step, happening_in}
@@ -49,7 +49,7 @@ module _ {J : Type 0} where
   -- a slot is opened: its row, its quanta
   abbrev pub opening_of : Kind J → Plain J → Opened J
   opening_of K s =
-      let row = row_or_none (chosen s.ledger) in
+      let row = row_or_none (row_in s) in
       let quanta = deals_in K s row in
       record { row = row; quanta = quanta; back = map (λ d. None) quanta }
 
@@ -72,8 +72,10 @@ module _ {J : Type 0} where
   sealed_in s None = s
   sealed_in s (Some o) = record {
     number = s.number + 1;
+    from = s.from;
     ledger = after s.ledger (is_in o.row);
     jobs = given_back o.quanta o.back s.jobs;
+    segment = s.segment;
   }
 
   -- a book that has accepted nothing yet

@@ -1,6 +1,7 @@
 use Rattle.std.proofs.Common.{◌≡◌, ◌+◌, ◌-◌, ◌∙◌, sym, ap, subst, arith, ℕ, drop, take}
 use Rattle.pfx_columns.specs.Ledgers.{Ledger}
 use Rattle.pfx_record.specs.Reading.{IsHead, body_of}
+use Rattle.pfx_record.specs.Records.{form_of}
 use Rattle.pfx_format.specs.Frames.{number_after}
 use Rattle.pfx_format.specs.Taking.{AreTaken, AreWrong}
 use Rattle.pfx_format.proofs.Leading.{no_number}
@@ -32,8 +33,8 @@ returns-else-end-frame-clause-taken g c =
     let same : c.workers-workers.result ≡ s.ledger.set.workers = c.workers-workers.ensures ∙ ap (λ (l : Ledger). l.set.workers) c.columns.ensures in
     let number = ap (λ n. number_after n c.args.frame.now) (sym c.number.ensures.number) ∙ (sym c.number_after.ensures ∙ c.in-Some.is) in
     on_ok c.take_records.result c.take_records.ensures.taken (λ right found is.
-    let taken : AreTaken K s.ledger.set.workers (body_of of.len c.args.frame.now) of.count s t = subst (λ (w : ℕ). AreTaken K w (body_of of.len c.args.frame.now) of.count s t) same
-    (subst (λ (k : ℕ). AreTaken K c.workers-workers.result (take k (drop 15 c.args.frame.now)) of.count s t) long (found is)) in
+    let taken : AreTaken K (form_of s.ledger.set.workers 0 of.count) (body_of of.len c.args.frame.now) of.count s t = subst (λ (w : ℕ). AreTaken K (form_of w 0 of.count) (body_of of.len c.args.frame.now) of.count s t) same
+    (subst (λ (k : ℕ). AreTaken K (form_of c.workers-workers.result 0 of.count) (take k (drop 15 c.args.frame.now)) of.count s t) long (found is)) in
     sym (taken_there K g.met.J.Job.laws s c.args.frame.now of.len of.first of.count head t c.in-Some.field-0 number c.if-end-frame.false taken))
 
 pub returns-else-end-frame-clause-wrong : goal.returns-else-end-frame-clause-wrong
@@ -45,6 +46,6 @@ returns-else-end-frame-clause-wrong g c =
     let long : 15 + of.len - 15 ≡ of.len = omega arith in
     let same : c.workers-workers.result ≡ s.ledger.set.workers = c.workers-workers.ensures ∙ ap (λ (l : Ledger). l.set.workers) c.columns.ensures in
     on_ok c.take_records.result c.take_records.ensures.wrong (λ right found is.
-    let wrong : AreWrong K s.ledger.set.workers (body_of of.len c.args.frame.now) of.count s = subst (λ (w : ℕ). AreWrong K w (body_of of.len c.args.frame.now) of.count s) same
-    (subst (λ (k : ℕ). AreWrong K c.workers-workers.result (take k (drop 15 c.args.frame.now)) of.count s) long (found is)) in
+    let wrong : AreWrong K (form_of s.ledger.set.workers 0 of.count) (body_of of.len c.args.frame.now) of.count s = subst (λ (w : ℕ). AreWrong K (form_of w 0 of.count) (body_of of.len c.args.frame.now) of.count s) same
+    (subst (λ (k : ℕ). AreWrong K (form_of c.workers-workers.result 0 of.count) (take k (drop 15 c.args.frame.now)) of.count s) long (found is)) in
     sym (wrong_there K g.met.J.Job.laws s c.args.frame.now of.len of.first of.count head wrong))

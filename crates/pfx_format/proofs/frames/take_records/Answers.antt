@@ -10,36 +10,36 @@ pub returns-in-None-clause-wrong : goal.returns-in-None-clause-wrong
 returns-in-None-clause-wrong g c not =
     let K = g.J.Job.kind in
     let none = rw c.in-None.is at c.in_ok-read_next.ensures.none in
-    none_next K g.met.J.Job.laws c.args.workers c.args.body.now c.args.state.now c.loop-i.at c.loop-i.i c.args.count c.loop-i.state c.loop-i.invariant c.loop-i-test.true
-    (subst (λ (l : List ℕ). NoRecord K c.args.workers l) (take_rest c.args.body.now c.loop-i.at) none)
+    none_next K g.met.J.Job.laws c.args.form c.args.body.now c.args.state.now c.loop-i.at c.loop-i.i c.args.count c.loop-i.state c.loop-i.invariant c.loop-i-test.true
+    (subst (λ (l : List ℕ). NoRecord K c.args.form l) (take_rest c.args.body.now c.loop-i.at) none)
 
 pub returns-then-not-apply_record-clause-wrong : goal.returns-then-not-apply_record-clause-wrong
 returns-then-not-apply_record-clause-wrong g c not =
     let K = g.J.Job.kind in
     let found = rw c.in-Some.is at c.in_ok-read_next.ensures.found in
-    let is = subst (λ (l : List ℕ). IsRecord K c.args.workers l (plain c.in-Some.entry) c.in-Some.taken) (take_rest c.args.body.now c.loop-i.at) found in
+    let is = subst (λ (l : List ℕ). IsRecord K c.args.form l (plain c.in-Some.entry) c.in-Some.taken) (take_rest c.args.body.now c.loop-i.at) found in
     let kept = c.pass_idle.ensures.kept c.if-pass_idle.false in
-    let now = subst (TakenSoFar K g.met.J.Job.laws c.args.workers c.args.body.now c.args.state.now c.loop-i.at c.loop-i.i) (sym kept) c.loop-i.invariant in
-    wrong_next K g.met.J.Job.laws c.args.workers c.args.body.now c.args.state.now c.loop-i.at c.loop-i.i c.args.count c.pass_idle.new.state now (plain c.in-Some.entry) c.in-Some.taken c.loop-i-test.true is (sym c.apply_record.ensures.right ∙ c.if-not-apply_record.true)
+    let now = subst (TakenSoFar K g.met.J.Job.laws c.args.form c.args.body.now c.args.state.now c.loop-i.at c.loop-i.i) (sym kept) c.loop-i.invariant in
+    wrong_next K g.met.J.Job.laws c.args.form c.args.body.now c.args.state.now c.loop-i.at c.loop-i.i c.args.count c.pass_idle.new.state now (plain c.in-Some.entry) c.in-Some.taken c.loop-i-test.true is (sym c.apply_record.ensures.right ∙ c.if-not-apply_record.true)
 
 pub returns-then-at-body-clause-wrong : goal.returns-then-at-body-clause-wrong
 returns-then-at-body-clause-wrong g c not =
-    taken_over g.J.Job.kind g.met.J.Job.laws c.args.workers c.args.body.now c.args.state.now c.loop-i.at c.loop-i.i c.args.count c.loop-i.state c.loop-i.invariant (omega (arith, c.loop-i-test.false, c.loop-i.auto.i-end)) c.if-at-body.true
+    taken_over g.J.Job.kind g.met.J.Job.laws c.args.form c.args.body.now c.args.state.now c.loop-i.at c.loop-i.i c.args.count c.loop-i.state c.loop-i.invariant (omega (arith, c.loop-i-test.false, c.loop-i.auto.i-end)) c.if-at-body.true
 
 pub loop-i-preserved-then-pass_idle : goal.loop-i-preserved-then-pass_idle
 loop-i-preserved-then-pass_idle g c =
     let K = g.J.Job.kind in
     let passed = c.pass_idle.ensures.taken c.if-pass_idle.true in
     let next = ran (idle passed.row) in
-    let is = subst (λ (l : List ℕ). IsRecord K c.args.workers l next (idle_len c.args.workers)) (take_rest c.args.body.now c.loop-i.at) passed.stands in
-    let more = taken_more K g.met.J.Job.laws c.args.workers c.args.body.now c.args.state.now c.loop-i.at c.loop-i.i c.args.count c.loop-i.state c.loop-i.invariant next (idle_len c.args.workers) c.pass_idle.new.state is passed.right passed.leads in
+    let is = subst (λ (l : List ℕ). IsRecord K c.args.form l next (idle_len c.args.form.workers)) (take_rest c.args.body.now c.loop-i.at) passed.stands in
+    let more = taken_more K g.met.J.Job.laws c.args.form c.args.body.now c.args.state.now c.loop-i.at c.loop-i.i c.args.count c.loop-i.state c.loop-i.invariant next (idle_len c.args.form.workers) c.pass_idle.new.state is passed.right passed.leads in
     rw (c.idle_len-at.ensures) more
 
 pub loop-i-preserved : goal.loop-i-preserved
 loop-i-preserved g c =
     let K = g.J.Job.kind in
     let found = rw c.in-Some.is at c.in_ok-read_next.ensures.found in
-    let is = subst (λ (l : List ℕ). IsRecord K c.args.workers l (plain c.in-Some.entry) c.in-Some.taken) (take_rest c.args.body.now c.loop-i.at) found in
+    let is = subst (λ (l : List ℕ). IsRecord K c.args.form l (plain c.in-Some.entry) c.in-Some.taken) (take_rest c.args.body.now c.loop-i.at) found in
     let kept = c.pass_idle.ensures.kept c.if-pass_idle.false in
-    let now = subst (TakenSoFar K g.met.J.Job.laws c.args.workers c.args.body.now c.args.state.now c.loop-i.at c.loop-i.i) (sym kept) c.loop-i.invariant in
-    taken_more K g.met.J.Job.laws c.args.workers c.args.body.now c.args.state.now c.loop-i.at c.loop-i.i c.args.count c.pass_idle.new.state now (plain c.in-Some.entry) c.in-Some.taken c.apply_record.new.state is (sym c.apply_record.ensures.right ∙ c.if-not-apply_record.false) (c.apply_record.ensures.taken c.if-not-apply_record.false)
+    let now = subst (TakenSoFar K g.met.J.Job.laws c.args.form c.args.body.now c.args.state.now c.loop-i.at c.loop-i.i) (sym kept) c.loop-i.invariant in
+    taken_more K g.met.J.Job.laws c.args.form c.args.body.now c.args.state.now c.loop-i.at c.loop-i.i c.args.count c.pass_idle.new.state now (plain c.in-Some.entry) c.in-Some.taken c.apply_record.new.state is (sym c.apply_record.ensures.right ∙ c.if-not-apply_record.false) (c.apply_record.ensures.taken c.if-not-apply_record.false)

@@ -19,4 +19,4 @@ loop-i-preserved g c =
 
 pub set-requires : goal.set-requires
 set-requires g c =
-    idle_is_row g.J.Job.kind c.args.bytes.now c.loop-i.tasks c.args.workers c.loop-i.low (subst (λ (k : ℕ). IdleSoFar g.J.Job.kind c.args.bytes.now c.loop-i.tasks k c.loop-i.low) (omega (arith, c.loop-i-test.false, c.loop-i.auto.i-end)) c.loop-i.invariant.so_far) (omega (arith, c.loop-i.invariant.long, c.requires.few)) c.requires.few
+    idle_is_row g.J.Job.kind c.args.bytes.now c.loop-i.tasks c.args.form.workers c.loop-i.low (subst (λ (k : ℕ). IdleSoFar g.J.Job.kind c.args.bytes.now c.loop-i.tasks k c.loop-i.low) (omega (arith, c.loop-i-test.false, c.loop-i.auto.i-end)) c.loop-i.invariant.so_far) (omega (arith, c.loop-i.invariant.long, c.requires.few)) c.requires.few

@@ -9,7 +9,7 @@ use Rattle.pfx_front.proofs.flusher.commit.Goals as goal
 
 pub show-requires : goal.show-requires
 show-requires g c =
-    let small = batch_small c.args.batch.workers c.args.batch.first c.args.batch.records.items c.args.batch.fits in
+    let small = batch_small c.args.batch.workers c.args.batch.real c.args.batch.first c.args.batch.records.items c.args.batch.fits in
     let leads = published_leads g.J.Job.kind g.B.Named.start g.B.Charted.failures g.B.Charted.clock c.args.share.now c.args.batch c.args.store.now.file.broken c.append.new.self.file.broken
     c.args.store.now.state c.append.new.self.state (g.D.Disk.view c.args.store.now.file.disk) (g.D.Disk.view c.append.new.self.file.disk) c.append.result c.requires.taken small
     c.args.publisher.now.batches c.requires.shown c.in-Ok.ensures.state.moved in
@@ -23,7 +23,7 @@ show-requires g c =
 
 pub mark_in-requires : goal.mark_in-requires
 mark_in-requires g c =
-    let small = batch_small c.args.batch.workers c.args.batch.first c.args.batch.records.items c.args.batch.fits in
+    let small = batch_small c.args.batch.workers c.args.batch.real c.args.batch.first c.args.batch.records.items c.args.batch.fits in
     subst (λ n. c.in-Ok.mark.number ≡ g.B.Named.start.number + length (records_in n)) (sym (c.if-not-show.ensures.shown refl))
     (mark_number g.J.Job.kind g.B.Named.start g.B.Charted.failures g.B.Charted.clock c.args.share.now c.args.batch c.args.store.now.file.broken c.append.new.self.file.broken
     c.args.store.now.state c.append.new.self.state (g.D.Disk.view c.args.store.now.file.disk) (g.D.Disk.view c.append.new.self.file.disk) c.append.result c.requires.taken small
@@ -31,14 +31,14 @@ mark_in-requires g c =
 
 pub returns-then-not-show-clause-behind : goal.returns-then-not-show-clause-behind
 returns-then-not-show-clause-behind g c =
-    let small = batch_small c.args.batch.workers c.args.batch.first c.args.batch.records.items c.args.batch.fits in
+    let small = batch_small c.args.batch.workers c.args.batch.real c.args.batch.first c.args.batch.records.items c.args.batch.fits in
     memory_behind g.J.Job.kind g.B.Named.start g.B.Charted.failures g.B.Charted.clock c.args.share.now c.args.batch c.args.store.now.file.broken c.append.new.self.file.broken
     c.args.store.now.state c.append.new.self.state (g.D.Disk.view c.args.store.now.file.disk) (g.D.Disk.view c.append.new.self.file.disk) c.append.result c.requires.taken small
     c.show.new.share c.in-Ok.mark (c.if-not-show.ensures.lost refl) c.in-Ok.ensures.state.moved c.in-Ok.ensures.call.honest.1 c.in-Ok.ensures.marks
 
 pub returns-then-not-show-clause-left : goal.returns-then-not-show-clause-left
 returns-then-not-show-clause-left g c =
-    let small = batch_small c.args.batch.workers c.args.batch.first c.args.batch.records.items c.args.batch.fits in
+    let small = batch_small c.args.batch.workers c.args.batch.real c.args.batch.first c.args.batch.records.items c.args.batch.fits in
     subst (λ b. IsShown g.J.Job.kind g.B.Named.start c.show.new.share b c.append.new.self.state) (sym c.show.ensures.batches)
     (memory_shown g.J.Job.kind g.B.Named.start g.B.Charted.failures g.B.Charted.clock c.args.share.now c.args.batch c.args.store.now.file.broken c.append.new.self.file.broken
     c.args.store.now.state c.append.new.self.state (g.D.Disk.view c.args.store.now.file.disk) (g.D.Disk.view c.append.new.self.file.disk) c.append.result c.requires.taken small
@@ -46,7 +46,7 @@ returns-then-not-show-clause-left g c =
 
 pub returns-else-not-show-clause-step : goal.returns-else-not-show-clause-step
 returns-else-not-show-clause-step g c =
-    let small = batch_small c.args.batch.workers c.args.batch.first c.args.batch.records.items c.args.batch.fits in
+    let small = batch_small c.args.batch.workers c.args.batch.real c.args.batch.first c.args.batch.records.items c.args.batch.fits in
     let noted = c.mark_in.ensures ∙ ap (λ l. l ++ Marked c.in-Ok.mark.number c.in-Ok.mark.clock ∷ []) (c.if-not-show.ensures.shown refl) in
     step_marked g.J.Job.kind g.B.Named.start g.B.Charted.failures g.B.Charted.clock c.args.share.now c.args.batch c.args.store.now.file.broken c.append.new.self.file.broken
     c.args.store.now.state c.append.new.self.state (g.D.Disk.view c.args.store.now.file.disk) (g.D.Disk.view c.append.new.self.file.disk) c.append.result c.requires.taken small
@@ -55,7 +55,7 @@ returns-else-not-show-clause-step g c =
 
 pub returns-else-not-show-clause-shown : goal.returns-else-not-show-clause-shown
 returns-else-not-show-clause-shown g c =
-    let small = batch_small c.args.batch.workers c.args.batch.first c.args.batch.records.items c.args.batch.fits in
+    let small = batch_small c.args.batch.workers c.args.batch.real c.args.batch.first c.args.batch.records.items c.args.batch.fits in
     let noted = c.mark_in.ensures ∙ ap (λ l. l ++ Marked c.in-Ok.mark.number c.in-Ok.mark.clock ∷ []) (c.if-not-show.ensures.shown refl) in
     subst (AreShown c.mark_in.new.share) (sym c.show.ensures.batches)
     (marked_shown g.J.Job.kind g.B.Named.start g.B.Charted.failures g.B.Charted.clock c.args.share.now c.args.batch c.args.store.now.file.broken c.append.new.self.file.broken
@@ -64,7 +64,7 @@ returns-else-not-show-clause-shown g c =
 
 pub returns-in-Err-clause-behind : goal.returns-in-Err-clause-behind
 returns-in-Err-clause-behind g c =
-    let small = batch_small c.args.batch.workers c.args.batch.first c.args.batch.records.items c.args.batch.fits in
+    let small = batch_small c.args.batch.workers c.args.batch.real c.args.batch.first c.args.batch.records.items c.args.batch.fits in
     batch_behind g.J.Job.kind g.B.Named.start g.B.Charted.failures g.B.Charted.clock c.args.share.now c.args.batch c.args.store.now.file.broken c.append.new.self.file.broken
     c.args.store.now.state c.append.new.self.state (g.D.Disk.view c.args.store.now.file.disk) (g.D.Disk.view c.append.new.self.file.disk) c.append.result c.requires.taken small
     c.fail_in.new.share c.in-Err._fault c.fail_in.ensures c.in-Err.ensures.state.same
@@ -74,7 +74,7 @@ returns-in-Err-clause-behind g c =
 
 pub returns-in-Err-clause-left : goal.returns-in-Err-clause-left
 returns-in-Err-clause-left g c =
-    let small = batch_small c.args.batch.workers c.args.batch.first c.args.batch.records.items c.args.batch.fits in
+    let small = batch_small c.args.batch.workers c.args.batch.real c.args.batch.first c.args.batch.records.items c.args.batch.fits in
     device_shown g.J.Job.kind g.B.Named.start g.B.Charted.failures g.B.Charted.clock c.args.share.now c.args.batch c.args.store.now.file.broken c.append.new.self.file.broken
     c.args.store.now.state c.append.new.self.state (g.D.Disk.view c.args.store.now.file.disk) (g.D.Disk.view c.append.new.self.file.disk) c.append.result c.requires.taken small
     c.fail_in.new.share c.args.publisher.now.batches c.fail_in.ensures c.requires.shown c.in-Err.ensures.state.same

@@ -4,4 +4,4 @@ use Rattle.pfx_record.specs.Records.{plain}
 use Rattle.pfx_record.proofs.batch.fits.Given as goal
 
 abbrev pub invariant-loop-entry : goal.invariant-loop-entry
-invariant-loop-entry g l = all_fit l.workers (map plain l.records) ≡ all_fit l.workers (map plain (drop l.entry-index l.records))
+invariant-loop-entry g l = all_fit l.form (map plain l.records) ≡ all_fit l.form (map plain (drop l.entry-index l.records))

@@ -7,7 +7,7 @@ use Rattle.pfx_record.proofs.read.read_records.Goals as goal
 
 pub loop-i-init : goal.loop-i-init
 loop-i-init g c = record {
-  so_far = rw c.in_ok-records.ensures.items (so_far_begins g.J.Job.kind g.met.J.Job.laws c.args.workers c.args.body.now);
+  so_far = rw c.in_ok-records.ensures.items (so_far_begins g.J.Job.kind g.met.J.Job.laws c.args.form c.args.body.now);
   count = c.in_ok-records.ensures.len;
   room = omega (arith, c.in_ok-records.ensures.exact, c.from.ensures);
   inside = omega arith;
@@ -22,8 +22,8 @@ returns-in-None-clause-stops g c =
     let read = map plain c.loop-i.records.items in
     let short : length read < c.args.count = omega (arith, length-map c.loop-i.records.items (plain {J = g.row.J.Denot}), c.loop-i.invariant.count, c.loop-i.records.ok.0, c.loop-i-test.true) in
     let none = rw c.in-None.is at (c.in_ok-read_record.ensures.none) in
-    stop_short K g.met.J.Job.laws c.args.workers c.args.body.now read c.loop-i.at c.args.count c.loop-i.invariant.so_far short
-    (subst (λ (l : List ℕ). NoRecord K c.args.workers l) (take_rest c.args.body.now c.loop-i.at) none)
+    stop_short K g.met.J.Job.laws c.args.form c.args.body.now read c.loop-i.at c.args.count c.loop-i.invariant.so_far short
+    (subst (λ (l : List ℕ). NoRecord K c.args.form l) (take_rest c.args.body.now c.loop-i.at) none)
 
 pub loop-i-preserved : goal.loop-i-preserved
 loop-i-preserved g c =
@@ -31,24 +31,24 @@ loop-i-preserved g c =
     let L = g.met.J.Job.laws in
     let body = c.args.body.now in
     let found = rw c.in-Some.is at (c.in_ok-read_record.ensures.found) in
-    let is = subst (λ (l : List ℕ). IsRecord K c.args.workers l (plain c.in-Some.record) c.in-Some.taken) (take_rest body c.loop-i.at) found in
-    let more = so_far_more K L c.args.workers body (map plain c.loop-i.records.items) c.loop-i.at (plain c.in-Some.record) c.in-Some.taken c.loop-i.invariant.so_far is in
+    let is = subst (λ (l : List ℕ). IsRecord K c.args.form l (plain c.in-Some.record) c.in-Some.taken) (take_rest body c.loop-i.at) found in
+    let more = so_far_more K L c.args.form body (map plain c.loop-i.records.items) c.loop-i.at (plain c.in-Some.record) c.in-Some.taken c.loop-i.invariant.so_far is in
     let pushed : map plain c.push_reserved.new.self.items ≡ map plain c.loop-i.records.items ++ plain c.in-Some.record ∷ [] = ap (map plain) c.push_reserved.ensures.items ∙ map_push plain c.loop-i.records.items c.in-Some.record in
     record {
-      so_far = subst (λ (l : List (Recorded g.row.J.Denot)). SoFar K L c.args.workers body l (c.loop-i.at + c.in-Some.taken)) (sym pushed) more;
+      so_far = subst (λ (l : List (Recorded g.row.J.Denot)). SoFar K L c.args.form body l (c.loop-i.at + c.in-Some.taken)) (sym pushed) more;
       count = omega (arith, c.push_reserved.ensures.len, c.loop-i.invariant.count);
       room = omega (arith, c.push_reserved.ensures.capacity, c.loop-i.invariant.room);
-      inside = record_inside K L c.args.workers body c.loop-i.at (plain c.in-Some.record) c.in-Some.taken c.loop-i.invariant.inside is;
+      inside = record_inside K L c.args.form body c.loop-i.at (plain c.in-Some.record) c.in-Some.taken c.loop-i.invariant.inside is;
     }
 
 pub returns-then-at-body-clause-stops : goal.returns-then-at-body-clause-stops
 returns-then-at-body-clause-stops g c =
     let read = map plain c.loop-i.records.items in
     let all : length read ≡ c.args.count = omega (arith, length-map c.loop-i.records.items (plain {J = g.row.J.Denot}), c.loop-i.invariant.count, c.loop-i.records.ok.0, c.loop-i-test.false) in
-    stop_over g.J.Job.kind g.met.J.Job.laws c.args.workers c.args.body.now read c.loop-i.at c.args.count c.loop-i.invariant.so_far all c.if-at-body.true
+    stop_over g.J.Job.kind g.met.J.Job.laws c.args.form c.args.body.now read c.loop-i.at c.args.count c.loop-i.invariant.so_far all c.if-at-body.true
 
 pub returns-clause-found : goal.returns-clause-found
 returns-clause-found g c =
     let read = map plain c.loop-i.records.items in
     let all : length read ≡ c.args.count = omega (arith, length-map c.loop-i.records.items (plain {J = g.row.J.Denot}), c.loop-i.invariant.count, c.loop-i.records.ok.0, c.loop-i-test.false) in
-    all_read g.J.Job.kind g.met.J.Job.laws c.args.workers c.args.body.now read c.loop-i.at c.args.count c.loop-i.invariant.so_far all c.if-at-body.false
+    all_read g.J.Job.kind g.met.J.Job.laws c.args.form c.args.body.now read c.loop-i.at c.args.count c.loop-i.invariant.so_far all c.if-at-body.false

@@ -15,7 +15,7 @@ place_at-requires g c = c.loop-i.invariant.inside
 
 pub returns-in-None-clause-none : goal.returns-in-None-clause-none
 returns-in-None-clause-none g c =
-    no_row g.J.Job.kind g.met.J.Job.laws c.args.bytes.now c.loop-i.row.items c.loop-i.at c.loop-i.low c.args.workers c.loop-i.invariant.so_far c.in-None.ensures.none (omega (arith, c.loop-i.invariant.count, c.loop-i.row.ok.0)) c.requires.tag
+    no_row g.J.Job.kind g.met.J.Job.laws c.args.bytes.now c.loop-i.row.items c.loop-i.at c.loop-i.low c.args.form c.loop-i.invariant.so_far c.in-None.ensures.none (omega (arith, c.loop-i.invariant.count, c.loop-i.row.ok.0)) c.requires.tag
 
 pub push_reserved-requires : goal.push_reserved-requires
 push_reserved-requires g c = omega (arith, c.loop-i.invariant.count, c.loop-i.invariant.room)
@@ -35,9 +35,9 @@ pub returns-clause-found : goal.returns-clause-found
 returns-clause-found g c =
     let K = g.J.Job.kind in
     let so_far = c.loop-i.invariant.so_far in
-    let count : length c.loop-i.row.items ≡ c.args.workers = omega (arith, c.loop-i.invariant.count, c.loop-i.row.ok.0) in
+    let count : length c.loop-i.row.items ≡ c.args.form.workers = omega (arith, c.loop-i.invariant.count, c.loop-i.row.ok.0) in
     record {
-      fits = row_fits K c.args.bytes.now c.loop-i.row.items c.loop-i.at c.loop-i.low c.args.workers so_far count;
+      fits = row_fits K c.args.bytes.now c.loop-i.row.items c.loop-i.at c.loop-i.low c.args.form so_far count;
       begins = row_stands K c.args.bytes.now c.loop-i.row.items c.loop-i.at c.loop-i.low so_far c.requires.some c.requires.tag;
       long = so_far.place ∙ omega arith;
     }

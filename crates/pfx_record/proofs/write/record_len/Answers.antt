@@ -2,6 +2,7 @@ use Rattle.std.proofs.Common.{ap, arith, length, length-append}
 use Rattle.pfx_record.specs.Numbers.{number_bytes}
 use Rattle.pfx_record.specs.Records.{plain, record_bytes}
 use Rattle.pfx_record.proofs.Again.{length-number_bytes}
+use Rattle.pfx_record.proofs.Bodies.{weights_len}
 use Rattle.pfx_record.proofs.write.record_len.Goals as goal
 
 pub returns-in-Submit : goal.returns-in-Submit
@@ -14,3 +15,8 @@ pub returns-in-Withdraw : goal.returns-in-Withdraw
 returns-in-Withdraw g c =
     let long = ap (λ entry. length (record_bytes g.J.Job.kind (plain entry))) c.in-Withdraw.is in
     omega (arith, long, length-number_bytes 2 c.in-Withdraw.task)
+
+pub returns-in-Reweigh : goal.returns-in-Reweigh
+returns-in-Reweigh g c =
+    let long = ap (λ entry. length (record_bytes g.J.Job.kind (plain entry))) c.in-Reweigh.is in
+    omega (arith, long, weights_len c.in-Reweigh.weights, ap length c.as_slice.ensures)

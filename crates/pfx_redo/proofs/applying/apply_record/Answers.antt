@@ -1,9 +1,8 @@
 use Rattle.std.proofs.Common.{◌≡◌, ◌+◌, ◌<◌, ◌≤◌, ◌^◌, sym, ◌∙◌, ap, arith, subst, true, IsTrue}
 use Rattle.std.specs.Prelude.{Some, None, slice_get, slice_set}
-use Rattle.pfx_columns.specs.Ledgers.{IsLedger}
 use Rattle.pfx_record.specs.Records.{plain, record_fits, submitted, withdrawn}
 use Rattle.pfx_machine.specs.Jobs.{has_job, is_free}
-use Rattle.pfx_redo.specs.Applying.{is_right}
+use Rattle.pfx_redo.specs.Applying.{form_at, is_right}
 use Rattle.pfx_redo.proofs.Effects.{after-submitted, after-withdrawn}
 use Rattle.pfx_redo.proofs.Rightness.{free_is_real, job_is_real, number_wrong, submit_right, withdraw_right}
 use Rattle.pfx_redo.proofs.applying.apply_record.Goals as goal
@@ -26,10 +25,9 @@ pub returns-else-not-is_free-clause-right : goal.returns-else-not-is_free-clause
 returns-else-not-is_free-clause-right g c =
     let s = c.args.state.now in
     let free : is_free g.J.Job.kind (slice_get s.jobs c.in-Submit.task) ≡ true = rw (← c.jobs.ensures) (sym c.is_free.ensures ∙ c.if-not-is_free.false) in
-    let ledger : IsLedger s.ledger = c.number.ensures.state.ledger in
-    let form : IsTrue (record_fits s.ledger.set.workers (plain c.args.entry.now)) = rw (← c.columns-2.ensures, ← c.workers.ensures) (sym c.record_fits.ensures ∙ c.if-not-record_fits.false) in
+    let form : IsTrue (record_fits (form_at s) (plain c.args.entry.now)) = rw (← c.form_at.ensures) (sym c.record_fits.ensures ∙ c.if-not-record_fits.false) in
     let given = ap plain c.in-Submit.is in
-    submit_right g.J.Job.kind s c.in-Submit.task c.in-Submit.job ledger (omega (arith, c.if-number.false, c.number.ensures.number)) (subst (λ r. IsTrue (record_fits s.ledger.set.workers r)) given form) free
+    submit_right g.J.Job.kind s c.in-Submit.task c.in-Submit.job c.number.ensures.state (omega (arith, c.if-number.false, c.number.ensures.number)) (subst (λ r. IsTrue (record_fits (form_at s) r)) given form) free
     ∙ ap (is_right g.J.Job.kind s) (sym given)
 
 pub returns-else-not-is_free-clause-taken : goal.returns-else-not-is_free-clause-taken
@@ -40,10 +38,9 @@ pub returns-else-not-has_job-clause-right : goal.returns-else-not-has_job-clause
 returns-else-not-has_job-clause-right g c =
     let s = c.args.state.now in
     let has : has_job (slice_get s.jobs c.in-Withdraw.task) ≡ true = rw (← c.jobs-in-Withdraw.ensures) (sym c.has_job.ensures ∙ c.if-not-has_job.false) in
-    let ledger : IsLedger s.ledger = c.number.ensures.state.ledger in
-    let form : IsTrue (record_fits s.ledger.set.workers (plain c.args.entry.now)) = rw (← c.columns-2.ensures, ← c.workers.ensures) (sym c.record_fits.ensures ∙ c.if-not-record_fits.false) in
+    let form : IsTrue (record_fits (form_at s) (plain c.args.entry.now)) = rw (← c.form_at.ensures) (sym c.record_fits.ensures ∙ c.if-not-record_fits.false) in
     let given = ap plain c.in-Withdraw.is in
-    withdraw_right g.J.Job.kind s c.in-Withdraw.task ledger (omega (arith, c.if-number.false, c.number.ensures.number)) (subst (λ r. IsTrue (record_fits s.ledger.set.workers r)) given form) has
+    withdraw_right g.J.Job.kind s c.in-Withdraw.task c.number.ensures.state (omega (arith, c.if-number.false, c.number.ensures.number)) (subst (λ r. IsTrue (record_fits (form_at s) r)) given form) has
     ∙ ap (is_right g.J.Job.kind s) (sym given)
 
 pub returns-else-not-has_job-clause-taken : goal.returns-else-not-has_job-clause-taken

@@ -26,13 +26,17 @@ loop-place-preserved g c =
           record {
             jobs = put_next row i c.place-item.result w.in-Some.job c.loop-place.state.jobs c.match-place.state.jobs _ c.place-item.is c.loop-place-test.true c.requires.rises kept.jobs w.in-Some.is jobs;
             number = ap (λ (s : Plain g.row.J.Denot). s.number) now ∙ kept.number;
+            from = ap (λ (s : Plain g.row.J.Denot). s.from) now ∙ kept.from;
             ledger = ap (λ (s : Plain g.row.J.Denot). s.ledger) now ∙ kept.ledger;
+            segment = ap (λ (s : Plain g.row.J.Denot). s.segment) now ∙ kept.segment;
             long = ap length jobs ∙ (length-set c.loop-place.state.jobs c.place-item.result.task (Some w.in-Some.job) ∙ kept.long);
           })
       | in-None w ↦ record {
         jobs = ap (λ (s : Plain g.row.J.Denot). jobs_from (ran (drop (i + 1) row)) 0 s.jobs) w.state-is ∙ keep_next row i c.place-item.result c.loop-place.state.jobs _ c.place-item.is c.loop-place-test.true c.requires.rises kept.jobs w.in-None.is;
         number = ap (λ (s : Plain g.row.J.Denot). s.number) w.state-is ∙ kept.number;
+        from = ap (λ (s : Plain g.row.J.Denot). s.from) w.state-is ∙ kept.from;
         ledger = ap (λ (s : Plain g.row.J.Denot). s.ledger) w.state-is ∙ kept.ledger;
+        segment = ap (λ (s : Plain g.row.J.Denot). s.segment) w.state-is ∙ kept.segment;
         long = ap (λ (s : Plain g.row.J.Denot). length s.jobs) w.state-is ∙ kept.long;
       }
     ]
@@ -40,4 +44,4 @@ loop-place-preserved g c =
 pub returns : goal.returns
 returns g c =
     let jobs = put_end c.args.row.now c.loop-place.place-index c.loop-place.state.jobs _ c.loop-place-test.false c.loop-place.invariant.jobs in
-    λ i. record { number = c.loop-place.invariant.number i; ledger = c.loop-place.invariant.ledger i; jobs = jobs i }
+    λ i. record { number = c.loop-place.invariant.number i; from = c.loop-place.invariant.from i; ledger = c.loop-place.invariant.ledger i; jobs = jobs i; segment = c.loop-place.invariant.segment i }

@@ -8,6 +8,8 @@ abbrev pub invariant-loop-place : goal.invariant-loop-place
 invariant-loop-place g l = record {
   jobs : jobs_from (ran (drop l.place-index l.row)) 0 l.state.jobs ≡ jobs_from (ran l.row) 0 l.initial.state.jobs;
   number : l.state.number ≡ l.initial.state.number;
+  from : l.state.from ≡ l.initial.state.from;
   ledger : l.state.ledger ≡ l.initial.state.ledger;
+  segment : l.state.segment ≡ l.initial.state.segment;
   long : length l.state.jobs ≡ length l.initial.state.jobs;
 }

@@ -41,7 +41,7 @@ judge_trail-requires-in-Some-3 g c =
     let base = c.in-Some.base in
     let read = rw c.in-Some.is at c.in_ok-base.ensures in
     let way = (rw c.in-Some-3.is at c.in_ok-find_way.ensures) (record { area = c.args.area; base = base; turned = false; before = []; middle = base; segment = c.args.segment; frames = [] }) refl refl (sym c.number.ensures.number) in
-    set_of_read K L h _ c.in-Some-3.start (sym way.area.body) ∙ sym (set_of_read K L h _ base read)
+    (set_of_read K L h _ c.in-Some-3.start (sym way.area.body)).set ∙ sym (set_of_read K L h _ base read).set
 
 pub returns : goal.returns
 returns g c =

@@ -8,7 +8,7 @@ use Rattle.pfx_replay.proofs.records.records_of.Goals as goal
 
 pub returns-in-Err-Damaged : goal.returns-in-Err-Damaged
 returns-in-Err-Damaged g c =
-    let none = subst (λ (fault : BatchFault). OnDamage fault (λ at what. NoBatch g.J.Job.kind c.args.workers c.args.frame.now)) c.in-Err-Damaged.field-0-is c.in-Err-Damaged.ensures.none in
+    let none = subst (λ (fault : BatchFault). OnDamage fault (λ at what. NoBatch g.J.Job.kind c.args.workers 0 c.args.frame.now)) c.in-Err-Damaged.field-0-is c.in-Err-Damaged.ensures.none in
     ap (map plain) c.new.ensures.items ∙ no_batch g.J.Job.kind g.met.J.Job.laws c.args.workers c.args.frame.now none
 
 pub returns-then-taken-frame : goal.returns-then-taken-frame

@@ -1,4 +1,5 @@
 use Rattle.std.proofs.Common.{◌≡◌, ◌+◌, List, sym, ◌∙◌, ap, map}
+use Rattle.pfx_machine.specs.Plain.{whole}
 use Rattle.pfx_machine.specs.Happenings.{row_or_none}
 use Rattle.pfx_machine.specs.Slots.{Deal}
 use Rattle.pfx_record.specs.Records.{ran}
@@ -14,5 +15,5 @@ returns-clause-entry g c =
     let row = c.args.slot.row in
     ap ran (c.in_ok-row.ensures.2
     ∙ (ap (λ (ds : List (Deal g.row.J.Denot)). places_with K row ds) c.requires.stands.quanta
-    ∙ (row_places K (s.number + 1) s.ledger.slot row s.jobs
+    ∙ (row_places K (s.number + 1) (whole s) row s.jobs
     ∙ ap (map (place_of K s.jobs)) (sym (ap row_or_none c.requires.stands.row)))))

@@ -23,6 +23,7 @@ returns-clause-next g c =
     let mine : AreRecordsOf g.J.Job.kind c.args.state.now c.requires.right.0 (map plain c.new.result.records.items) = rw c.new.ensures.records c.requires.right.1 in
     record {
       workers = c.new.ensures.workers ∙ c.workers-workers.ensures ∙ ap (λ t. t.set.workers) c.columns.ensures;
+      real = c.new.ensures.real;
       first = c.new.ensures.first ∙ ap (λ n. n + 1) c.number-first.ensures.number;
       right = (outcome g.J.Job.kind c.args.state.now c.requires.right.0, records_lead g.J.Job.kind g.met.J.Job.laws c.args.state.now c.requires.right.0 (map plain c.new.result.records.items) c.number-first.ensures.state mine);
     }

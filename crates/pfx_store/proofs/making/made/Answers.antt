@@ -10,7 +10,7 @@ returns-in_default g c = record {
   calls = record { only = search rules; calls_made = search rules; honest = search rules; takes = record { ok = search rules; later = search rules; at_most = search rules; no_fewer = search rules } };
   made = search rules;
   stands = search rules;
-  recovers = λ honest. still_none g.J.Job.kind (empty c.args.set.now) (g.D.Disk.view c.args.disk);
+  recovers = λ honest. still_none g.J.Job.kind (empty c.args.set.now c.args.segment) (g.D.Disk.view c.args.disk);
 }
 
 pub returns-in_default-head_of : goal.returns-in_default-head_of
@@ -20,7 +20,7 @@ returns-in_default-head_of g c = record {
   calls = record { only = search rules; calls_made = search rules; honest = search rules; takes = record { ok = search rules; later = search rules; at_most = search rules; no_fewer = search rules } };
   made = search rules;
   stands = search rules;
-  recovers = λ honest. still_none g.J.Job.kind (empty c.args.set.now) (g.D.Disk.view c.args.disk);
+  recovers = λ honest. still_none g.J.Job.kind (empty c.args.set.now c.args.segment) (g.D.Disk.view c.args.disk);
 }
 
 pub returns-in_default-frozen : goal.returns-in_default-frozen
@@ -30,7 +30,7 @@ returns-in_default-frozen g c = record {
   calls = record { only = search rules; calls_made = search rules; honest = search rules; takes = record { ok = search rules; later = search rules; at_most = search rules; no_fewer = search rules } };
   made = search rules;
   stands = search rules;
-  recovers = λ honest. still_none g.J.Job.kind (empty c.args.set.now) (g.D.Disk.view c.args.disk);
+  recovers = λ honest. still_none g.J.Job.kind (empty c.args.set.now c.args.segment) (g.D.Disk.view c.args.disk);
 }
 
 pub returns-in_default-with_capacity : goal.returns-in_default-with_capacity
@@ -40,5 +40,5 @@ returns-in_default-with_capacity g c = record {
   calls = record { only = search rules; calls_made = search rules; honest = search rules; takes = record { ok = search rules; later = search rules; at_most = search rules; no_fewer = search rules } };
   made = search rules;
   stands = search rules;
-  recovers = λ honest. still_none g.J.Job.kind (empty c.args.set.now) (g.D.Disk.view c.args.disk);
+  recovers = λ honest. still_none g.J.Job.kind (empty c.args.set.now c.args.segment) (g.D.Disk.view c.args.disk);
 }

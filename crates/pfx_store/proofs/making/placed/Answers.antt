@@ -15,9 +15,9 @@ use Rattle.pfx_store.proofs.making.placed.Goals as goal
 pub create_file-requires : goal.create_file-requires
 create_file-requires g c =
     let h : Header = record { set = c.args.set.now; segment = c.args.segment } in
-    let state : IsState (empty c.args.set.now) = subst IsState c.requires.empty c.number-number.ensures.state in
+    let state : IsState (empty c.args.set.now c.args.segment) = subst IsState c.requires.empty c.number-number.ensures.state in
     let head = ap length c.requires.head ∙ header_long h c.requires.header in
-    let body = ap length (c.deref.ensures.value ∙ c.requires.spelled) ∙ state_long g.J.Job.kind g.met.J.Job.laws (empty c.args.set.now) state in
+    let body = ap length (c.deref.ensures.value ∙ c.requires.spelled) ∙ state_long g.J.Job.kind g.met.J.Job.laws (empty c.args.set.now c.args.segment) state in
     record {
       limits = record { room = search rules; short = file_short h (length c.args.head.now) (length c.deref.result.now) c.args.segment c.requires.header head body refl };
       gate = ap (λ (l : List ℕ). slice_index l 0) c.requires.head ∙ gate_of h;
@@ -26,13 +26,13 @@ create_file-requires g c =
 pub invariant_of-result : goal.invariant_of-result
 invariant_of-result g c =
     let places = c.in-Ok.ensures.places.1 in
-    let state : IsState (empty c.args.set.now) = subst IsState c.requires.empty c.number-number.ensures.state in
+    let state : IsState (empty c.args.set.now c.args.segment) = subst IsState c.requires.empty c.number-number.ensures.state in
     let least = c.requires.header.segment.0 in
     let room = c.requires.room in
     let workers = ap (λ (s : Plain g.row.J.Denot). s.ledger.set.workers) c.requires.empty in
     record {
       long = sym (places.body ∙ ap length c.deref.ensures.value);
-      body = places.body ∙ (ap length (c.deref.ensures.value ∙ c.requires.spelled) ∙ (state_long g.J.Job.kind g.met.J.Job.laws (empty c.args.set.now) state ∙ ap (λ (s : Plain g.row.J.Denot). state_len s.ledger.set) (sym c.requires.empty)));
+      body = places.body ∙ (ap length (c.deref.ensures.value ∙ c.requires.spelled) ∙ (state_long g.J.Job.kind g.met.J.Job.laws (empty c.args.set.now c.args.segment) state ∙ ap (λ (s : Plain g.row.J.Denot). state_len s.ledger.set) (sym c.requires.empty)));
       fits = omega (arith, places.segment_len, workers, least);
       room = omega (arith, room, workers);
     }
@@ -43,9 +43,9 @@ returns-in-Ok g c = record {
   vacant = λ honest. (c.in-Ok.ensures.made honest).empty;
   calls =
       let h : Header = record { set = c.args.set.now; segment = c.args.segment } in
-      let state : IsState (empty c.args.set.now) = subst IsState c.requires.empty c.number-number.ensures.state in
+      let state : IsState (empty c.args.set.now c.args.segment) = subst IsState c.requires.empty c.number-number.ensures.state in
       let head = ap length c.requires.head ∙ header_long h c.requires.header in
-      let body = ap length (c.deref.ensures.value ∙ c.requires.spelled) ∙ state_long g.J.Job.kind g.met.J.Job.laws (empty c.args.set.now) state in
+      let body = ap length (c.deref.ensures.value ∙ c.requires.spelled) ∙ state_long g.J.Job.kind g.met.J.Job.laws (empty c.args.set.now c.args.segment) state in
       record {
         calls_made = search rules;
         only = λ honest. (c.in-Ok.ensures.made honest).durable;
@@ -57,17 +57,17 @@ returns-in-Ok g c = record {
       let K = g.J.Job.kind in
       let set = c.args.set.now in
       let h : Header = record { set = set; segment = c.args.segment } in
-      let state : IsState (empty set) = subst IsState c.requires.empty c.number-number.ensures.state in
+      let state : IsState (empty set c.args.segment) = subst IsState c.requires.empty c.number-number.ensures.state in
       let made = made_of K g.met.J.Job.laws h c.args.head.now c.deref.result.now c.args.segment c.requires.header state c.requires.head (c.deref.ensures.value ∙ c.requires.spelled) refl in
       subst (λ (s : Plain g.row.J.Denot). Stands K c.in-Ok.file.places s c.args.spelled.items (g.D.Disk.view c.in-Ok.file.disk)) (sym c.requires.empty)
-      (new_stands K h c.in-Ok.file.places (empty set) c.args.spelled.items (g.D.Disk.view c.in-Ok.file.disk) (c.in-Ok.ensures.holds (format K) h (empty set) made honest) refl);
+      (new_stands K h c.in-Ok.file.places (empty set c.args.segment) c.args.spelled.items (g.D.Disk.view c.in-Ok.file.disk) (c.in-Ok.ensures.holds (format K) h (empty set c.args.segment) made honest) (record { set = refl; from = refl; segment = refl }));
   recovers = λ honest.
       let K = g.J.Job.kind in
       let set = c.args.set.now in
       let h : Header = record { set = set; segment = c.args.segment } in
-      let state : IsState (empty set) = subst IsState c.requires.empty c.number-number.ensures.state in
+      let state : IsState (empty set c.args.segment) = subst IsState c.requires.empty c.number-number.ensures.state in
       let made = made_of K g.met.J.Job.laws h c.args.head.now c.deref.result.now c.args.segment c.requires.header state c.requires.head (c.deref.ensures.value ∙ c.requires.spelled) refl in
-      c.in-Ok.ensures.recovers (format K) h (empty set) made (unmade_refused K) honest;
+      c.in-Ok.ensures.recovers (format K) h (empty set c.args.segment) made (unmade_refused K) honest;
 }
 
 pub returns-in-Err-Device-default : goal.returns-in-Err-Device-default
@@ -83,9 +83,9 @@ returns-in-Err-Device-default g c = record {
   vacant = λ honest some. c.in-Err-Device-default.ensures.attempts.untouched honest some;
   calls =
       let h : Header = record { set = c.args.set.now; segment = c.args.segment } in
-      let state : IsState (empty c.args.set.now) = subst IsState c.requires.empty c.number-number.ensures.state in
+      let state : IsState (empty c.args.set.now c.args.segment) = subst IsState c.requires.empty c.number-number.ensures.state in
       let head = ap length c.requires.head ∙ header_long h c.requires.header in
-      let body = ap length (c.deref.ensures.value ∙ c.requires.spelled) ∙ state_long g.J.Job.kind g.met.J.Job.laws (empty c.args.set.now) state in
+      let body = ap length (c.deref.ensures.value ∙ c.requires.spelled) ∙ state_long g.J.Job.kind g.met.J.Job.laws (empty c.args.set.now c.args.segment) state in
       record {
         calls_made = search rules;
         only = search rules;
@@ -98,9 +98,9 @@ returns-in-Err-Device-default g c = record {
       let K = g.J.Job.kind in
       let set = c.args.set.now in
       let h : Header = record { set = set; segment = c.args.segment } in
-      let state : IsState (empty set) = subst IsState c.requires.empty c.number-number.ensures.state in
+      let state : IsState (empty set c.args.segment) = subst IsState c.requires.empty c.number-number.ensures.state in
       let made = made_of K g.met.J.Job.laws h c.args.head.now c.deref.result.now c.args.segment c.requires.header state c.requires.head (c.deref.ensures.value ∙ c.requires.spelled) refl in
-      c.in-Err-Device-default.ensures.recovers (format K) h (empty set) made (unmade_refused K) honest;
+      c.in-Err-Device-default.ensures.recovers (format K) h (empty set c.args.segment) made (unmade_refused K) honest;
 }
 
 pub returns : goal.returns
@@ -117,9 +117,9 @@ returns g c = record {
   vacant = λ honest some. c.in-Err-NotEmpty-default.ensures.attempts.untouched honest some;
   calls =
       let h : Header = record { set = c.args.set.now; segment = c.args.segment } in
-      let state : IsState (empty c.args.set.now) = subst IsState c.requires.empty c.number-number.ensures.state in
+      let state : IsState (empty c.args.set.now c.args.segment) = subst IsState c.requires.empty c.number-number.ensures.state in
       let head = ap length c.requires.head ∙ header_long h c.requires.header in
-      let body = ap length (c.deref.ensures.value ∙ c.requires.spelled) ∙ state_long g.J.Job.kind g.met.J.Job.laws (empty c.args.set.now) state in
+      let body = ap length (c.deref.ensures.value ∙ c.requires.spelled) ∙ state_long g.J.Job.kind g.met.J.Job.laws (empty c.args.set.now c.args.segment) state in
       record {
         calls_made = search rules;
         only = search rules;
@@ -132,7 +132,7 @@ returns g c = record {
       let K = g.J.Job.kind in
       let set = c.args.set.now in
       let h : Header = record { set = set; segment = c.args.segment } in
-      let state : IsState (empty set) = subst IsState c.requires.empty c.number-number.ensures.state in
+      let state : IsState (empty set c.args.segment) = subst IsState c.requires.empty c.number-number.ensures.state in
       let made = made_of K g.met.J.Job.laws h c.args.head.now c.deref.result.now c.args.segment c.requires.header state c.requires.head (c.deref.ensures.value ∙ c.requires.spelled) refl in
-      c.in-Err-NotEmpty-default.ensures.recovers (format K) h (empty set) made (unmade_refused K) honest;
+      c.in-Err-NotEmpty-default.ensures.recovers (format K) h (empty set c.args.segment) made (unmade_refused K) honest;
 }

@@ -11,7 +11,10 @@ returns g c =
     let records = map plain c.deref.result.now in
     let right = ap (λ l. applied K c.args.state.now (map plain l)) c.deref.ensures.value ∙ c.requires.1 in
     let taken = taken_by c.apply_all-taken.result _ _ _ c.apply_all-taken.ensures.taken c.apply_all-taken.ensures.wrong right in
+    let behind = applied_behind K c.args.state.now c.apply_all-taken.new.state records taken in
     record {
       taken = ap (λ l. applied K c.args.state.now (map plain l)) (sym c.deref.ensures.value) ∙ taken;
-      set = (applied_behind K c.args.state.now c.apply_all-taken.new.state records taken).set;
+      set = behind.set;
+      from = behind.from;
+      segment = behind.segment;
     }

@@ -38,3 +38,6 @@ ten_calls-requires-clause-workers g c =
       c.batch_of-one.ensures.next.workers ∙ ap (λ (t : Plain g.row.J.Denot). t.ledger.set.workers) c.state-2.ensures,
       c.batch_of-two.ensures.next.workers ∙ (ap (λ (t : Plain g.row.J.Denot). t.ledger.set.workers) c.in-Ok-copy_of.ensures ∙ ap (λ (l : FilledSet). l.workers) behind.set),
     )
+
+pub ten_calls-requires-clause-real : goal.ten_calls-requires-clause-real
+ten_calls-requires-clause-real g c = (c.batch_of-one.ensures.next.real, c.batch_of-two.ensures.next.real)

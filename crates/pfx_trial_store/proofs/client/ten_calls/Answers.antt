@@ -48,6 +48,7 @@ append-requires-2 g c =
     record {
       next = record {
         workers = c.requires.workers.1 ∙ sym (ap (λ (s : Plain g.row.J.Denot). s.ledger.set.workers) same ∙ ap (λ (set : FilledSet). set.workers) behind.set);
+        real = c.requires.real.1;
         first = r.2 ∙ ap (λ (s : Plain g.row.J.Denot). s.number + 1) (at ∙ sym same);
         right = (r.3, ap (λ s. applied K s (map plain c.args.second.now.records.items)) (same ∙ sym at) ∙ r.4);
       };

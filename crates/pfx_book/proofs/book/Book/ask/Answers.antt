@@ -1,4 +1,4 @@
-use Rattle.std.specs.Prelude.{Some}
+use Rattle.std.specs.Prelude.{Some, None, is_some}
 use Rattle.std.specs.VecDeque.{deque_items}
 use Rattle.std.proofs.Common.{◌≡◌, ℕ, List, [], ◌∷◌, ◌++◌, ◌<◌, ◌+◌, length, map, true, false, refl, sym, ap, ◌∙◌, subst, arith, inr}
 use Rattle.std.proofs.lemmas.List.{map-append}
@@ -6,7 +6,7 @@ use Rattle.pfx_machine.specs.Plain.{Plain}
 use Rattle.pfx_machine.specs.Steps.{state_step, happening_in}
 use Rattle.pfx_machine.specs.declared.command.Command.{Command}
 use Rattle.pfx_world.specs.Session.{asked}
-use Rattle.pfx_machine.specs.Refusals.{reply}
+use Rattle.pfx_machine.specs.Refusals.{refusal, reply}
 use Rattle.pfx_record.specs.Records.{plain, Recorded}
 use Rattle.pfx_book.specs.declared.note.Note.{Note}
 use Rattle.pfx_book.specs.declared.note.Note.TheVariants.{Accepted, Refused}
@@ -18,7 +18,7 @@ use Rattle.pfx_book.specs.Lines.{IsOf}
 use Rattle.pfx_book.proofs.Taking.{length_map}
 use Rattle.pfx_book.specs.Calls.{entered, refused_by}
 use Rattle.pfx_book.specs.Kept.{IsKept}
-use Rattle.pfx_book.proofs.Notes.{greatest_more, greatest_same, lost_more}
+use Rattle.pfx_book.proofs.Notes.{free_of, greatest_more, greatest_same, lost_more}
 use Rattle.pfx_book.proofs.Keeping.{outcome_is, all_taken, low}
 use Rattle.pfx_book.proofs.Marking.{fits_none}
 use Rattle.pfx_book.proofs.Asking.{full_is, accepts, refuses, one_step}
@@ -184,6 +184,18 @@ invariant_of-pass-in-Done g c =
       subst (λ (x : ℕ × List (Note g.row.J.Denot)). 0 < x.0) (sym z) p.1,
       sym (ap (λ x. greatest x.1) z ∙ m),
       p.3 ∙ sym (ap (λ x. lost_in x.1) z ∙ lost_more mine e refl),
+    )
+
+pub returns-in-Done-clause-may : goal.returns-in-Done-clause-may
+returns-in-Done-clause-may g c =
+    let s = c.self.inside in
+    let K = g.J.Job.kind in
+    let v = c.self.view_is in
+    let free : refusal K s.state c.args.command ≡ None = free_of _ K s.state c.args.command c.in-Done.ensures.1 in (
+      c.requires.quick,
+      c.requires.ready.none_open,
+      sym (ap (λ (w : Register g.row.J.Denot). w.session.halted) v) ∙ ap is_some (ap (λ (w : Register g.row.J.Denot). w.failure) v ∙ c.requires.ready.goes_on),
+      subst (λ (w : Register g.row.J.Denot). refusal K w.session.state c.args.command ≡ None) v free,
     )
 
 pub returns-in-Done-clause-accepted : goal.returns-in-Done-clause-accepted

@@ -130,7 +130,7 @@ returns-clause-may g c =
     let v = c.self.view_is in
     let o = c.in_ok-open.open in
     let was : s.slot ≡ Some o = sym c.in_ok-open.ensures.value in
-    let is_ready : IsReady s.slot = search rules in
+    let is_ready : IsReady s.slot = c.is_all_back.ensures.0 c.if-not-is_all_back.false in
     let all : AllBack o.back = subst (λ (q : Option (Dealt g.row.J.Denot)). IsReady q) was is_ready in
     let same : s.opener ≡ c.pass.inside.number = search rules in (
       (
@@ -167,7 +167,7 @@ returns-clause-accepted g c =
     let a = accepts K L B s.history.items s.keeper s.passes s.state pend s.taken s.marked s.clock s.failure k mine h c.note.ensures.known (omega (arith, p.1))
     command.Slot command.Slot said n u (plain done.entry) l (nat_le (2 ^ 20) (length (commands_of xs))) refl refl free (c.copy_reply.ensures ∙ c.in_ok-reply.ensures.reply) c.in_ok-reply.ensures.entry
     (c.seal_on.ensures.outcome B (commands_of xs) here) c.number-number.ensures.number (p.0, refl, refl) (omega (arith, fits.2, number)) in
-    let is_ready : IsReady s.slot = search rules in
+    let is_ready : IsReady s.slot = c.is_all_back.ensures.0 c.if-not-is_all_back.false in
     let all : AllBack o.back = subst (λ (q : Option (Dealt g.row.J.Denot)). IsReady q) was is_ready in
     let v = c.self.view_is in
     let pv = c.pass.view_is in

@@ -89,7 +89,7 @@ new-requires g c =
     let taken = length_map plain c.take_front-records.result.items in
     let fit = fits_next K L B xs s.keeper s.passes s.state batch rest s.taken s.marked s.clock s.failure c.workers-workers.result first h w
     (omega (arith, some, n, long, mapped, c.number.ensures.number)) (omega (arith, more, taken)) (omega (arith, taken, c.take_front-records.ensures.few)) in
-    subst (λ v. IsTrue (batch_fits c.workers-workers.result (record { first = first; records = map plain v.items }))) same fit
+    subst (λ v. IsTrue (batch_fits c.workers-workers.result 0 (record { first = first; records = map plain v.items }))) same fit
 
 pub invariant_of-self-in-Some : goal.invariant_of-self-in-Some
 invariant_of-self-in-Some g c =
@@ -144,8 +144,8 @@ returns-in-Some-clause-taken g c =
       event = search rules;
       noted = search rules;
       commands = (λ i. map plain (sym records i).items) ∙ next ∙ (λ i. next_records K B (length_is i) (c.self.view_is i).session);
-      next = subst (λ (q : List (Note g.row.J.Denot) × ℕ × ℕ × List (Recorded g.row.J.Denot)). GoesOn K B q.0 q.1 q.2 q.3)
-          (λ i. (c.share.view_is i, sym c.new.ensures.workers i, sym c.new.ensures.first i, map plain (records i).items)) goes;
+      next = subst (λ (q : List (Note g.row.J.Denot) × ℕ × ℕ × ℕ × List (Recorded g.row.J.Denot)). GoesOn K B q.0 q.1 q.2 q.3 q.4)
+          (λ i. (c.share.view_is i, sym c.new.ensures.workers i, sym c.new.ensures.real i, sym c.new.ensures.first i, map plain (records i).items)) goes;
     }
 
 pub returns-in-Some-clause-width : goal.returns-in-Some-clause-width

@@ -15,7 +15,7 @@ returns-in-Err-clause-same g c = record {
 pub returns-in-Ok-clause-shows : goal.returns-in-Ok-clause-shows
 returns-in-Ok-clause-shows g c =
     let whole = kept_whole c.args.self.now.store.file.broken c.args.self.now.store.state.number c.in_default.field-0 (sym c.in_default.ensures.answer) in
-    subst (λ (s : Plain AnyJob). Shows s c.in-Ok.board) (c.args.self.now.same whole) (record { number = c.in-Ok.ensures.number; slot = c.in-Ok.ensures.slot; lines = c.in-Ok.ensures.lines })
+    subst (λ (s : Plain AnyJob). Shows s c.in-Ok.board) (c.args.self.now.same whole) (record { number = c.in-Ok.ensures.number; slot = c.in-Ok.ensures.slot; from = c.in-Ok.ensures.from; lines = c.in-Ok.ensures.lines })
 
 pub returns-in-Ok-clause-same : goal.returns-in-Ok-clause-same
 returns-in-Ok-clause-same g c = record {

@@ -2,11 +2,15 @@ use Rattle.std.proofs.Common.{◌≡◌, ◌∙◌, sym, ap, length}
 use Rattle.pfx_machine.specs.declared.command.Command.TheVariants.{Slot}
 use Rattle.pfx_machine.proofs.Keeping.{length-step, row_goes_on}
 use Rattle.pfx_machine.proofs.Places.{state_step-row}
+use Rattle.pfx_machine.proofs.Rowing.{row_chosen}
 use Rattle.pfx_machine.specs.declared.plain.Happening.TheVariants.{Ran as happened}
 use Rattle.pfx_replay.specs.Shown.{ledger_of}
 use Rattle.pfx_replay.specs.Stated.{plain_of}
 use Rattle.pfx_replay.proofs.Steps.{outcome-one}
 use Rattle.pfx_replay.proofs.jobs.PlainState.ran.Goals as goal
+
+pub after-requires : goal.after-requires
+after-requires g c = row_chosen (plain_of c.args.self) c.args.row.now c.requires.row
 
 pub invariant_of-result : goal.invariant_of-result
 invariant_of-result g c =

@@ -9,5 +9,5 @@ use Rattle.pfx_replay.proofs.jobs.PlainState.submitted.Goals as goal
 pub returns : goal.returns
 returns g c =
     let s = plain_of c.args.self in
-    ap (λ k. record { number = s.number + 1; ledger = s.ledger; jobs = slice_set s.jobs k (Some c.args.job) }) c.from.ensures
+    ap (λ k. record { number = s.number + 1; from = s.from; ledger = s.ledger; jobs = slice_set s.jobs k (Some c.args.job); segment = s.segment }) c.from.ensures
     ∙ state_step-given g.J.Job.kind s c.args.task c.args.job ∙ sym (outcome-one g.J.Job.kind g.met.J.Job.laws s (Submit c.args.task c.args.job))

@@ -12,7 +12,7 @@ use Rattle.pfx_store_file.specs.Holding.{IsStart, Survives}
 use Rattle.pfx_store_file.specs.Tending.{append_calls, room_calls}
 use Rattle.pfx_store.specs.Standing.{IsReady, Stands}
 use Rattle.pfx_store.proofs.Appends.{batch_leads}
-use Rattle.pfx_store.proofs.Counts.{takes_both, takes_frame, works_behind}
+use Rattle.pfx_store.proofs.Counts.{takes_both, takes_frame, works_answered, works_behind}
 use Rattle.pfx_store.proofs.Standings.{keeps_appended, keeps_more, keeps_still, none_on_fault, stands_behind}
 use Rattle.std.proofs.Common.{⊎_elim, rules}
 use Rattle.pfx_checkpoint.specs.Spelling.{state_bytes}
@@ -60,7 +60,7 @@ returns-in_err-append_or_turn-clause-stands g c = record {
       let opens : batch_bytes K b ≡ GATE_OPEN ∷ body = c.behind_gate.ensures.1 in
       let begins : IsStart (format K) (mid.state.number + 1) c.start_behind-start.result = record { long = c.start_behind-start.ensures.long; number = c.start_behind-start.ensures.number ∙ ap (λ n. n + 1) c.number.ensures.number; closed = c.start_behind-start.ensures.closed } in
       let right : applied K mid.state b.records ≡ Some c.requires.next.right.0 = subst (λ (s : Plain g.row.J.Denot). applied K s b.records ≡ Some c.requires.next.right.0) (sym same) c.requires.next.right.1 in
-      let leads : state_after K mid.state (GATE_OPEN ∷ body) ≡ Some c.requires.next.right.0 = subst (λ (f : List ℕ). state_after K mid.state f ≡ Some c.requires.next.right.0) opens (batch_leads K L mid.state c.requires.next.right.0 c.args.batch.now.workers b c.args.batch.now.fits (c.requires.next.workers ∙ ap (λ (s : Plain g.row.J.Denot). s.ledger.set.workers) (sym same)) (c.requires.next.first ∙ ap (λ (s : Plain g.row.J.Denot). s.number + 1) (sym same)) right) in
+      let leads : state_after K mid.state (GATE_OPEN ∷ body) ≡ Some c.requires.next.right.0 = subst (λ (f : List ℕ). state_after K mid.state f ≡ Some c.requires.next.right.0) opens (batch_leads K L mid.state c.requires.next.right.0 c.args.batch.now.workers c.args.batch.now.real b c.args.batch.now.fits (c.requires.next.workers ∙ ap (λ (s : Plain g.row.J.Denot). s.ledger.set.workers) (sym same)) c.requires.next.real (c.requires.next.first ∙ ap (λ (s : Plain g.row.J.Denot). s.number + 1) (sym same)) right) in
       record {
         keeps = λ start all replays.
             let there : Replays (format K) start all mid.state = subst (λ (s : Plain g.row.J.Denot). Replays (format K) start all s) (sym same) replays in
@@ -84,11 +84,11 @@ returns-clause-stands g c = record {
       let opens : batch_bytes K b ≡ GATE_OPEN ∷ body = c.behind_gate.ensures.1 in
       let begins : IsStart (format K) (mid.state.number + 1) c.start_behind-start.result = record { long = c.start_behind-start.ensures.long; number = c.start_behind-start.ensures.number ∙ ap (λ n. n + 1) c.number.ensures.number; closed = c.start_behind-start.ensures.closed } in
       let right : applied K mid.state b.records ≡ Some c.take_over.new.state = c.take_over.ensures.taken in
-      let leads : state_after K mid.state (GATE_OPEN ∷ body) ≡ Some c.take_over.new.state = subst (λ (f : List ℕ). state_after K mid.state f ≡ Some c.take_over.new.state) opens (batch_leads K L mid.state c.take_over.new.state c.args.batch.now.workers b c.args.batch.now.fits (c.requires.next.workers ∙ ap (λ (s : Plain g.row.J.Denot). s.ledger.set.workers) (sym same)) (c.requires.next.first ∙ ap (λ (s : Plain g.row.J.Denot). s.number + 1) (sym same)) right) in
+      let leads : state_after K mid.state (GATE_OPEN ∷ body) ≡ Some c.take_over.new.state = subst (λ (f : List ℕ). state_after K mid.state f ≡ Some c.take_over.new.state) opens (batch_leads K L mid.state c.take_over.new.state c.args.batch.now.workers c.args.batch.now.real b c.args.batch.now.fits (c.requires.next.workers ∙ ap (λ (s : Plain g.row.J.Denot). s.ledger.set.workers) (sym same)) c.requires.next.real (c.requires.next.first ∙ ap (λ (s : Plain g.row.J.Denot). s.number + 1) (sym same)) right) in
       let n = length c.behind_gate.result.now in
       let ready : IsReady K n mid.file.places mid.state c.deref.result.now = rw (c.deref.ensures.value, (behind_len _ _ c.behind_gate.ensures), ← c.batch_len-len.ensures.value) c.in_ok-make_room.ensures.room.ready in
       subst (λ (l : List ℕ). Stands K c.append_or_turn.new.self.places c.take_over.new.state l (V c.append_or_turn.new.self.disk)) c.deref.ensures.value
-      (stands_behind K L n mid.file.places c.append_or_turn.new.self.places mid.state c.take_over.new.state c.deref.result.now (GATE_OPEN ∷ body) (V mid.file.disk) (V c.append_or_turn.new.self.disk) standing c.number.ensures.state c.take_over.ensures.set ready
+      (stands_behind K L n mid.file.places c.append_or_turn.new.self.places mid.state c.take_over.new.state c.deref.result.now (GATE_OPEN ∷ body) (V mid.file.disk) (V c.append_or_turn.new.self.disk) standing c.number.ensures.state c.take_over.ensures.set c.take_over.ensures.from c.take_over.ensures.segment ready
       ((c.in_ok-append_or_turn.ensures.commits (format K) (format_laws K L) standing.header standing.parts mid.state standing.holds standing.middle begins body c.take_over.new.state c.behind_gate.ensures.2 leads).holds));
   commits = λ stands.
       let K = g.J.Job.kind in
@@ -102,7 +102,7 @@ returns-clause-stands g c = record {
       let opens : batch_bytes K b ≡ GATE_OPEN ∷ body = c.behind_gate.ensures.1 in
       let begins : IsStart (format K) (mid.state.number + 1) c.start_behind-start.result = record { long = c.start_behind-start.ensures.long; number = c.start_behind-start.ensures.number ∙ ap (λ n. n + 1) c.number.ensures.number; closed = c.start_behind-start.ensures.closed } in
       let right : applied K mid.state b.records ≡ Some c.requires.next.right.0 = subst (λ (s : Plain g.row.J.Denot). applied K s b.records ≡ Some c.requires.next.right.0) (sym same) c.requires.next.right.1 in
-      let leads : state_after K mid.state (GATE_OPEN ∷ body) ≡ Some c.requires.next.right.0 = subst (λ (f : List ℕ). state_after K mid.state f ≡ Some c.requires.next.right.0) opens (batch_leads K L mid.state c.requires.next.right.0 c.args.batch.now.workers b c.args.batch.now.fits (c.requires.next.workers ∙ ap (λ (s : Plain g.row.J.Denot). s.ledger.set.workers) (sym same)) (c.requires.next.first ∙ ap (λ (s : Plain g.row.J.Denot). s.number + 1) (sym same)) right) in
+      let leads : state_after K mid.state (GATE_OPEN ∷ body) ≡ Some c.requires.next.right.0 = subst (λ (f : List ℕ). state_after K mid.state f ≡ Some c.requires.next.right.0) opens (batch_leads K L mid.state c.requires.next.right.0 c.args.batch.now.workers c.args.batch.now.real b c.args.batch.now.fits (c.requires.next.workers ∙ ap (λ (s : Plain g.row.J.Denot). s.ledger.set.workers) (sym same)) c.requires.next.real (c.requires.next.first ∙ ap (λ (s : Plain g.row.J.Denot). s.number + 1) (sym same)) right) in
       record {
         keeps = λ start all replays.
             let there : Replays (format K) start all mid.state = subst (λ (s : Plain g.row.J.Denot). Replays (format K) start all s) (sym same) replays in
@@ -145,7 +145,7 @@ returns-clause-call g c =
     let left : room_calls n before + append_calls n between ≡ append_calls n before = subst (λ m. room_calls m before + append_calls m between ≡ append_calls m before) c.batch_len-len.ensures.value c.in_ok-make_room.ensures.room.left in
     let sum : room_calls c.batch_len-len.result before + append_calls (length c.behind_gate.result.now) between ≡ append_calls n before = ap₂ (λ a b. room_calls a before + append_calls b between) c.batch_len-len.ensures.value (behind_len _ _ c.behind_gate.ensures) ∙ left in
     record {
-      works = search rules;
+      works = works_answered _ _ _ _ _ c.if-self.false (c.in_ok-append_or_turn.ensures.call.works.whole refl);
       takes = takes_both (room_calls c.batch_len-len.result before) (append_calls (length c.behind_gate.result.now) between) (append_calls n before) (g.D.Disk.view c.args.self.now.file.disk) (g.D.Disk.view c.make_room.new.self.file.disk) (g.D.Disk.view c.append_or_turn.new.self.disk) _
           sum (c.in_ok-make_room.ensures.call.takes.ok refl) (c.in_ok-append_or_turn.ensures.call.takes.ok refl);
       honest = search rules;

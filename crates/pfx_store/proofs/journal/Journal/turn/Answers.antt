@@ -1,12 +1,14 @@
-use Rattle.std.proofs.Common.{◌+◌, ◌∙◌, ap, rules}
+use Rattle.std.proofs.Common.{◌+◌, ◌∙◌, ap, sym, true, refl, rules}
+use Rattle.std.proofs.lemmas.Bool.{true≢false}
 use Rattle.pfx_format.specs.Format.{format}
 use Rattle.pfx_format.proofs.Keeping.{format_laws}
 use Rattle.pfx_store_file.specs.Holding.{IsStart}
 use Rattle.pfx_store.proofs.Standings.{stands_turned}
 use Rattle.std.proofs.Common.{◌≡◌, ◌++◌, ◌∷◌, []}
 use Rattle.pfx_record.specs.Numbers.{number_bytes}
-use Rattle.pfx_store_file.specs.declared.faults.StoreFault.TheVariants.{Device}
-use Rattle.pfx_store_file.proofs.Calling.{fault_back}
+use Rattle.pfx_store_file.specs.declared.faults.StoreFault.TheVariants.{Device, Broken, NoRoom}
+use Rattle.pfx_store_file.proofs.Calling.{fault_back, works_handed}
+use Rattle.pfx_store.proofs.Counts.{no_fault, not_ok, six_calls, takes_answered, takes_told, works_answered}
 use Rattle.pfx_store.specs.Files.{start_of}
 use Rattle.pfx_store.proofs.Filing.{turn_made, turn_broken, turn_within}
 use Rattle.pfx_store.proofs.journal.Journal.turn.Goals as goal
@@ -32,6 +34,38 @@ returns-clause-stands g c =
       goes_on = λ stands. stands_turned K g.met.J.Job.laws stands.header c.turn.new.self.places stands.parts s c.encode.new.spelled.items (g.D.Disk.view c.turn.new.self.disk) c.encode.ensures.state stands.set c.encode.ensures.spelled
           ((c.in_ok-turn.ensures.keeps (format K) (format_laws K g.met.J.Job.laws) stands.header stands.parts s c.args.self.now.spelled.items stands.holds begins c.encode.new.spelled.items).holds);
       keeps = λ stands start all replays. (c.turn.ensures.keeps (format K) (format_laws K g.met.J.Job.laws) stands.header stands.parts s c.args.self.now.spelled.items stands.holds begins []).keeps start all replays;
+    }
+
+pub returns-in_err-turn-clause-call : goal.returns-in_err-turn-clause-call
+returns-in_err-turn-clause-call g c =
+    let old = c.args.self.now.file in
+    let a = g.D.Disk.view old.disk in
+    let b = g.D.Disk.view c.turn.new.self.disk in
+    let six = six_calls old.places (c.can_turn.ensures.places.0 c.if-not-can_turn.false) in
+    let of = c.from_residual.ensures.1 in
+    let works = works_handed a b old.broken c.turn.new.self.broken c.turn.result c.from_residual.result _ c.in_err-turn.was of c.turn.ensures.call.works in
+    record {
+      works = works;
+      takes = takes_told 6 _ a b c.turn.result c.from_residual.result six (λ ok. not_ok c.from_residual.result _ of ok) c.turn.ensures.call.takes;
+      honest = c.turn.ensures.call.honest;
+      roomy = λ is. c.turn.ensures.call.roomy (fault_back _ c.turn.result _ NoRoom c.in_err-turn.was of is);
+      broken = λ is. absurd (true≢false (sym (works.broken.0 is) ∙ c.if-self.false));
+      parts = c.turn.ensures.call.parts;
+    }
+
+pub returns-clause-call : goal.returns-clause-call
+returns-clause-call g c =
+    let old = c.args.self.now.file in
+    let a = g.D.Disk.view old.disk in
+    let b = g.D.Disk.view c.turn.new.self.disk in
+    let six = six_calls old.places (c.can_turn.ensures.places.0 c.if-not-can_turn.false) in
+    record {
+      works = works_answered a b old.broken c.turn.new.self.broken true c.if-self.false (c.in_ok-turn.ensures.call.works.whole refl);
+      takes = takes_answered 6 _ a b _ six (c.in_ok-turn.ensures.call.takes.ok refl);
+      honest = c.turn.ensures.call.honest;
+      roomy = λ is. no_fault true NoRoom is;
+      broken = λ is. no_fault true Broken is;
+      parts = c.turn.ensures.call.parts;
     }
 
 pub returns-in_err-turn-clause-acts : goal.returns-in_err-turn-clause-acts

@@ -25,7 +25,7 @@ returns-clause-marks g c = rw (← c.self.view_is) (λ honest start all marks co
     let t = c.append.new.self.state in
     let workers : c.args.batch.now.workers ≡ j.state.ledger.set.workers = subst (λ (v : PlainStore g.row.D.Denot g.row.J.Denot). c.args.batch.now.workers ≡ v.state.ledger.set.workers) (sym c.self.view_is) c.requires.next.workers in
     let first : c.args.batch.now.first ≡ j.state.number + 1 = subst (λ (v : PlainStore g.row.D.Denot g.row.J.Denot). c.args.batch.now.first ≡ v.state.number + 1) (sym c.self.view_is) c.requires.next.first in
-    let led : OnOk c.append.result (state_after K j.state (batch_bytes K b) ≡ Some t) = on_ok_then c.append.result (batch_leads K L j.state t c.args.batch.now.workers b c.args.batch.now.fits workers first) c.append.ensures.moves.state.moved in
+    let led : OnOk c.append.result (state_after K j.state (batch_bytes K b) ≡ Some t) = on_ok_then c.append.result (batch_leads K L j.state t c.args.batch.now.workers c.args.batch.now.real b c.args.batch.now.fits workers c.requires.next.real first) c.append.ensures.moves.state.moved in
     let keeps = by_broken j.file.broken (λ whole. (c.append.ensures.stands.commits (c.self.invariant whole honest)).keeps start all (covers.leads whole))
     (λ broken. subst (λ i. KeepsAll (format K) start all (all ++ batch_bytes K b ∷ []) a (g.D.Disk.view i.file.disk)) (sym (c.append.ensures.call.broken (c.append.ensures.call.works.broken.1 broken))) (keeps_more K start all (batch_bytes K b) a a (keeps_still K start all a))) in
     covers_appended K start all L (batch_bytes K b) marks a (g.D.Disk.view c.append.new.self.file.disk) j.file.broken c.append.new.self.file.broken j.state t c.append.ensures.call.takes.later keeps covers

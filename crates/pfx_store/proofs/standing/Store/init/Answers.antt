@@ -4,10 +4,10 @@ use Rattle.pfx_store.proofs.Marking.{covers_begun, recovered_since}
 use Rattle.pfx_store.proofs.standing.Store.init.Goals as goal
 
 pub returns-in-Err-SegmentTooSmall-clause-recovers : goal.returns-in-Err-SegmentTooSmall-clause-recovers
-returns-in-Err-SegmentTooSmall-clause-recovers g c honest = still_none g.J.Job.kind (empty c.args.set.now) (g.D.Disk.view c.args.disk)
+returns-in-Err-SegmentTooSmall-clause-recovers g c honest = still_none g.J.Job.kind (empty c.args.set.now c.args.segment) (g.D.Disk.view c.args.disk)
 
 pub returns-in-Err-SegmentTooLarge-clause-recovers : goal.returns-in-Err-SegmentTooLarge-clause-recovers
-returns-in-Err-SegmentTooLarge-clause-recovers g c honest = still_none g.J.Job.kind (empty c.args.set.now) (g.D.Disk.view c.args.disk)
+returns-in-Err-SegmentTooLarge-clause-recovers g c honest = still_none g.J.Job.kind (empty c.args.set.now c.args.segment) (g.D.Disk.view c.args.disk)
 
 pub returns-in-Err-SegmentTooSmall-clause-vacant : goal.returns-in-Err-SegmentTooSmall-clause-vacant
 returns-in-Err-SegmentTooSmall-clause-vacant g c = λ honest some. left_alone (g.D.Disk.view c.args.disk) honest
