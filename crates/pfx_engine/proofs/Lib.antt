@@ -1,8 +1,10 @@
+pub mod EndingLemmas
 mod RunningLemmas
 mod NotingLemmas
 pub mod Promising
 mod Commands
 pub mod Keeps
 mod Serving
+mod RefutedNoting
 mod Stepping
 mod WindowLemmas

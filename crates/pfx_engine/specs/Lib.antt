@@ -1,3 +1,4 @@
+pub mod Ending
 pub mod Executing
 pub mod Failing
 pub mod Faults

@@ -56,7 +56,7 @@ pub fn run_noted<R: Read + Drop, W: Write, D: Disk, B: Charted>(
         → B.held × ((D.view store.file.disk).contents ≡ B.image) × Only B.image (D.view store.file.disk) }
     requires held { B.held → IsHeldBy any_kind store B.image }
     ensures ran { IsNotedRun form store.state script.old script.new.failed (W.contents output.old) (W.contents output.new)
-        B.held B.image result.moment (D.view result.store.file.disk) result.result }
+        B.held B.image result.moment (D.view result.store.file.disk) result.store.state result.result }
 {
     let noted = store.noted::<B>(list);
     let _broken = noted.is_broken();

@@ -12,8 +12,10 @@ use Rattle.pfx_book.specs.Register.{Register}
 use Rattle.pfx_book.specs.declared.note.Note.{Note}
 use Rattle.pfx_book.specs.declared.note.Note.TheVariants.{Receipt}
 use Rattle.pfx_disk.specs.Disk.{View, IsHonest}
-use Rattle.pfx_engine.specs.Surviving as engine
+use Rattle.pfx_engine.proofs.EndingLemmas.{begun, known_rest, nothing_more}
 use Rattle.pfx_engine.proofs.Keeps.{survives_more}
+use Rattle.pfx_engine.specs.Ending.{EndsBehind}
+use Rattle.pfx_engine.specs.Surviving as engine
 use Rattle.pfx_fault.specs.declared.refusals.Fault.{Fault}
 use Rattle.pfx_fault.specs.declared.refusals.Fault.TheVariants as fault
 use Rattle.pfx_format.specs.Format.{format}
@@ -37,7 +39,7 @@ use Rattle.pfx_front_engine.proofs.Notes.{commands_are, tagged}
 use Rattle.pfx_front_engine.proofs.Promising.{promise}
 use Rattle.pfx_front_engine.specs.Asking.{IsFrontFault}
 use Rattle.pfx_front_engine.specs.Keeping.{HasReceipt, KeepsBy}
-use Rattle.pfx_front_engine.specs.Running.{EndsBehind, IsServedRun}
+use Rattle.pfx_front_engine.specs.Running.{IsServedFault, IsServedRun}
 
 -- one pass in any order is that pass
 pub one_pass : {P : Type 0} (p : P) (ps : List P) → IsPermutation (p ∷ []) ps → ps ≡ p ∷ []
@@ -79,12 +81,6 @@ session_alone K B r n notes h =
     first : List (List (Note AnyJob)) → List (Note AnyJob)
     first [] = []
     first (x ∷ xs) = x
-
--- what is a beginning of the first of some steps' text is one of the first of more
-begun : (tried rest : List Step) (front back : List ℕ) → first_text tried ≡ front ++ back → (more : List ℕ) × (first_text (tried ++ rest) ≡ front ++ more)
-begun [] rest [] back h = (first_text rest, refl)
-begun [] rest (c ∷ front) back h = cc
-begun (x ∷ tried) rest front back h = (back, h)
 
 module _ (form : Form) (B : Plain AnyJob) (r : Register AnyJob) (disk : View) (began : ℕ) (b : List (Note AnyJob)) (session : r.history ≡ alone b) (accepted : r.session.accepted ≡ commands_of r.history) where
   as_engine : (H : List (Command AnyJob)) (n m : ℕ) (image : List ℕ) → r.session.accepted ≡ H → B.number + n ≤ m → Survives any_kind B r.session.accepted m image → engine.Survives B H n image
@@ -132,7 +128,7 @@ module _ (form : Form) (B : Plain AnyJob) (r : Register AnyJob) (disk : View) (b
           (mine (script.commands_of steps) (length (script.commands_of steps)) h.keeps honest image here)
 
       -- a run that went through its whole course
-      whole : (result : Result (Unit {0}) Fault) → EndsBehind (course_from (lines.place + 1) (at_start form B) records).steps [] (course_from (lines.place + 1) (at_start form B) records).ends_at failed was is result
+      whole : (result : Result (Unit {0}) Fault) → EndsBehind IsServedFault (course_from (lines.place + 1) (at_start form B) records).steps [] (course_from (lines.place + 1) (at_start form B) records).ends_at failed was is result
           → IfSome lines.left (λ all. all ≡ records) → Carried (promise notes B) (course_from (lines.place + 1) (at_start form B) records).steps x y was is → IsServedRun form B lines failed was is disk result
       whole result ends known h = record {
         records = records;
@@ -146,7 +142,7 @@ module _ (form : Form) (B : Plain AnyJob) (r : Register AnyJob) (disk : View) (b
 
       stopped : (most : ℕ) (f : Fault) → IfSome lines.left (λ all. all ≡ records) → Stopped (promise notes B) most (failed ≡ true) (course_from (lines.place + 1) (at_start form B) records).steps x y was is f
           → ((printed tried rest : List Step) (s t : Plain AnyJob) → Halts (failed ≡ true) (λ u g. IsFrontFault g) s (text_of printed) tried t was is f
-          → EndsBehind printed (tried ++ rest) (course_from (lines.place + 1) (at_start form B) records).ends_at failed was is (Err f))
+          → EndsBehind IsServedFault printed (tried ++ rest) (course_from (lines.place + 1) (at_start form B) records).ends_at failed was is (Err f))
           → IsServedRun form B lines failed was is disk (Err f)
       stopped most f known h ends =
           let split : (script.commands_of h.printed ++ script.commands_of h.tried) ++ script.commands_of h.rest ≡ script.commands_of (h.printed ++ (h.tried ++ h.rest)) =
@@ -182,14 +178,6 @@ module _ (form : Form) (B : Plain AnyJob) (r : Register AnyJob) (disk : View) (b
         let ends = subst (λ (s : Plain AnyJob). Ends (promise notes B) most (failed ≡ true) (course_from (lines.place + 1) (at_start form s) h.records) x y was is result) at h.ends in
         by_end x y none end held lines h.records failed was is most result h.known ends
 
-nothing_more : (was : Option (List ℕ)) → Appends was was []
-nothing_more None = tt
-nothing_more (Some xs) = sym (append-nil xs)
-
-known_rest : (left : Option (List Fields)) → (records : List Fields) × IfSome left (λ all. all ≡ records)
-known_rest None = ([], tt)
-known_rest (Some all) = (all, refl)
-
 -- a run whose front didn't start
 pub unserved : (form : Form) (B : Plain AnyJob) (disk : View) (lines : Records) (failed : Bool) (was : Option (List ℕ)) (f : Fault) → (f ≡ fault.NoThread) ⊎ (f ≡ fault.NoMemory)
     → (IsHonest disk → (image : List ℕ) → disk.now image → recovered (format any_kind) image ≡ Ok B) → IsServedRun form B lines failed was was disk (Err f)
@@ -212,7 +200,7 @@ unserved form B disk lines failed was f why images = record {
     rest = known_rest lines.left
 
     Ends_so : Fault → Type 0
-    Ends_so g = EndsBehind [] (course_from (lines.place + 1) (at_start form B) rest.0).steps (course_from (lines.place + 1) (at_start form B) rest.0).ends_at failed was was (Err g)
+    Ends_so g = EndsBehind IsServedFault [] (course_from (lines.place + 1) (at_start form B) rest.0).steps (course_from (lines.place + 1) (at_start form B) rest.0).ends_at failed was was (Err g)
 
     by : (f ≡ fault.NoThread) ⊎ (f ≡ fault.NoMemory) → Ends_so f
     by (inl is) = subst Ends_so (sym is) (refl, nothing_more was)

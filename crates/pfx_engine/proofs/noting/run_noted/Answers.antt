@@ -1,7 +1,8 @@
-use Rattle.std.proofs.Common.{◌≡◌, ℕ, false, List, Ok, max, refl, sym, ap, subst, ◌∙◌}
+use Rattle.std.proofs.Common.{◌≡◌, ℕ, false, List, Ok, Err, max, refl, sym, ap, subst, ◌∙◌}
 use Rattle.pfx_chronicle.specs.Chart.{charted_honest, last_only, noted_view}
 use Rattle.pfx_engine.proofs.NotingLemmas.{noted_none, noted_run}
 use Rattle.pfx_engine.specs.Noting.{IsNotedRun}
+use Rattle.pfx_fault.specs.declared.refusals.Fault.TheVariants as fault
 use Rattle.pfx_format.specs.Format.{format}
 use Rattle.pfx_kinds.specs.AnyKind.{any_kind}
 use Rattle.pfx_recovery.specs.Recovery.{recovered}
@@ -17,13 +18,15 @@ returns-in-Err g c =
     let whole : noted.file.broken ≡ false = ap (λ s. s.file.broken) c.noted-noted.ensures in
     let state : noted.state ≡ c.args.store.state = ap (λ s. s.state) c.noted-noted.ensures in
     record {
-      ran = noted_none c.args.form c.args.store.state c.args.script.now c.args.script.now.failed (g.W.Write.contents c.args.output.now) held image c.moment.result
+      ran = subst (λ t. IsNotedRun c.args.form c.args.store.state c.args.script.now c.args.script.now.failed (g.W.Write.contents c.args.output.now) (g.W.Write.contents c.args.output.now) held image c.moment.result
+          (g.D.Disk.view c.told.result.file.disk) t (Err fault.NoMemory)) (sym (c.told.ensures.state.0 ∙ ap (λ s. s.state) c.in-Err.ensures.given_back ∙ state))
+          (noted_none c.args.form c.args.store.state c.args.script.now c.args.script.now.failed (g.W.Write.contents c.args.output.now) held image c.moment.result
           (g.D.Disk.view c.told.result.file.disk) (view c.in-Err.back.file.disk).now
           (λ honest. (along.follows honest).premise)
           (λ so left behind. subst (λ d. (view d).now left) c.disk.ensures (c.moment.ensures.images so left behind))
           (λ honest left here. ((along.follows honest).premise, (along.follows honest).images left here))
           (λ so left here. c.is_broken-broken.ensures.recovered whole (charted_honest held image g.B.Charted.clock g.B.Charted.failures noted.file.disk.made noted.file.disk.late noted.file.disk.failed so) left
-          (subst (λ s. (view s.file.disk).now left) c.in-Err.ensures.given_back here) ∙ ap Ok state);
+          (subst (λ s. (view s.file.disk).now left) c.in-Err.ensures.given_back here) ∙ ap Ok state));
     }
 
 pub returns-in-Ok : goal.returns-in-Ok
@@ -39,8 +42,10 @@ returns-in-Ok g c =
     let whole : noted.file.broken ≡ false = ap (λ s. s.file.broken) c.noted-noted.ensures in
     let at : begun.store.state ≡ c.args.store.state = ap (λ s. s.state) c.in-Ok.ensures.store ∙ ap (λ s. s.state) c.noted-noted.ensures in
     record {
-      ran = subst (λ s. IsNotedRun c.args.form s c.args.script.now c.run_durable-result.new.script.failed (g.W.Write.contents c.args.output.now) (g.W.Write.contents c.run_durable-result.new.output) held image
-          c.moment-in-Ok.result (g.D.Disk.view c.told-in-Ok.result.file.disk) c.run_durable-result.result) at
+      ran = subst (λ t. IsNotedRun c.args.form c.args.store.state c.args.script.now c.run_durable-result.new.script.failed (g.W.Write.contents c.args.output.now) (g.W.Write.contents c.run_durable-result.new.output) held image
+          c.moment-in-Ok.result (g.D.Disk.view c.told-in-Ok.result.file.disk) t c.run_durable-result.result) (sym (c.told-in-Ok.ensures.state.0 ∙ ap (λ s. s.state) c.into_store-after.ensures))
+          (subst (λ s. IsNotedRun c.args.form s c.args.script.now c.run_durable-result.new.script.failed (g.W.Write.contents c.args.output.now) (g.W.Write.contents c.run_durable-result.new.output) held image
+          c.moment-in-Ok.result (g.D.Disk.view c.told-in-Ok.result.file.disk) c.run_durable-result.new.engine.store.state c.run_durable-result.result) at
           (noted_run held image c.moment-in-Ok.result (g.D.Disk.view c.told-in-Ok.result.file.disk) (λ honest. (along.follows honest).premise)
           (λ engine. view engine.store.file.disk) (λ engine. engine.store.file.broken) (λ engine. engine.store.state) c.args.form
           (max c.args.window c.args.group) c.args.script.now c.run_durable-result.new.script.failed begun c.run_durable-result.new.engine (g.W.Write.contents c.args.output.now) (g.W.Write.contents c.run_durable-result.new.output)
@@ -51,5 +56,5 @@ returns-in-Ok g c =
           (subst (λ s. (view s.file.disk).now left) c.in-Ok.ensures.store (last_only held image clock failures begun.store.file.disk.made begun.store.file.disk.late begun.store.file.disk.failed left is))
           ∙ ap Ok (sym (ap (λ s. s.state) c.in-Ok.ensures.store)))
           (λ so left behind. subst (λ s. (view s.file.disk).now left) c.into_store-after.ensures (subst (λ d. (view d).now left) c.disk-in-Ok.ensures (c.moment-in-Ok.ensures.images so left behind)))
-          (λ honest left here. subst (λ s. (view s.file.disk).now left) c.into_store-after.ensures ((along.follows honest).premise, (along.follows honest).images left here)));
+          (λ honest left here. subst (λ s. (view s.file.disk).now left) c.into_store-after.ensures ((along.follows honest).premise, (along.follows honest).images left here))));
     }

@@ -1,0 +1,93 @@
+-- Worked rows: for each field of what a noted run leaves, a run of which it doesn't hold. A definition that says less lets them pass, and
+-- its row fails.
+use Rattle.std.specs.Prelude.{Bool}
+use Rattle.std.proofs.Common.{◌≡◌, ◌≢◌, ◌+◌, ◌++◌, ℕ, zero, suc, List, [], ◌∷◌, length, Option, Some, None, IfSome, Result, Ok, Err, true, false, refl, sym, ap, subst, ◌∙◌, arith, append_assoc}
+use Rattle.std.proofs.lemmas.Bool.{false≢true}
+use Rattle.std.proofs.lemmas.Option.{none-some}
+use Rattle.pfx_chronicle.specs.declared.made.Made.{Made}
+use Rattle.pfx_disk.specs.Disk.{View, IsHonest}
+use Rattle.pfx_fault.specs.declared.parts.Cause.TheVariants as cause
+use Rattle.pfx_fault.specs.declared.refusals.Fault.{Fault}
+use Rattle.pfx_fault.specs.declared.refusals.Fault.TheVariants as fault
+use Rattle.pfx_format.specs.Format.{format}
+use Rattle.pfx_header.specs.Headers.{read_header}
+use Rattle.pfx_kinds.specs.AnyKind.{any_kind}
+use Rattle.pfx_kinds.specs.declared.any.AnyJob.{AnyJob}
+use Rattle.pfx_machine.proofs.Compose.{outcome-none}
+use Rattle.pfx_machine.specs.Outcome.{outcome}
+use Rattle.pfx_machine.specs.Plain.{Plain}
+use Rattle.pfx_machine.specs.declared.command.Command.{Command}
+use Rattle.pfx_program.proofs.StepLemmas.{commands_append}
+use Rattle.pfx_program.specs.Script.{Step, at_start, commands_of, course_from}
+use Rattle.pfx_program.specs.declared.form.Form.{Form}
+use Rattle.pfx_recovery.specs.Recovery.{found, recovered}
+use Rattle.pfx_script.specs.Records.{Fields, Records}
+use Rattle.pfx_engine.specs.Noting.{IsAloneFault, IsNotedRun}
+use Rattle.pfx_engine.specs.Surviving.{Survives}
+
+-- whether something was found
+abbrev is_ok : {A E : Type 0} → Result A E → Bool
+is_ok (Ok x) = true
+is_ok (Err e) = false
+
+none_first : {A : Type 0} (xs ys : List A) → xs ++ ys ≡ [] → xs ≡ []
+none_first [] ys h = refl
+none_first (x ∷ xs) ys h = cc
+
+-- a script without records has no command, and its course comes to its end
+no_commands : (at : ℕ) (form : Form) (s : Plain AnyJob) → commands_of (course_from at (at_start form s) []).steps ≡ []
+unfolding course_from
+no_commands at form s = refl
+
+no_end : (at : ℕ) (form : Form) (s : Plain AnyJob) → (course_from at (at_start form s) []).ends_at ≡ None
+unfolding course_from
+no_end at form s = refl
+
+-- nothing is found in an empty file
+not_in_nothing : (s : Plain AnyJob) (H : List (Command AnyJob)) (n : ℕ) → Survives s H n [] → ⊥
+unfolding recovered found read_header
+not_in_nothing s H n h = false≢true (ap is_ok h.recovered)
+
+-- where nothing was printed no command was kept, so a failed disk's answer doesn't name the next one
+kept_of_nothing : (s : Plain AnyJob) → IsAloneFault s [] (fault.StoreFailed (s.number + 1) cause.Device) → ⊥
+kept_of_nothing s h =
+    let same = ap marked_in h ∙ ap (λ (t : Plain AnyJob). t.number) (outcome-none any_kind s) in
+    omega (arith, same)
+  where
+    marked_in : Fault → ℕ
+    marked_in (fault.StoreFailed marked why) = marked
+    marked_in other = 0
+
+module _ (form : Form) (s : Plain AnyJob) (script : Records) (none : script.left ≡ Some []) (failed : Bool) (was is : Option (List ℕ)) (held : Type 0) (made : List Made) (disk : View) (t : Plain AnyJob) where
+  records_none : (image : List ℕ) (result : Result (Unit {0}) Fault) (h : IsNotedRun form s script failed was is held image made disk t result) → h.records ≡ []
+  records_none image result h = sym (subst (λ (left : Option (List Fields)). IfSome left (λ all. all ≡ h.records)) none h.known)
+
+  -- nothing was left to run, and no record was without form
+  ends_nowhere : (image : List ℕ) (at : ℕ) → IsNotedRun form s script failed was is held image made disk t (Err (fault.BadScript at)) → ⊥
+  ends_nowhere image at h =
+      none-some at (sym (no_end (script.place + 1) form s) ∙ ap (λ (l : List Fields). (course_from (script.place + 1) (at_start form s) l).ends_at) (sym (records_none image _ h)) ∙ h.ends.0)
+
+  -- a script without commands leaves the store where it was
+  state_lost : (image : List ℕ) (result : Result (Unit {0}) Fault) → t.number ≡ s.number + 1 → IsNotedRun form s script failed was is held image made disk t result → ⊥
+  state_lost image result next h =
+      let whole : (h.printed ++ h.tried) ++ h.back ≡ (course_from (script.place + 1) (at_start form s) []).steps =
+      append_assoc h.printed h.tried h.back ∙ ap (λ (l : List Step). h.printed ++ l) (sym h.untold) ∙ sym h.course
+      ∙ ap (λ (l : List Fields). (course_from (script.place + 1) (at_start form s) l).steps) (records_none image result h) in
+      let nothing : commands_of (h.printed ++ h.tried) ≡ [] =
+      none_first (commands_of (h.printed ++ h.tried)) (commands_of h.back)
+      (sym (commands_append (h.printed ++ h.tried) h.back) ∙ ap commands_of whole ∙ no_commands (script.place + 1) form s) in
+      let same = ap (λ (p : Plain AnyJob). p.number) (h.state ∙ ap (outcome any_kind s) nothing ∙ outcome-none any_kind s) in
+      omega (arith, next, same)
+
+  -- the disk held nothing, no call was made, and a stop leaves nothing
+  kept_nowhere : (result : Result (Unit {0}) Fault) → held → IsNotedRun form s script failed was is held [] [] disk t result → ⊥
+  kept_nowhere result so h = not_in_nothing s _ _ (h.kept so [] refl)
+
+  -- an honest disk that may hold nothing after a stop
+  on_disk_nowhere : (image : List ℕ) (result : Result (Unit {0}) Fault) → IsHonest disk → disk.now [] → IsNotedRun form s script failed was is held image made disk t result → ⊥
+  on_disk_nowhere image result honest here h = not_in_nothing s _ _ (h.on_disk honest [] here)
+
+-- an honest disk, and bytes that it didn't hold
+premise_lost : (form : Form) (s : Plain AnyJob) (script : Records) (failed : Bool) (was is : Option (List ℕ)) (image : List ℕ) (made : List Made) (disk : View) (t : Plain AnyJob) (result : Result (Unit {0}) Fault)
+    → IsHonest disk → IsNotedRun form s script failed was is ⊥ image made disk t result → ⊥
+premise_lost form s script failed was is image made disk t result honest h = h.premise honest
