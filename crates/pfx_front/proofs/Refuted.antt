@@ -36,5 +36,5 @@ module _ {J : Type 0} (K : Kind J) (origin : Plain J) where
   -- a job that isn't there can't be taken away, so the batches lead nowhere
   leads_nowhere : (batches : List (Batch J)) (image : List ℕ) → origin.jobs ≡ [] → records_of batches ≡ withdrawn 0 ∷ [] → Recovers K origin batches image → ⊥
   leads_nowhere batches image none are h =
-      let nowhere : applied K (record { number = origin.number; ledger = origin.ledger; jobs = [] }) (withdrawn 0 ∷ []) ≡ None = refl in
-      none-some h.state (sym nowhere ∙ (λ i. applied K (record { number = origin.number; ledger = origin.ledger; jobs = sym none i }) (sym are i)) ∙ h.leads)
+      let nowhere : applied K (record { number = origin.number; from = origin.from; ledger = origin.ledger; jobs = []; segment = origin.segment }) (withdrawn 0 ∷ []) ≡ None = refl in
+      none-some h.state (sym nowhere ∙ (λ i. applied K (record { number = origin.number; from = origin.from; ledger = origin.ledger; jobs = sym none i; segment = origin.segment }) (sym are i)) ∙ h.leads)

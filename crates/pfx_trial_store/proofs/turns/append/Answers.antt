@@ -7,6 +7,7 @@ append-requires g c =
     record {
       next = record {
         workers = search rules;
+        real = search rules;
         first = search rules;
         right = (c.apply_all.new.state, rw (sym c.state.ensures) (rw (sym c.in-Ok.ensures) (rw (sym c.deref-2.ensures.value) taken)));
       };
