@@ -1,5 +1,10 @@
-use Rattle.std.proofs.Common.{rules, refl, sym}
+use Rattle.std.proofs.Common.{rules, ◌≡◌, ◌∙◌, true, refl, sym}
 use Rattle.pfx_trial_store.proofs.turns.append.Goals as goal
+
+pub new-batch-requires : goal.new-batch-requires
+new-batch-requires g c =
+    let well : c.fits.result ≡ true = search rules in
+    rw (sym c.deref.ensures.value) (sym c.fits.ensures ∙ well)
 
 pub append-requires : goal.append-requires
 append-requires g c =
