@@ -92,6 +92,21 @@ fn is_one(
     is_state(state, &fold.behind_slot) || (!is_marked && is_state(state, &fold.state))
 }
 
+/// The same of two stops: if this becomes of all that isn't synced, and of the last write, the others kept.
+fn are_ones(
+    alloc: Global,
+    disk: &MemoryDisk,
+    calls: u64,
+    fate: Fate,
+    fold: &Fold,
+    is_marked: bool,
+) -> bool {
+    let all = [fate, fate];
+    let last = [Fate::Kept, fate];
+    is_one(alloc, disk, calls, &all, fold, is_marked)
+        && is_one(alloc, disk, calls, &last, fold, is_marked)
+}
+
 /// How many stops an opening and the appending of one Slot go through, a stop at each of their calls with each fate; `None`
 /// if one of them leaves anything but the state before the Slot or the one after it, or not the latter once it is marked.
 /// An opening's first call is a sync and the others read, so that a stop after these leaves what one after the sync does.
@@ -106,12 +121,10 @@ fn goes_on(alloc: Global, engine: DurableEngine<MemoryDisk>, fold: &Fold) -> Opt
             continue;
         }
         for fate in FATES {
-            for fates in [[fate, fate], [Fate::Kept, fate]] {
-                if !is_one(alloc, &disk, calls, &fates, fold, mark.clock <= calls) {
-                    return None;
-                }
-                stops = stops.saturating_add(1);
+            if !are_ones(alloc, &disk, calls, fate, fold, mark.clock <= calls) {
+                return None;
             }
+            stops = stops.saturating_add(2);
         }
     }
     Some(stops)
