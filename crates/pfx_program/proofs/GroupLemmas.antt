@@ -147,7 +147,7 @@ told_counts s (c ∷ H) (Ok x ∷ told) (accepted, next, more) = let rest = told
 told_counts s (c ∷ H) (Err f ∷ told) (refusal, more) = told_counts s H told more
 
 -- the step of the command behind some first ones
-told_split : (form : Form) (s : Plain AnyJob) (H : List (Command AnyJob)) (front : List Told) (x : Told) (back : List Told) → AreTold s H (front ++ x ∷ back)
+pub told_split : (form : Form) (s : Plain AnyJob) (H : List (Command AnyJob)) (front : List Told) (x : Told) (back : List Told) → AreTold s H (front ++ x ∷ back)
     → (printed : List Step) × (c : Command AnyJob) × (rest : List Step) × (told_steps form H (front ++ x ∷ back) ≡ printed ++ told_step form c x ∷ rest) × (text_of printed ≡ told_text form front)
 told_split form s [] [] x back all = absurd all
 told_split form s [] (y ∷ front) x back all = absurd all
@@ -159,7 +159,7 @@ told_split form s (c ∷ H) (Err f ∷ front) x back (refusal, more) =
     let (printed, d, rest, split, text) = told_split form s H front x back more in
     (told_step form c (Err f) ∷ printed, d, rest, ap (λ (l : List Step). told_step form c (Err f) ∷ l) split, ap (λ (l : List ℕ). told_line form (Err f) ++ l) text)
 
-step_line : (form : Form) (c : Command AnyJob) (x : Told) → (told_step form c x).text ≡ told_line form x
+pub step_line : (form : Form) (c : Command AnyJob) (x : Told) → (told_step form c x).text ≡ told_line form x
 step_line form c (Ok x) = refl
 step_line form c (Err f) = refl
 

@@ -3,7 +3,8 @@
 ghost use Rattle.std.specs.Prelude.{◌≡◌, ◌+◌, ◌-◌, ◌≤◌, ◌<◌, ◌^◌, false, length, IfOk, IfErr, OnOk};
 ghost use Rattle.std.specs.Io.KnownBytes.{Appends};
 ghost use Rattle.csv.specs.Records.{fields_of, AllText};
-ghost use Rattle.pfx_program.specs.Groups.{touches, Avoid, HasNotFailed, IsBehind, IsGiven, IsJoining, IsStill, ToldFail, group_steps, told_count, told_text};
+ghost use Rattle.pfx_program.specs.Groups.{touches, Avoid, HasNotFailed, IsBehind, IsGiven, IsJoining, IsStill, ToldFail, group_steps, told_count, told_line, told_text};
+ghost use Rattle.pfx_program.specs.Printing.{MayPrint, MayTell};
 ghost use Rattle.pfx_program.specs.Promises.{IsSame};
 ghost use Rattle.pfx_program.specs.Running.{run_of, Carried, Stopped};
 ghost use Rattle.pfx_program.specs.Script.{commands_of};
@@ -13,6 +14,7 @@ use crate::Form;
 use crate::engine::{Engine, Told};
 use crate::faults::machine_fault;
 use crate::grants::{is_next, started};
+use crate::printer::Printer;
 use crate::writing::{put_refused, put_reply};
 use csv::StringRecord;
 use pfx_fault::Fault;
@@ -20,7 +22,7 @@ use pfx_kinds::any::AnyJob;
 use pfx_machine::Command;
 use pfx_script::{Script, Verb, read_verb};
 use std::alloc::Global;
-use std::io::{Read, Write};
+use std::io::Read;
 
 /// What stands behind a group.
 #[derive(Drop)]
@@ -182,12 +184,14 @@ pub(crate) fn gather<R: Read + Drop, E: Engine>(
 }
 
 // Prints what commands were told: how many of them were accepted.
-fn put_told<W: Write>(
+fn put_told<W: Printer<E>, E>(
     alloc: Global,
     form: Form,
     output: &mut W,
+    engine: &E,
     told: &[Told],
 ) -> Result<u32, Fault>
+    requires may { MayTell W.allows engine.now (W.contents output.old) (told_line form) (told_text form) told.now }
     requires few { length told.now ≤ 16 }
     ensures ok { OnOk result (Appends (W.contents output.old) (W.contents output.new) (told_text form told.now)) }
     ensures count { IfOk result (λ count. count ≡ told_count told.now) }
@@ -197,17 +201,17 @@ fn put_told<W: Write>(
     for entry in told {
         match entry {
             Ok((number, reply)) => {
-                put_reply(alloc, form, output, *number, reply)?;
+                put_reply(alloc, form, output, engine, *number, reply)?;
                 count += 1;
             }
-            Err(fault) => put_refused(alloc, form, output, machine_fault(*fault))?,
+            Err(fault) => put_refused(alloc, form, output, engine, machine_fault(*fault))?,
         }
     }
     Ok(count)
 }
 
 /// Carries the commands of a group out in one call of the engine, and prints their lines once all that were accepted are kept.
-pub(crate) fn run_group<W: Write, E: Engine>(
+pub(crate) fn run_group<W: Printer<E>, E: Engine>(
     alloc: Global,
     group: Vec<Command<AnyJob>>,
     accepted: &mut u32,
@@ -218,6 +222,7 @@ pub(crate) fn run_group<W: Write, E: Engine>(
     requires changes { AreChanges group.items }
     requires few { length group.items ≤ 16 }
     requires room { length group.items ≤ 1048576 - accepted.old }
+    requires may { MayPrint E.promise W.allows engine.old (W.contents output.old) (group_steps (run_of E.promise form engine.old accepted.old) group.items) }
     ensures ok { OnOk result (Carried E.promise (group_steps (run_of E.promise form engine.old accepted.old) group.items) engine.old engine.new
         (W.contents output.old) (W.contents output.new)) }
     ensures counts { OnOk result
@@ -229,6 +234,6 @@ pub(crate) fn run_group<W: Write, E: Engine>(
         return Ok(());
     }
     let told = engine.all(alloc, group)?;
-    *accepted += put_told(alloc, form, output, &told)?;
+    *accepted += put_told(alloc, form, output, engine, &told)?;
     Ok(())
 }
