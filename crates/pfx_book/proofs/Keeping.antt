@@ -1,6 +1,8 @@
 -- What a book keeps, after each of its calls.
 use Rattle.std.specs.Prelude.{slice_get}
-use Rattle.std.proofs.Common.{◌≡◌, ℕ, zero, suc, ◌+◌, ◌<◌, ◌≤◌, List, [], ◌∷◌, ◌++◌, length, set, Option, Some, None, true, refl, sym, ap, ◌∙◌, subst, arith, append_assoc, append-nil, length-append}
+use Rattle.std.proofs.Common.{◌≡◌, ◌≢◌, ℕ, zero, suc, ◌+◌, ◌<◌, ◌≤◌, List, [], ◌∷◌, ◌++◌, length, set, Option, Some, None, true, refl, sym, ap, ◌∙◌, subst, arith, append_assoc, append-nil, length-append, inl, inr}
+use Rattle.std.proofs.lemmas.Bool.{false≢true}
+use Rattle.std.proofs.lemmas.Option.{none-some}
 use Rattle.pfx_fault.specs.declared.parts.Cause.{Cause}
 use Rattle.pfx_jobs.specs.Kind.{Kind}
 use Rattle.pfx_machine.specs.Plain.{Plain}
@@ -8,16 +10,22 @@ use Rattle.pfx_machine.specs.Outcome.{outcome}
 use Rattle.pfx_record.specs.Records.{Recorded}
 use Rattle.pfx_redo.specs.Recording.{records_of}
 use Rattle.pfx_book.specs.Merging.{of, lists_from}
+use Rattle.pfx_book.specs.declared.note.Loss.{Loss}
 use Rattle.pfx_book.specs.declared.note.Note.{Note}
 use Rattle.pfx_book.specs.declared.note.Note.TheVariants.{Lost, Marked, Failed}
-use Rattle.pfx_book.specs.Notes.{Noted, added, commands_of, Fits, Legal, greatest, records_in, taken_in, Backed, AllBacked, is_entry}
+use Rattle.pfx_book.specs.Notes.{Noted, added, commands_of, Fits, Legal, greatest, lost_in, records_in, taken_in, Backed, AllBacked, is_entry}
 use Rattle.pfx_book.specs.Kept.{IsTold, HasFailed, IsMarked, IsKept}
 use Rattle.pfx_book.proofs.Merges.{lists_get, lists_set, tagged_more, of_beyond, tagged_wider, lists_more, length_lists, some_is}
-use Rattle.pfx_book.proofs.Notes.{noted_more, number_is, records_long, commands_more, legal_more, bounded, entries_more, entries_else, commands_entries, legal_entries, records_more, all_backed_more, all_backed_last}
+use Rattle.pfx_book.proofs.Notes.{noted_more, number_is, records_long, commands_more, legal_more, bounded, entries_more, entries_else, commands_entries, legal_entries, records_more, all_backed_more, all_backed_last, noted_split, noted_of, lost_noted}
 
 pub failed_more : {J : Type 0} (failure : Option Cause) (xs ys : List (Note J)) → HasFailed failure xs → HasFailed failure (xs ++ ys)
 failed_more None xs ys h = tt
 failed_more (Some cause) xs ys h = noted_more (Failed cause) xs ys h
+
+-- the mark that a client was told of with a failure
+abbrev mark_told : {J : Type 0} → Note J → ℕ
+mark_told (Lost loss) = loss.marked
+mark_told other = 0
 
 module _ {J : Type 0} (K : Kind J) (start : Plain J) (session : List (ℕ × Note J)) (lists : List (List (Note J))) (n : ℕ) (state : Plain J) (pending : List (Recorded J)) (taken marked clock : ℕ) (failure : Option Cause) where
   -- of a book as it is
@@ -79,14 +87,19 @@ module _ {J : Type 0} (K : Kind J) (start : Plain J) (session : List (ℕ × Not
       }
 
   marks_more : (h : Now) (k : ℕ) (e : Note J) → length (commands_of h.all) + length (added e) ≤ marked + 64 → Backed h.flushed e
+      → ((loss : Loss) → e ≡ Lost loss → (failure ≢ None) × (loss.marked ≡ start.number + marked))
       → IsMarked start.number h.flushed (h.all ++ (k, e) ∷ []) taken marked clock failure
-  marks_more h k e room b = record {
+  marks_more h k e room b here = record {
     taken_is = h.is_marked.taken_is;
     behind = h.is_marked.behind;
     noted = h.is_marked.noted;
     room = omega (arith, room, ap length (commands_more h.all k e), length-append (commands_of h.all) (added e));
     backed = all_backed_last h.flushed h.all k e h.is_marked.backed b;
     failed = h.is_marked.failed;
+    told = λ j loss is. elim (noted_split (j, Lost loss) h.all (k, e) is) [
+      | inl before ↦ h.is_marked.told j loss before
+      | inr last ↦ here loss (ap (λ p. p.1) last)
+    ];
   }
 
   -- the book with one entry more, of the pass k
@@ -102,7 +115,8 @@ module _ {J : Type 0} (K : Kind J) (start : Plain J) (session : List (ℕ × Not
         entries = ap (λ l. l ++ (k, e) ∷ []) h.entries ∙ sym (entries_more h.all k e entry);
         is_told = told_more h k mine e next more at pos (subst (λ G. Fits K start G e) c f) (s ∙ ap (λ G. outcome K start (G ++ added e)) c)
             (subst (λ G. records_of K start (G ++ added e) ≡ records_of K start G ++ more) c same);
-        is_marked = marks_more h k e (subst (λ G. length G + length (added e) ≤ marked + 64) c room) b;
+        is_marked = marks_more h k e (subst (λ G. length G + length (added e) ≤ marked + 64) c room) b
+            (λ loss same. absurd (false≢true (ap is_entry (sym same) ∙ entry)));
       }
 
   -- an entry that accepts nothing
@@ -116,11 +130,11 @@ module _ {J : Type 0} (K : Kind J) (start : Plain J) (session : List (ℕ × Not
       (kept_entry h k mine e state [] at pos entry f (outcome_is h ∙ ap (outcome K start) (sym same)) (ap (records_of K start) same ∙ sym (append-nil (records_of K start H))) room b)
 
   -- a client was told of the failure
-  pub kept_loss : (h : Now) (k : ℕ) (mine : List (Note J)) (cause : Cause) → slice_get lists k ≡ Some mine → 0 < k → failure ≡ Some cause
-      → IsKept K start session (set lists k (mine ++ Lost cause ∷ [])) n state pending taken marked clock failure
-  kept_loss h k mine cause at pos is =
+  pub kept_loss : (h : Now) (k : ℕ) (mine : List (Note J)) (loss : Loss) → slice_get lists k ≡ Some mine → 0 < k → failure ≡ Some loss.cause → loss.marked ≡ start.number + marked
+      → IsKept K start session (set lists k (mine ++ Lost loss ∷ [])) n state pending taken marked clock failure
+  kept_loss h k mine loss at pos is mark =
       let H = commands_of h.all in
-      let e : Note J = Lost cause in
+      let e : Note J = Lost loss in
       let same : H ++ added e ≡ H = append-nil H in
       record {
         flushed = h.flushed;
@@ -128,7 +142,8 @@ module _ {J : Type 0} (K : Kind J) (start : Plain J) (session : List (ℕ × Not
         entries = h.entries ∙ sym (entries_else h.all k e refl);
         is_told = subst (λ p. IsTold K start h.flushed (h.all ++ (k, e) ∷ []) (set lists k (mine ++ e ∷ [])) n state p) (append-nil pending)
             (told_more h k mine e state [] at pos tt (h.is_told.outcome ∙ ap (outcome K start) (sym same)) (ap (records_of K start) same ∙ sym (append-nil (records_of K start H))));
-        is_marked = marks_more h k e (omega (arith, h.is_marked.room)) (subst (λ o. HasFailed o h.flushed) is h.is_marked.failed);
+        is_marked = marks_more h k e (omega (arith, h.is_marked.room)) (subst (λ o. HasFailed o h.flushed) is h.is_marked.failed)
+            (λ other same. ((λ none. none-some loss.cause (sym none ∙ is)), sym (ap mark_told same) ∙ mark));
       }
 
   -- one pass more
@@ -162,11 +177,16 @@ module _ {J : Type 0} (K : Kind J) (start : Plain J) (session : List (ℕ × Not
       let z : 1 + i ≡ suc i = omega arith in
       sym r.1 ∙ ap (λ k. of k h.all) z
 
+  -- who was told of a failure was told of the last mark
+  pub told_mark : (h : Now) (k : ℕ) (mine : List (Note J)) (loss : Loss) → slice_get lists k ≡ Some mine → 0 < k → lost_in mine ≡ Some loss → loss.marked ≡ start.number + marked
+  told_mark h k mine loss at pos is = (h.is_marked.told k loss (noted_of k (Lost loss) h.all (subst (Noted (Lost loss)) (its h k mine at pos) (lost_noted mine loss is)))).1
+
   -- one note more of the flusher's, with what it takes
   pub kept_note : (h : Now) (mine : List (Note J)) (e : Note J) (rest : List (Recorded J)) (later now since : ℕ) (lost : Option Cause) → slice_get lists 0 ≡ Some mine → pending ≡ taken_in e ++ rest
       → later ≡ taken + length (taken_in e) → now ≤ later → marked ≤ now → Noted (Marked (start.number + now) since) (mine ++ e ∷ []) → HasFailed lost (mine ++ e ∷ [])
+      → ((k : ℕ) (loss : Loss) → Noted (k, Lost loss) h.all → (lost ≢ None) × (loss.marked ≡ start.number + now))
       → IsKept K start session (set lists 0 (mine ++ e ∷ [])) n state rest later now since lost
-  kept_note h mine e rest later now since lost at are count low more noted has =
+  kept_note h mine e rest later now since lost at are count low more noted has still =
       let t = h.is_told in
       let m = h.is_marked in
       let known = flushed_is mine h at in
@@ -190,5 +210,6 @@ module _ {J : Type 0} (K : Kind J) (start : Plain J) (session : List (ℕ × Not
           room = omega (arith, m.room, more);
           backed = all_backed_more mine (e ∷ []) h.all (subst (λ l. AllBacked l h.all) known m.backed);
           failed = has;
+          told = still;
         };
       }

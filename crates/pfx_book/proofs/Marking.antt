@@ -11,6 +11,7 @@ use Rattle.pfx_book.specs.declared.note.Note.{Note}
 use Rattle.pfx_book.specs.declared.note.Note.TheVariants.{Marked, Failed}
 use Rattle.pfx_book.specs.Notes.{Noted, records_in}
 use Rattle.pfx_book.specs.Kept.{HasFailed, IsKept, OpenFits}
+use Rattle.std.proofs.lemmas.Option.{none-some}
 use Rattle.pfx_book.proofs.Notes.{noted_more, noted_last}
 use Rattle.pfx_book.proofs.Keeping.{flushed_is, kept_note, failed_more}
 
@@ -20,14 +21,16 @@ module _ {J : Type 0} (K : Kind J) (start : Plain J) (session : List (ℕ × Not
 
   -- all that was taken is marked
   pub kept_mark : (h : Now) (mine : List (Note J)) (number since : ℕ) → slice_get lists 0 ≡ Some mine → number ≡ start.number + length (records_in mine)
+      → failure ≡ None
       → IsKept K start session (set lists 0 (mine ++ Marked number since ∷ [])) n state pending taken taken since failure
-  kept_mark h mine number since at is =
+  kept_mark h mine number since at is goes_on =
       let known = flushed_is K start session lists n state pending taken marked clock failure mine h at in
       let long = ap (λ l. length (records_in l)) known in
       let same : number ≡ start.number + taken = omega (arith, is, long, h.is_marked.taken_is) in
       kept_note K start session lists n state pending taken marked clock failure h mine (Marked number since) pending taken taken since failure at refl (omega arith) (omega arith) h.is_marked.behind
       (subst (λ m. Noted (Marked m since) (mine ++ Marked number since ∷ [])) same (noted_last (Marked number since) mine))
       (failed_more failure mine (Marked number since ∷ []) (subst (HasFailed failure) known h.is_marked.failed))
+      (λ k loss told. absurd ((h.is_marked.told k loss told).0 goes_on))
 
   -- the flusher gives up
   pub kept_fail : (h : Now) (mine : List (Note J)) (cause : Cause) → slice_get lists 0 ≡ Some mine
@@ -36,7 +39,7 @@ module _ {J : Type 0} (K : Kind J) (start : Plain J) (session : List (ℕ × Not
       let known = flushed_is K start session lists n state pending taken marked clock failure mine h at in
       kept_note K start session lists n state pending taken marked clock failure h mine (Failed cause) pending taken marked clock (Some cause) at refl (omega arith) h.is_marked.behind (omega arith)
       (noted_more (Marked (start.number + marked) clock) mine (Failed cause ∷ []) (subst (Noted (Marked (start.number + marked) clock)) known h.is_marked.noted))
-      (noted_last (Failed cause) mine)
+      (noted_last (Failed cause) mine) (λ k loss told. ((λ none. none-some cause (sym none)), (h.is_marked.told k loss told).1))
 
 -- a slot that has room has it with a later mark too
 pub fits_later : {J : Type 0} (K : Kind J) (state : Plain J) (first : ℕ) (o : Option (Dealt J)) (marked later entries places : ℕ) → marked ≤ later → OpenFits K state first o marked entries places → OpenFits K state first o later entries places
@@ -68,5 +71,5 @@ kept_new K start state lists number clock same is num are =
         valid = subst IsState same is;
         records = refl;
       };
-      is_marked = record { taken_is = refl; behind = omega arith; noted = inl (ap (λ (m : ℕ). Marked m clock) first); room = omega arith; backed = tt; failed = tt };
+      is_marked = record { taken_is = refl; behind = omega arith; noted = inl (ap (λ (m : ℕ). Marked m clock) first); room = omega arith; backed = tt; failed = tt; told = λ k loss is. absurd is };
     }

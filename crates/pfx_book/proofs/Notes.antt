@@ -1,8 +1,8 @@
 -- Notes and sessions that are one longer.
-use Rattle.std.specs.Prelude.{if◌then◌else◌, ◌==◌, unwrap_or, option_map, nat_le}
+use Rattle.std.specs.Prelude.{◌⊎◌, if◌then◌else◌, ◌==◌, unwrap_or, option_map, is_some, nat_le}
 use Rattle.std.proofs.Common.{◌≡◌, ℕ, suc, ◌+◌, ◌≤◌, ◌^◌, max, List, [], ◌∷◌, ◌++◌, length, Option, Some, None, Bool, true, false, refl, sym, ap, ◌∙◌, subst, arith, append_assoc, append-nil, length-append, inl, inr}
-use Rattle.std.proofs.lemmas.Option.{none-some}
-use Rattle.pfx_fault.specs.declared.parts.Cause.{Cause}
+use Rattle.std.proofs.lemmas.Bool.{eqb-true, false≢true}
+use Rattle.std.proofs.lemmas.Option.{none-some, same_Some}
 use Rattle.pfx_jobs.specs.Kind.{Kind}
 use Rattle.pfx_machine.specs.Plain.{Plain}
 use Rattle.pfx_machine.specs.Happenings.{happening, happenings_behind, happenings}
@@ -15,6 +15,7 @@ use Rattle.pfx_machine.specs.declared.faults.MachineFault.{MachineFault}
 use Rattle.pfx_redo.specs.Recording.{records_of}
 use Rattle.pfx_book.specs.Merging.{of}
 use Rattle.pfx_book.specs.declared.faults.BookFault.TheVariants.{SessionFull, Machine}
+use Rattle.pfx_book.specs.declared.note.Loss.{Loss}
 use Rattle.pfx_book.specs.declared.note.Note.{Note}
 use Rattle.pfx_book.specs.declared.note.Note.TheVariants.{Accepted, Refused, Receipt, Lost, Took, Marked, Failed}
 use Rattle.pfx_book.specs.declared.line.Line.{Line}
@@ -31,6 +32,17 @@ noted_more x (y ∷ xs) ys (inr h) = inr (noted_more x xs ys h)
 pub noted_last : {A : Type 0} (x : A) (xs : List A) → Noted x (xs ++ x ∷ [])
 noted_last x [] = inl refl
 noted_last x (y ∷ xs) = inr (noted_last x xs)
+
+-- what is noted in a list that is one longer
+pub noted_split : {A : Type 0} (x : A) (xs : List A) (y : A) → Noted x (xs ++ y ∷ []) → Noted x xs ⊎ (y ≡ x)
+noted_split x [] y (inl same) = inr same
+noted_split x [] y (inr h) = absurd h
+noted_split x (z ∷ zs) y (inl same) = inl (inl same)
+noted_split x (z ∷ zs) y (inr h) = elim (noted_split x zs y h) [ inl l ↦ inl (inr l) | inr r ↦ inr r ]
+
+pub none_is : {A : Type 0} (o : Option A) → is_some o ≡ false → o ≡ None
+none_is None e = refl
+none_is (Some x) e = absurd (false≢true (sym e))
 
 -- what isn't refused by the session isn't refused by the machine
 machine_none : (o : Option MachineFault) → option_map Machine o ≡ None → o ≡ None
@@ -76,16 +88,16 @@ module _ {J : Type 0} where
   lost_more [] e none = none
   lost_more (x ∷ xs) e none = ap (lost_or x) (lost_more xs e none)
 
-  only_or : (e : Note J) (rest : Option Cause) (cause : Cause) → lost_or e rest ≡ None → lost_or e (Some cause) ≡ Some cause
-  only_or (Lost other) rest cause none = absurd (none-some other (sym none))
-  only_or (Accepted n c r) rest cause none = refl
-  only_or (Refused n c f) rest cause none = refl
-  only_or (Receipt n d) rest cause none = refl
-  only_or (Took n records) rest cause none = refl
-  only_or (Marked n d) rest cause none = refl
-  only_or (Failed other) rest cause none = refl
+  only_or : (e : Note J) (rest : Option Loss) (loss : Loss) → lost_or e rest ≡ None → lost_or e (Some loss) ≡ Some loss
+  only_or (Lost other) rest loss none = absurd (none-some other (sym none))
+  only_or (Accepted n c r) rest loss none = refl
+  only_or (Refused n c f) rest loss none = refl
+  only_or (Receipt n d) rest loss none = refl
+  only_or (Took n records) rest loss none = refl
+  only_or (Marked n d) rest loss none = refl
+  only_or (Failed other) rest loss none = refl
 
-  rest_or : (e : Note J) (rest : Option Cause) → lost_or e rest ≡ None → rest ≡ None
+  rest_or : (e : Note J) (rest : Option Loss) → lost_or e rest ≡ None → rest ≡ None
   rest_or (Lost other) rest none = absurd (none-some other (sym none))
   rest_or (Accepted n c r) rest none = none
   rest_or (Refused n c f) rest none = none
@@ -95,15 +107,37 @@ module _ {J : Type 0} where
   rest_or (Failed other) rest none = none
 
   -- the first loss of a list that had none
-  pub lost_first : (xs : List (Note J)) (cause : Cause) → lost_in xs ≡ None → lost_in (xs ++ Lost cause ∷ []) ≡ Some cause
-  lost_first [] cause none = refl
-  lost_first (x ∷ xs) cause none = ap (lost_or x) (lost_first xs cause (rest_or x (lost_in xs) none)) ∙ only_or x (lost_in xs) cause none
+  pub lost_first : (xs : List (Note J)) (loss : Loss) → lost_in xs ≡ None → lost_in (xs ++ Lost loss ∷ []) ≡ Some loss
+  lost_first [] loss none = refl
+  lost_first (x ∷ xs) loss none = ap (lost_or x) (lost_first xs loss (rest_or x (lost_in xs) none)) ∙ only_or x (lost_in xs) loss none
+
+  -- a loss that is told of is noted
+  pub lost_noted : (xs : List (Note J)) (loss : Loss) → lost_in xs ≡ Some loss → Noted (Lost loss) xs
+  lost_noted [] loss is = absurd (none-some loss is)
+  lost_noted (Lost other ∷ xs) loss is = inl (ap Lost (same_Some other loss is))
+  lost_noted (Accepted n c r ∷ xs) loss is = inr (lost_noted xs loss is)
+  lost_noted (Refused n c f ∷ xs) loss is = inr (lost_noted xs loss is)
+  lost_noted (Receipt n d ∷ xs) loss is = inr (lost_noted xs loss is)
+  lost_noted (Took n records ∷ xs) loss is = inr (lost_noted xs loss is)
+  lost_noted (Marked n d ∷ xs) loss is = inr (lost_noted xs loss is)
+  lost_noted (Failed cause ∷ xs) loss is = inr (lost_noted xs loss is)
+
+  one_of : (b : Bool) (k : ℕ) (e : Note J) (x : ℕ × Note J) (rest : List (Note J)) (all : List (ℕ × Note J)) → (b ≡ true → k ≡ x.0)
+      → (Noted e rest → Noted (k, e) all) → Noted e (if b then x.1 ∷ rest else rest) → Noted (k, e) (x ∷ all)
+  one_of true k e x rest all same more (inl is) = inl (λ i. (sym (same refl) i, is i))
+  one_of true k e x rest all same more (inr later) = inr (more later)
+  one_of false k e x rest all same more later = inr (more later)
+
+  -- what one pass notes is among the notes of all
+  pub noted_of : (k : ℕ) (e : Note J) (xs : List (ℕ × Note J)) → Noted e (of k xs) → Noted (k, e) xs
+  noted_of k e [] h = absurd h
+  noted_of k e (x ∷ xs) h = one_of (k == x.0) k e x (of k xs) xs (eqb-true k x.0) (noted_of k e xs) h
 
   one_bound : (K : Kind J) (B : Plain J) (H : List (Command J)) (e : Note J) → Fits K B H e → number_in e ≤ B.number + length (H ++ added e)
   one_bound K B H (Accepted n c r) f = let h = f.0 in omega (arith, h, number_is K B H, length-append H (c ∷ []))
   one_bound K B H (Refused n c g) f = omega arith
   one_bound K B H (Receipt n d) f = omega arith
-  one_bound K B H (Lost cause) f = omega arith
+  one_bound K B H (Lost loss) f = omega arith
   one_bound K B H (Took n records) f = omega arith
   one_bound K B H (Marked n d) f = omega arith
   one_bound K B H (Failed cause) f = omega arith
@@ -135,7 +169,7 @@ module _ {J : Type 0} where
   skipped k (Accepted n c r) rest = refl
   skipped k (Refused n c f) rest = refl
   skipped k (Receipt n d) rest = refl
-  skipped k (Lost cause) rest = refl
+  skipped k (Lost loss) rest = refl
   skipped k (Took n records) rest = refl
   skipped k (Marked n d) rest = refl
   skipped k (Failed cause) rest = refl
@@ -148,7 +182,7 @@ module _ {J : Type 0} where
   kept_legal K B H k (Accepted n c r) rest f l = (f, l)
   kept_legal K B H k (Refused n c g) rest f l = (f, l)
   kept_legal K B H k (Receipt n d) rest f l = (f, l)
-  kept_legal K B H k (Lost cause) rest f l = subst (λ G. Legal K B G rest) (append-nil H) l
+  kept_legal K B H k (Lost loss) rest f l = subst (λ G. Legal K B G rest) (append-nil H) l
   kept_legal K B H k (Took n records) rest f l = absurd f
   kept_legal K B H k (Marked n d) rest f l = absurd f
   kept_legal K B H k (Failed cause) rest f l = absurd f
@@ -205,7 +239,7 @@ module _ {J : Type 0} where
   -- what is backed stays so
   backed_more : (xs ys : List (Note J)) (e : Note J) → Backed xs e → Backed (xs ++ ys) e
   backed_more xs ys (Receipt n d) h = (h.0, h.1, noted_more (Marked h.0 d) xs ys h.2)
-  backed_more xs ys (Lost cause) h = noted_more (Failed cause) xs ys h
+  backed_more xs ys (Lost loss) h = noted_more (Failed loss.cause) xs ys h
   backed_more xs ys (Accepted n c r) h = tt
   backed_more xs ys (Refused n c f) h = tt
   backed_more xs ys (Took n records) h = tt
@@ -224,7 +258,7 @@ module _ {J : Type 0} where
   kept_backed notes k (Accepted n c r) rest b l = (b, l)
   kept_backed notes k (Refused n c g) rest b l = (b, l)
   kept_backed notes k (Receipt n d) rest b l = (b, l)
-  kept_backed notes k (Lost cause) rest b l = l
+  kept_backed notes k (Lost loss) rest b l = l
   kept_backed notes k (Took n records) rest b l = (b, l)
   kept_backed notes k (Marked n d) rest b l = (b, l)
   kept_backed notes k (Failed cause) rest b l = (b, l)
@@ -241,7 +275,7 @@ module _ {J : Type 0} where
   one_accepted K B H (Accepted n c r) G f a = (free_of (nat_le (2 ^ 20) (length H)) K (outcome K B H) c f.1.0, a)
   one_accepted K B H (Refused n c g) G f a = subst (λ l. AllAccepted K B l G) (append-nil H) a
   one_accepted K B H (Receipt n d) G f a = subst (λ l. AllAccepted K B l G) (append-nil H) a
-  one_accepted K B H (Lost cause) G f a = subst (λ l. AllAccepted K B l G) (append-nil H) a
+  one_accepted K B H (Lost loss) G f a = subst (λ l. AllAccepted K B l G) (append-nil H) a
   one_accepted K B H (Took n records) G f a = absurd f
   one_accepted K B H (Marked n d) G f a = absurd f
   one_accepted K B H (Failed cause) G f a = absurd f

@@ -167,7 +167,7 @@ module _ {J : Type 0} (K : Kind J) where
         kept_note K start session lists n state (batch ++ rest) taken marked clock failure h mine (Took first records) rest (taken + length batch) marked clock failure at
         (ap (λ l. l ++ rest) (sym are)) (omega (arith, ap length are)) (omega (arith, h.is_marked.behind)) (omega arith)
         (noted_more (Marked (start.number + marked) clock) mine (Took first records ∷ []) (subst (Noted (Marked (start.number + marked) clock)) known h.is_marked.noted))
-        (failed_more failure mine (Took first records ∷ []) (subst (HasFailed failure) known h.is_marked.failed))
+        (failed_more failure mine (Took first records ∷ []) (subst (HasFailed failure) known h.is_marked.failed)) h.is_marked.told
 
 pub length_map : {A B : Type 0} (f : A → B) (xs : List A) → length (map f xs) ≡ length xs
 length_map f [] = refl

@@ -4,7 +4,6 @@ use Rattle.std.specs.Global.{Vec}
 use Rattle.pfx_crew.specs.Gathering.{Refuses as Repels}
 use Rattle.pfx_crew.specs.declared.gathering.GatherFault.{GatherFault}
 use Rattle.pfx_crew.specs.declared.gathering.GatherFault.TheVariants.{Stranger}
-use Rattle.pfx_fault.specs.declared.parts.Cause.{Cause}
 use Rattle.pfx_jobs.specs.Kind.{Kind}
 use Rattle.pfx_machine.specs.declared.command.Command.{Command}
 use Rattle.pfx_machine.specs.Faults.{no_memory}
@@ -19,6 +18,7 @@ use Rattle.pfx_redo.specs.Recording.{records_of}
 use Rattle.pfx_world.specs.Session.{Session, Opened, AllBack, MayGive, begun, gave, receipted, took}
 use Rattle.pfx_book.specs.declared.faults.BookFault.{BookFault}
 use Rattle.pfx_book.specs.declared.faults.BookFault.TheVariants.{Machine}
+use Rattle.pfx_book.specs.declared.note.Loss.{Loss}
 use Rattle.pfx_book.specs.declared.note.Note.{Note}
 use Rattle.pfx_book.specs.declared.note.Note.TheVariants.{Accepted, Refused, Receipt, Lost, Took}
 use Rattle.pfx_book.specs.Notes.{greatest, refused_at, GoesOn}
@@ -46,9 +46,9 @@ module _ {J : Type 0} where
       × (new ≡ entered pass.0 (Refused old.session.state.number c fault) old.session old) × (later ≡ noted (Refused old.session.state.number c fault) pass))
 
   -- a pass's list once its client was told of this failure: the first time it is noted
-  abbrev pub once_lost : Option Cause → Cause → List (Note J) → List (Note J)
-  once_lost None cause notes = notes ++ Lost cause ∷ []
-  once_lost (Some before) cause notes = notes
+  abbrev pub once_lost : Option Loss → Loss → List (Note J) → List (Note J)
+  once_lost None loss notes = notes ++ Lost loss ∷ []
+  once_lost (Some before) loss notes = notes
 
   -- no result of the open slot is missing, if one is open
   abbrev pub NoneMissing : Option (Opened J) → Type 0

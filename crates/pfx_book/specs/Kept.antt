@@ -1,5 +1,5 @@
 -- What a book's type keeps.
-use Rattle.std.specs.Prelude.{◌≡◌, ℕ, ◌+◌, ◌^◌, ◌<◌, ◌≤◌, List, [], ◌∷◌, ◌++◌, length, Option, None, Some, ⊤, true}
+use Rattle.std.specs.Prelude.{◌≡◌, ◌≢◌, ℕ, ◌+◌, ◌^◌, ◌<◌, ◌≤◌, List, [], ◌∷◌, ◌++◌, length, Option, None, Some, ⊤, true}
 use Rattle.pfx_fault.specs.declared.parts.Cause.{Cause}
 use Rattle.pfx_jobs.specs.Kind.{Kind}
 use Rattle.pfx_machine.specs.Plain.{Plain, IsState}
@@ -8,8 +8,9 @@ use Rattle.pfx_record.specs.Records.{Recorded}
 use Rattle.pfx_redo.specs.Recording.{records_of}
 use Rattle.pfx_slot.specs.Dealt.{Dealt, Answers, StandsAt}
 use Rattle.pfx_book.specs.Merging.{lists_from, Tagged}
+use Rattle.pfx_book.specs.declared.note.Loss.{Loss}
 use Rattle.pfx_book.specs.declared.note.Note.{Note}
-use Rattle.pfx_book.specs.declared.note.Note.TheVariants.{Marked, Failed}
+use Rattle.pfx_book.specs.declared.note.Note.TheVariants.{Lost, Marked, Failed}
 use Rattle.pfx_book.specs.Notes.{Noted, commands_of, Legal, records_in, AllBacked, entries_of}
 
 module _ {J : Type 0} where
@@ -30,8 +31,8 @@ module _ {J : Type 0} where
   HasFailed None notes = ⊤
   HasFailed (Some cause) notes = Noted (Failed cause) notes
 
-  -- the mark is among the flusher's notes, and at most what was taken; what is accepted is at most 64 beyond it; and receipts
-  -- and losses are backed
+  -- the mark is among the flusher's notes, and at most what was taken; what is accepted is at most 64 beyond it; receipts
+  -- and losses are backed; and who was told of a failure was told of this mark
   pub record IsMarked (first : ℕ) (flushed : List (Note J)) (all : List (ℕ × Note J)) (taken marked clock : ℕ) (failure : Option Cause) : Type 0 where
     pub taken_is : taken ≡ length (records_in flushed)
     pub behind : marked ≤ taken
@@ -39,6 +40,7 @@ module _ {J : Type 0} where
     pub room : length (commands_of all) ≤ marked + 64
     pub backed : AllBacked flushed all
     pub failed : HasFailed failure flushed
+    pub told : (k : ℕ) (loss : Loss) → Noted (k, Lost loss) all → (failure ≢ None) × (loss.marked ≡ first + marked)
 
   -- the book's invariant, of its session, its keeper's lists and its numbers
   pub record IsKept (K : Kind J) (start : Plain J) (session : List (ℕ × Note J)) (lists : List (List (Note J)))

@@ -2,7 +2,6 @@
 use Rattle.std.specs.Prelude.{◌≡◌, ◌⊎◌, ℕ, ◌+◌, ◌≤◌, ◌^◌, max, List, [], ◌∷◌, ◌++◌, length, map, Option, None, Some, option_map, ⊤, Bool, true, false, nat_le}
 use Rattle.std.specs.Prelude.{if◌then◌else◌}
 use Rattle.std.specs.Global.{Vec}
-use Rattle.pfx_fault.specs.declared.parts.Cause.{Cause}
 use Rattle.pfx_jobs.specs.Kind.{Kind}
 use Rattle.pfx_machine.specs.Plain.{Plain}
 use Rattle.pfx_machine.specs.Outcome.{outcome}
@@ -13,6 +12,7 @@ use Rattle.pfx_record.specs.Records.{plain, Recorded}
 use Rattle.pfx_redo.specs.Applying.{applied}
 use Rattle.pfx_book.specs.declared.faults.BookFault.{BookFault}
 use Rattle.pfx_book.specs.declared.faults.BookFault.TheVariants.{SessionFull, Machine}
+use Rattle.pfx_book.specs.declared.note.Loss.{Loss}
 use Rattle.pfx_book.specs.declared.note.Note.{Note}
 use Rattle.pfx_book.specs.declared.note.Note.TheVariants.{Accepted, Refused, Receipt, Lost, Took, Marked, Failed}
 
@@ -56,7 +56,7 @@ module _ {J : Type 0} where
   Fits K B H (Accepted n c r) = (n ≡ (outcome K B H).number + 1) × ((refused_in K B H c ≡ None) × (r ≡ reply (outcome K B H) c))
   Fits K B H (Refused n c f) = (n ≡ (outcome K B H).number) × (refused_in K B H c ≡ Some f)
   Fits K B H (Receipt n clock) = n ≤ (outcome K B H).number
-  Fits K B H (Lost cause) = ⊤
+  Fits K B H (Lost loss) = ⊤
   Fits K B H other = ⊥
 
   -- each note is right at its place
@@ -74,12 +74,12 @@ module _ {J : Type 0} where
   greatest [] = 0
   greatest (x ∷ xs) = max (number_in x) (greatest xs)
 
-  -- why a client was told that the flusher had given up, the first time
-  abbrev pub lost_or : Note J → Option Cause → Option Cause
-  lost_or (Lost cause) rest = Some cause
+  -- what a client was told of it that the flusher had given up, the first time
+  abbrev pub lost_or : Note J → Option Loss → Option Loss
+  lost_or (Lost loss) rest = Some loss
   lost_or other rest = rest
 
-  abbrev pub lost_in : List (Note J) → Option Cause
+  abbrev pub lost_in : List (Note J) → Option Loss
   lost_in [] = None
   lost_in (x ∷ xs) = lost_or x (lost_in xs)
 
@@ -101,7 +101,7 @@ module _ {J : Type 0} where
   -- what a note of a pass rests on among the flusher's: a receipt on a mark no lower, with its clock; a loss on the failure
   abbrev pub Backed : List (Note J) → Note J → Type 0
   Backed notes (Receipt n clock) = (m : ℕ) × (n ≤ m) × Noted (Marked m clock) notes
-  Backed notes (Lost cause) = Noted (Failed cause) notes
+  Backed notes (Lost loss) = Noted (Failed loss.cause) notes
   Backed notes other = ⊤
 
   abbrev pub AllBacked : List (Note J) → List (ℕ × Note J) → Type 0
@@ -116,7 +116,7 @@ module _ {J : Type 0} where
 
   -- a session has no losses: these are for the clients alone
   abbrev pub is_entry : Note J → Bool
-  is_entry (Lost cause) = false
+  is_entry (Lost loss) = false
   is_entry other = true
 
   abbrev pub entries_of : List (ℕ × Note J) → List (ℕ × Note J)

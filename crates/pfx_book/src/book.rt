@@ -13,7 +13,7 @@ use crate::copies::copy_reply;
 use crate::faults::BookFault;
 use crate::line::{Line, line_of, refused_line};
 use crate::name::Named;
-use crate::note::Note;
+use crate::note::{Loss, Note};
 use crate::room::make_room;
 use crate::trying::{Tried, try_command};
 use pfx_choice::ChoiceFault;
@@ -52,7 +52,7 @@ impl<J: Job, B: Named<J>> Model for Share<J, B> {
 pub struct Pass<J: Job, B: Named<J>> {
     pub(crate) number: u8,
     pub(crate) top: u64,
-    pub(crate) cause: Option<Cause>,
+    pub(crate) lost: Option<Loss>,
     pub(crate) token: Token<Note<J>, B>,
 }
 
@@ -65,7 +65,7 @@ impl<J: Job, B: Named<J>> Model for Pass<J, B> {
 
     ghost view = { λ p. p.token };
 
-    ghost invariant = { λ p. (p.number ≡ p.token.0) × (0 < p.token.0) × (p.top ≡ greatest p.token.1) × (p.cause ≡ lost_in p.token.1) };
+    ghost invariant = { λ p. (p.number ≡ p.token.0) × (0 < p.token.0) × (p.top ≡ greatest p.token.1) × (p.lost ≡ lost_in p.token.1) };
 }
 
 impl<J: Job, B: Named<J>> Pass<J, B> {
@@ -83,11 +83,11 @@ impl<J: Job, B: Named<J>> Pass<J, B> {
         self.top
     }
 
-    /// Why the client was first told that the flusher had given up, if it was.
-    pub fn cause(&self) -> Option<Cause>
+    /// What the client was first told of it that the flusher had given up, if it was.
+    pub fn lost(&self) -> Option<Loss>
         ensures { result ≡ lost_in self.now.1 }
     {
-        self.cause
+        self.lost
     }
 }
 
@@ -247,7 +247,7 @@ impl<J: Job, B: Named<J>> Book<J, B> {
         Some(Pass {
             number: self.passes,
             top: 0,
-            cause: None,
+            lost: None,
             token,
         })
     }

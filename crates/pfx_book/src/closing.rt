@@ -8,12 +8,13 @@ ghost use Rattle.pfx_book.specs.Calls.{IsReceipted, once_lost};
 ghost use Rattle.pfx_book.specs.Merging.{of, numbers_from, IsMerge};
 ghost use Rattle.pfx_book.specs.Kept.{HasFailed};
 ghost use Rattle.pfx_book.specs.Notes.{alone, lost_in, answers_of, commands_of, records_in, Legal, Noted, AllBacked};
+ghost use Rattle.pfx_book.specs.declared.note.Loss.{Loss};
 ghost use Rattle.pfx_book.specs.declared.note.Note.TheVariants.{Marked};
 
 use crate::book::{Book, Pass, Share};
 use crate::line::Line;
 use crate::name::Named;
-use crate::note::Note;
+use crate::note::{Loss, Note};
 use crate::room::make_room;
 use pfx_jobs::job::Job;
 use std::alloc::AllocError;
@@ -57,15 +58,27 @@ impl<J: Job, B: Named<J>> Book<J, B> {
         })
     }
 
-    /// Notes for a client that the flusher has given up, and why, unless it was told before. It takes no memory.
+    /// Notes for a client that the flusher has given up, why, and the number of the last mark, unless it was told before. It takes no
+    /// memory.
     pub fn note_failure(&mut self, pass: &mut Pass<J, B>)
         requires { self.old.failure ≢ None }
         ensures same { self.new ≡ self.old }
-        ensures noted { (cause : _) → self.old.failure ≡ Some cause → pass.new ≡ (pass.old.0, once_lost (lost_in pass.old.1) cause pass.old.1) }
+        ensures noted { (cause : _) → self.old.failure ≡ Some cause → pass.new ≡ (
+          pass.old.0,
+          once_lost (lost_in pass.old.1)
+              (record { marked = B.start.number + self.old.session.marked; cause = cause }) pass.old.1,
+        ) }
+        ensures before { (loss : Loss) → lost_in pass.old.1 ≡ Some loss → loss.marked ≡ B.start.number + self.old.session.marked }
     {
-        if let (Some(cause), None) = (self.failure, pass.cause) {
-            self.keeper.note(&mut pass.token, &Note::Lost(cause));
-            pass.cause = Some(cause);
+        let marked = self.marked();
+        if pass.lost.is_some() {
+            self.keeper.look(&mut pass.token);
+            return;
+        }
+        if let Some(cause) = self.failure {
+            let loss = Loss { marked, cause };
+            self.keeper.note(&mut pass.token, &Note::Lost(loss));
+            pass.lost = Some(loss);
         }
     }
 

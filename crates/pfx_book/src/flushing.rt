@@ -1,5 +1,5 @@
 //! What the flusher calls.
-ghost use Rattle.std.specs.Prelude.{◌≡◌, ◌↔◌, [], ◌∷◌, ◌++◌, ◌<◌, ◌≤◌, ◌+◌, length, IfOk, IfErr, OnErr, IsTrue, Some, vec_capacity};
+ghost use Rattle.std.specs.Prelude.{◌≡◌, ◌↔◌, [], ◌∷◌, ◌++◌, ◌<◌, ◌≤◌, ◌+◌, length, IfOk, IfErr, OnErr, IsTrue, Some, None, vec_capacity};
 ghost use Rattle.pfx_world.specs.Session.{marked_now, gave_up};
 ghost use Rattle.pfx_book.specs.Calls.{IsTaken};
 ghost use Rattle.pfx_book.specs.Notes.{records_in, took_in};
@@ -71,9 +71,10 @@ impl<J: Job, B: Named<J>> Book<J, B> {
     }
 
     /// All that was taken counts as durable, since this clock of the disk. `number` is that of the last command that the share
-    /// took, or of the start if it took none.
+    /// took, or of the start if it took none. Once the flusher has given up it marks nothing more.
     pub fn mark(&mut self, share: &mut Share<J, B>, number: u64, clock: u64)
-        requires { number ≡ B.start.number + length (records_in share.old) }
+        requires number { number ≡ B.start.number + length (records_in share.old) }
+        requires goes_on { self.old.failure ≡ None }
         ensures event { self.new ≡ record self.old { session = marked_now clock self.old.session } }
         ensures noted { share.new ≡ share.old ++ Marked number clock ∷ [] }
     {

@@ -9,6 +9,7 @@ use Rattle.pfx_book.proofs.Notes.{number_is}
 use Rattle.pfx_book.specs.Merging.{IsMerge, numbers_from}
 use Rattle.pfx_book.specs.Notes.{Legal, commands_of}
 use Rattle.pfx_book.specs.Register.{Register}
+use Rattle.pfx_book.specs.declared.note.Loss.{Loss}
 use Rattle.pfx_book.specs.declared.note.Note.{Note}
 use Rattle.pfx_book.specs.declared.note.Note.TheVariants.{Lost, Marked, Receipt}
 use Rattle.pfx_disk.specs.Disk.{View, IsSpent}
@@ -29,8 +30,12 @@ use Rattle.pfx_front.specs.declared.faults.CloseFault.TheVariants.{PassOut}
 use Rattle.pfx_front.proofs.Refuted.{is_ok}
 
 -- a client was told of a failure, and the flusher goes on
-told_of_none : (J : Type 0) (cause : Cause) → IsTold {J = J} None (1, Lost cause ∷ []) → ⊥
-told_of_none J cause h = none-some cause (h cause refl)
+told_of_none : (J : Type 0) (loss : Loss) → IsTold {J = J} None loss.marked (1, Lost loss ∷ []) → ⊥
+told_of_none J loss h = none-some loss.cause (h loss refl).0
+
+-- a client was told of a mark that isn't the last one
+told_behind : (J : Type 0) (cause : Cause) → IsTold {J = J} (Some cause) 1 (1, Lost (record { marked = 0; cause = cause }) ∷ []) → ⊥
+told_behind J cause h = let same : 0 ≡ 1 = (h (record { marked = 0; cause = cause }) refl).1 in omega (arith, same)
 
 -- where there was no pass none is missing
 none_out : (J : Type 0) → IsShort {J = J} [] (PassOut 0) → ⊥

@@ -214,7 +214,7 @@ module _ {J : Type 0} where
       | inr last ↦ absurd (took_marked batch.first batch.records n c last)
     ]
 
-    unfailed_here : (cause : Cause) → Noted (Failed cause) notes → ⊥
+    pub unfailed_here : (cause : Cause) → Noted (Failed cause) notes → ⊥
     unfailed_here cause noted = elim (noted_split (Failed cause) h.before Last (subst (Noted (Failed cause)) h.noted noted)) [
       | inl before ↦ h.step.unfailed cause before
       | inr last ↦ took_failed batch.first batch.records cause last

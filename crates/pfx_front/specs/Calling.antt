@@ -11,10 +11,10 @@ use Rattle.pfx_front.specs.declared.faults.CallFault.{CallFault}
 use Rattle.pfx_front.specs.declared.faults.CallFault.TheVariants.{Refused, StoreFailed}
 
 module _ {J : Type 0} where
-  -- the client was told that the flusher gave up, and why, now or before; it has no answer more
+  -- the client was told that the flusher gave up, why, and behind which mark, now or before; it has no answer more
   abbrev pub IsLost : ℕ × List (Note J) → ℕ × List (Note J) → CallFault → Type 0
   IsLost old new (Refused fault) = ⊥
-  IsLost old new (StoreFailed marked cause) = (new.0 ≡ old.0) × (answers_of new.1 ≡ answers_of old.1) × (lost_in new.1 ≡ Some cause)
+  IsLost old new (StoreFailed marked cause) = (new.0 ≡ old.0) × (answers_of new.1 ≡ answers_of old.1) × (lost_in new.1 ≡ Some (record { marked = marked; cause = cause }))
 
   -- a command has no reply: for want of memory, with nothing noted; as the book refuses it, which is noted; or for good
   abbrev pub HasNoReply : Command J → ℕ × List (Note J) → ℕ × List (Note J) → CallFault → Type 0

@@ -13,6 +13,7 @@ use Rattle.pfx_machine.specs.Outcome.{outcome}
 use Rattle.pfx_machine.specs.declared.command.Command.{Command}
 use Rattle.pfx_record.specs.declared.batch.Batch.{Batch}
 use Rattle.pfx_recovery.specs.Recovery.{recovered}
+use Rattle.pfx_book.specs.declared.note.Loss.{Loss}
 use Rattle.pfx_book.specs.declared.note.Note.{Note}
 use Rattle.pfx_book.specs.declared.note.Note.TheVariants.{Receipt}
 use Rattle.pfx_book.specs.Notes.{Noted, Legal, answers_of, commands_of, lost_in}
@@ -21,13 +22,13 @@ use Rattle.pfx_book.specs.Register.{Register}
 use Rattle.pfx_front.specs.declared.faults.CloseFault.{CloseFault}
 use Rattle.pfx_front.specs.declared.faults.CloseFault.TheVariants.{PassOut}
 
--- if a pass notes why the flusher gave up, it did so for that cause
-abbrev pub IsTold : {J : Type 0} → Option Cause → ℕ × List (Note J) → Type 0
-IsTold failure pass = (cause : Cause) → lost_in pass.1 ≡ Some cause → failure ≡ Some cause
+-- if a pass notes that the flusher gave up, it did so for that cause, and behind that mark, which is the last one
+abbrev pub IsTold : {J : Type 0} → Option Cause → ℕ → ℕ × List (Note J) → Type 0
+IsTold failure last pass = (loss : Loss) → lost_in pass.1 ≡ Some loss → (failure ≡ Some loss.cause) × (loss.marked ≡ last)
 
 -- each of these passes was told so
-abbrev pub AreTold : {J : Type 0} → Option Cause → List (ℕ × List (Note J)) → Type 0
-AreTold failure passes = (k : ℕ) → (pass : ℕ × List (Note _)) → slice_get passes k ≡ Some pass → IsTold failure pass
+abbrev pub AreTold : {J : Type 0} → Option Cause → ℕ → List (ℕ × List (Note J)) → Type 0
+AreTold failure last passes = (k : ℕ) → (pass : ℕ × List (Note _)) → slice_get passes k ≡ Some pass → IsTold failure last pass
 
 -- of so many passes that were given out these aren't all, and so many are missing
 abbrev pub IsShort : {J : Type 0} → List (ℕ × List (Note J)) → CloseFault → Type 0

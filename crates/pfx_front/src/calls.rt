@@ -54,10 +54,10 @@ fn loss<J: Job, B: Since<J>>(book: &mut Book<J, B>, pass: &mut Pass<J, B>) -> Op
         return None;
     }
     book.note_failure(pass);
-    match pass.cause() {
-        Some(cause) => Some(CallFault::StoreFailed {
-            marked: book.marked(),
-            cause,
+    match pass.lost() {
+        Some(loss) => Some(CallFault::StoreFailed {
+            marked: loss.marked,
+            cause: loss.cause,
         }),
         None => unreachable!(),
     }

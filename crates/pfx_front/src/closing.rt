@@ -1,5 +1,5 @@
 //! The end of a front.
-ghost use Rattle.std.specs.Prelude.{◌≡◌, ◌≢◌, ◌-◌, [], length, map, true, IfOk, IfErr, IfSome, IfNone, IsTrue, IsPermutation};
+ghost use Rattle.std.specs.Prelude.{◌≡◌, ◌≢◌, ◌+◌, ◌-◌, [], length, map, true, IfOk, IfErr, IfSome, IfNone, IsTrue, IsPermutation};
 ghost use Rattle.pfx_chronicle.specs.Chart.{noted_view};
 ghost use Rattle.pfx_disk.specs.Disk.{IsHonest};
 ghost use Rattle.pfx_book.specs.Merging.{numbers_from};
@@ -88,23 +88,23 @@ fn shut_in<J: Job, B: Since<J>, R: Wait>(
     }
 }
 
-/// Whether the client of this pass wasn't told of another failure than this one.
-fn is_told<J: Job, B: Since<J>>(failure: Option<Cause>, pass: &Pass<J, B>) -> bool
-    ensures { IsTrue result → IsTold failure pass.now }
+/// Whether the client of this pass wasn't told of another failure than this one, nor of another mark than the last one.
+fn is_told<J: Job, B: Since<J>>(failure: Option<Cause>, last: u64, pass: &Pass<J, B>) -> bool
+    ensures { IsTrue result → IsTold failure last pass.now }
 {
-    match pass.cause() {
+    match pass.lost() {
         None => true,
-        Some(cause) => failure == Some(cause),
+        Some(loss) => failure == Some(loss.cause) && loss.marked == last,
     }
 }
 
-/// Whether no client was told of another failure than this one.
-fn are_told<J: Job, B: Since<J>>(failure: Option<Cause>, passes: &[Pass<J, B>]) -> bool
-    ensures { IsTrue result → AreTold failure passes.now }
+/// Whether no client was told of another failure than this one, nor of another mark than the last one.
+fn are_told<J: Job, B: Since<J>>(failure: Option<Cause>, last: u64, passes: &[Pass<J, B>]) -> bool
+    ensures { IsTrue result → AreTold failure last passes.now }
 {
     let mut i = 0;
     while i < passes.len() {
-        if !is_told(failure, &passes[i]) {
+        if !is_told(failure, last, &passes[i]) {
             return false;
         }
         i += 1;
@@ -141,7 +141,7 @@ fn ended<J: Job, B: Since<J>, D: Disk + Drop, R: Wait + Drop>(
 ) -> Option<Closed<J, B, D>>
     ensures passes { IfSome result (λ c. c.given.passes.items ≡ given.passes.items) }
     ensures session { IfSome result (λ c. IsSession J.kind B.start c.book c.given.passes.items) }
-    ensures told { IfSome result (λ c. AreTold c.book.failure c.given.passes.items) }
+    ensures told { IfSome result (λ c. AreTold c.book.failure (B.start.number + c.book.session.marked) c.given.passes.items) }
     ensures store { IfSome result (λ c. IsStored J.kind B.start B.failures c.book c.store.state (D.view c.store.file.disk)) }
     ensures images { IfSome result (λ c. IsHonest (D.view c.store.file.disk) → IsHeld J.kind B.start B.clock c.book (D.view c.store.file.disk)) }
     ensures readers { IfSome result (λ c. AreSeen J.kind B.start c.book c.store.state given.readers.items c.given.readers.items c.looked.items) }
@@ -164,7 +164,7 @@ fn ended<J: Job, B: Since<J>, D: Disk + Drop, R: Wait + Drop>(
     if book.failure().is_none() && !book.is_settled() {
         return None;
     }
-    if !are_told(book.failure(), &passes) {
+    if !are_told(book.failure(), book.marked(), &passes) {
         return None;
     }
     book.settled(&mut share);
@@ -211,7 +211,7 @@ fn ended_on_disk<J: Job, B: Since<J>, D: Disk + Drop, R: Wait + Drop>(
 ) -> Option<Closed<J, B, D>>
     ensures passes { IfSome result (λ c. c.given.passes.items ≡ given.passes.items) }
     ensures session { IfSome result (λ c. IsSession J.kind B.start c.book c.given.passes.items) }
-    ensures told { IfSome result (λ c. AreTold c.book.failure c.given.passes.items) }
+    ensures told { IfSome result (λ c. AreTold c.book.failure (B.start.number + c.book.session.marked) c.given.passes.items) }
     ensures store { IfSome result (λ c. IsStored J.kind B.start B.failures c.book c.store.state (D.view c.store.file.disk)) }
     ensures images { IfSome result (λ c. IsHonest (D.view c.store.file.disk) → IsHeld J.kind B.start B.clock c.book (D.view c.store.file.disk)) }
     ensures readers { IfSome result (λ c. AreSeen J.kind B.start c.book c.store.state given.readers.items c.given.readers.items c.looked.items) }
@@ -263,7 +263,7 @@ where
         ensures unchanged { IfErr result (λ e. (e.1 ≡ self) × (e.2 ≡ crew)) }
         ensures short { IfErr result (λ e. IsShort e.3.passes.items e.0) }
         ensures session { IfOk result (λ c. IsSession J.kind B.start c.book c.given.passes.items) }
-        ensures told { IfOk result (λ c. AreTold c.book.failure c.given.passes.items) }
+        ensures told { IfOk result (λ c. AreTold c.book.failure (B.start.number + c.book.session.marked) c.given.passes.items) }
         ensures store { IfOk result (λ c. IsStored J.kind B.start B.failures c.book c.store.state (D.view c.store.file.disk)) }
         ensures images { IfOk result (λ c. IsHonest (D.view c.store.file.disk) → IsHeld J.kind B.start B.clock c.book (D.view c.store.file.disk)) }
         ensures readers { IfOk result (λ c. AreSeen J.kind B.start c.book c.store.state given.readers.items c.given.readers.items c.looked.items) }

@@ -3,7 +3,8 @@ ghost use Rattle.std.specs.Prelude.{◌≡◌, ◌≤◌, ◌+◌, [], ◌∷◌
 ghost use Rattle.pfx_board.specs.Word.{records_of};
 ghost use Rattle.pfx_redo.specs.Applying.{applied};
 ghost use Rattle.pfx_fault.specs.declared.parts.Cause.TheVariants.{Memory};
-ghost use Rattle.pfx_book.specs.Notes.{records_in};
+ghost use Rattle.pfx_fault.specs.declared.parts.Cause.{Cause};
+ghost use Rattle.pfx_book.specs.Notes.{Noted, records_in};
 ghost use Rattle.pfx_book.specs.declared.note.Note.TheVariants.{Marked, Failed};
 ghost use Rattle.pfx_front.specs.Keeping.{InStep, Behind};
 ghost use Rattle.pfx_front.specs.Showing.{AreShown, IsShown, IsShownBefore};
@@ -145,11 +146,13 @@ fn mark_in<J: Job, B: Since<J>, R: Wait>(
     share: &mut Share<J, B>,
     mark: Mark,
 )
-    requires { mark.number ≡ B.start.number + length (records_in share.old) }
+    requires number { mark.number ≡ B.start.number + length (records_in share.old) }
+    requires unfailed { (cause : Cause) → Noted (Failed cause) share.old → ⊥ }
     ensures { share.new ≡ share.old ++ Marked mark.number mark.clock ∷ [] }
 {
     let mut guard = monitor.book.lock(rt);
     if let Some(book) = &mut *guard {
+        book.settled(share);
         book.mark(share, mark.number, mark.clock);
         drop(guard);
         monitor.marked.notify_all();

@@ -7,6 +7,8 @@ use pfx_book::book::{Book, Pass};
 use pfx_book::closing::Receipt;
 use pfx_book::faults::BookFault;
 use pfx_book::name::Named;
+use pfx_book::note::Loss;
+use pfx_fault::Cause;
 use pfx_jobs::quantum::Quantum;
 use pfx_machine::{Command, MachineFault, Reply};
 use std::alloc::AllocError;
@@ -79,6 +81,15 @@ pub fn tell<J: Trial, B: Named<J>>(book: &mut Book<J, B>, pass: &mut Pass<J, B>)
     }
     book.note_failure(pass);
     true
+}
+
+/// Whether a client was told that the device failed, behind this mark.
+pub fn is_told<J: Trial, B: Named<J>>(pass: &Pass<J, B>, marked: u64) -> bool {
+    pass.lost()
+        == Some(Loss {
+            marked,
+            cause: Cause::Device,
+        })
 }
 
 /// Whether a Submit for this task was accepted with this number.

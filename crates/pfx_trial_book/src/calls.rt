@@ -2,7 +2,7 @@
 ghost use Rattle.std.specs.Prelude.{◌≡◌};
 
 use crate::asking::{
-    is_first_slot, is_submitted, is_withdrawn, open, receipt, submit, tell, withdraw,
+    is_first_slot, is_submitted, is_told, is_withdrawn, open, receipt, submit, tell, withdraw,
 };
 use crate::flusher::{Flusher, begin};
 use crate::states::{Trial, later};
@@ -25,7 +25,7 @@ fn is_new<J: Trial, B: Named<J>>(book: &Book<J, B>) -> bool {
 
 /// Whether the first pass of a book is as it should be.
 fn is_first<J: Trial, B: Named<J>>(book: &Book<J, B>, pass: &Pass<J, B>) -> bool {
-    pass.number() == 1 && pass.greatest() == 0 && pass.cause().is_none() && book.passes() == 1
+    pass.number() == 1 && pass.greatest() == 0 && pass.lost().is_none() && book.passes() == 1
 }
 
 /// Whether a Submit and a Withdraw are taken.
@@ -84,7 +84,7 @@ fn ends<J: Trial, B: Named<J>>(
     book.legal();
     book.shut();
     flusher.fail(book, Cause::Device);
-    let told = tell(book, pass) && pass.cause() == Some(Cause::Device);
+    let told = tell(book, pass) && is_told(pass, book.marked());
     book.is_closed() && book.failure() == Some(Cause::Device) && told
 }
 

@@ -79,9 +79,12 @@ impl<J: Trial, B: Named<J>> Flusher<J, B> {
         }
     }
 
-    /// Marks what it took, at this clock.
+    /// Marks what it took, at this clock, unless it has given up.
     pub fn mark(&mut self, book: &mut Book<J, B>, clock: u64) {
         let Flusher { share, last } = self;
+        if book.failure().is_some() {
+            return;
+        }
         book.settled(share);
         book.mark(share, *last, clock);
         book.settled(share);

@@ -1,7 +1,7 @@
 //! Batches, marks and receipts, and a flusher that gives up.
 ghost use Rattle.std.specs.Prelude.{◌≡◌};
 
-use crate::asking::{is_free, receipt, submit, tell, withdraw};
+use crate::asking::{is_free, is_told, receipt, submit, tell, withdraw};
 use crate::flusher::{Flusher, batch_room, begin};
 use crate::states::{Trial, thirds};
 use pfx_book::book::{Book, Pass};
@@ -64,9 +64,9 @@ fn gives_up<J: Trial, B: Named<J>>(
     let before = !tell(book, pass) && is_free(book);
     flusher.fail(book, Cause::Device);
     let failed = book.failure() == Some(Cause::Device) && !is_free(book) && !book.is_closed();
-    let told = pass.cause().is_none() && tell(book, pass) && pass.cause() == Some(Cause::Device);
+    let told = pass.lost().is_none() && tell(book, pass) && is_told(pass, 20);
     flusher.fail(book, Cause::Memory);
-    let again = tell(book, pass) && pass.cause() == Some(Cause::Device);
+    let again = tell(book, pass) && is_told(pass, 20);
     before && failed && told && again && is_receipted(book, pass, 20, 12)
 }
 

@@ -4,6 +4,7 @@ use crate::fronts::{Served, end_alone};
 use crate::sessions::{Session, is_right};
 use crate::stores::{SEGMENT, desk, have_looked, is_number, is_refused, memory, settle_last};
 use pfx_book::book::Pass;
+use pfx_book::note::Loss;
 use pfx_crew::desk::Desk;
 use pfx_disk::{Disk, FaultDisk};
 use pfx_fault::Cause;
@@ -35,13 +36,17 @@ where
         marked: 0,
         cause: Cause::Device,
     };
+    let told = Loss {
+        marked: 0,
+        cause: Cause::Device,
+    };
     let slot = front.call(rt, pass, Command::Slot);
     let lost = match settle_last(rt, front, pass) {
         Some(Err(fault)) => fault == failed,
         _ => false,
     };
     let next = front.call(rt, pass, Command::Slot);
-    is_number(&slot, 1) && lost && is_refused(&next, failed) && pass.cause() == Some(Cause::Device)
+    is_number(&slot, 1) && lost && is_refused(&next, failed) && pass.lost() == Some(told)
 }
 
 /// Whether the closed front has nothing but what it began with.

@@ -1,6 +1,8 @@
 use Rattle.std.proofs.Common.{◌≡◌, ◌+◌, ℕ, List, None, refl, sym, ap, ◌∙◌, subst, inl, inr}
 use Rattle.std.specs.Prelude.{◌⊎◌, ◌≢◌, map, length, take}
 use Rattle.std.specs.Option.{is_some}
+use Rattle.std.specs.Prelude.{Option}
+use Rattle.pfx_fault.specs.declared.parts.Cause.{Cause}
 use Rattle.std.proofs.lemmas.Bool.{false≢true}
 use Rattle.pfx_redo.specs.Recording.{records_of}
 use Rattle.pfx_book.specs.Kept.{HasFailed}
@@ -30,8 +32,13 @@ returns-clause-session g c =
 -- src/closing.rt:54:1
 pub returns-clause-told : goal.returns-clause-told
 returns-clause-told g c =
-    subst (λ f. AreTold f c.gathered.new.passes.items) (c.failure-2.ensures ∙ ap (λ (r : Register g.row.J.Denot). r.failure) (sym c.settled.ensures.same.0))
-    (subst (λ (l : List (ℕ × List (Note g.row.J.Denot))). AreTold c.failure-2.result l) c.deref.ensures.value (c.if-not-are_told.ensures refl))
+    let same = sym c.settled.ensures.same.0 in
+    subst (λ (q : Option Cause × ℕ). AreTold q.0 q.1 c.gathered.new.passes.items)
+    (λ i. (
+      (c.failure-2.ensures ∙ ap (λ (r : Register g.row.J.Denot). r.failure) same) i,
+      (c.marked.ensures ∙ ap (λ (r : Register g.row.J.Denot). g.B.Named.start.number + r.session.marked) same) i,
+    ))
+    (subst (λ (l : List (ℕ × List (Note g.row.J.Denot))). AreTold c.failure-2.result c.marked.result l) c.deref.ensures.value (c.if-not-are_told.ensures refl))
 
 -- src/closing.rt:54:1
 pub returns-clause-store : goal.returns-clause-store

@@ -1,10 +1,10 @@
 use Rattle.std.proofs.Common.{◌≡◌, ◌+◌, ◌++◌, ◌∷◌, [], length, Some, refl, sym, ap, ◌∙◌, subst}
-use Rattle.pfx_book.specs.Notes.{records_in}
-use Rattle.pfx_book.specs.declared.note.Note.TheVariants.{Marked}
+use Rattle.pfx_book.specs.Notes.{Noted, records_in}
+use Rattle.pfx_book.specs.declared.note.Note.TheVariants.{Failed, Marked}
 use Rattle.pfx_board.specs.Word.{records_of}
 use Rattle.pfx_redo.specs.Applying.{applied}
 use Rattle.pfx_front.specs.Showing.{AreShown, IsShown}
-use Rattle.pfx_front.proofs.Steps.{batch_small, mark_number, step_marked, published, batch_behind, memory_behind, memory_shown, marked_shown, device_shown, published_leads, failed_of}
+use Rattle.pfx_front.proofs.Steps.{batch_small, mark_number, step_marked, published, unfailed_here, batch_behind, memory_behind, memory_shown, marked_shown, device_shown, published_leads, failed_of}
 use Rattle.pfx_front.proofs.flusher.commit.Goals as goal
 
 pub show-requires : goal.show-requires
@@ -24,10 +24,16 @@ show-requires g c =
 pub mark_in-requires : goal.mark_in-requires
 mark_in-requires g c =
     let small = batch_small c.args.batch.workers c.args.batch.real c.args.batch.first c.args.batch.records.items c.args.batch.fits in
-    subst (λ n. c.in-Ok.mark.number ≡ g.B.Named.start.number + length (records_in n)) (sym (c.if-not-show.ensures.shown refl))
-    (mark_number g.J.Job.kind g.B.Named.start g.B.Charted.failures g.B.Charted.clock c.args.share.now c.args.batch c.args.store.now.file.broken c.append.new.self.file.broken
-    c.args.store.now.state c.append.new.self.state (g.D.Disk.view c.args.store.now.file.disk) (g.D.Disk.view c.append.new.self.file.disk) c.append.result c.requires.taken small
-    c.in-Ok.mark.number c.in-Ok.ensures.state.moved c.in-Ok.ensures.mark.0)
+    record {
+      number = subst (λ n. c.in-Ok.mark.number ≡ g.B.Named.start.number + length (records_in n)) (sym (c.if-not-show.ensures.shown refl))
+          (mark_number g.J.Job.kind g.B.Named.start g.B.Charted.failures g.B.Charted.clock c.args.share.now c.args.batch c.args.store.now.file.broken c.append.new.self.file.broken
+          c.args.store.now.state c.append.new.self.state (g.D.Disk.view c.args.store.now.file.disk) (g.D.Disk.view c.append.new.self.file.disk) c.append.result c.requires.taken small
+          c.in-Ok.mark.number c.in-Ok.ensures.state.moved c.in-Ok.ensures.mark.0);
+      unfailed = λ cause noted.
+          unfailed_here g.J.Job.kind g.B.Named.start g.B.Charted.failures g.B.Charted.clock c.args.share.now c.args.batch c.args.store.now.file.broken c.append.new.self.file.broken
+          c.args.store.now.state c.append.new.self.state (g.D.Disk.view c.args.store.now.file.disk) (g.D.Disk.view c.append.new.self.file.disk) c.append.result c.requires.taken small
+          cause (subst (Noted (Failed cause)) (c.if-not-show.ensures.shown refl) noted);
+    }
 
 pub returns-then-not-show-clause-behind : goal.returns-then-not-show-clause-behind
 returns-then-not-show-clause-behind g c =

@@ -5,6 +5,7 @@ use Rattle.pfx_record.specs.Records.{plain}
 use Rattle.pfx_book.specs.declared.note.Note.{Note}
 use Rattle.pfx_book.specs.declared.note.Note.TheVariants.{Marked}
 use Rattle.pfx_book.specs.Notes.{records_in}
+use Rattle.pfx_book.specs.Register.{Register}
 use Rattle.pfx_book.specs.Lines.{told}
 use Rattle.pfx_book.specs.Kept.{IsKept}
 use Rattle.pfx_book.proofs.Marking.{kept_mark, fits_later}
@@ -21,7 +22,8 @@ invariant_of-self g c =
     let h = c.self.invariant.0 in
     let at = subst (λ k. slice_get s.keeper k ≡ Some mine) c.share.invariant c.note.ensures.known in
     let kept = kept_mark K B xs s.keeper s.passes s.state pend s.taken s.marked s.clock s.failure h mine c.args.number c.args.clock at
-    (c.requires ∙ ap (λ (l : List (Note g.row.J.Denot)). B.number + length (records_in l)) (sym c.share.view_is)) in (
+    (c.requires.number ∙ ap (λ (l : List (Note g.row.J.Denot)). B.number + length (records_in l)) (sym c.share.view_is))
+    (ap (λ (v : Register g.row.J.Denot). v.failure) c.self.view_is ∙ c.requires.goes_on) in (
       subst (λ (k : List (List (Note g.row.J.Denot))). IsKept K B xs k s.passes s.state pend s.taken s.taken c.args.clock s.failure)
           (sym (c.note.ensures.keeper ∙ ap (λ k. slice_set s.keeper k (mine ++ Marked c.args.number c.args.clock ∷ [])) c.share.invariant)) kept,
       fits_later K s.state B.number s.slot s.marked s.taken (length s.history.items) (vec_capacity s.history) h.is_marked.behind c.self.invariant.1,
