@@ -1,6 +1,6 @@
 -- What a book keeps, after each of its calls.
 use Rattle.std.specs.Prelude.{slice_get}
-use Rattle.std.proofs.Common.{◌≡◌, ◌≢◌, ℕ, zero, suc, ◌+◌, ◌<◌, ◌≤◌, List, [], ◌∷◌, ◌++◌, length, set, Option, Some, None, true, refl, sym, ap, ◌∙◌, subst, arith, append_assoc, append-nil, length-append, inl, inr}
+use Rattle.std.proofs.Common.{◌≡◌, ◌≢◌, ℕ, zero, suc, ◌+◌, ◌<◌, ◌≤◌, List, [], ◌∷◌, ◌++◌, length, set, Option, Some, None, Bool, true, false, refl, sym, ap, ◌∙◌, subst, arith, append_assoc, append-nil, length-append, inl, inr}
 use Rattle.std.proofs.lemmas.Bool.{false≢true}
 use Rattle.std.proofs.lemmas.Option.{none-some}
 use Rattle.pfx_fault.specs.declared.parts.Cause.{Cause}
@@ -13,7 +13,7 @@ use Rattle.pfx_book.specs.Merging.{of, lists_from}
 use Rattle.pfx_book.specs.declared.note.Loss.{Loss}
 use Rattle.pfx_book.specs.declared.note.Note.{Note}
 use Rattle.pfx_book.specs.declared.note.Note.TheVariants.{Lost, Marked, Failed}
-use Rattle.pfx_book.specs.Notes.{Noted, added, commands_of, Fits, Legal, greatest, lost_in, records_in, taken_in, Backed, AllBacked, is_entry}
+use Rattle.pfx_book.specs.Notes.{Noted, IsRested, added, commands_of, Fits, Legal, greatest, lost_in, records_in, taken_in, Backed, AllBacked, is_entry}
 use Rattle.pfx_book.specs.Kept.{IsTold, HasFailed, IsMarked, IsKept}
 use Rattle.pfx_book.proofs.Merges.{lists_get, lists_set, tagged_more, of_beyond, tagged_wider, lists_more, length_lists, some_is}
 use Rattle.pfx_book.proofs.Notes.{noted_more, number_is, records_long, commands_more, legal_more, bounded, entries_more, entries_else, commands_entries, legal_entries, records_more, all_backed_more, all_backed_last, noted_split, noted_of, lost_noted}
@@ -21,6 +21,11 @@ use Rattle.pfx_book.proofs.Notes.{noted_more, number_is, records_long, commands_
 pub failed_more : {J : Type 0} (failure : Option Cause) (xs ys : List (Note J)) → HasFailed failure xs → HasFailed failure (xs ++ ys)
 failed_more None xs ys h = tt
 failed_more (Some cause) xs ys h = noted_more (Failed cause) xs ys h
+
+-- it is a mark
+abbrev pub is_mark : {J : Type 0} → Note J → Bool
+is_mark (Marked number clock) = true
+is_mark other = false
 
 -- the mark that a client was told of with a failure
 abbrev mark_told : {J : Type 0} → Note J → ℕ
@@ -93,6 +98,7 @@ module _ {J : Type 0} (K : Kind J) (start : Plain J) (session : List (ℕ × Not
     taken_is = h.is_marked.taken_is;
     behind = h.is_marked.behind;
     noted = h.is_marked.noted;
+    greatest = h.is_marked.greatest;
     room = omega (arith, room, ap length (commands_more h.all k e), length-append (commands_of h.all) (added e));
     backed = all_backed_last h.flushed h.all k e h.is_marked.backed b;
     failed = h.is_marked.failed;
@@ -181,12 +187,22 @@ module _ {J : Type 0} (K : Kind J) (start : Plain J) (session : List (ℕ × Not
   pub told_mark : (h : Now) (k : ℕ) (mine : List (Note J)) (loss : Loss) → slice_get lists k ≡ Some mine → 0 < k → lost_in mine ≡ Some loss → loss.marked ≡ start.number + marked
   told_mark h k mine loss at pos is = (h.is_marked.told k loss (noted_of k (Lost loss) h.all (subst (Noted (Lost loss)) (its h k mine at pos) (lost_noted mine loss is)))).1
 
+  -- where a mark is noted of all that was taken, it is the mark
+  pub all_marked : (h : Now) (mine : List (Note J)) → slice_get lists 0 ≡ Some mine → IsRested start.number mine → marked ≡ taken
+  all_marked h mine at rested =
+      let known = flushed_is mine h at in
+      let long = ap (λ l. length (records_in l)) known in
+      let high = h.is_marked.greatest (start.number + length (records_in mine)) rested.0
+      (subst (Noted (Marked (start.number + length (records_in mine)) rested.0)) (sym known) rested.1) in
+      omega (arith, high, long, h.is_marked.taken_is, h.is_marked.behind)
+
   -- one note more of the flusher's, with what it takes
   pub kept_note : (h : Now) (mine : List (Note J)) (e : Note J) (rest : List (Recorded J)) (later now since : ℕ) (lost : Option Cause) → slice_get lists 0 ≡ Some mine → pending ≡ taken_in e ++ rest
-      → later ≡ taken + length (taken_in e) → now ≤ later → marked ≤ now → Noted (Marked (start.number + now) since) (mine ++ e ∷ []) → HasFailed lost (mine ++ e ∷ [])
+      → later ≡ taken + length (taken_in e) → now ≤ later → marked ≤ now → Noted (Marked (start.number + now) since) (mine ++ e ∷ [])
+      → ((m c : ℕ) → e ≡ Marked m c → m ≤ start.number + now) → HasFailed lost (mine ++ e ∷ [])
       → ((k : ℕ) (loss : Loss) → Noted (k, Lost loss) h.all → (lost ≢ None) × (loss.marked ≡ start.number + now))
       → IsKept K start session (set lists 0 (mine ++ e ∷ [])) n state rest later now since lost
-  kept_note h mine e rest later now since lost at are count low more noted has still =
+  kept_note h mine e rest later now since lost at are count low more noted greatest has still =
       let t = h.is_told in
       let m = h.is_marked in
       let known = flushed_is mine h at in
@@ -207,6 +223,10 @@ module _ {J : Type 0} (K : Kind J) (start : Plain J) (session : List (ℕ × Not
           taken_is = omega (arith, count, m.taken_is, ap (λ l. length (records_in l)) known, ap length records, length-append (records_in mine) (taken_in e));
           behind = low;
           noted = noted;
+          greatest = λ m c is. elim (noted_split (Marked m c) mine e is) [
+            | inl before ↦ (let old = h.is_marked.greatest m c (subst (Noted (Marked m c)) (sym known) before) in omega (arith, old, more))
+            | inr last ↦ greatest m c last
+          ];
           room = omega (arith, m.room, more);
           backed = all_backed_more mine (e ∷ []) h.all (subst (λ l. AllBacked l h.all) known m.backed);
           failed = has;

@@ -1,6 +1,7 @@
 -- What the flusher notes.
 use Rattle.std.specs.Prelude.{slice_get}
-use Rattle.std.proofs.Common.{◌≡◌, ℕ, ◌+◌, ◌<◌, ◌≤◌, List, [], ◌∷◌, ◌++◌, length, set, Option, Some, None, refl, sym, ap, ◌∙◌, subst, arith, inl}
+use Rattle.std.proofs.Common.{◌≡◌, ℕ, ◌+◌, ◌<◌, ◌≤◌, List, [], ◌∷◌, ◌++◌, length, set, Option, Some, None, refl, sym, ap, ◌∙◌, subst, arith, inl, inr}
+use Rattle.std.proofs.lemmas.Bool.{false≢true}
 use Rattle.pfx_fault.specs.declared.parts.Cause.{Cause}
 use Rattle.pfx_jobs.specs.Kind.{Kind}
 use Rattle.pfx_machine.specs.Plain.{Plain, IsState}
@@ -13,7 +14,12 @@ use Rattle.pfx_book.specs.Notes.{Noted, records_in}
 use Rattle.pfx_book.specs.Kept.{HasFailed, IsKept, OpenFits}
 use Rattle.std.proofs.lemmas.Option.{none-some}
 use Rattle.pfx_book.proofs.Notes.{noted_more, noted_last}
-use Rattle.pfx_book.proofs.Keeping.{flushed_is, kept_note, failed_more}
+use Rattle.pfx_book.proofs.Keeping.{is_mark, flushed_is, kept_note, failed_more}
+
+-- the number that a note marks
+abbrev number_of : {J : Type 0} → Note J → ℕ
+number_of (Marked number clock) = number
+number_of other = 0
 
 module _ {J : Type 0} (K : Kind J) (start : Plain J) (session : List (ℕ × Note J)) (lists : List (List (Note J))) (n : ℕ) (state : Plain J) (pending : List (Recorded J)) (taken marked clock : ℕ) (failure : Option Cause) where
   abbrev Now : Type 0
@@ -29,6 +35,7 @@ module _ {J : Type 0} (K : Kind J) (start : Plain J) (session : List (ℕ × Not
       let same : number ≡ start.number + taken = omega (arith, is, long, h.is_marked.taken_is) in
       kept_note K start session lists n state pending taken marked clock failure h mine (Marked number since) pending taken taken since failure at refl (omega arith) (omega arith) h.is_marked.behind
       (subst (λ m. Noted (Marked m since) (mine ++ Marked number since ∷ [])) same (noted_last (Marked number since) mine))
+      (λ m c last. let is = ap number_of last in omega (arith, is, same))
       (failed_more failure mine (Marked number since ∷ []) (subst (HasFailed failure) known h.is_marked.failed))
       (λ k loss told. absurd ((h.is_marked.told k loss told).0 goes_on))
 
@@ -39,6 +46,7 @@ module _ {J : Type 0} (K : Kind J) (start : Plain J) (session : List (ℕ × Not
       let known = flushed_is K start session lists n state pending taken marked clock failure mine h at in
       kept_note K start session lists n state pending taken marked clock failure h mine (Failed cause) pending taken marked clock (Some cause) at refl (omega arith) h.is_marked.behind (omega arith)
       (noted_more (Marked (start.number + marked) clock) mine (Failed cause ∷ []) (subst (Noted (Marked (start.number + marked) clock)) known h.is_marked.noted))
+      (λ m c last. absurd (false≢true (ap is_mark last)))
       (noted_last (Failed cause) mine) (λ k loss told. ((λ none. none-some cause (sym none)), (h.is_marked.told k loss told).1))
 
 -- a slot that has room has it with a later mark too
@@ -71,5 +79,5 @@ kept_new K start state lists number clock same is num are =
         valid = subst IsState same is;
         records = refl;
       };
-      is_marked = record { taken_is = refl; behind = omega arith; noted = inl (ap (λ (m : ℕ). Marked m clock) first); room = omega arith; backed = tt; failed = tt; told = λ k loss is. absurd is };
+      is_marked = record { taken_is = refl; behind = omega arith; noted = inl (ap (λ (m : ℕ). Marked m clock) first); greatest = λ m c is. elim is [ inl same ↦ (let at = ap number_of same in omega (arith, at, first)) | inr none ↦ absurd none ]; room = omega arith; backed = tt; failed = tt; told = λ k loss is. absurd is };
     }

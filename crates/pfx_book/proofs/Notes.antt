@@ -12,6 +12,7 @@ use Rattle.pfx_machine.specs.Refusals.{refusal}
 use Rattle.pfx_machine.specs.Sessions.{AllAccepted}
 use Rattle.pfx_machine.specs.declared.command.Command.{Command}
 use Rattle.pfx_machine.specs.declared.faults.MachineFault.{MachineFault}
+use Rattle.pfx_record.specs.Records.{Recorded}
 use Rattle.pfx_redo.specs.Recording.{records_of}
 use Rattle.pfx_book.specs.Merging.{of}
 use Rattle.pfx_book.specs.declared.faults.BookFault.TheVariants.{SessionFull, Machine}
@@ -20,7 +21,7 @@ use Rattle.pfx_book.specs.declared.note.Note.{Note}
 use Rattle.pfx_book.specs.declared.note.Note.TheVariants.{Accepted, Refused, Receipt, Lost, Took, Marked, Failed}
 use Rattle.pfx_book.specs.declared.line.Line.{Line}
 use Rattle.pfx_book.specs.declared.line.Line.TheVariants as line
-use Rattle.pfx_book.specs.Notes.{Noted, added, commands_of, receipt_in, receipts_of, refused_at, Fits, Legal, number_in, greatest, lost_or, lost_in, taken_in, records_in, Backed, AllBacked, is_entry, entries_of}
+use Rattle.pfx_book.specs.Notes.{Noted, IsRested, added, commands_of, receipt_in, receipts_of, refused_at, Fits, Legal, number_in, greatest, lost_or, lost_in, taken_in, records_in, Backed, AllBacked, is_entry, entries_of}
 use Rattle.pfx_book.specs.Lines.{pass_of, IsOf, said_of, entry_of, told}
 use Rattle.pfx_book.proofs.Merges.{behind}
 
@@ -235,6 +236,13 @@ module _ {J : Type 0} where
   pub records_more : (xs ys : List (Note J)) → records_in (xs ++ ys) ≡ records_in xs ++ records_in ys
   records_more [] ys = refl
   records_more (x ∷ xs) ys = ap (λ l. taken_in x ++ l) (records_more xs ys) ∙ sym (append_assoc (taken_in x) (records_in xs) (records_in ys))
+
+  -- a mark of all that was taken
+  pub rested_marked : (first : ℕ) (notes : List (Note J)) (number clock : ℕ) → number ≡ first + length (records_in notes) → IsRested first (notes ++ Marked number clock ∷ [])
+  rested_marked first notes number clock is =
+      let e : Note J = Marked number clock in
+      let still : records_in (notes ++ e ∷ []) ≡ records_in notes = records_more notes (e ∷ []) ∙ append-nil (records_in notes) in
+      (clock, subst (λ m. Noted (Marked m clock) (notes ++ e ∷ [])) (is ∙ ap (λ (l : List (Recorded J)). first + length l) (sym still)) (noted_last e notes))
 
   -- what is backed stays so
   backed_more : (xs ys : List (Note J)) (e : Note J) → Backed xs e → Backed (xs ++ ys) e

@@ -1,7 +1,7 @@
 -- The records that are taken next.
 use Rattle.std.specs.Prelude.{slice_get, if◌then◌else◌, IsTrue, ◌&&◌}
 use Rattle.std.proofs.Common.{◌≡◌, ℕ, suc, ◌+◌, ◌<◌, ◌≤◌, ◌^◌, List, [], ◌∷◌, ◌++◌, length, map, set, take, drop, Option, Some, None, Bool, true, false, refl, sym, ap, ◌∙◌, subst, arith, length-append}
-use Rattle.std.proofs.lemmas.Bool.{lt-ltb, le-leb}
+use Rattle.std.proofs.lemmas.Bool.{false≢true, lt-ltb, le-leb}
 use Rattle.std.proofs.lemmas.List.{take-append-drop, length-take-le}
 use Rattle.std.proofs.lemmas.Option.{none-some}
 use Rattle.pfx_slot.proofs.Placed.{take_own}
@@ -29,7 +29,7 @@ use Rattle.pfx_book.specs.Notes.{Noted, commands_of, records_in, GoesOn}
 use Rattle.pfx_book.specs.Kept.{HasFailed, IsKept}
 use Rattle.pfx_book.proofs.Merges.{some_is}
 use Rattle.pfx_book.proofs.Notes.{noted_more, records_long, all_accepted}
-use Rattle.pfx_book.proofs.Keeping.{flushed_is, commands_are, all_taken, kept_note, failed_more}
+use Rattle.pfx_book.proofs.Keeping.{is_mark, flushed_is, commands_are, all_taken, kept_note, failed_more}
 
 drop_own : {A : Type 0} (xs rest : List A) → drop (length xs) (xs ++ rest) ≡ rest
 drop_own [] rest = refl
@@ -167,6 +167,7 @@ module _ {J : Type 0} (K : Kind J) where
         kept_note K start session lists n state (batch ++ rest) taken marked clock failure h mine (Took first records) rest (taken + length batch) marked clock failure at
         (ap (λ l. l ++ rest) (sym are)) (omega (arith, ap length are)) (omega (arith, h.is_marked.behind)) (omega arith)
         (noted_more (Marked (start.number + marked) clock) mine (Took first records ∷ []) (subst (Noted (Marked (start.number + marked) clock)) known h.is_marked.noted))
+        (λ m c last. absurd (false≢true (ap is_mark last)))
         (failed_more failure mine (Took first records ∷ []) (subst (HasFailed failure) known h.is_marked.failed)) h.is_marked.told
 
 pub length_map : {A B : Type 0} (f : A → B) (xs : List A) → length (map f xs) ≡ length xs

@@ -101,9 +101,11 @@ module _ {J : Type 0} where
     pub noted : later ≡ noted (Receipt number old.session.marked_at) pass
 
   -- The records of the next accepted commands were taken as a batch, which may come next after what the flusher noted and is noted.
+  -- All that was taken before is marked.
   pub record IsTaken (K : Kind J) (start : Plain J) (workers real first : ℕ) (records : Vec (Record J)) (old new : Register J) (share later : List (Note J))
       : Type 0 where
     pub event : new ≡ record old { session = took (length records.items) old.session }
     pub noted : later ≡ share ++ Took first records ∷ []
     pub commands : map plain records.items ≡ next_records K start (length records.items) old.session
     pub next : GoesOn K start share workers real first (map plain records.items)
+    pub rested : old.session.marked ≡ old.session.taken

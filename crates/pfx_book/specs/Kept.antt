@@ -31,12 +31,13 @@ module _ {J : Type 0} where
   HasFailed None notes = ⊤
   HasFailed (Some cause) notes = Noted (Failed cause) notes
 
-  -- the mark is among the flusher's notes, and at most what was taken; what is accepted is at most 64 beyond it; receipts
+  -- the mark is the greatest of the flusher's notes, and at most what was taken; what is accepted is at most 64 beyond it; receipts
   -- and losses are backed; and who was told of a failure was told of this mark
   pub record IsMarked (first : ℕ) (flushed : List (Note J)) (all : List (ℕ × Note J)) (taken marked clock : ℕ) (failure : Option Cause) : Type 0 where
     pub taken_is : taken ≡ length (records_in flushed)
     pub behind : marked ≤ taken
     pub noted : Noted (Marked (first + marked) clock) flushed
+    pub greatest : (n c : ℕ) → Noted (Marked n c) flushed → n ≤ first + marked
     pub room : length (commands_of all) ≤ marked + 64
     pub backed : AllBacked flushed all
     pub failed : HasFailed failure flushed

@@ -108,6 +108,10 @@ module _ {J : Type 0} where
   AllBacked notes [] = ⊤
   AllBacked notes (x ∷ xs) = Backed notes x.1 × AllBacked notes xs
 
+  -- a mark is noted of all that was taken, since some clock
+  abbrev pub IsRested : ℕ → List (Note J) → Type 0
+  IsRested first notes = (clock : ℕ) × Noted (Marked (first + length (records_in notes)) clock) notes
+
   -- these records may come next after the notes: where the noted ones lead to a state, they are of its set, say of no task that it
   -- is real, begin after its number, and lead on
   abbrev pub GoesOn : Kind J → Plain J → List (Note J) → ℕ → ℕ → ℕ → List (Recorded J) → Type 0

@@ -5,7 +5,7 @@ ghost use Rattle.pfx_machine.specs.Board.{all_lines};
 ghost use Rattle.pfx_machine.specs.Plain.{whole};
 ghost use Rattle.pfx_world.specs.Session.{IsQuick, MayAsk, asked};
 ghost use Rattle.pfx_book.specs.Calls.{TakesCommands, IsAccepted, Refuses};
-ghost use Rattle.pfx_book.specs.Notes.{greatest, lost_in};
+ghost use Rattle.pfx_book.specs.Notes.{IsRested, greatest, lost_in};
 ghost use Rattle.pfx_book.specs.Register.{new_register, HasRoom};
 ghost use Rattle.pfx_book.specs.declared.note.Note.TheVariants.{Marked};
 
@@ -141,6 +141,7 @@ impl<J: Job, B: Named<J>> Book<J, B> {
         requires start { state.now ≡ B.start }
         ensures book { IfOk result (λ r. r.0 ≡ new_register B.start clock) }
         ensures share { IfOk result (λ r. r.1 ≡ Marked B.start.number clock ∷ []) }
+        ensures rested { IfOk result (λ r. IsRested B.start.number r.1) }
     {
         let state = state.copy_of(alloc)?;
         let pending = VecDeque::with_capacity(alloc, 64)?;

@@ -2,7 +2,7 @@
 ghost use Rattle.std.specs.Prelude.{◌≡◌, ◌↔◌, [], ◌∷◌, ◌++◌, ◌<◌, ◌≤◌, ◌+◌, length, IfOk, IfErr, OnErr, IsTrue, Some, None, vec_capacity};
 ghost use Rattle.pfx_world.specs.Session.{marked_now, gave_up};
 ghost use Rattle.pfx_book.specs.Calls.{IsTaken};
-ghost use Rattle.pfx_book.specs.Notes.{records_in, took_in};
+ghost use Rattle.pfx_book.specs.Notes.{IsRested, records_in, took_in};
 ghost use Rattle.pfx_book.specs.declared.note.Note.TheVariants.{Marked, Failed};
 
 use crate::book::{Book, Share};
@@ -32,7 +32,8 @@ impl<J: Job, B: Named<J>> Book<J, B> {
     }
 
     /// Takes the records of the next commands, 16 at the most, as a batch, which the share notes, into an empty vector with room
-    /// for them. If there are none nothing changes, and the vector comes back. It takes no memory.
+    /// for them. All that was taken before has to be marked. If there are none nothing changes, and the vector comes back. It takes no
+    /// memory.
     pub fn take_batch(
         &mut self,
         share: &mut Share<J, B>,
@@ -40,6 +41,7 @@ impl<J: Job, B: Named<J>> Book<J, B> {
     ) -> Result<Batch<J>, Vec<Record<J>>>
         requires empty { room.items ≡ [] }
         requires room { 16 ≤ vec_capacity room }
+        requires rested { IsRested B.start.number share.old }
         ensures taken { IfOk result (λ b. IsTaken J.kind B.start b.workers b.real b.first b.records self.old self.new share.old share.new) }
         ensures err { OnErr result ((self.old.session.taken ≡ length self.old.session.accepted) × (self.new ≡ self.old) × (share.new ≡ share.old)) }
         ensures width { IfOk result (λ b. vec_capacity b.records ≡ vec_capacity room) }
@@ -77,6 +79,7 @@ impl<J: Job, B: Named<J>> Book<J, B> {
         requires goes_on { self.old.failure ≡ None }
         ensures event { self.new ≡ record self.old { session = marked_now clock self.old.session } }
         ensures noted { share.new ≡ share.old ++ Marked number clock ∷ [] }
+        ensures rested { IsRested B.start.number share.new }
     {
         let Book {
             keeper,

@@ -24,8 +24,8 @@ use Rattle.pfx_store.specs.Marks.{AreKept, Covers}
 use Rattle.pfx_store.specs.declared.store.Mark.{Mark}
 use Rattle.pfx_book.specs.declared.note.Note.{Note}
 use Rattle.pfx_book.specs.declared.note.Note.TheVariants.{Took, Marked, Failed}
-use Rattle.pfx_book.specs.Notes.{Noted, records_in, taken_in}
-use Rattle.pfx_book.proofs.Notes.{noted_more, records_more}
+use Rattle.pfx_book.specs.Notes.{IsRested, Noted, records_in, taken_in}
+use Rattle.pfx_book.proofs.Notes.{noted_more, records_more, rested_marked}
 use Rattle.pfx_board.specs.Word.{records_of}
 use Rattle.pfx_board.proofs.Words.{records_more as records_published}
 use Rattle.pfx_front.specs.Showing.{AreShown, IsShown, IsShownBefore}
@@ -182,6 +182,7 @@ module _ {J : Type 0} where
     counted = h.counted;
     whole = whole;
     low = λ n c noted. subst (λ (r : Plain J). n ≤ r.number) (sym same) (h.low n c noted);
+    rested = h.rested;
     unfailed = h.unfailed;
     began = h.began;
     since = (let since = h.since in omega (arith, since, fewer));
@@ -285,6 +286,7 @@ module _ {J : Type 0} where
             | inl before ↦ (let low = low_here n c before in let more = behind.number in omega (arith, low, more))
             | inr last ↦ (let same = ap number_of last in omega (arith, same, is_number))
           ];
+          rested = subst (IsRested start.number) (sym done) (rested_marked start.number notes mark.number mark.clock (mark_number mark.number leads is_number));
           unfailed = λ cause noted. elim (noted_split (Failed cause) notes e (subst (Noted (Failed cause)) done noted)) [
             | inl before ↦ unfailed_here cause before
             | inr last ↦ marked_failed mark.number mark.clock cause last
@@ -369,6 +371,7 @@ module _ {J : Type 0} where
           | inl same ↦ (let n_is : start.number ≡ n = ap number_of same in let at : s.number ≡ start.number = ap (λ (p : Plain J). p.number) h.state in omega (arith, n_is, at))
           | inr none ↦ absurd none
         ];
+        rested = subst (IsRested start.number) (sym noted) (let at : start.number ≡ start.number + 0 = omega arith in (disk.clock, inl (ap (λ (m : ℕ). Marked m disk.clock) at)));
         unfailed = λ cause is. elim (subst (Noted (Failed cause)) noted is) [ inl same ↦ marked_failed start.number disk.clock cause same | inr none ↦ none ];
         began = subst (Noted (Marked start.number clock)) (sym noted) (inl (ap (Marked start.number) h.clock));
         since = (let same = h.failures in omega (arith, same));

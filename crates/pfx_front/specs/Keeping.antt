@@ -11,7 +11,7 @@ use Rattle.pfx_store.specs.Marks.{AreKept, Covers}
 use Rattle.pfx_store.specs.declared.store.Mark.{Mark}
 use Rattle.pfx_book.specs.declared.note.Note.{Note}
 use Rattle.pfx_book.specs.declared.note.Note.TheVariants.{Took, Marked, Failed}
-use Rattle.pfx_book.specs.Notes.{Noted, records_in, taken_in}
+use Rattle.pfx_book.specs.Notes.{IsRested, Noted, records_in, taken_in}
 
 module _ {J : Type 0} where
   -- the frame of a batch that was taken
@@ -43,12 +43,14 @@ module _ {J : Type 0} where
   AreCounted n [] = ⊤
   AreCounted n (x ∷ xs) = IsNext n x × AreCounted (n + length (taken_in x)) xs
 
-  -- the store has all that was taken: its state is where the records lead, its file has their frames, and keeps each mark
+  -- the store has all that was taken, which is marked: its state is where the records lead, its file has their frames, and keeps
+  -- each mark
   pub record InStep (K : Kind J) (start : Plain J) (failures clock : ℕ) (notes : List (Note J)) (broken : Bool) (s : Plain J) (disk : View) : Type 0 where
     pub state : applied K start (records_in notes) ≡ Some s
     pub counted : AreCounted start.number notes
     pub whole : broken ≡ false
     pub low : (n c : ℕ) → Noted (Marked n c) notes → n ≤ s.number
+    pub rested : IsRested start.number notes
     pub unfailed : (cause : Cause) → Noted (Failed cause) notes → ⊥
     pub began : Noted (Marked start.number clock) notes
     pub since : failures ≤ disk.failures

@@ -4,7 +4,7 @@ ghost use Rattle.pfx_board.specs.Word.{records_of};
 ghost use Rattle.pfx_redo.specs.Applying.{applied};
 ghost use Rattle.pfx_fault.specs.declared.parts.Cause.TheVariants.{Memory};
 ghost use Rattle.pfx_fault.specs.declared.parts.Cause.{Cause};
-ghost use Rattle.pfx_book.specs.Notes.{Noted, records_in};
+ghost use Rattle.pfx_book.specs.Notes.{IsRested, Noted, records_in};
 ghost use Rattle.pfx_book.specs.declared.note.Note.TheVariants.{Marked, Failed};
 ghost use Rattle.pfx_front.specs.Keeping.{InStep, Behind};
 ghost use Rattle.pfx_front.specs.Showing.{AreShown, IsShown, IsShownBefore};
@@ -106,7 +106,7 @@ pub enum Work<J> {
     End,
 }
 
-/// Waits until there is something to do, and takes a batch if there is one. `busy` says that a checkpoint is in progress.
+/// Waits until there is something to do, and takes a batch if there is one; all that was taken before is marked. `busy` says that a checkpoint is in progress.
 fn next_work<J: Job, B: Since<J>, R: Wait + Clock>(
     rt: &R,
     monitor: &Monitor<J, B>,
@@ -117,6 +117,7 @@ fn next_work<J: Job, B: Since<J>, R: Wait + Clock>(
 ) -> Work<J>
     requires empty { room.items ≡ [] }
     requires room { 16 ≤ vec_capacity room }
+    requires rested { IsRested B.start.number share.old }
     ensures { Gives J.kind B.start share.old share.new result }
 {
     let mut guard = monitor

@@ -22,6 +22,9 @@ home-requires g c =
           (step_shown K start c.loop.share c.loop.publisher.batches c.loop.store.state c.loop.invariant.1 c.loop.invariant.0.state);
     }
 
+pub next_work-requires-clause-rested : goal.next_work-requires-clause-rested
+next_work-requires-clause-rested g c = c.loop.invariant.0.rested
+
 pub commit-requires-clause-shown : goal.commit-requires-clause-shown
 commit-requires-clause-shown g c =
     took_shown c.loop.share c.next_work.new.share c.loop.publisher.batches c.in-Append.batch c.in-Append.ensures.0 c.loop.invariant.1

@@ -4,10 +4,11 @@ use Rattle.std.proofs.Common.{◌≡◌, ◌∷◌, ◌++◌, [], List, length, 
 use Rattle.pfx_record.specs.Records.{plain}
 use Rattle.pfx_book.specs.declared.note.Note.{Note}
 use Rattle.pfx_book.specs.declared.note.Note.TheVariants.{Marked}
-use Rattle.pfx_book.specs.Notes.{records_in}
+use Rattle.pfx_book.specs.Notes.{IsRested, records_in}
 use Rattle.pfx_book.specs.Register.{Register}
 use Rattle.pfx_book.specs.Lines.{told}
 use Rattle.pfx_book.specs.Kept.{IsKept}
+use Rattle.pfx_book.proofs.Notes.{rested_marked}
 use Rattle.pfx_book.proofs.Marking.{kept_mark, fits_later}
 use Rattle.pfx_book.proofs.book.Book.mark.Goals as goal
 
@@ -30,3 +31,9 @@ invariant_of-self g c =
       c.self.invariant.2,
       c.self.invariant.3,
     )
+
+pub returns-clause-rested : goal.returns-clause-rested
+returns-clause-rested g c =
+    let B = g.B.Named.start in
+    subst (λ (x : ℕ × List (Note g.row.J.Denot)). IsRested B.number x.1) (sym c.note.ensures.token)
+    (rested_marked B.number c.share.inside.token.1 c.args.number c.args.clock (c.requires.number ∙ ap (λ (l : List (Note g.row.J.Denot)). B.number + length (records_in l)) (sym c.share.view_is)))

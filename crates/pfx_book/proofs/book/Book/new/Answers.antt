@@ -1,5 +1,5 @@
 use Rattle.std.specs.Prelude.{None, slice_set, map}
-use Rattle.std.proofs.Common.{◌≡◌, ◌++◌, ◌∷◌, [], List, length, sym, subst, ap, ◌∙◌}
+use Rattle.std.proofs.Common.{◌≡◌, ◌+◌, ◌++◌, ◌∷◌, [], ℕ, List, length, sym, subst, ap, ◌∙◌, arith}
 use Rattle.pfx_machine.specs.Plain.{Plain}
 use Rattle.pfx_record.specs.Records.{plain, Recorded}
 use Rattle.pfx_book.specs.declared.note.Note.{Note}
@@ -7,6 +7,8 @@ use Rattle.pfx_book.specs.declared.note.Note.TheVariants.{Marked}
 use Rattle.pfx_book.specs.declared.line.Line.{Line}
 use Rattle.pfx_book.specs.Lines.{told}
 use Rattle.pfx_book.specs.Kept.{IsKept}
+use Rattle.pfx_book.specs.Notes.{IsRested}
+use Rattle.pfx_book.proofs.Notes.{rested_marked}
 use Rattle.pfx_book.proofs.Marking.{kept_new}
 use Rattle.pfx_book.proofs.book.Book.new.Goals as goal
 
@@ -29,3 +31,13 @@ invariant_of-book g c =
       c.number-began.ensures.number ∙ ap (λ (z : Plain g.row.J.Denot). z.number) same,
       c.in_ok-pending.ensures.capacity,
     )
+
+pub returns-clause-rested : goal.returns-clause-rested
+returns-clause-rested g c =
+    let B = g.B.Named.start in
+    let n = c.number-began.result in
+    let e : Note g.row.J.Denot = Marked n c.args.clock in
+    let same = c.in_ok-state.ensures ∙ c.requires.start in
+    let at : n ≡ B.number = c.number-began.ensures.number ∙ ap (λ (z : Plain g.row.J.Denot). z.number) same in
+    subst (λ (x : ℕ × List (Note g.row.J.Denot)). IsRested B.number x.1) (sym c.note.ensures.token)
+    (subst (λ (x : ℕ × List (Note g.row.J.Denot)). IsRested B.number (x.1 ++ e ∷ [])) (sym c.issue-token.ensures.token) (rested_marked B.number [] n c.args.clock (omega (arith, at))))

@@ -6,13 +6,13 @@ use Rattle.pfx_record.specs.Batches.{batch_fits}
 use Rattle.pfx_record.specs.Records.{plain, Recorded}
 use Rattle.pfx_book.specs.declared.note.Note.{Note}
 use Rattle.pfx_book.specs.declared.note.Note.TheVariants.{Took}
-use Rattle.pfx_book.specs.Notes.{GoesOn, commands_of}
+use Rattle.pfx_book.specs.Notes.{GoesOn, IsRested, commands_of}
 use Rattle.pfx_book.specs.Calls.{next_records}
 use Rattle.pfx_book.specs.Lines.{told}
 use Rattle.pfx_book.specs.Kept.{IsKept}
 use Rattle.pfx_book.specs.Register.{Register}
 use Rattle.pfx_book.proofs.Merges.{some_is}
-use Rattle.pfx_book.proofs.Keeping.{all_taken, state_number}
+use Rattle.pfx_book.proofs.Keeping.{all_marked, all_taken, state_number}
 use Rattle.pfx_book.proofs.Taking.{enough, fits_next, goes_on, next_is, kept_take, length_map, nil_of}
 use Rattle.pfx_book.proofs.book.Book.take_batch.Goals as goal
 
@@ -144,6 +144,8 @@ returns-in-Some-clause-taken g c =
       event = search rules;
       noted = search rules;
       commands = (λ i. map plain (sym records i).items) ∙ next ∙ (λ i. next_records K B (length_is i) (c.self.view_is i).session);
+      rested = subst (λ (v : Register g.row.J.Denot). v.session.marked ≡ v.session.taken) c.self.view_is
+          (all_marked K B xs s.keeper s.passes s.state (batch ++ rest) s.taken s.marked s.clock s.failure h mine at (subst (IsRested B.number) (sym c.share.view_is) c.requires.rested));
       next = subst (λ (q : List (Note g.row.J.Denot) × ℕ × ℕ × ℕ × List (Recorded g.row.J.Denot)). GoesOn K B q.0 q.1 q.2 q.3 q.4)
           (λ i. (c.share.view_is i, sym c.new.ensures.workers i, sym c.new.ensures.real i, sym c.new.ensures.first i, map plain (records i).items)) goes;
     }
