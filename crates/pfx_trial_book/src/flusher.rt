@@ -34,7 +34,14 @@ pub fn begin<J: Trial, B: Named<J>>(
     let (book, share) = Book::<J, B>::new(alloc, tokens, state, 7).ok()?;
     let last = book.marked();
     let rested = true;
-    Some((book, Flusher { share, last, rested }))
+    Some((
+        book,
+        Flusher {
+            share,
+            last,
+            rested,
+        },
+    ))
 }
 
 /// A vector with room for a batch.
