@@ -6,5 +6,7 @@ mod Commands
 pub mod Keeps
 mod Serving
 mod RefutedNoting
+mod RefutedSessions
+mod SessionLemmas
 mod Stepping
 mod WindowLemmas

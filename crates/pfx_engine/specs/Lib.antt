@@ -6,5 +6,6 @@ pub mod Keeping
 pub mod KeepingLaws
 pub mod Noting
 pub mod Running
+pub mod Sessions
 pub mod Stepping
 pub mod Surviving

@@ -12,6 +12,7 @@ ghost use Rattle.pfx_machine.specs.declared.command.Command.{Command};
 ghost use Rattle.pfx_recovery.specs.Recovery.{recovered};
 ghost use Rattle.pfx_recovery.specs.Store.{Replays};
 ghost use Rattle.pfx_weights.specs.Sets.{FilledSet, IsFilled};
+ghost use Rattle.pfx_engine.specs.Sessions.{Session, AreSessions, AreHeld};
 ghost use Rattle.pfx_engine.specs.Surviving.{Survives, frames_of};
 
 /// The frames that an acceptable list of commands leaves, each command in a batch of its own, lead from the state before
@@ -28,4 +29,12 @@ pub fn stores_are_endless()
     ensures survived { (set : FilledSet) (segment : ℕ) → IsFilled set → (H : List (Command AnyJob)) → IsAcceptable any_kind (empty set segment) H
         → (n : ℕ) → (image : List ℕ) → Survives (empty set segment) H n image
         → (s : Plain AnyJob) → recovered (format any_kind) image ≡ Ok s → IsEndless s.ledger }
+{}
+
+/// Over any number of sessions on one store, each of which began with what a stop had left of the one before it, nothing that was answered
+/// is lost or done twice: the last state is the outcome of a beginning of each session's commands, the answered ones in it, one behind
+/// the other, and these were accepted so from the first session's start on.
+pub fn sessions_go_on()
+    ensures { (start : Plain AnyJob) (sessions : List Session) (last : Plain AnyJob) → AreSessions start sessions last
+        → (H : List (Command AnyJob)) × AreHeld sessions H × IsAcceptable any_kind start H × (last ≡ outcome any_kind start H) }
 {}
