@@ -1,9 +1,8 @@
 -- Worked rows: for each part of what sessions are and keep, some of which it doesn't hold. A definition that says less lets them pass, and its
 -- row fails.
 use Rattle.std.specs.Prelude.{Bool}
-use Rattle.std.proofs.Common.{◌≡◌, ◌+◌, ◌++◌, ◌≤◌, ℕ, zero, suc, List, [], ◌∷◌, length, take, Result, Ok, Err, true, false, refl, sym, ap, ◌∙◌, arith}
+use Rattle.std.proofs.Common.{◌≡◌, ◌+◌, ◌++◌, ◌≤◌, ℕ, zero, suc, List, [], ◌∷◌, take, Result, Ok, Err, true, false, refl, sym, ap, ◌∙◌, arith}
 use Rattle.std.proofs.lemmas.Bool.{false≢true}
-use Rattle.pfx_format.specs.Format.{format}
 use Rattle.pfx_header.specs.Headers.{read_header}
 use Rattle.pfx_kinds.specs.AnyKind.{any_kind}
 use Rattle.pfx_kinds.specs.declared.any.AnyJob.{AnyJob}
@@ -16,7 +15,6 @@ use Rattle.pfx_recovery.proofs.Answers.{ok_same}
 use Rattle.pfx_recovery.specs.Recovery.{found, recovered}
 use Rattle.pfx_store.specs.Groups.{alone, joined}
 use Rattle.pfx_engine.specs.Sessions.{Session, AreSessions, AreHeld}
-use Rattle.pfx_engine.specs.Surviving.{Survives}
 
 -- a session of one Slot, of which so many were answered
 abbrev one_slot : ℕ → List ℕ → Session
@@ -63,6 +61,6 @@ in_its_place s last image number h =
     let same : s ≡ next = sym empty ∙ ok_same (outcome any_kind s (joined (take h.1.count (alone [])))) next (sym h.1.recovered ∙ h.3) in
     omega (arith, number, ap (λ (t : Plain AnyJob). t.number) (h.4 ∙ sym same))
   where
-    none_in : (k : ℕ) → joined (take k (alone {AnyJob} [])) ≡ []
+    none_in : (k : ℕ) → joined (take k (alone {J = AnyJob} [])) ≡ []
     none_in zero = refl
     none_in (suc k) = refl
