@@ -1,6 +1,6 @@
 use Rattle.std.specs.Prelude.{map}
 use Rattle.std.specs.VecDeque.{deque_items}
-use Rattle.std.proofs.Common.{◌≡◌, ℕ, List, [], ◌<◌, ◌+◌, refl, sym, ap, ◌∙◌, subst, arith}
+use Rattle.std.proofs.Common.{ℕ, List, [], ◌<◌, ◌+◌, refl, sym, ap, ◌∙◌, subst, arith}
 use Rattle.pfx_record.specs.Records.{plain}
 use Rattle.pfx_book.specs.declared.note.Loss.{Loss}
 use Rattle.pfx_book.specs.declared.note.Note.{Note}
