@@ -1,6 +1,6 @@
-//! A share with the number of the last command that it took, and whether that is marked.
-ghost use Rattle.std.specs.Prelude.{◌≡◌, ◌+◌, ◌≤◌, [], length, vec_capacity, IfSome, IsTrue};
-ghost use Rattle.pfx_book.specs.Notes.{IsRested, records_in};
+//! A share with the number of the last command that it took.
+ghost use Rattle.std.specs.Prelude.{◌≡◌, ◌+◌, ◌≤◌, [], length, vec_capacity, IfSome};
+ghost use Rattle.pfx_book.specs.Notes.{records_in};
 
 use crate::states::Trial;
 use pfx_book::book::{Book, Share};
@@ -17,9 +17,7 @@ use std::alloc::Global;
 pub struct Flusher<J: Trial, B: Named<J>> {
     share: Share<J, B>,
     last: u64,
-    rested: bool,
     ghost last_is: { last ≡ B.start.number + length (records_in share) },
-    ghost rested_is: { IsTrue rested → IsRested B.start.number share },
 }
 
 /// A book that begins at this state, marked at clock 7, and its flusher.
@@ -33,15 +31,7 @@ pub fn begin<J: Trial, B: Named<J>>(
 {
     let (book, share) = Book::<J, B>::new(alloc, tokens, state, 7).ok()?;
     let last = book.marked();
-    let rested = true;
-    Some((
-        book,
-        Flusher {
-            share,
-            last,
-            rested,
-        },
-    ))
+    Some((book, Flusher { share, last }))
 }
 
 /// A vector with room for a batch.
@@ -52,7 +42,7 @@ pub fn batch_room<J: Trial>(alloc: Global) -> Option<Vec<Record<J>>>
 }
 
 impl<J: Trial, B: Named<J>> Flusher<J, B> {
-    /// The next batch, if all before it is marked. The vector comes back if nothing waits.
+    /// The next batch, if all before it is marked. The vector comes back if it isn't, or nothing waits.
     pub fn take(
         &mut self,
         book: &mut Book<J, B>,
@@ -61,19 +51,18 @@ impl<J: Trial, B: Named<J>> Flusher<J, B> {
         requires empty { room.items ≡ [] }
         requires room { 16 ≤ vec_capacity room }
     {
-        let Flusher {
-            share,
-            last,
-            rested,
-        } = self;
-        if *last >= 1 << 62 || !*rested {
+        let Flusher { share, last } = self;
+        if *last >= 1 << 62 {
+            return Err(room);
+        }
+        let marked = book.marked();
+        if marked != *last {
             return Err(room);
         }
         book.settled(share);
         let batch = book.take_batch(share, room)?;
         book.settled(share);
         *last += batch.records.len() as u64;
-        *rested = false;
         Ok(batch)
     }
 
@@ -96,26 +85,20 @@ impl<J: Trial, B: Named<J>> Flusher<J, B> {
 
     /// Marks what it took, at this clock, unless it has given up.
     pub fn mark(&mut self, book: &mut Book<J, B>, clock: u64) {
-        let Flusher {
-            share,
-            last,
-            rested,
-        } = self;
+        let Flusher { share, last } = self;
         if book.failure().is_some() {
             return;
         }
         book.settled(share);
         book.mark(share, *last, clock);
-        *rested = true;
         book.settled(share);
     }
 
     /// Gives up.
     pub fn fail(&mut self, book: &mut Book<J, B>, cause: Cause) {
-        let Flusher { share, rested, .. } = self;
+        let Flusher { share, .. } = self;
         book.settled(share);
         book.fail(share, cause);
-        *rested = false;
         book.settled(share);
     }
 }
