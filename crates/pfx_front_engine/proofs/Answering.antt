@@ -1,8 +1,8 @@
 -- Why a command of a front's only client has no answer.
-use Rattle.std.proofs.Common.{◌≡◌, ◌≤◌, ℕ, List, [], ◌∷◌, ◌++◌, Err, refl, sym, ap, subst, ◌∙◌, arith, inl, inr}
+use Rattle.std.proofs.Common.{◌≡◌, ◌≤◌, ℕ, List, [], ◌∷◌, ◌++◌, length, append-nil, Err, refl, sym, ap, subst, ◌∙◌, arith, inl, inr}
 use Rattle.pfx_book.proofs.Notes.{greatest_more}
 use Rattle.pfx_book.specs.Calls.{noted}
-use Rattle.pfx_book.specs.Notes.{alone, greatest}
+use Rattle.pfx_book.specs.Notes.{alone, commands_of, greatest}
 use Rattle.pfx_book.specs.declared.faults.BookFault.{BookFault}
 use Rattle.pfx_book.specs.declared.faults.BookFault.TheVariants as book
 use Rattle.pfx_book.specs.declared.note.Note.{Note}
@@ -23,38 +23,49 @@ use Rattle.pfx_machine.specs.declared.command.Reply.{Reply}
 use Rattle.pfx_machine.specs.declared.faults.MachineFault.{MachineFault}
 use Rattle.pfx_machine.specs.declared.faults.MachineFault.TheVariants.{NoRow}
 use Rattle.pfx_program.specs.Promises.{IsEngineFault}
-use Rattle.pfx_front_engine.specs.Asking.{IsAnswered, IsFrontFault, IsReason, IsUnanswered, why_machine, why_of}
-use Rattle.pfx_front_engine.proofs.Notes.{alone_more, answered, greatest_same_answers, known_last, refused, stays_as, stays_with, tagged}
+use Rattle.pfx_front_engine.specs.Asking.{IsAnswered, IsFrontFault, IsReason, IsUnanswered, MayEndRun, why_machine, why_of}
+use Rattle.pfx_front_engine.proofs.Notes.{alone_more, answered, commands_are, greatest_same_answers, known_last, refused, session_full, stays_as, stays_with, tagged}
+use Rattle.pfx_front_engine.specs.Keeping.{KeepsBy}
 
-pub engine_fault : (s : Plain AnyJob) (f : Fault) → IsFrontFault f → IsEngineFault (λ t g. IsFrontFault g) s f
-engine_fault s fault.NoMemory h = tt
-engine_fault s fault.InputFailed h = absurd h
-engine_fault s fault.OutputFailed h = absurd h
-engine_fault s (fault.BadScript at) h = absurd h
-engine_fault s other h = h
+-- what ends a run is a fault of an engine
+pub engine_fault : (start : Plain AnyJob) (notes : List (Note AnyJob)) (s : Plain AnyJob) (f : Fault) → IsFrontFault start notes f → IsEngineFault (λ t g. MayEndRun g) s f
+engine_fault start notes s fault.NoMemory h = tt
+engine_fault start notes s fault.SessionFull h = tt
+engine_fault start notes s (fault.StoreFailed marked cause) h = tt
+engine_fault start notes s fault.InputFailed h = absurd h
+engine_fault start notes s fault.OutputFailed h = absurd h
+engine_fault start notes s (fault.BadScript at) h = absurd h
+engine_fault start notes s other h = h
 
-machine_reason : (s : Plain AnyJob) (c : Command AnyJob) (f : MachineFault) → answer any_kind s c ≡ Err f → IsReason s c (why_machine f)
-machine_reason s c (NoRow choicefault.NoMemory) h = tt
-machine_reason s c other h = h
+machine_reason : (start : Plain AnyJob) (was : List (Note AnyJob)) (c : Command AnyJob) (is : List (Note AnyJob)) (f : MachineFault)
+    → answer any_kind (state_of any_kind start was) c ≡ Err f → IsReason start was c is (why_machine f)
+machine_reason start was c is (NoRow choicefault.NoMemory) h = tt
+machine_reason start was c is other h = h
 
 module _ (B : Plain AnyJob) (c : Command AnyJob) (was is : ℕ × List (Note AnyJob)) where
   noted_why : (b : BookFault) (n : ℕ) → is ≡ noted (note.Refused n c b) was → IsAlone any_kind B is.1 → IsUnanswered B was.1 c is.1 (why_of (frontfault.Refused b))
-  noted_why b n same l = record { reason = by b l'; stays = stays_with B.number was.1 is.1 (note.Refused n c b) refl (ap (λ p. alone p.1) same ∙ alone_more was.1 (note.Refused n c b) refl); known = rises }
+  noted_why b n same l = record { reason = by b l'; stays = stays; known = rises }
     where
       rises : greatest was.1 ≤ greatest is.1
       rises = let top = ap (λ p. greatest p.1) same in let more = greatest_more was.1 (note.Refused n c b) in omega (arith, top, more)
 
+      stays : KeepsBy B.number was.1 [] 0 is.1
+      stays = stays_with B.number was.1 is.1 (note.Refused n c b) refl (ap (λ p. alone p.1) same ∙ alone_more was.1 (note.Refused n c b) refl)
+
+      still : commands_of (alone is.1) ≡ commands_of (alone was.1)
+      still = commands_are B.number was.1 is.1 [] 0 stays ∙ append-nil (commands_of (alone was.1))
+
       l' : IsAlone any_kind B (was.1 ++ note.Refused n c b ∷ [])
       l' = subst (λ (p : ℕ × List (Note AnyJob)). IsAlone any_kind B p.1) same l
 
-      by : (d : BookFault) → IsAlone any_kind B (was.1 ++ note.Refused n c d ∷ []) → IsReason (state_of any_kind B was.1) c (why_of (frontfault.Refused d))
-      by book.SessionFull k = tt
-      by (book.Machine f) k = machine_reason (state_of any_kind B was.1) c f (refused B was.1 n c f k)
+      by : (d : BookFault) → IsAlone any_kind B (was.1 ++ note.Refused n c d ∷ []) → IsReason B was.1 c is.1 (why_of (frontfault.Refused d))
+      by book.SessionFull k = (let full = session_full B was.1 n c k in let long = ap length still in omega (arith, full, long))
+      by (book.Machine f) k = machine_reason B was.1 c is.1 f (refused B was.1 n c f k)
 
   pub unanswered : (why : front.CallFault) → HasNoReply c was is why → IsAlone any_kind B is.1 → IsUnanswered B was.1 c is.1 (why_of why)
   unanswered (frontfault.Refused b) (inl h) l = rw h.0 (record { reason = tt; stays = stays_as B.number was.1 is.1 (ap (λ p. alone p.1) h.1); known = (let top = ap (λ p. greatest p.1) h.1 in omega (arith, top)) })
   unanswered (frontfault.Refused b) (inr h) l = noted_why b h.0 h.1 l
-  unanswered (frontfault.StoreFailed marked cause) h l = record { reason = tt; stays = stays_as B.number was.1 is.1 (ap tagged h.1); known = (let top = greatest_same_answers was.1 is.1 h.1 in omega (arith, top)) }
+  unanswered (frontfault.StoreFailed marked cause) h l = record { reason = inl h.2; stays = stays_as B.number was.1 is.1 (ap tagged h.1); known = (let top = greatest_same_answers was.1 is.1 h.1 in omega (arith, top)) }
 
   pub answered_as : (n : ℕ) (said : Reply) → is ≡ noted (note.Accepted n c said) was → IsAlone any_kind B is.1 → IsAnswered B was.1 c n said is.1
   answered_as n said same l =

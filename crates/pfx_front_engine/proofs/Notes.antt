@@ -1,6 +1,7 @@
 -- A single client's notes that are one longer.
 use Rattle.std.specs.Prelude.{if◌then◌else◌, max, nat_le, option_map, map}
 use Rattle.std.proofs.Common.{◌≡◌, ◌⊎◌, ◌≤◌, ℕ, ◌+◌, ◌^◌, List, [], ◌∷◌, ◌++◌, length, length-append, Option, None, Some, Ok, Err, Bool, true, false, refl, sym, ap, subst, ◌∙◌, arith, append_assoc, append-nil, inl, inr}
+use Rattle.std.proofs.lemmas.Bool.{leb-true}
 use Rattle.std.proofs.lemmas.Option.{none-some}
 use Rattle.pfx_book.proofs.Notes.{greatest_more, legal_more, noted_last, number_is}
 use Rattle.pfx_book.specs.Notes.{Fits, Legal, Noted, added, alone, answers_of, commands_of, greatest, is_entry, number_in, refused_at}
@@ -77,6 +78,20 @@ pub refused : (B : Plain AnyJob) (xs : List (Note AnyJob)) (n : ℕ) (c : Comman
 refused B xs n c f l =
     let s = state_of any_kind B xs in
     ap (answer_by (reply s c)) (refused_by (nat_le (2 ^ 20) (length (commands_of (alone xs)))) s c f (fits_last B xs (Refused n c (Machine f)) refl l).1)
+
+full_by : (full : Bool) (s : Plain AnyJob) (c : Command AnyJob) → refused_at full any_kind s c ≡ Some SessionFull → full ≡ true
+full_by true s c h = refl
+full_by false s c h = by (refusal any_kind s c) h
+  where
+    by : (o : Option MachineFault) → option_map Machine o ≡ Some SessionFull → false ≡ true
+    by None h = absurd (none-some SessionFull h)
+    by (Some g) h = cc
+
+-- a session that is full has as many commands as it may
+pub session_full : (B : Plain AnyJob) (xs : List (Note AnyJob)) (n : ℕ) (c : Command AnyJob) → IsAlone any_kind B (xs ++ Refused n c SessionFull ∷ []) → 2 ^ 20 ≤ length (commands_of (alone xs))
+session_full B xs n c l =
+    leb-true (2 ^ 20) (length (commands_of (alone xs)))
+    (full_by (nat_le (2 ^ 20) (length (commands_of (alone xs)))) (state_of any_kind B xs) c (fits_last B xs (Refused n c SessionFull) refl l).1)
 
 -- ---- what is kept
 
@@ -164,12 +179,21 @@ settled_stays first was is h settled = by settled
     by (inr r) = inr (let long = ap length same in receipt_later was is h.later _ _ h.grows (omega (arith, long)) r)
 
 module _ (B : Plain AnyJob) (was is : List (Note AnyJob)) (number kept : ℕ) (h : IsKept B was number kept) where
+  -- the number up to which there was a receipt still has one
+  held_later : (later : List (ℕ × Note AnyJob)) → alone is ≡ alone was ++ later → (kept ≡ B.number) ⊎ HasReceipt is kept
+  held_later later grows = by h.held
+    where
+      by : (kept ≡ B.number) ⊎ HasReceipt was kept → (kept ≡ B.number) ⊎ HasReceipt is kept
+      by (inl start) = inl start
+      by (inr r) = inr (receipt_later was is later kept kept grows (omega arith) r)
+
   -- what the engine's type keeps, if no command came
   pub kept_later : IsAlone any_kind B is → KeepsBy B.number was [] 0 is → greatest was ≤ greatest is → IsKept B is number kept
   kept_later l stays rises = record {
     is_alone = l;
     number_is = h.number_is ∙ ap (λ (H : List (Command AnyJob)). (outcome any_kind B H).number) (sym (commands_are B.number was is [] 0 stays ∙ append-nil (commands_of (alone was))));
     low = h.low;
+    held = held_later stays.later stays.grows;
     known = λ behind. let k = h.known behind in (k.0, (let top = k.1 in omega (arith, top, rises)));
     settled = λ all. settled_stays B.number was is stays (h.settled all);
   }
@@ -187,6 +211,7 @@ module _ (B : Plain AnyJob) (was is : List (Note AnyJob)) (number kept : ℕ) (h
         is_alone = subst (λ (l : List (Note AnyJob)). IsAlone any_kind B l) (sym same) (alone_receipt B was number clock h.is_alone (omega (arith, here)));
         number_is = h.number_is ∙ ap (λ (H : List (Command AnyJob)). (outcome any_kind B H).number) (sym (ap commands_of at ∙ commands_both (alone was) ((1, Receipt number clock) ∷ []) ∙ append-nil (commands_of (alone was))));
         low = omega arith;
+        held = inr (record { number = number; clock = clock; high = omega arith; noted = subst (λ (l : List (ℕ × Note AnyJob)). Noted (1, Receipt number clock) l) (sym at) (noted_last (1, Receipt number clock) (alone was)) });
         known = λ behind. absurd (behind refl);
         settled = λ _. settled_by B was is number clock at h.number_is;
       }
@@ -204,6 +229,7 @@ module _ (B : Plain AnyJob) (was is : List (Note AnyJob)) (number kept : ℕ) (h
         is_alone = l;
         number_is = omega (arith, before, now, long, more, next);
         low = omega (arith, low, at, next);
+        held = held_later ((1, Accepted n c said) ∷ []) a.noted;
         known = λ _. (omega (arith, next), a.known);
         settled = λ all. absurd (omega (arith, all, low, at, next));
       }

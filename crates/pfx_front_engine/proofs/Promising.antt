@@ -23,7 +23,7 @@ use Rattle.pfx_program.specs.declared.engine.CallFault.{CallFault}
 use Rattle.pfx_program.specs.declared.engine.CallFault.TheVariants as callfault
 use Rattle.pfx_front_engine.proofs.Answering.{engine_fault}
 use Rattle.pfx_front_engine.proofs.Notes.{all_kept, grown, more_by, settled_stays, state_is}
-use Rattle.pfx_front_engine.specs.Asking.{AreAllAsked, AreAsked, AreSomeAsked, IsAnswered, IsFrontFault, IsUnanswered}
+use Rattle.pfx_front_engine.specs.Asking.{AreAllAsked, AreAsked, AreSomeAsked, IsAnswered, IsFrontFault, IsUnanswered, MayEndRun}
 use Rattle.pfx_front_engine.specs.Keeping.{IsSettled, KeepsBy}
 use Rattle.pfx_front_engine.specs.KeepingLaws.{keeps_none}
 
@@ -32,7 +32,7 @@ module _ {E : Type 0} (notes : E → List (Note AnyJob)) (B : Plain AnyJob) wher
   abbrev pub promise : Promise E
   promise = record {
     state = λ e. state_of any_kind B (notes e);
-    faults = λ s f. IsFrontFault f;
+    faults = λ s f. MayEndRun f;
     settled = λ e. IsSettled B.number (notes e);
     keeps = λ x H n y. KeepsBy B.number (notes x) H n (notes y);
   }
@@ -60,11 +60,11 @@ module _ {E : Type 0} (notes : E → List (Note AnyJob)) (B : Plain AnyJob) wher
     -- a command that has no answer
     pub not_done : (c : Command AnyJob) (why : CallFault) → IsUnanswered B (notes old) c (notes new) why → IsNotDone promise c old new why
     not_done c (callfault.Refused f) h = (h.reason, same h.stays, settled_stays B.number (notes old) (notes new) h.stays)
-    not_done c (callfault.Failed f) h = (engine_fault (state_of any_kind B (notes old)) f h.reason, left_same c f (same h.stays))
+    not_done c (callfault.Failed f) h = (engine_fault B (notes new) (state_of any_kind B (notes old)) f h.reason, left_same c f (same h.stays))
 
     pub slot_not_done : (count : ℕ) (why : CallFault) → IsUnanswered B (notes old) Slot (notes new) why → AreNotDone promise count old new why
     slot_not_done count (callfault.Refused f) h = (h.reason, same h.stays, settled_stays B.number (notes old) (notes new) h.stays)
-    slot_not_done count (callfault.Failed f) h = (engine_fault (state_of any_kind B (notes old)) f h.reason, slots_left_same count f (same h.stays))
+    slot_not_done count (callfault.Failed f) h = (engine_fault B (notes new) (state_of any_kind B (notes old)) f h.reason, slots_left_same count f (same h.stays))
 
     -- the board of the state after the same commands
     pub shown : KeepsBy B.number (notes old) [] 0 (notes new) → (board : Board) → IsShownBy any_kind (state_of any_kind B (notes new)) board → Shows (state_of any_kind B (notes old)) board
@@ -90,10 +90,10 @@ module _ {E : Type 0} (notes : E → List (Note AnyJob)) (B : Plain AnyJob) wher
             settled = settled;
           }
 
-      pub doubted : (c : Command AnyJob) (n : ℕ) (said : Reply) (f : Fault) → IsAnswered B (notes old) c n said mid → IsFrontFault f → f ≢ fault.NoMemory → IsNotDone promise c old new (callfault.Failed f)
+      pub doubted : (c : Command AnyJob) (n : ℕ) (said : Reply) (f : Fault) → IsAnswered B (notes old) c n said mid → IsFrontFault B (notes new) f → f ≢ fault.NoMemory → IsNotDone promise c old new (callfault.Failed f)
       doubted c n said f a front apart =
           let k = asked c n said a in
-          (engine_fault (state_of any_kind B (notes old)) f front, left_by c f apart (record { reply = said; accepted = a.accepted; state = inr (state_is B B.number (notes old) (notes new) (c ∷ []) 0 k); keeps = k }))
+          (engine_fault B (notes new) (state_of any_kind B (notes old)) f front, left_by c f apart (record { reply = said; accepted = a.accepted; state = inr (state_is B B.number (notes old) (notes new) (c ∷ []) 0 k); keeps = k }))
 
       -- Slots that were answered, and then waited for
       module _ (count few : ℕ) (less : few ≤ count) (said : List (ℕ × Reply)) (a : AreAsked B (notes old) few said mid) where
@@ -113,9 +113,9 @@ module _ {E : Type 0} (notes : E → List (Note AnyJob)) (B : Plain AnyJob) wher
           settled = settled;
         }
 
-        pub slots_doubted : (f : Fault) → IsFrontFault f → f ≢ fault.NoMemory → AreNotDone promise count old new (callfault.Failed f)
+        pub slots_doubted : (f : Fault) → IsFrontFault B (notes new) f → f ≢ fault.NoMemory → AreNotDone promise count old new (callfault.Failed f)
         slots_doubted f front apart = (
-          engine_fault (state_of any_kind B (notes old)) f front,
+          engine_fault B (notes new) (state_of any_kind B (notes old)) f front,
           slots_left_by count f apart (record { said = said; few = long; answered = a.answered; state = inr (state_is B B.number (notes old) (notes new) (slots_for said) 0 now); keeps = now }),
         )
 

@@ -37,7 +37,7 @@ use Rattle.pfx_recovery.specs.Recovery.{recovered}
 use Rattle.pfx_script.specs.Records.{Fields, Records}
 use Rattle.pfx_front_engine.proofs.Notes.{commands_are, tagged}
 use Rattle.pfx_front_engine.proofs.Promising.{promise}
-use Rattle.pfx_front_engine.specs.Asking.{IsFrontFault}
+use Rattle.pfx_front_engine.specs.Asking.{MayEndRun}
 use Rattle.pfx_front_engine.specs.Keeping.{HasReceipt, KeepsBy}
 use Rattle.pfx_front_engine.specs.Running.{IsServedFault, IsServedRun}
 
@@ -141,7 +141,7 @@ module _ (form : Form) (B : Plain AnyJob) (r : Register AnyJob) (disk : View) (b
       }
 
       stopped : (most : ℕ) (f : Fault) → IfSome lines.left (λ all. all ≡ records) → Stopped (promise notes B) most (failed ≡ true) (course_from (lines.place + 1) (at_start form B) records).steps x y was is f
-          → ((printed tried rest : List Step) (s t : Plain AnyJob) → Halts (failed ≡ true) (λ u g. IsFrontFault g) s (text_of printed) tried t was is f
+          → ((printed tried rest : List Step) (s t : Plain AnyJob) → Halts (failed ≡ true) (λ u g. MayEndRun g) s (text_of printed) tried t was is f
           → EndsBehind IsServedFault printed (tried ++ rest) (course_from (lines.place + 1) (at_start form B) records).ends_at failed was is (Err f))
           → IsServedRun form B lines failed was is disk (Err f)
       stopped most f known h ends =

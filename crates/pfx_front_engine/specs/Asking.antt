@@ -1,10 +1,12 @@
 -- What comes of a command of a front's only client.
-use Rattle.std.specs.Prelude.{◌≡◌, ◌<◌, ◌≤◌, ℕ, ◌+◌, ◌++◌, List, [], ◌∷◌, length, Ok, Err, ⊤}
+use Rattle.std.specs.Prelude.{◌≡◌, ◌⊎◌, ◌<◌, ◌≤◌, ◌^◌, ℕ, ◌+◌, ◌++◌, List, [], ◌∷◌, length, Some, Ok, Err, ⊤}
 use Rattle.pfx_choice.specs.declared.faults.ChoiceFault.TheVariants.{NoMemory}
-use Rattle.pfx_book.specs.Notes.{alone, greatest}
+use Rattle.pfx_book.specs.Notes.{alone, commands_of, greatest, lost_in}
 use Rattle.pfx_book.specs.declared.faults.BookFault.TheVariants as book
 use Rattle.pfx_book.specs.declared.note.Note.{Note}
 use Rattle.pfx_book.specs.declared.note.Note.TheVariants.{Accepted}
+use Rattle.pfx_fault.specs.declared.parts.Cause.{Cause}
+use Rattle.pfx_fault.specs.declared.parts.Cause.TheVariants.{Memory}
 use Rattle.pfx_fault.specs.declared.refusals.Fault.{Fault}
 use Rattle.pfx_fault.specs.declared.refusals.Fault.TheVariants as fault
 use Rattle.pfx_front.specs.Sole.{state_of}
@@ -22,7 +24,7 @@ use Rattle.pfx_program.specs.Promises.{AreAnswered, slots_for}
 use Rattle.pfx_program.specs.Sharing.{AreTold, Told, accepted_of}
 use Rattle.pfx_program.specs.declared.engine.CallFault.{CallFault}
 use Rattle.pfx_program.specs.declared.engine.CallFault.TheVariants as callfault
-use Rattle.pfx_front_engine.specs.Keeping.{KeepsBy}
+use Rattle.pfx_front_engine.specs.Keeping.{HasReceipt, KeepsBy}
 
 -- what the machine's refusal is to a run: for want of memory the run ends
 abbrev pub why_machine : MachineFault → CallFault
@@ -35,17 +37,31 @@ why_of (frontfault.Refused book.SessionFull) = callfault.Failed fault.SessionFul
 why_of (frontfault.Refused (book.Machine f)) = why_machine f
 why_of (frontfault.StoreFailed marked cause) = callfault.Failed (fault.StoreFailed marked cause)
 
--- what a front ends a run with
-abbrev pub IsFrontFault : Fault → Type 0
-IsFrontFault fault.NoMemory = ⊤
-IsFrontFault fault.SessionFull = ⊤
-IsFrontFault (fault.StoreFailed marked cause) = ⊤
-IsFrontFault other = ⊥
+-- a run over a front may end with this
+abbrev pub MayEndRun : Fault → Type 0
+MayEndRun fault.NoMemory = ⊤
+MayEndRun fault.SessionFull = ⊤
+MayEndRun (fault.StoreFailed marked cause) = ⊤
+MayEndRun other = ⊥
+
+-- memory was refused for the last receipt: more was accepted than up to this number, which is the start's or has a receipt
+pub record LacksReceipt (start : Plain AnyJob) (notes : List (Note AnyJob)) (marked : ℕ) (cause : Cause) : Type 0 where
+  pub memory : cause ≡ Memory
+  pub behind : marked < (state_of any_kind start notes).number
+  pub kept : (marked ≡ start.number) ⊎ HasReceipt notes marked
+
+-- what a front ends a run with, by its client's notes: memory was refused; the session has as many commands as it may; or the
+-- client was told that the flusher gave up, for just this cause and behind just this mark, or memory was refused for the last receipt
+abbrev pub IsFrontFault : Plain AnyJob → List (Note AnyJob) → Fault → Type 0
+IsFrontFault start notes fault.NoMemory = ⊤
+IsFrontFault start notes fault.SessionFull = 2 ^ 20 ≤ length (commands_of (alone notes))
+IsFrontFault start notes (fault.StoreFailed marked cause) = (lost_in notes ≡ Some (record { marked = marked; cause = cause })) ⊎ LacksReceipt start notes marked cause
+IsFrontFault start notes other = ⊥
 
 -- the machine refuses the command, or the front ends the run
-abbrev pub IsReason : Plain AnyJob → Command AnyJob → CallFault → Type 0
-IsReason s c (callfault.Refused f) = answer any_kind s c ≡ Err f
-IsReason s c (callfault.Failed f) = IsFrontFault f
+abbrev pub IsReason : Plain AnyJob → List (Note AnyJob) → Command AnyJob → List (Note AnyJob) → CallFault → Type 0
+IsReason start was c is (callfault.Refused f) = answer any_kind (state_of any_kind start was) c ≡ Err f
+IsReason start was c is (callfault.Failed f) = IsFrontFault start is f
 
 -- the command was accepted, as the machine does after the commands before it
 pub record IsAnswered (start : Plain AnyJob) (was : List (Note AnyJob)) (c : Command AnyJob) (number : ℕ) (said : Reply)
@@ -57,7 +73,7 @@ pub record IsAnswered (start : Plain AnyJob) (was : List (Note AnyJob)) (c : Com
 
 -- the command wasn't accepted, and no other was
 pub record IsUnanswered (start : Plain AnyJob) (was : List (Note AnyJob)) (c : Command AnyJob) (is : List (Note AnyJob)) (why : CallFault) : Type 0 where
-  pub reason : IsReason (state_of any_kind start was) c why
+  pub reason : IsReason start was c is why
   pub stays : KeepsBy start.number was [] 0 is
   pub known : greatest was ≤ greatest is
 

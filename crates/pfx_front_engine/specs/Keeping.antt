@@ -27,10 +27,12 @@ pub record KeepsBy (first : ℕ) (was : List (Note AnyJob)) (H : List (Command A
   pub commands : commands_of later ≡ H
   pub receipt : (n ≡ 0) ⊎ HasReceipt is (first + (length (commands_of (alone was)) + n))
 
--- what an engine's type keeps: the notes are all that has happened, their last number, and whether it has its receipt
+-- what an engine's type keeps: the notes are all that has happened, their last number, whether it has its receipt, and the
+-- number up to which there is one
 pub record IsKept (start : Plain AnyJob) (notes : List (Note AnyJob)) (number kept : ℕ) : Type 0 where
   pub is_alone : IsAlone any_kind start notes
   pub number_is : number ≡ (state_of any_kind start notes).number
   pub low : kept ≤ number
+  pub held : (kept ≡ start.number) ⊎ HasReceipt notes kept
   pub known : number ≢ kept → (0 < number) × (number ≤ greatest notes)
   pub settled : number ≡ kept → IsSettled start.number notes

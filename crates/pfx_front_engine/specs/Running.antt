@@ -10,12 +10,12 @@ use Rattle.pfx_machine.specs.Plain.{Plain}
 use Rattle.pfx_program.specs.declared.form.Form.{Form}
 use Rattle.pfx_program.specs.Script.{Step, at_start, commands_of, course_from}
 use Rattle.pfx_script.specs.Records.{Fields, Records}
-use Rattle.pfx_front_engine.specs.Asking.{IsFrontFault}
+use Rattle.pfx_front_engine.specs.Asking.{MayEndRun}
 
 -- what ends a run over a front: no thread was there, and nothing was printed, or the front ended it
 abbrev pub IsServedFault : List Step → Fault → Type 0
 IsServedFault printed fault.NoThread = printed ≡ []
-IsServedFault printed other = IsFrontFault other
+IsServedFault printed other = MayEndRun other
 
 -- The records are the script's, as far as it is known. Of their course from the state on some first steps were printed, whole, and
 -- the run ended so after them. Each image that a stop now may leave is recovered to the outcome of a beginning of the course's

@@ -124,7 +124,7 @@ pub(crate) fn ask_all<B: Since<AnyJob>, K: Desk<Quantum<AnyJob>, Done<AnyJob>> +
 where
     K::Seat: Drop,
     ensures ok { IfOk result (λ told. AreAllAsked B.start client.old commands.items told.items client.new) }
-    ensures fails { IfErr result IsFrontFault }
+    ensures fails { IfErr result (IsFrontFault B.start client.new) }
     ensures err { OnErr result (AreSomeAsked B.start client.old commands.items client.new) }
 {
     let Ok(mut told) = Vec::with_capacity(alloc, commands.len()) else {
@@ -151,7 +151,7 @@ where
     ensures number { IfOk result (λ n. n ≡ (state_of any_kind B.start client.old).number) }
     ensures settled { OnOk result (IsSettled B.start.number client.new) }
     ensures stays { KeepsBy B.start.number client.old [] 0 client.new }
-    ensures fails { IfErr result IsFrontFault }
+    ensures fails { IfErr result (IsFrontFault B.start client.new) }
     ensures memory { IfErr result (λ fault. fault ≢ Fault.NoMemory) }
 {
     if client.number == client.kept {

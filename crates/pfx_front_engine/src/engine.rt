@@ -4,7 +4,7 @@ ghost use Rattle.pfx_front.specs.Sole.{state_of};
 ghost use Rattle.pfx_kinds.specs.AnyKind.{any_kind};
 ghost use Rattle.pfx_program.specs.Promises.{Promise, Laws, AreAnswered, AreDone, AreNotDone, IsDone, IsNotDone, IsSame, IsEngineFault, Shows, slots_for};
 ghost use Rattle.pfx_program.specs.Sharing.{AreChanges, AreAllDone, AreAllLeft};
-ghost use Rattle.pfx_front_engine.specs.Asking.{AreAllAsked, AreAsked, AreSomeAsked, IsAnswered, IsUnanswered, IsFrontFault};
+ghost use Rattle.pfx_front_engine.specs.Asking.{AreAllAsked, AreAsked, AreSomeAsked, IsAnswered, IsUnanswered, MayEndRun};
 ghost use Rattle.pfx_front_engine.specs.Keeping.{IsSettled, KeepsBy};
 ghost use Rattle.pfx_front_engine.specs.KeepingLaws.{keeps_none, keeps_more, keeps_fewer};
 
@@ -47,7 +47,7 @@ where
     // The state is that after all accepted commands; a command is kept once the pass has its receipt.
     ghost promise = { record {
       state = λ engine. state_of any_kind B.start engine.client;
-      faults = λ s f. IsFrontFault f;
+      faults = λ s f. MayEndRun f;
       settled = λ engine. IsSettled B.start.number engine.client;
       keeps = λ a H n b. KeepsBy B.start.number a.client H n b.client;
     } };
