@@ -27,14 +27,14 @@ store's file. For examples/thirds.toml they are
   load 2/1
   segment 1048576
   least 4233
-  size 2098049
+  size 2100163
 
 A set that isn't taken is refused as every command refuses it, and then each further fault has a line
 that begins with `pfx: also`: what would be said next, were the task that is named taken out of the set.
 
 With --json it is one object, whose load is above and below the line, and each fault is one:
 
-  {\"hyper\":3,\"idle\":0,\"least\":4233,\"load\":[2,1],\"segment\":1048576,\"size\":2098049,\"tasks\":3,\"workers\":2}
+  {\"hyper\":3,\"idle\":0,\"least\":4233,\"load\":[2,1],\"segment\":1048576,\"size\":2100163,\"tasks\":3,\"workers\":2}
   {\"error\":{\"fields\":{\"task\":2},\"name\":\"BadWeight\",\"number\":14},\"note\":{\"change\":..,\"more\":..,\"what\":..}}";
 
 const EXAMPLE: &str = "Example:

@@ -23,11 +23,11 @@ One line is printed: m, the workers; real, the tasks of the set; idle, the idle 
 what those leave over; hyper, the slots after which the plan repeats; size, the bytes of the file.
 For examples/thirds.toml it is
 
-  created m=2 real=3 idle=0 hyper=3 size=2098049
+  created m=2 real=3 idle=0 hyper=3 size=2100163
 
 With --json it is an object instead, and a refusal is one too:
 
-  {\"created\":{\"hyper\":3,\"idle\":0,\"m\":2,\"real\":3,\"size\":2098049}}";
+  {\"created\":{\"hyper\":3,\"idle\":0,\"m\":2,\"real\":3,\"size\":2100163}}";
 
 const EXAMPLE: &str = "Example:
   pfx init examples/thirds.toml thirds.pfx    a store for three tasks of weight 2/3";

@@ -18,9 +18,3 @@ module _ {J : Type 0} where
   -- its number is that of the last of the batches
   pub board_number : (K : Kind J) (o : Plain J) (xs : List (Batch J)) (board : Board) → IsBoardOf K o xs board → board.number ≡ last_of o xs
   board_number K o xs board h = h.number ∙ (applied_behind K o h.state (records_of xs) h.leads).number
-
-  -- it has a line for each task
-  pub board_lines : (K : Kind J) (o : Plain J) (xs : List (Batch J)) (board : Board) → IsBoardOf K o xs board → length board.lines.items ≡ total o.ledger
-  board_lines K o xs board h =
-      let set = (applied_behind K o h.state (records_of xs) h.leads).set in
-      ap length h.lines ∙ (length-lines K h.state (total h.state.ledger) ∙ ap (λ s. length s.weights) set)

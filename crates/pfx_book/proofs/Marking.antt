@@ -75,6 +75,7 @@ kept_new K start state lists number clock same is num are =
         tagged = refl;
         is_legal = tt;
         outcome = same ∙ sym (outcome-none K start);
+        common = tt;
         few = omega arith;
         valid = subst IsState same is;
         records = refl;

@@ -1,6 +1,6 @@
 -- The records that are taken next.
-use Rattle.std.specs.Prelude.{slice_get, if◌then◌else◌, IsTrue, ◌&&◌}
-use Rattle.std.proofs.Common.{◌≡◌, ℕ, suc, ◌+◌, ◌<◌, ◌≤◌, ◌^◌, List, [], ◌∷◌, ◌++◌, length, map, set, take, drop, Option, Some, None, Bool, true, false, refl, sym, ap, ◌∙◌, subst, arith, length-append}
+use Rattle.std.specs.Prelude.{slice_get, if◌then◌else◌, All, IsTrue, ◌&&◌}
+use Rattle.std.proofs.Common.{◌≡◌, ℕ, zero, suc, ◌+◌, ◌<◌, ◌≤◌, ◌^◌, List, [], ◌∷◌, ◌++◌, length, map, set, take, drop, Option, Some, None, Bool, true, false, refl, sym, ap, ◌∙◌, subst, arith, length-append}
 use Rattle.std.proofs.lemmas.Bool.{false≢true, lt-ltb, le-leb}
 use Rattle.std.proofs.lemmas.List.{take-append-drop, length-take-le}
 use Rattle.std.proofs.lemmas.Option.{none-some}
@@ -11,16 +11,15 @@ use Rattle.pfx_machine.specs.Plain.{Plain, IsState}
 use Rattle.pfx_machine.specs.Outcome.{outcome}
 use Rattle.pfx_machine.specs.declared.command.Command.{Command}
 use Rattle.pfx_machine.proofs.Compose.{outcome-none, outcome-outcome}
-use Rattle.pfx_machine.specs.Fitting.{fits}
-use Rattle.pfx_columns.specs.Ledgers.{total}
-use Rattle.pfx_redo.specs.Applying.{applied, form_at, is_right, is_apt, after_record}
+use Rattle.pfx_weights.specs.Sets.{FilledSet}
+use Rattle.pfx_redo.specs.Applying.{applied, form_at, is_common, is_right, after_record}
 use Rattle.pfx_redo.specs.Recording.{record_of, records_of}
 use Rattle.pfx_redo.proofs.Outcomes.{records_outcome}
-use Rattle.pfx_redo.proofs.States.{applied_behind}
+use Rattle.pfx_redo.proofs.Commons.{common_fits, records_common}
+use Rattle.pfx_redo.proofs.States.{applied_behind, common_behind, in_force, right_parts}
 use Rattle.pfx_record.specs.Batches.{all_fit, batch_fits, counts_fit}
 use Rattle.pfx_record.specs.Records.{form_of, plain, Recorded, record_fits}
-use Rattle.pfx_record.proofs.Renewed.{fits_anywhere}
-use Rattle.pfx_record.proofs.Rising.{both, of_both}
+use Rattle.pfx_record.proofs.Rising.{of_both}
 use Rattle.std.specs.Global.{Vec}
 use Rattle.pfx_record.specs.declared.record.Record.{Record}
 use Rattle.pfx_book.specs.declared.note.Note.{Note}
@@ -37,6 +36,16 @@ drop_own (x ∷ xs) rest = drop_own xs rest
 
 tails : {A : Type 0} (xs us ys vs : List A) → length us ≡ length xs → xs ++ ys ≡ us ++ vs → ys ≡ vs
 tails xs us ys vs long e = sym (drop_own xs ys) ∙ ap (drop (length xs)) e ∙ ap (λ k. drop k (us ++ vs)) (sym long) ∙ drop_own us vs
+
+-- what holds of all elements holds of the front, and of the rest
+all_front : {A : Type 0} (P : A → Type 0) (xs ys : List A) → All P (xs ++ ys) → All P xs
+all_front P [] ys h k d l = absurd (omega (arith, l))
+all_front P (x ∷ xs) ys h zero d l = h 0 d (omega arith)
+all_front P (x ∷ xs) ys h (suc k) d l = all_front P xs ys (λ i e b. h (suc i) e (omega (arith, b))) k d (omega (arith, l))
+
+all_behind : {A : Type 0} (P : A → Type 0) (xs ys : List A) → All P (xs ++ ys) → All P ys
+all_behind P [] ys h = h
+all_behind P (x ∷ xs) ys h = all_behind P xs ys (λ i e b. h (suc i) e (omega (arith, b)))
 
 module _ {J : Type 0} (K : Kind J) where
   records_split : (L : Laws K) (s : Plain J) (H G : List (Command J)) → records_of K s (H ++ G) ≡ records_of K s H ++ records_of K (outcome K s H) G
@@ -59,13 +68,14 @@ module _ {J : Type 0} (K : Kind J) where
       let r = applied_front (after_record s x) xs ys u f.1 in
       (r.0, ap (λ q. if q then applied K (after_record s x) xs else None) f.0 ∙ r.1, r.2)
 
-  all_fit_of : (count : ℕ) (s t : Plain J) (records : List (Recorded J)) → applied K s records ≡ Some t → IsTrue (all_fit (form_of s.ledger.set.workers 0 count) records)
-  all_fit_of count s t [] h = refl
-  all_fit_of count s t (done ∷ records) h =
+  all_fit_of : (workers count : ℕ) (s t : Plain J) (records : List (Recorded J)) → s.ledger.set.workers ≡ workers → All (λ done. IsTrue (is_common done)) records → applied K s records ≡ Some t → IsTrue (all_fit (form_of workers 0 count) records)
+  all_fit_of workers count s t [] same common h = refl
+  all_fit_of workers count s t (done ∷ records) same common h =
       let f = split_if (is_right K s done) (applied K (after_record s done) records) t h in
-      of_both (record_fits (form_of s.ledger.set.workers 0 count) done) (all_fit (form_of s.ledger.set.workers 0 count) records)
-      (fits_anywhere s.ledger.set.workers 1 count done (both (record_fits (form_at s) done) (is_apt K (total s.ledger) s.jobs done && fits (after_record s done)) f.0).0)
-      (all_fit_of count (after_record s done) t records f.1)
+      let one = common 0 done (omega arith) in
+      let next = ap (λ (g : FilledSet). g.workers) (in_force s done one).set ∙ same in
+      of_both (record_fits (form_of workers 0 count) done) (all_fit (form_of workers 0 count) records) (common_fits (form_at s) (form_of workers 0 count) done one same (right_parts K s done f.0).form)
+      (all_fit_of workers count (after_record s done) t records next (λ k d l. common (suc k) d (omega (arith, l))) f.1)
 
   module _ (L : Laws K) (start : Plain J) (session : List (ℕ × Note J)) (lists : List (List (Note J))) (n : ℕ) (state : Plain J) (batch rest : List (Recorded J)) (taken marked clock : ℕ) (failure : Option Cause) where
     abbrev Now : Type 0
@@ -80,6 +90,7 @@ module _ {J : Type 0} (K : Kind J) where
       pub number : t.number + length (batch ++ rest) ≡ state.number
       pub last : u.number ≡ t.number + length batch
       pub set : t.ledger.set ≡ state.ledger.set
+      pub common : All (λ done. IsTrue (is_common done)) batch
       pub valid : IsState t
       pub after : IsState u
 
@@ -94,7 +105,10 @@ module _ {J : Type 0} (K : Kind J) where
         let first = applied_behind K start a.0 (records_in h.flushed) a.1 in
         let whole = applied_behind K a.0 state (batch ++ rest) a.2 in
         let some = applied_behind K a.0 b.0 batch b.1 in
-        record { t = a.0; at = a.1; u = b.0; next = b.1; number = sym whole.number; last = some.number; set = sym whole.set; valid = first.state s.valid; after = some.state (first.state s.valid) }
+        let every = subst (All (λ done. IsTrue (is_common done))) s.records (records_common K start H s.common) in
+        let waits = all_behind (λ done. IsTrue (is_common done)) (records_in h.flushed) (batch ++ rest) every in
+        let same = common_behind K a.0 state (batch ++ rest) waits a.2 in
+        record { t = a.0; at = a.1; u = b.0; next = b.1; number = sym whole.number; last = some.number; set = sym same.set; common = all_front (λ done. IsTrue (is_common done)) batch rest waits; valid = first.state s.valid; after = some.state (first.state s.valid) }
 
     pub enough : Now → length (batch ++ rest) ≤ state.number
     enough h = let l = leads h in omega (arith, l.number)
@@ -112,7 +126,7 @@ module _ {J : Type 0} (K : Kind J) where
         of_both _ _ (of_both _ _ (lt-ltb 0 workers (omega (arith, m.0, w))) (le-leb workers 64 (omega (arith, m.1, w))))
         (of_both _ _ (of_both _ _ (lt-ltb 0 (length batch) some) (le-leb (length batch) 16 few))
         (of_both _ _ (lt-ltb 0 first (omega (arith, begins, long))) (le-leb (first + length batch) (2 ^ 48) (omega (arith, begins, long, last, top))))) in
-        of_both _ _ counts (subst (λ k. IsTrue (all_fit (form_of k 0 (length batch)) batch)) (sym w) (all_fit_of (length batch) l.t l.u batch l.next))
+        of_both _ _ counts (all_fit_of workers (length batch) l.t l.u batch (sym w) l.common l.next)
 
     pub goes_on : (mine : List (Note J)) (workers first : ℕ) → Now → slice_get lists 0 ≡ Some mine → workers ≡ state.ledger.set.workers → first + length (batch ++ rest) ≡ state.number + 1
         → GoesOn K start mine workers 0 first batch

@@ -3,6 +3,7 @@ use Rattle.std.specs.Prelude.{◌≡◌, ◌≢◌, ℕ, ◌+◌, ◌^◌, ◌<�
 use Rattle.pfx_fault.specs.declared.parts.Cause.{Cause}
 use Rattle.pfx_jobs.specs.Kind.{Kind}
 use Rattle.pfx_machine.specs.Plain.{Plain, IsState}
+use Rattle.pfx_machine.specs.Batches.{AreCommon}
 use Rattle.pfx_machine.specs.Outcome.{outcome}
 use Rattle.pfx_record.specs.Records.{Recorded}
 use Rattle.pfx_redo.specs.Recording.{records_of}
@@ -15,13 +16,14 @@ use Rattle.pfx_book.specs.Notes.{Noted, commands_of, Legal, records_in, AllBacke
 
 module _ {J : Type 0} where
   -- the keeper's lists are the flusher's notes and those of each pass; the notes of the passes are legal from the start, their
-  -- commands come to the state, and their records are those that were taken and then those that are pending
+  -- commands come to the state and have no Reweigh among them, and their records are those that were taken and then those that are pending
   pub record IsTold (K : Kind J) (start : Plain J) (flushed : List (Note J)) (all : List (ℕ × Note J))
       (lists : List (List (Note J))) (passes : ℕ) (state : Plain J) (pending : List (Recorded J)) : Type 0 where
     pub known : lists ≡ flushed ∷ lists_from 1 passes all
     pub tagged : Tagged passes all ≡ true
     pub is_legal : Legal K start [] all
     pub outcome : state ≡ outcome K start (commands_of all)
+    pub common : AreCommon (commands_of all)
     pub few : passes < 65
     pub valid : IsState start
     pub records : records_of K start (commands_of all) ≡ records_in flushed ++ pending

@@ -15,7 +15,7 @@ use crate::line::{Line, line_of, refused_line};
 use crate::name::Named;
 use crate::note::{Loss, Note};
 use crate::room::make_room;
-use crate::trying::{Tried, try_command};
+use crate::trying::{Tried, is_common, try_command};
 use pfx_choice::ChoiceFault;
 use pfx_fault::Cause;
 use pfx_jobs::job::Job;
@@ -255,7 +255,7 @@ impl<J: Job, B: Named<J>> Book<J, B> {
 
     /// Accepts a Submit or a Withdraw, if the book takes commands and it may be asked, and carries it out; or refuses it, with an
     /// entry for the pass in both cases: `SessionFull` if 1,048,576 commands were accepted, else as the machine refuses it.
-    /// `Machine(NoRow(NoMemory))` has no entry.
+    /// `Machine(NoRow(NoMemory))` has no entry. A Reweigh has no room in a book, and is answered so.
     pub fn ask(
         &mut self,
         pass: &mut Pass<J, B>,
@@ -267,6 +267,9 @@ impl<J: Job, B: Named<J>> Book<J, B> {
         ensures accepted { IfOk result (IsAccepted command (asked J.kind command self.old.session) self.old self.new pass.old pass.new) }
         ensures err { IfErr result (Refuses J.kind command self.old self.new pass.old pass.new) }
     {
+        if !is_common(&command) {
+            return Err(BookFault::Machine(MachineFault::NoRow(ChoiceFault::NoMemory)));
+        }
         let Book {
             alloc,
             keeper,

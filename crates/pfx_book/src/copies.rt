@@ -1,9 +1,10 @@
 //! Copies of commands and replies.
-ghost use Rattle.std.specs.Prelude.{◌≡◌};
+ghost use Rattle.std.specs.Prelude.{◌≡◌, IfSome};
 
 use pfx_jobs::job::Job;
 use pfx_machine::{Command, Reply};
 use pfx_weights::Row;
+use std::alloc::Global;
 
 fn copy_row(row: &Row) -> Row
     ensures { result ≡ row.now }
@@ -24,18 +25,27 @@ pub fn copy_reply(reply: &Reply) -> Reply
             row: copy_row(row),
         },
         Reply::Withdrawn { task } => Reply::Withdrawn { task: *task },
+        Reply::Reweighed { slot } => Reply::Reweighed { slot: *slot },
     }
 }
 
-pub fn copy_command<J: Job>(command: &Command<J>) -> Command<J>
-    ensures { result ≡ command.now }
+/// A copy of a command. `None` if an allocation fails, which only a Reweigh takes.
+pub fn copy_command<J: Job>(alloc: Global, command: &Command<J>) -> Option<Command<J>>
+    ensures { IfSome result (λ copy. copy ≡ command.now) }
 {
     match command {
-        Command::Submit { task, job } => Command::Submit {
+        Command::Submit { task, job } => Some(Command::Submit {
             task: *task,
             job: job.copy_of(),
+        }),
+        Command::Slot => Some(Command::Slot),
+        Command::Withdraw { task } => Some(Command::Withdraw { task: *task }),
+        Command::Reweigh { workers, weights } => match weights.copy_of(alloc) {
+            Ok(weights) => Some(Command::Reweigh {
+                workers: *workers,
+                weights,
+            }),
+            Err(_) => None,
         },
-        Command::Slot => Command::Slot,
-        Command::Withdraw { task } => Command::Withdraw { task: *task },
     }
 }

@@ -36,7 +36,7 @@ pub enum Line<J> {
     },
 }
 
-/// The line of an accepted command. `None` if an allocation fails, which only a Submit takes.
+/// The line of an accepted command. `None` for a Reweigh, which has none, and if an allocation fails, which only a Submit takes.
 pub fn line_of<J: Job>(alloc: Global, pass: u8, command: &Command<J>) -> Option<Line<J>>
     ensures { IfSome result (IsOf pass false command.now) }
 {
@@ -59,6 +59,7 @@ pub fn line_of<J: Job>(alloc: Global, pass: u8, command: &Command<J>) -> Option<
             refused: false,
             task: *task,
         }),
+        Command::Reweigh { .. } => None,
     }
 }
 

@@ -1,5 +1,6 @@
 //! Commands tried on the state.
 ghost use Rattle.std.specs.Prelude.{◌≡◌, ◌≢◌, ◌↔◌, map, IfOk, IfErr, OnOk, None, IsTrue, IsFalse};
+ghost use Rattle.pfx_machine.specs.Batches.{IsCommon};
 ghost use Rattle.pfx_machine.specs.Faults.{no_memory};
 ghost use Rattle.pfx_machine.specs.Slots.{deal};
 ghost use Rattle.pfx_slot.specs.Dealt.{StandsAt};
@@ -37,6 +38,18 @@ pub fn is_no_memory(fault: BookFault) -> bool
     )
 }
 
+/// Whether a command is another than a Reweigh.
+pub fn is_common<J>(command: &Command<J>) -> bool
+    ensures { IsTrue result ↔ IsCommon command.now }
+{
+    match command {
+        Command::Submit { .. } => true,
+        Command::Slot => true,
+        Command::Withdraw { .. } => true,
+        Command::Reweigh { .. } => false,
+    }
+}
+
 /// Tries a command on the state of a session that is full or not.
 pub fn try_command<J: Job>(
     alloc: Global,
@@ -46,7 +59,9 @@ pub fn try_command<J: Job>(
 ) -> Tried<J>
     ensures { Tries J.kind is_full state.old command state.new result }
 {
-    let copy = copy_command(&command);
+    let Some(copy) = copy_command(alloc, &command) else {
+        return Tried::NoMemory;
+    };
     if is_full {
         return Tried::Refused(copy, BookFault::SessionFull);
     }

@@ -35,7 +35,7 @@ store_text h =
     ++ line (codes "size") (decimal (file_len (layout h)))
 
 -- the same as one object, whose load is a list of what is above and what is below:
--- `{"hyper":3,"idle":0,"least":4233,"load":[2,1],"segment":1048576,"size":2098049,"tasks":3,"workers":2}`
+-- `{"hyper":3,"idle":0,"least":4233,"load":[2,1],"segment":1048576,"size":2100163,"tasks":3,"workers":2}`
 abbrev pub check_object : List (ℕ × ℕ) → Header → ℕ → Data
 check_object tasks h by =
     object (number_at (codes "hyper") h.set.hyper (number_at (codes "idle") (length h.set.weights - h.set.real) (number_at (codes "least") (least_segment h.set.workers)

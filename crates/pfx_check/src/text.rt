@@ -12,7 +12,7 @@ ghost use Rattle.pfx_check.specs.Text.{line, fraction, tasks_text, store_text, c
 ghost use Rattle.pfx_check.specs.Checks.{IsDivisor, IsText};
 
 use crate::load::{demand, greatest_common_divisor};
-use pfx_checkpoint::state_len;
+use pfx_checkpoint::whole_len;
 use pfx_header::{header_len, least_segment};
 use pfx_program::{Form, object_line};
 use pfx_weights::TaskSet;
@@ -107,7 +107,7 @@ pub fn store_len(set: &TaskSet, segment: u32) -> u64
     ensures { result ≡ file_len (layout (record { set = set.now; segment = segment })) }
 {
     let _total = set.total();
-    (header_len(set) + 2 * (1 + state_len(set)) + 2 * segment as usize) as u64
+    (header_len(set) + 2 * (1 + whole_len(set.real())) + 2 * segment as usize) as u64
 }
 
 fn put_store(

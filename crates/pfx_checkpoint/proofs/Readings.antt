@@ -92,7 +92,7 @@ only_states K from segment set bytes s of filled h =
 
 -- the places of a state's own bytes
 
-number_seam : (front rest : List ℕ) (at x : ℕ) → length front ≡ at → x < 256 ^ 8 → number_at at (front ++ (little_bytes 8 x ++ rest)) ≡ x
+pub number_seam : (front rest : List ℕ) (at x : ℕ) → length front ≡ at → x < 256 ^ 8 → number_at at (front ++ (little_bytes 8 x ++ rest)) ≡ x
 number_seam front rest at x long small =
     ap (λ n. little_number 8 (drop n (front ++ (little_bytes 8 x ++ rest)))) (sym long)
     ∙ (ap (little_number 8) (drop-append_seam front (little_bytes 8 x ++ rest))
@@ -130,7 +130,7 @@ allocs_back K L s (suc x) h within =
     ap₂ (λ xs y. xs ++ y ∷ []) (allocs_back K L s x h (omega arith)) (alloc_back K L s x h (omega arith))
     ∙ (sym (take_more s.ledger.allocs x 0 (omega arith)) ∙ ap (λ n. take n s.ledger.allocs) (sym next))
 
-flag_of : (front rest : List ℕ) (at : ℕ) → length front ≡ at → slice_index (front ++ rest) at ≡ slice_index rest 0
+pub flag_of : (front rest : List ℕ) (at : ℕ) → length front ≡ at → slice_index (front ++ rest) at ≡ slice_index rest 0
 flag_of [] rest at long = ap (slice_index rest) (sym long)
 flag_of (x ∷ front) rest zero long = absurd (omega arith)
 flag_of (x ∷ front) rest (suc at) long = flag_of front rest at (omega arith)
@@ -171,7 +171,7 @@ jobs_back K L s (suc x) h within =
     ap₂ (λ xs y. xs ++ y ∷ []) (jobs_back K L s x h (omega arith)) (job_back K L s x (get_or s.jobs x None) h (omega arith) at)
     ∙ (sym (take_more s.jobs x None (omega arith)) ∙ ap (λ n. take n s.jobs) (sym next))
 
-bytes_begin : {J : Type 0} (K : Kind J) (s : Plain J) → (rest : List ℕ) × (state_bytes K s ≡ little_bytes 8 s.number ++ (little_bytes 8 s.ledger.slot ++ rest))
+pub bytes_begin : {J : Type 0} (K : Kind J) (s : Plain J) → (rest : List ℕ) × (state_bytes K s ≡ little_bytes 8 s.number ++ (little_bytes 8 s.ledger.slot ++ rest))
 unfolding state_bytes
 bytes_begin K s = front_begins K s (total s.ledger)
 

@@ -50,7 +50,7 @@ pub fn frozen_len<J: Job>(state: &State<J>) -> usize
 }
 
 /// Writes a number at a place.
-fn put_number(bytes: &mut [u8], at: usize, number: u64)
+pub(crate) fn put_number(bytes: &mut [u8], at: usize, number: u64)
     requires { at + 8 ≤ length bytes.old }
     ensures front { take (at + 8) bytes.new ≡ take at bytes.old ++ little_bytes 8 number }
     ensures long { length bytes.new ≡ length bytes.old }

@@ -13,7 +13,9 @@ mod faults;
 mod freezing;
 pub mod laws;
 mod reading;
+mod whole;
 
 pub use faults::CheckpointFault;
 pub use freezing::{freeze, frozen_len, state_len};
 pub use reading::read;
+pub use whole::{freeze_whole, read_whole, whole_len};

@@ -15,7 +15,7 @@ use pfx_weights::TaskSet;
 use std::alloc::{AllocError, Global};
 
 /// The number at a place.
-fn number_at(bytes: &[u8], at: usize) -> u64
+pub(crate) fn number_at(bytes: &[u8], at: usize) -> u64
     requires { at + 8 ≤ length bytes.now }
     ensures { result ≡ number_at at bytes.now }
 {

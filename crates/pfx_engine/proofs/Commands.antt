@@ -12,6 +12,7 @@ use Rattle.pfx_store.proofs.Grouping as grouping
 use Rattle.pfx_kinds.specs.AnyKind.{any_kind, any_laws}
 use Rattle.pfx_kinds.specs.declared.any.AnyJob.{AnyJob}
 use Rattle.pfx_machine.specs.Plain.{Plain, IsState}
+use Rattle.pfx_machine.specs.Batches.{AreCommon, IsCommon}
 use Rattle.pfx_machine.specs.Outcome.{outcome}
 use Rattle.pfx_machine.specs.Refusals.{refusal}
 use Rattle.pfx_machine.specs.Sessions.{IsAcceptable}
@@ -22,8 +23,8 @@ use Rattle.pfx_recovery.specs.Store.{Replays}
 use Rattle.pfx_engine.specs.Surviving.{Survives, frames_of}
 
 -- one command
-pub one_record : (s : Plain AnyJob) (c : Command AnyJob) (records : List (recorded.Recorded AnyJob)) → refusal any_kind s c ≡ None → records ≡ record_of any_kind s c ∷ [] → AreRecordsOf any_kind s (c ∷ []) records
-one_record s c records accepted is = record { accepted = (subst (λ (t : Plain AnyJob). refusal any_kind t c ≡ None) (sym (outcome-none any_kind s)) accepted, tt); of = is }
+pub one_record : (s : Plain AnyJob) (c : Command AnyJob) (records : List (recorded.Recorded AnyJob)) → IsCommon c → refusal any_kind s c ≡ None → records ≡ record_of any_kind s c ∷ [] → AreRecordsOf any_kind s (c ∷ []) records
+one_record s c records common accepted is = record { accepted = (subst (λ (t : Plain AnyJob). refusal any_kind t c ≡ None) (sym (outcome-none any_kind s)) accepted, tt); common = (common, tt); of = is }
 
 pub all_in : (s : Plain AnyJob) (H : List (Command AnyJob)) → IsAcceptable any_kind s H → IsAcceptable any_kind s (joined (alone H))
 all_in s H all = subst (λ (l : List (Command AnyJob)). IsAcceptable any_kind s l) (sym (all_alone H)) all
@@ -33,9 +34,9 @@ joined_snoc : (all : List (List (Command AnyJob))) (group : List (Command AnyJob
 joined_snoc [] group = append-nil group
 joined_snoc (one ∷ all) group = ap (λ (l : List (Command AnyJob)). one ++ l) (joined_snoc all group) ∙ sym (append_assoc one (joined all) group)
 
-small_snoc : (all : List (List (Command AnyJob))) (group : List (Command AnyJob)) → AreSmall all → 0 < length group → length group ≤ 16 → AreSmall (all ++ group ∷ [])
-small_snoc [] group small some few = (some, few, tt)
-small_snoc (one ∷ all) group small some few = (small.0, small.1, small_snoc all group small.2 some few)
+small_snoc : (all : List (List (Command AnyJob))) (group : List (Command AnyJob)) → AreSmall all → 0 < length group → length group ≤ 16 → AreCommon group → AreSmall (all ++ group ∷ [])
+small_snoc [] group small some few common = (some, few, common, tt)
+small_snoc (one ∷ all) group small some few common = (small.0, small.1, small.2, small_snoc all group small.3 some few common)
 
 -- Commands that were kept alone, and a group behind them.
 module _ (start : Plain AnyJob) (H G : List (Command AnyJob)) where
@@ -48,8 +49,8 @@ module _ (start : Plain AnyJob) (H G : List (Command AnyJob)) where
   pub with_accepted : IsAcceptable any_kind start (H ++ G) → IsAcceptable any_kind start (joined with_group)
   with_accepted all = subst (λ (l : List (Command AnyJob)). IsAcceptable any_kind start l) (sym with_commands) all
 
-  pub with_small : 0 < length G → length G ≤ 16 → AreSmall with_group
-  with_small some few = small_snoc (alone H) G (alone_small H) some few
+  pub with_small : AreCommon H → AreCommon G → 0 < length G → length G ≤ 16 → AreSmall with_group
+  with_small before common some few = small_snoc (alone H) G (alone_small H before) some few common
 
   pub with_frames : groups.frames_of any_kind start with_group ≡ frames_of start H ++ frame_of any_kind (outcome any_kind start H) G ∷ []
   with_frames =
@@ -97,10 +98,10 @@ module _ (start : Plain AnyJob) (H G : List (Command AnyJob)) where
             recovered = v.recovered ∙ ap (λ (l : List (Command AnyJob)). Ok (outcome any_kind start l)) (front few);
           }
 
-pub replays_commands : (s : Plain AnyJob) (H : List (Command AnyJob)) → IsState s → IsAcceptable any_kind s H → Replays (format any_kind) s (frames_of s H) (outcome any_kind s H)
-replays_commands s H h all =
+pub replays_commands : (s : Plain AnyJob) (H : List (Command AnyJob)) → IsState s → IsAcceptable any_kind s H → AreCommon H → Replays (format any_kind) s (frames_of s H) (outcome any_kind s H)
+replays_commands s H h all common =
     subst (λ (l : List (Command AnyJob)). Replays (format any_kind) s (frames_of s H) (outcome any_kind s l)) (all_alone H)
-    (frames_there any_kind any_laws s (alone H) h (all_in s H all) (alone_small H))
+    (frames_there any_kind any_laws s (alone H) h (all_in s H all) (alone_small H common))
 
 pub take_accepted : (s : Plain AnyJob) (H : List (Command AnyJob)) (n : ℕ) → IsAcceptable any_kind s H → IsAcceptable any_kind s (joined (take n (alone H)))
 take_accepted s H n all = grouping.take_accepted any_kind any_laws s (alone H) n (all_in s H all)

@@ -15,6 +15,7 @@ use Rattle.pfx_store.proofs.Grouping as grouping
 use Rattle.pfx_kinds.specs.AnyKind.{any_kind, any_laws}
 use Rattle.pfx_kinds.specs.declared.any.AnyJob.{AnyJob}
 use Rattle.pfx_machine.specs.Plain.{Plain, IsState}
+use Rattle.pfx_machine.specs.Batches.{AreCommon}
 use Rattle.pfx_machine.specs.Outcome.{outcome}
 use Rattle.pfx_machine.specs.Sessions.{IsAcceptable}
 use Rattle.pfx_machine.specs.declared.command.Command.{Command}
@@ -31,14 +32,14 @@ use Rattle.pfx_engine.specs.KeepingLaws.{acceptable_both}
 use Rattle.pfx_engine.proofs.Commands.{all_in, replays_commands, with_accepted, with_frames, with_group, with_small, with_survives}
 
 -- commands more, whose frame this is
-pub keeps_commands : (start s : Plain AnyJob) (H G : List (Command AnyJob)) (frame : List ℕ) (old new : View) → IsState start → IsAcceptable any_kind start H → s ≡ outcome any_kind start H → IsAcceptable any_kind s G →
-    0 < length G → length G ≤ 16 → frame ≡ frame_of any_kind s G → frames.KeepsAll (format any_kind) start (frames_of start H) (frames_of start H ++ frame ∷ []) old new → KeepsAll start H (H ++ G) old new
-keeps_commands start s H G frame old new h all at accepted some few is keeps c n le before image here =
+pub keeps_commands : (start s : Plain AnyJob) (H G : List (Command AnyJob)) (frame : List ℕ) (old new : View) → IsState start → IsAcceptable any_kind start H → AreCommon H → s ≡ outcome any_kind start H → IsAcceptable any_kind s G →
+    AreCommon G → 0 < length G → length G ≤ 16 → frame ≡ frame_of any_kind s G → frames.KeepsAll (format any_kind) start (frames_of start H) (frames_of start H ++ frame ∷ []) old new → KeepsAll start H (H ++ G) old new
+keeps_commands start s H G frame old new h all before_common at accepted common some few is keeps c n le before image here =
     let more : IsAcceptable any_kind start (H ++ G) = acceptable_both start H G all (subst (λ (t : Plain AnyJob). IsAcceptable any_kind t G) at accepted) in
     let there : frames_of start H ++ frame ∷ [] ≡ groups.frames_of any_kind start (with_group start H G) =
     ap (λ (f : List ℕ). frames_of start H ++ f ∷ []) (is ∙ ap (λ (t : Plain AnyJob). frame_of any_kind t G) at) ∙ sym (with_frames start H G) in
     with_survives start H G n image some
-    (keeps_groups any_kind any_laws start (alone H) (with_group start H G) old new h (all_in start H all) (alone_small H) (with_accepted start H G more) (with_small start H G some few)
+    (keeps_groups any_kind any_laws start (alone H) (with_group start H G) old new h (all_in start H all) (alone_small H before_common) (with_accepted start H G more) (with_small start H G before_common common some few)
     (subst (λ (l : List (List ℕ)). frames.KeepsAll (format any_kind) start (frames_of start H) l old new) there keeps) c n le before image here)
 
 -- commands that come later
@@ -58,11 +59,11 @@ pub keeps_more : (start : Plain AnyJob) (H G : List (Command AnyJob)) (disk : Vi
 keeps_more start H G disk from n le before image here = survives_more start H G n image (before image here)
 
 -- a call that writes no frame, and then one behind which a command more survives
-pub keeps_behind : (start : Plain AnyJob) (H more : List (Command AnyJob)) (a b c : View) → IsState start → IsAcceptable any_kind start H → a.clock ≤ b.clock →
+pub keeps_behind : (start : Plain AnyJob) (H more : List (Command AnyJob)) (a b c : View) → IsState start → IsAcceptable any_kind start H → AreCommon H → a.clock ≤ b.clock →
     frames.KeepsAll (format any_kind) start (frames_of start H) (frames_of start H) a b → KeepsAll start H more b c → KeepsAll start H more a c
-keeps_behind start H more a b c h all later one two from n le before =
+keeps_behind start H more a b c h all common later one two from n le before =
     let in_groups = all_in start H all in
-    let small = alone_small H in
+    let small = alone_small H common in
     two from n (omega (arith, le, later))
     (λ other was. to_groups any_kind any_laws start (alone H) h in_groups small n other (one from n le (λ image here. to_frames any_kind any_laws start (alone H) h in_groups small n image (before image here)) other was))
 
@@ -86,21 +87,21 @@ module _ (s : Plain AnyJob) (G : List (Command AnyJob)) (records : List (recorde
       frames.Survives (format any_kind) s (batch_bytes any_kind (record { first = first; records = records }) ∷ []) 1 image → recovered (format any_kind) image ≡ Ok t
   acknowledged_with t first h is some few next taken image survives =
       one_recovered s t (batch_bytes any_kind (record { first = first; records = records })) image
-      (ap (state_after any_kind s) (frame_is first h is next) ∙ (frame_led any_kind any_laws s G h is.accepted some few ∙ ap Some (sym (state_with t h is taken)))) survives
+      (ap (state_after any_kind s) (frame_is first h is next) ∙ (frame_led any_kind any_laws s G h is.accepted is.common some few ∙ ap Some (sym (state_with t h is taken)))) survives
 
-  pub keeps_with : (start : Plain AnyJob) (H : List (Command AnyJob)) (first : ℕ) (old new : View) → IsState s → IsState start → IsAcceptable any_kind start H → s ≡ outcome any_kind start H → AreRecordsOf any_kind s G records →
+  pub keeps_with : (start : Plain AnyJob) (H : List (Command AnyJob)) (first : ℕ) (old new : View) → IsState s → IsState start → IsAcceptable any_kind start H → AreCommon H → s ≡ outcome any_kind start H → AreRecordsOf any_kind s G records →
       0 < length G → length G ≤ 16 → first ≡ s.number + 1 → frames.KeepsAll (format any_kind) start (frames_of start H) (frames_of start H ++ batch_bytes any_kind (record { first = first; records = records }) ∷ []) old new
       → KeepsAll start H (H ++ G) old new
-  keeps_with start H first old new h_s h all at is some few next keeps =
-      keeps_commands start s H G (batch_bytes any_kind (record { first = first; records = records })) old new h all at is.accepted some few (frame_is first h_s is next) keeps
+  keeps_with start H first old new h_s h all common at is some few next keeps =
+      keeps_commands start s H G (batch_bytes any_kind (record { first = first; records = records })) old new h all common at is.accepted is.common some few (frame_is first h_s is next) keeps
 
 -- how many commands the records are of
 pub length_of : (s : Plain AnyJob) (G : List (Command AnyJob)) (records : List (recorded.Recorded AnyJob)) → AreRecordsOf any_kind s G records → length G ≡ length records
 length_of s G records is = sym (length-records any_kind s G) ∙ ap length (sym is.of)
 
 -- the frames of commands lead to their outcome
-pub replays_to : (start s : Plain AnyJob) (H : List (Command AnyJob)) → IsState start → IsAcceptable any_kind start H → s ≡ outcome any_kind start H → Replays (format any_kind) start (frames_of start H) s
-replays_to start s H h all at = subst (λ (t : Plain AnyJob). Replays (format any_kind) start (frames_of start H) t) (sym at) (replays_commands start H h all)
+pub replays_to : (start s : Plain AnyJob) (H : List (Command AnyJob)) → IsState start → IsAcceptable any_kind start H → AreCommon H → s ≡ outcome any_kind start H → Replays (format any_kind) start (frames_of start H) s
+replays_to start s H h all common at = subst (λ (t : Plain AnyJob). Replays (format any_kind) start (frames_of start H) t) (sym at) (replays_commands start H h all common)
 
 pub on_ok_then : {T E P Q : Type 0} (r : Result T E) → (P → Q) → OnOk r P → OnOk r Q
 on_ok_then (Ok x) f p = f p

@@ -14,12 +14,13 @@ use Rattle.pfx_machine.specs.Refusals.{IsFaultOf, refusal}
 use Rattle.pfx_machine.specs.Refusals.{reply}
 use Rattle.pfx_machine.specs.Runs.{answer_by}
 use Rattle.pfx_machine.specs.declared.command.Command.{Command}
-use Rattle.pfx_machine.specs.declared.command.Command.TheVariants.{Slot}
+use Rattle.pfx_machine.specs.declared.command.Command.TheVariants.{Submit, Slot, Withdraw, Reweigh}
+use Rattle.pfx_machine.specs.Batches.{AreCommon, IsCommon}
 use Rattle.pfx_machine.specs.declared.command.Reply.{Reply}
 use Rattle.pfx_machine.specs.declared.faults.MachineFault.{MachineFault}
 use Rattle.pfx_machine.proofs.SessionLemmas.{acceptable-snoc}
 use Rattle.pfx_program.specs.Promises.{slots_for}
-use Rattle.pfx_program.specs.Sharing.{Told, accepted_of}
+use Rattle.pfx_program.specs.Sharing.{IsChange, Told, accepted_of}
 use Rattle.pfx_program.proofs.SlotLemmas.{length_slots, slots_more}
 use Rattle.pfx_record.specs.Records as recorded
 use Rattle.pfx_engine.specs.Executing.{Fills}
@@ -27,7 +28,18 @@ use Rattle.pfx_engine.specs.Surviving.{AreRun}
 use Rattle.pfx_engine.proofs.Keeps.{length_of}
 
 pub none_recorded : (s : Plain AnyJob) → AreRecordsOf any_kind s [] []
-none_recorded s = record { accepted = tt; of = refl }
+none_recorded s = record { accepted = tt; common = tt; of = refl }
+
+-- a command that gives a task a job or takes one away is no Reweigh
+pub change_common : (c : Command AnyJob) → IsChange c → IsCommon c
+change_common (Submit x job) change = tt
+change_common (Withdraw x) change = tt
+change_common Slot change = tt
+change_common (Reweigh workers weights) change = absurd change
+
+common_snoc : (G : List (Command AnyJob)) (c : Command AnyJob) → AreCommon G → IsCommon c → AreCommon (G ++ c ∷ [])
+common_snoc [] c all one = (one, tt)
+common_snoc (d ∷ G) c all one = (all.0, common_snoc G c all.1 one)
 
 -- one Slot more
 pub recorded_more : (s : Plain AnyJob) (said : List (ℕ × Reply)) (x : ℕ × Reply) (records : List (recorded.Recorded AnyJob)) (done : recorded.Recorded AnyJob) → AreRecordsOf any_kind s (slots_for said) records
@@ -35,14 +47,16 @@ pub recorded_more : (s : Plain AnyJob) (said : List (ℕ × Reply)) (x : ℕ × 
 recorded_more s said x records done is accepted kept =
     subst (λ (G : List (Command AnyJob)). AreRecordsOf any_kind s G (records ++ done ∷ [])) (sym (slots_more said x)) (record {
       accepted = acceptable-snoc any_kind s (slots_for said) Slot is.accepted accepted;
+      common = common_snoc (slots_for said) Slot is.common tt;
       of = (λ i. is.of i ++ kept i ∷ []) ∙ sym (records_split any_kind any_laws s (slots_for said) (Slot ∷ []));
     })
 
--- one command more, of whatever kind
+-- one command more, all but a Reweigh
 pub recorded_snoc : (s : Plain AnyJob) (G : List (Command AnyJob)) (c : Command AnyJob) (records : List (recorded.Recorded AnyJob)) (done : recorded.Recorded AnyJob) → AreRecordsOf any_kind s G records
-    → refusal any_kind (outcome any_kind s G) c ≡ None → done ≡ record_of any_kind (outcome any_kind s G) c → AreRecordsOf any_kind s (G ++ c ∷ []) (records ++ done ∷ [])
-recorded_snoc s G c records done is accepted kept = record {
+    → IsCommon c → refusal any_kind (outcome any_kind s G) c ≡ None → done ≡ record_of any_kind (outcome any_kind s G) c → AreRecordsOf any_kind s (G ++ c ∷ []) (records ++ done ∷ [])
+recorded_snoc s G c records done is common accepted kept = record {
   accepted = acceptable-snoc any_kind s G c is.accepted accepted;
+  common = common_snoc G c is.common common;
   of = (λ i. is.of i ++ kept i ∷ []) ∙ sym (records_split any_kind any_laws s G (c ∷ []));
 }
 

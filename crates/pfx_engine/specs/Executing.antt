@@ -4,6 +4,7 @@ use Rattle.pfx_disk.specs.Disk.{View, IsHonest}
 use Rattle.pfx_format.specs.Format.{format}
 use Rattle.pfx_kinds.specs.AnyKind.{any_kind}
 use Rattle.pfx_kinds.specs.declared.any.AnyJob.{AnyJob}
+use Rattle.pfx_machine.specs.Batches.{AreCommon}
 use Rattle.pfx_machine.specs.Outcome.{outcome}
 use Rattle.pfx_machine.specs.Plain.{Plain, IsState}
 use Rattle.pfx_machine.specs.Runs.{answer}
@@ -60,7 +61,7 @@ pub record Follows (old new : View) : Type 0 where
 -- At every moment of a call the commands that survived before survive, with these or without; and once it succeeded each image is
 -- recovered to the state after it.
 pub record Commits {T E : Type 0} (s : Plain AnyJob) (group : List (Command AnyJob)) (t : Plain AnyJob) (old new : View) (result : Result T E) : Type 0 where
-  pub keeps : (start : Plain AnyJob) → (H : List (Command AnyJob)) → IsState start → IsAcceptable any_kind start H → s ≡ outcome any_kind start H
+  pub keeps : (start : Plain AnyJob) → (H : List (Command AnyJob)) → IsState start → IsAcceptable any_kind start H → AreCommon H → s ≡ outcome any_kind start H
       → KeepsAll start H (H ++ group) old new
   pub acknowledged : OnOk result (Anchors new t)
 
@@ -81,6 +82,6 @@ pub record TakesCalls {T E : Type 0} (calls : ℕ) (old new : View) (result : Re
 -- At every moment of a call the commands that survived before survive, with this one or without; and from its mark on each image is
 -- recovered to the state after it.
 pub record CommitsOne {E : Type 0} (s : Plain AnyJob) (c : Command AnyJob) (t : Plain AnyJob) (old new : View) (result : Result (Mark × Reply) E) : Type 0 where
-  pub keeps : (start : Plain AnyJob) → (H : List (Command AnyJob)) → IsState start → IsAcceptable any_kind start H → s ≡ outcome any_kind start H
+  pub keeps : (start : Plain AnyJob) → (H : List (Command AnyJob)) → IsState start → IsAcceptable any_kind start H → AreCommon H → s ≡ outcome any_kind start H
       → KeepsAll start H (H ++ c ∷ []) old new
   pub acknowledged : IfOk result (λ r. (image : List ℕ) → new.since r.0.clock image → recovered (format any_kind) image ≡ Ok t)

@@ -16,7 +16,7 @@ ghost use Rattle.pfx_engine.specs.Keeping.{Anchors, KeepsFrom};
 ghost use Rattle.pfx_engine.specs.KeepingLaws.{keeps_none, keeps_more, keeps_fewer};
 ghost use Rattle.pfx_engine.specs.Stepping.{command_calls, frame_len};
 
-use crate::keeping::commit;
+use crate::keeping::{commit, is_common};
 use crate::windows::{Changes, Window, run_changes, run_slots};
 use pfx_disk::Disk;
 use pfx_fault::{Cause, Fault};
@@ -100,7 +100,7 @@ impl<D: Disk> DurableEngine<D> {
     ///
     /// A command that the machine refuses changes nothing, nor does `NoMemory`. `StoreFailed` breaks the store, and tells
     /// the number of the last command that was durable before; the command may survive. A broken store does nothing, and
-    /// answers so to every command.
+    /// answers so to every command. A Reweigh isn't carried out, and is answered by `NoMemory`.
     pub fn execute(
         &mut self,
         alloc: Global,
@@ -133,6 +133,9 @@ impl<D: Disk> DurableEngine<D> {
     {
         if self.store.is_broken() {
             return Err(CallFault::Failed(stopped(&self.store)));
+        }
+        if !is_common(&command) {
+            return Err(CallFault::Failed(Fault::NoMemory));
         }
         let _number = self.state.number();
         // The allocations come first: once the state has moved, only the disk can fail.

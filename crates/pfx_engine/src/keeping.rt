@@ -1,10 +1,11 @@
 //! Keeping commands.
 
-ghost use Rattle.std.specs.Prelude.{◌≡◌, ◌<◌, ◌≤◌, ◌++◌, List, length, map, OnOk};
+ghost use Rattle.std.specs.Prelude.{◌≡◌, ◌↔◌, ◌<◌, ◌≤◌, ◌++◌, List, length, map, IsTrue, OnOk};
 ghost use Rattle.pfx_disk.specs.Disk.{IsHonest};
 ghost use Rattle.pfx_store.specs.Groups.{AreRecordsOf};
 ghost use Rattle.pfx_kinds.specs.AnyKind.{any_kind};
 ghost use Rattle.pfx_kinds.specs.declared.any.AnyJob.{AnyJob};
+ghost use Rattle.pfx_machine.specs.Batches.{AreCommon, IsCommon};
 ghost use Rattle.pfx_machine.specs.Outcome.{outcome};
 ghost use Rattle.pfx_machine.specs.Plain.{Plain, IsState};
 ghost use Rattle.pfx_machine.specs.Sessions.{IsAcceptable};
@@ -18,9 +19,22 @@ ghost use Rattle.pfx_engine.specs.Surviving.{KeepsAll};
 
 use pfx_disk::Disk;
 use pfx_kinds::any::AnyJob;
+use pfx_machine::Command;
 use pfx_record::Record;
 use pfx_store::{Mark, Store, batch_of};
 use pfx_store_file::StoreFault;
+
+/// Whether a command is another than a Reweigh: a store keeps it in a batch.
+pub(crate) fn is_common(command: &Command<AnyJob>) -> bool
+    ensures { IsTrue result ↔ IsCommon command.now }
+{
+    match command {
+        Command::Submit { .. } => true,
+        Command::Slot => true,
+        Command::Withdraw { .. } => true,
+        Command::Reweigh { .. } => false,
+    }
+}
 
 /// Takes a step of the checkpoint in progress, if there is one, and then appends the records of 1 to 16 commands that the
 /// store's state accepts one after the other, in one batch. The step comes first, so that no reply waits after it.
@@ -42,7 +56,7 @@ pub(crate) fn commit<D: Disk>(
     // At every moment of the call, whatever it answers, what survived before survives, with these commands or without.
     ensures keeps { IsHonest (D.view store.old.file.disk)
         → (start : Plain AnyJob) → (H : List (Command AnyJob)) → (G : List (Command AnyJob))
-        → IsState start → IsAcceptable any_kind start H → store.old.state ≡ outcome any_kind start H
+        → IsState start → IsAcceptable any_kind start H → AreCommon H → store.old.state ≡ outcome any_kind start H
         → AreRecordsOf any_kind store.old.state G (map plain records.items)
         → KeepsAll start H (H ++ G) (D.view store.old.file.disk) (D.view store.new.file.disk) }
 

@@ -38,4 +38,4 @@ module _ {J : Type 0} (K : Kind J) (L : Laws K) where
 
   pub small_grown : (batches : List (List (Command J))) (batch : List (Command J)) → AreSmall (batches ++ batch ∷ []) → AreSmall batches
   small_grown [] batch small = tt
-  small_grown (first ∷ batches) batch small = (small.0, small.1, small_grown batches batch small.2)
+  small_grown (first ∷ batches) batch small = (small.0, small.1, small.2, small_grown batches batch small.3)

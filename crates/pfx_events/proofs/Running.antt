@@ -4,6 +4,7 @@ use Rattle.std.proofs.Common.{sym, ◌∙◌, ap, subst, arith, inl, inr, append
 use Rattle.std.proofs.lemmas.List.{length-take-le}
 use Rattle.pfx_disk.specs.Stop.{Act, contents_after}
 use Rattle.pfx_disk.proofs.Left.{here}
+use Rattle.pfx_machine.specs.Batches.{IsBatchable}
 use Rattle.pfx_machine.specs.Plain.{Plain}
 use Rattle.pfx_machine.specs.Slots.{Deal}
 use Rattle.pfx_machine.specs.Refusals.{refusal}
@@ -39,6 +40,11 @@ one_back : {J : Type 0} (back : List (Option J)) (r : J) → AllBack back → Al
 one_back [] r all = tt
 one_back (None ∷ back) r all = absurd all
 one_back (Some x ∷ back) r all = one_back back r all
+
+-- one command alone may be a batch
+one_batchable : {J : Type 0} (H : List (Command J)) → IsBatchable (take 1 H)
+one_batchable [] = tt
+one_batchable (c ∷ H) = tt
 
 module _ {J : Type 0} (S : Setting J) (B : Plain J) where
   -- calls that go through leave the book but for its mark
@@ -126,7 +132,7 @@ module _ {J : Type 0} (S : Setting J) (B : Plain J) where
             (sym (run_join S B taking (through taking.coming) (Publish ∷ Mark ∷ Receipt n ∷ [])))
             (record {
               can = (
-                (record { none = none; whole = whole; goes_on = free }, marked, omega arith, omega arith, omega (arith, long)),
+                (record { none = none; whole = whole; goes_on = free }, marked, omega arith, omega arith, omega (arith, long), one_batchable (drop w.book.taken w.book.accepted)),
                 can_join S B taking (through taking.coming) (Publish ∷ Mark ∷ Receipt n ∷ []) g.0 last,
               );
               rests = record {
@@ -310,7 +316,7 @@ module _ {J : Type 0} (S : Setting J) (B : Plain J) where
       subst (λ l. MayLeave w.start w.done l left) (sym is) (inr (here w.start (λ i. i ≡ w.start) (w.done ++ act ∷ []) refl)) in
       let ask : MayHappen S B w (Ask c) = (quick, rest.shut, rest.goes_on, free) in
       let take_one : MayHappen S B u (Take 1) =
-      (record { none = rest.none; whole = rest.whole; goes_on = rest.goes_on }, rest.marked, omega arith, omega arith, omega (arith, rest.taken, length-append w.book.accepted (c ∷ []))) in
+      (record { none = rest.none; whole = rest.whole; goes_on = rest.goes_on }, rest.marked, omega arith, omega arith, omega (arith, rest.taken, length-append w.book.accepted (c ∷ [])), one_batchable (drop u.book.taken u.book.accepted)) in
       let after = keeps S sound B u (Take 1) (keeps S sound B w (Ask c) h ask) take_one in
       let s = synced sound v left after may in (
         left,

@@ -2,11 +2,10 @@
 use Rattle.std.specs.Prelude.{◌≡◌, ℕ, ◌+◌, List, take, true}
 use Rattle.std.proofs.Common.{sym, subst, refl}
 use Rattle.pfx_acts.specs.Files.{IsFile}
-use Rattle.pfx_checkpoint.specs.Spelling.{state_bytes}
-use Rattle.pfx_checkpoint.proofs.Readings.{only_states}
+use Rattle.pfx_checkpoint.specs.Whole.{whole_bytes}
+use Rattle.pfx_format.proofs.Keeping.{read_of}
 use Rattle.pfx_disk.specs.Disk.{View}
 use Rattle.pfx_format.specs.Format.{format}
-use Rattle.pfx_header.proofs.Meanings.{read_filled, read_a_header}
 use Rattle.pfx_jobs.specs.Kind.{Kind}
 use Rattle.pfx_store.specs.Files.{FileOf}
 use Rattle.pfx_store.specs.Standing.{Stands}
@@ -25,10 +24,8 @@ module _ {J : Type 0} (K : Kind J) (places : Places) (s : Plain J) (body : List 
   each : (image : List ℕ) → disk.now image → IsFile (format K) s file image
   each image now = let k = st.holds.images image now in record { store = k.store; area_gate = k.area_gate; segment_gate = k.segment_gate; begun = λ is. let b = st.holds.begun (written places.checkpoint) (writing_is places.checkpoint is) in (b.turned, b.shut) }
 
-  same : st.parts.turned ≡ true → body ≡ state_bytes K st.parts.middle
-  same turned =
-      let here = each disk.contents st.holds.honest.here in
-      sym (only_states K 0 st.header.segment st.header.set body st.parts.middle (read_a_header disk.contents st.header here.store.head).accepted (read_filled disk.contents st.header here.store.head) (st.middle turned)).2
+  same : st.parts.turned ≡ true → body ≡ whole_bytes K st.parts.middle
+  same turned = sym (read_of K st.header body st.parts.middle (st.middle turned)).spelled
 
   pub seen : (f : FileOf J) × IsSeen K places s body f disk
   seen = (

@@ -15,14 +15,14 @@ use Rattle.pfx_store_file.proofs.Ends.{stepped_kept, tended_kept}
 use Rattle.pfx_acts.proofs.Stepping.{Spells, Goes, tends, append_goes}
 use Rattle.pfx_disk.specs.Stop.{Act}
 use Rattle.pfx_disk.specs.declared.gates.TheConstants.{GATE_OPEN}
-use Rattle.pfx_format.specs.Format.{format, layout}
+use Rattle.pfx_format.specs.Format.{format, layout, IsOf}
 use Rattle.pfx_format.specs.Frames.{state_after}
 use Rattle.pfx_format.proofs.Keeping.{format_laws}
-use Rattle.pfx_checkpoint.specs.Found.{read_state}
-use Rattle.pfx_checkpoint.specs.Spelling.{state_bytes, state_len}
-use Rattle.pfx_weights.specs.Sets.{FilledSet}
+use Rattle.pfx_checkpoint.specs.Whole.{whole_bytes, whole_len}
+use Rattle.pfx_format.specs.Areas.{read_area}
 use Rattle.pfx_header.specs.Headers.{Header}
 use Rattle.pfx_jobs.specs.Kind.{Kind, Laws}
+use Rattle.pfx_machine.specs.Batches.{IsBatchable}
 use Rattle.pfx_machine.specs.Plain.{Plain, IsState}
 use Rattle.pfx_machine.specs.Outcome.{outcome}
 use Rattle.pfx_machine.specs.Sessions.{IsAcceptable}
@@ -37,8 +37,8 @@ use Rattle.pfx_store_file.specs.Holding.{IsGate}
 use Rattle.pfx_world.specs.Setting.{Settled, Leads, StandsFor, IsSound}
 use Rattle.pfx_store.specs.Files.{FileOf, spelled, start_of, behind_of, file_found, recovered_file}
 use Rattle.pfx_events.specs.Store.{frame_of, store_of}
-use Rattle.pfx_events.proofs.Frames.{frame_led, frame_long, frame_there, opens_here, start_is}
-use Rattle.pfx_events.proofs.Known.{IsOf, header_is, middle_is, state_is, spelled_read}
+use Rattle.pfx_events.proofs.Frames.{frame_led, frame_room, frame_there, opens_here, start_is}
+use Rattle.pfx_events.proofs.Known.{IsHeld, middle_is, state_is, spelled_read}
 
 -- the gate stands as it is found
 gate_is : (at : ℕ) (image : List ℕ) → IsGate (is_open at image) at image
@@ -103,11 +103,11 @@ module _ {J : Type 0} (K : Kind J) (L : Laws K) where
 
   tending_leads : (f : FileOf J) (s : Plain J) → Leads (store_of K) s f (tend_acts (format K) f (spelled K f)) s (tended_file (format K) f)
   tending_leads f s = leads s s f (tended_file (format K) f) (tend_acts (format K) f (spelled K f))
-      (subst (λ (l : List ℕ). Goes (format K) (format_laws K L) (Either s s) f s (spelled K f) (tend_acts (format K) f (spelled K f)) (tended_file (format K) f) s l) (ap (state_bytes K) (sym (tended_kept (format K) f).middle))
+      (subst (λ (l : List ℕ). Goes (format K) (format_laws K L) (Either s s) f s (spelled K f) (tend_acts (format K) f (spelled K f)) (tended_file (format K) f) s l) (ap (whole_bytes K) (sym (tended_kept (format K) f).middle))
       (chain_with (Either s s) (IsFile (format K) s f) (IsWhole (format K) (spelled K f) s f) (IsFile (format K) s (tended_file (format K) f)) (IsWhole (format K) (spelled K f) s (tended_file (format K) f)) (tend_acts (format K) f (spelled K f))
       (λ x was. tends (format K) (format_laws K L) (Either s s) s (one_is s s) f (spelled K f) (spells_of f s x was.file.store))))
 
-  module _ (f : FileOf J) (s : Plain J) (H : List (Command J)) (some : 0 < length H) (few : length H ≤ 16) (state : IsState s) (all : IsAcceptable K s H) where
+  module _ (f : FileOf J) (s : Plain J) (H : List (Command J)) (some : 0 < length H) (few : length H ≤ 16) (may : IsBatchable H) (state : IsState s) (all : IsAcceptable K s H) where
     abbrev t : Plain J
     t = outcome K s H
 
@@ -118,26 +118,28 @@ module _ {J : Type 0} (K : Kind J) (L : Laws K) where
     bytes = behind_of (frame_of K s H)
 
     goes : (x : List ℕ) → IsWhole (format K) (spelled K f) s f x →
-        Goes (format K) (format_laws K L) (Either s t) f s (spelled K f) (append_acts (format K) f s (spelled K f) (start_of s) bytes) (appended_file (format K) f s bytes (GATE_OPEN ∷ drop 1 frame)) t (state_bytes K (roomy_file (format K) (length bytes) f s).parts.middle)
+        Goes (format K) (format_laws K L) (Either s t) f s (spelled K f) (append_acts (format K) f s (spelled K f) (start_of s) bytes) (appended_file (format K) f s bytes (GATE_OPEN ∷ drop 1 frame)) t (whole_bytes K (roomy_file (format K) (length bytes) f s).parts.middle)
     goes x was =
         let of = state_is K L f.head f.parts s x was.file.store in
-        let header = header_is K L f.head f.parts s x was.file.store in
         append_goes (format K) (format_laws K L) (Either s t) s t (drop 1 frame) (one_is s t) (next_is s t)
-        (frame_there K L s H some few state all)
-        (subst (λ (l : List ℕ). state_after K s l ≡ Some t) (opens_here K L s H some few state all) (frame_led K L s H some few state all))
-        f (state_bytes K) (start_of s) (spells_of f s x was.file.store) (start_is K s state)
-        (small of.set.set header.segment.0)
+        (frame_there K L s H some few may state all)
+        (subst (λ (l : List ℕ). state_after K s l ≡ Some t) (opens_here K L s H some few may state all) (frame_led K L s H some few may state all))
+        f (whole_bytes K) (start_of s) (spells_of f s x was.file.store) (start_is K s state)
+        (small of.of)
         (λ turned. spelled_then of)
       where
-        small : s.ledger.set ≡ f.head.set → 41 + 2096 * f.head.set.workers ≤ f.head.segment → length bytes + 9 < (layout f.head).segment
-        small same least = let m = ap (λ (z : FilledSet). z.workers) same in omega (arith, frame_long K L s H some few state all, le-max_right 10 f.head.segment, least, m)
+        small : IsOf f.head s → length bytes + 9 < (layout f.head).segment
+        small of =
+            let least : 41 + 2096 * s.ledger.set.workers ≤ s.segment = subst (λ n. 41 + 2096 * s.ledger.set.workers ≤ n) (sym of.segment) of.room in
+            let same = of.segment in
+            omega (arith, frame_room K L s H some few may state all least, le-max_right 10 f.head.segment, same)
 
-        spelled_then : IsOf f.head s → (read_state K 0 (ended_file (format K) f).head.segment (ended_file (format K) f).head.set (state_bytes K s) ≡ Some s) × (length (state_bytes K s) ≡ state_len (ended_file (format K) f).head.set)
-        spelled_then of = spelled_read K L (ended_file (format K) f).head s (subst (λ h. IsOf h s) (sym (stepped_kept (format K) (2 + (layout f.head).body) f).head) of)
+        spelled_then : IsHeld f.head s → (read_area K (ended_file (format K) f).head (whole_bytes K s) ≡ Some s) × (length (whole_bytes K s) ≡ whole_len (ended_file (format K) f).head.set.real)
+        spelled_then of = spelled_read K L (ended_file (format K) f).head s (subst (λ h. IsHeld h s) (sym (stepped_kept (format K) (2 + (layout f.head).body) f).head) of)
 
     appending_leads : Leads (store_of K) s f (append_acts (format K) f s (spelled K f) (start_of s) bytes) t (appended_file (format K) f s bytes frame)
     appending_leads = leads s t f (appended_file (format K) f s bytes frame) (append_acts (format K) f s (spelled K f) (start_of s) bytes)
-        (subst (λ (l : List ℕ). Goes (format K) (format_laws K L) (Either s t) f s (spelled K f) (append_acts (format K) f s (spelled K f) (start_of s) bytes) (appended_file (format K) f s bytes l) t (state_bytes K (roomy_file (format K) (length bytes) f s).parts.middle)) (sym (opens_here K L s H some few state all))
+        (subst (λ (l : List ℕ). Goes (format K) (format_laws K L) (Either s t) f s (spelled K f) (append_acts (format K) f s (spelled K f) (start_of s) bytes) (appended_file (format K) f s bytes l) t (whole_bytes K (roomy_file (format K) (length bytes) f s).parts.middle)) (sym (opens_here K L s H some few may state all))
         (chain_with (Either s t) (IsFile (format K) s f) (IsWhole (format K) (spelled K f) s f) (IsFile (format K) t g) (IsWhole (format K) (spelled K g) t g) (append_acts (format K) f s (spelled K f) (start_of s) bytes) goes))
       where
         g : FileOf J

@@ -24,7 +24,7 @@ set_faults =
 
 abbrev pub store_faults : List Fault
 store_faults =
-    fault.NoSuchTask 9 ∷ fault.TaskBusy 0 ∷ fault.NoJob 0 ∷ fault.NumberLimit ∷ fault.BadKind ∷ fault.BadGoal ∷ fault.BadData ∷ fault.NotNext 0 ∷ fault.NotAStore ∷ fault.Damaged 2097782 part.Length ∷ fault.Device ∷ fault.Broken ∷ fault.WrongVersion 5 ∷ fault.NotEmpty ∷ fault.NoRoom ∷ fault.Busy ∷ fault.StoreFailed 7 cause.Device ∷ fault.SessionFull ∷ []
+    fault.NoSuchTask 9 ∷ fault.TaskBusy 0 ∷ fault.NoJob 0 ∷ fault.NumberLimit ∷ fault.NotLevel 0 ∷ fault.WrongCount ∷ fault.BadKind ∷ fault.BadGoal ∷ fault.BadData ∷ fault.NotNext 0 ∷ fault.NotAStore ∷ fault.Damaged 2097782 part.Length ∷ fault.Device ∷ fault.Broken ∷ fault.WrongVersion 5 ∷ fault.NotEmpty ∷ fault.NoRoom ∷ fault.Busy ∷ fault.StoreFailed 7 cause.Device ∷ fault.SessionFull ∷ []
 
 abbrev pub run_faults : List Fault
 run_faults =
@@ -50,20 +50,22 @@ none_named w a b c (fault.NoSuchTask x) = b.0
 none_named w a b c (fault.TaskBusy x) = b.1.0
 none_named w a b c (fault.NoJob x) = b.1.1.0
 none_named w a b c fault.NumberLimit = b.1.1.1.0
-none_named w a b c fault.BadKind = b.1.1.1.1.0
-none_named w a b c fault.BadGoal = b.1.1.1.1.1.0
-none_named w a b c fault.BadData = b.1.1.1.1.1.1.0
-none_named w a b c (fault.NotNext x) = b.1.1.1.1.1.1.1.0
-none_named w a b c fault.NotAStore = b.1.1.1.1.1.1.1.1.0
-none_named w a b c (fault.Damaged x y) = b.1.1.1.1.1.1.1.1.1.0
-none_named w a b c fault.Device = b.1.1.1.1.1.1.1.1.1.1.0
-none_named w a b c fault.Broken = b.1.1.1.1.1.1.1.1.1.1.1.0
-none_named w a b c (fault.WrongVersion x) = b.1.1.1.1.1.1.1.1.1.1.1.1.0
-none_named w a b c fault.NotEmpty = b.1.1.1.1.1.1.1.1.1.1.1.1.1.0
-none_named w a b c fault.NoRoom = b.1.1.1.1.1.1.1.1.1.1.1.1.1.1.0
-none_named w a b c fault.Busy = b.1.1.1.1.1.1.1.1.1.1.1.1.1.1.1.0
-none_named w a b c (fault.StoreFailed x y) = b.1.1.1.1.1.1.1.1.1.1.1.1.1.1.1.1.0
-none_named w a b c fault.SessionFull = b.1.1.1.1.1.1.1.1.1.1.1.1.1.1.1.1.1.0
+none_named w a b c (fault.NotLevel x) = b.1.1.1.1.0
+none_named w a b c fault.WrongCount = b.1.1.1.1.1.0
+none_named w a b c fault.BadKind = b.1.1.1.1.1.1.0
+none_named w a b c fault.BadGoal = b.1.1.1.1.1.1.1.0
+none_named w a b c fault.BadData = b.1.1.1.1.1.1.1.1.0
+none_named w a b c (fault.NotNext x) = b.1.1.1.1.1.1.1.1.1.0
+none_named w a b c fault.NotAStore = b.1.1.1.1.1.1.1.1.1.1.0
+none_named w a b c (fault.Damaged x y) = b.1.1.1.1.1.1.1.1.1.1.1.0
+none_named w a b c fault.Device = b.1.1.1.1.1.1.1.1.1.1.1.1.0
+none_named w a b c fault.Broken = b.1.1.1.1.1.1.1.1.1.1.1.1.1.0
+none_named w a b c (fault.WrongVersion x) = b.1.1.1.1.1.1.1.1.1.1.1.1.1.1.0
+none_named w a b c fault.NotEmpty = b.1.1.1.1.1.1.1.1.1.1.1.1.1.1.1.0
+none_named w a b c fault.NoRoom = b.1.1.1.1.1.1.1.1.1.1.1.1.1.1.1.1.0
+none_named w a b c fault.Busy = b.1.1.1.1.1.1.1.1.1.1.1.1.1.1.1.1.1.0
+none_named w a b c (fault.StoreFailed x y) = b.1.1.1.1.1.1.1.1.1.1.1.1.1.1.1.1.1.1.0
+none_named w a b c fault.SessionFull = b.1.1.1.1.1.1.1.1.1.1.1.1.1.1.1.1.1.1.1.0
 none_named w a b c fault.NoThread = c.0
 none_named w a b c (fault.BadScript x) = c.1.0
 none_named w a b c fault.InputFailed = c.1.1.0

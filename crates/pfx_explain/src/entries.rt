@@ -144,7 +144,7 @@ The lines below the fault say how many numbers the set wants.",
 ];
 
 /// The faults of commands and of stores.
-pub(crate) const OF_STORES: [Entry; 18] = [
+pub(crate) const OF_STORES: [Entry; 20] = [
     Entry {
         fault: Fault::NoSuchTask { task: 9 },
         text: "The store has no real task of this number. Tasks are numbered from 0 in the order of the set.
@@ -175,6 +175,21 @@ In a run it is a line of the output, and the run goes on. pfx status says which 
         text: "The store has accepted 281474976710655 commands, 2^48 - 1, and has no further number.
 
 At 8000 commands a second that takes 1100 years. Make a new store.",
+    },
+    Entry {
+        fault: Fault::NotLevel { task: 0 },
+        text: "A task is ahead or behind of what its weight gives it, so no new weights come into force. The task that is
+named may be an idle one: those come behind the set's.
+
+In a run it is a line of the output, and the run goes on. Run slots until each lag is 0: at each multiple of the
+hyperperiod behind the slot of the last new weights it is, and often earlier. pfx check prints it as hyper.",
+    },
+    Entry {
+        fault: Fault::WrongCount,
+        text: "There is not one new weight for each task of the set.
+
+In a run it is a line of the output, and the run goes on. A store keeps its tasks: new weights are of the same tasks,
+in the same order.",
     },
     Entry {
         fault: Fault::BadKind,
@@ -247,7 +262,7 @@ Open it again by a new run.",
     },
     Entry {
         fault: Fault::WrongVersion { version: 5 },
-        text: "The store is of another version than 1, the one that this program reads. Nothing is changed.
+        text: "The store is of another version than 2, the one that this program reads. Nothing is changed.
 
 Use the program that made it.",
     },

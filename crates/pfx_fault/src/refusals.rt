@@ -53,6 +53,10 @@ pub enum Fault {
     NoJob { task: u16 },
     /// The last number that a command can have is reached.
     NumberLimit,
+    /// This task's lag isn't zero, so no new weights come into force. It may be an idle task.
+    NotLevel { task: u16 },
+    /// There is not one new weight for each task.
+    WrongCount,
     /// There is no kind of job of this name.
     BadKind,
     /// The goal is out of the kind's range.
@@ -69,7 +73,7 @@ pub enum Fault {
     Device,
     /// The disk failed in an earlier call; the store is to be opened again.
     Broken,
-    /// The store is of another version than 1.
+    /// The store is of another version than 2.
     WrongVersion { version: u8 },
     /// A store can't be made in a file that isn't empty.
     NotEmpty,
@@ -118,6 +122,8 @@ impl Fault {
             Fault::TaskBusy { .. } => 32,
             Fault::NoJob { .. } => 33,
             Fault::NumberLimit => 34,
+            Fault::NotLevel { .. } => 35,
+            Fault::WrongCount => 36,
             Fault::BadKind => 41,
             Fault::BadGoal => 42,
             Fault::BadData => 43,
@@ -164,6 +170,8 @@ impl Fault {
             Fault::TaskBusy { .. } => "TaskBusy",
             Fault::NoJob { .. } => "NoJob",
             Fault::NumberLimit => "NumberLimit",
+            Fault::NotLevel { .. } => "NotLevel",
+            Fault::WrongCount => "WrongCount",
             Fault::BadKind => "BadKind",
             Fault::BadGoal => "BadGoal",
             Fault::BadData => "BadData",
@@ -239,6 +247,7 @@ impl Display for Fields {
             | Fault::NoSuchTask { task }
             | Fault::TaskBusy { task }
             | Fault::NoJob { task }
+            | Fault::NotLevel { task }
             | Fault::NotNext { task } => write!(f, " task={task}"),
             Fault::SegmentTooSmall { least } => write!(f, " least={least}"),
             Fault::TooManyUrgent { urgent, m } => write!(f, " urgent={urgent} m={m}"),

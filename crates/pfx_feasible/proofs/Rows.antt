@@ -20,18 +20,19 @@ use Rattle.pfx_feasible.proofs.Endless.{of_rows, stays, goes_on, start_shape, st
 pub record GoesOn (g : Ledger) : Type 0 where
   pub shape : Shape g
   pub sets : EndlessSets g
+  pub few : g.set.workers ≤ 64
 
 pub start_goes_on : (s : FilledSet) → IsFilled s → GoesOn (start s)
-start_goes_on s h = record { shape = start_shape s h; sets = start_sets s h }
+start_goes_on s h = record { shape = start_shape s h; sets = start_sets s h; few = h.workers.1 }
 
 pub ledger_goes_on : (g : Ledger) → IsLedger g → IsEndless g → GoesOn g
-ledger_goes_on g h endless = (let shape = shape_of g h in record { shape = shape; sets = of_rows g shape endless })
+ledger_goes_on g h endless = (let shape = shape_of g h in record { shape = shape; sets = of_rows g shape endless; few = h.set.workers.1 })
 
 -- after a chosen row it goes on
 pub row_goes_on : (g : Ledger) (row : List ℕ) → chosen g ≡ Ok row → GoesOn g → GoesOn (after g (is_in row))
 row_goes_on g row is h =
     let pf : IsPfRow g row = (((pf_function g).chosen_rows row).1 is).pf in
-    record { shape = shape_after g (is_in row) h.shape; sets = stays g h.shape h.sets (is_in row) (pf_in g row pf) }
+    record { shape = shape_after g (is_in row) h.shape; sets = stays g h.shape h.sets (is_in row) (pf_in g row pf); few = h.few }
 
 -- there is PF's row
 pub row_there : (g : Ledger) → GoesOn g → (row : List ℕ) × (pf_row g ≡ Ok row)

@@ -90,8 +90,11 @@ module _ {J : Type 0} (K : Kind J) where
     abbrev rows : ℕ
     rows = s.ledger.set.workers
 
+    abbrev real : ℕ
+    real = s.ledger.set.real
+
     pub no_head_there : ((len first count : ℕ) → IsHead rows frame len first count → ⊥) → None ≡ state_after K s frame
-    no_head_there none = no_batch K s frame L (no_head K L rows 0 frame none)
+    no_head_there none = no_batch K s frame L (no_head K L rows real frame none)
 
     module _ (len first count : ℕ) (head : IsHead rows frame len first count) where
       spells : (batch : PlainBatch J) → frame ≡ batch_bytes K batch → Begins frame (batch_bytes K batch)
@@ -99,22 +102,22 @@ module _ {J : Type 0} (K : Kind J) where
 
       pub other_len : 15 + len ≢ length frame → None ≡ state_after K s frame
       other_len other = none_found K s frame (none_of _ (λ batch found.
-          let spelled = batch_spelled K L rows frame batch found in
-          let long = (head_there K L rows 0 batch spelled.0).long in
-          let lens = (same_as K L rows 0 frame len first count head batch spelled.0 (spells batch spelled.1)).0 in
+          let spelled = batch_spelled K L rows real frame batch found in
+          let long = (head_there K L rows real batch spelled.0).long in
+          let lens = (same_as K L rows real frame len first count head batch spelled.0 (spells batch spelled.1)).0 in
           other (omega (arith, ap length spelled.1, long, lens))))
 
-      pub wrong_there : AreWrong K (form_of rows 0 count) (body_of len frame) count s → None ≡ state_after K s frame
+      pub wrong_there : AreWrong K (form_of rows real count) (body_of len frame) count s → None ≡ state_after K s frame
       wrong_there wrong = elim wrong [
-        | inl stop ↦ no_batch K s frame L (no_records K L rows 0 frame len first count head stop.0 stop.1 stop.2)
+        | inl stop ↦ no_batch K s frame L (no_records K L rows real frame len first count head stop.0 stop.1 stop.2)
         | inr bad ↦ by bad.0 bad.1 bad.2 bad.3 bad.4
       ]
         where
-          by : (read : List (Recorded J)) → IsTrue (all_fit (form_of rows 0 count) read) → Begins (body_of len frame) (records_bytes K read) → length read ≤ count → applied K s read ≡ None → None ≡ state_after K s frame
+          by : (read : List (Recorded J)) → IsTrue (all_fit (form_of rows real count) read) → Begins (body_of len frame) (records_bytes K read) → length read ≤ count → applied K s read ≡ None → None ≡ state_after K s frame
           by read fit begins few none = leads_none K s frame (λ batch found.
-              let spelled = batch_spelled K L rows frame batch found in
-              let more = goes K L rows 0 frame len first count head read batch spelled.0 (spells batch spelled.1) fit begins few in
+              let spelled = batch_spelled K L rows real frame batch found in
+              let more = goes K L rows real frame len first count head read batch spelled.0 (spells batch spelled.1) fit begins few in
               ap (λ (l : List (Recorded J)). applied K s l) more.1 ∙ applied_none s read more.0 none)
 
-      pub taken_there : (t : machine.Plain J) (last : ℕ) → number_after s.number frame ≡ Some last → 15 + len ≡ length frame → AreTaken K (form_of rows 0 count) (body_of len frame) count s t → Some t ≡ state_after K s frame
-      taken_there t last number same taken = leads K s frame L t last _ (15 + len) number (is_batch K L rows 0 frame len first count head taken.0 taken.1) same taken.2
+      pub taken_there : (t : machine.Plain J) (last : ℕ) → number_after s.number frame ≡ Some last → 15 + len ≡ length frame → AreTaken K (form_of rows real count) (body_of len frame) count s t → Some t ≡ state_after K s frame
+      taken_there t last number same taken = leads K s frame L t last _ (15 + len) number (is_batch K L rows real frame len first count head taken.0 taken.1) same taken.2

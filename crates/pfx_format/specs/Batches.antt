@@ -1,19 +1,16 @@
 -- The batch that the bytes of a frame are.
-use Rattle.std.specs.Prelude.{ℕ, zero, suc, ◌+◌, ◌==◌, ◌&&◌, if◌then◌else◌, List, [], ◌∷◌, length, take, drop, Option, Some, None}
+use Rattle.std.specs.Prelude.{ℕ, zero, suc, ◌==◌, ◌&&◌, if◌then◌else◌, List, [], ◌∷◌, length, take, drop, slice_index, Option, Some, None}
 use Rattle.std.specs.Str.{bytes_eq}
 use Rattle.byteorder.specs.Endian.{little_number}
+use Rattle.pfx_checkpoint.specs.Whole.{if_some}
 use Rattle.pfx_jobs.specs.Kind.{Kind}
 use Rattle.pfx_record.specs.Batches.{PlainBatch, batch_bytes, batch_fits}
-use Rattle.pfx_record.specs.Records.{Recorded, submitted, ran, withdrawn, place_bytes, record_bytes}
+use Rattle.pfx_record.specs.Records.{Recorded, submitted, ran, withdrawn, reweighed, place_bytes, record_bytes}
 use Rattle.pfx_record.specs.declared.record.Place.{Place}
-
--- what follows on a value, if it is there
-abbrev pub if_some : {A B : Type 0} → Option A → (A → Option B) → Option B
-if_some None f = None
-if_some (Some a) f = f a
+use Rattle.pfx_weights.specs.Bytes.{weights_of}
 
 -- What stands at the front of bytes: the flag of a place and the state after it; a place; a row of n; a record, by its
--- tag; n records.
+-- tag, where so many tasks are real; n records.
 abbrev pub state_at : {J : Type 0} → Kind J → List ℕ → Option (Option J)
 state_at K [] = None
 state_at K (flag ∷ bytes) = if flag == 0 then Some None else if_some (K.decoded (take 128 bytes)) (λ s. Some (Some s))
@@ -25,16 +22,17 @@ abbrev pub row_at : {J : Type 0} → Kind J → ℕ → List ℕ → Option (Lis
 row_at K zero bytes = Some []
 row_at K (suc n) bytes = if_some (place_at K bytes) (λ place. if_some (row_at K n (drop (length (place_bytes K place)) bytes)) (λ row. Some (place ∷ row)))
 
-abbrev pub record_at : {J : Type 0} → Kind J → ℕ → List ℕ → Option (Recorded J)
-record_at K workers [] = None
-record_at K workers (tag ∷ bytes) =
+abbrev pub record_at : {J : Type 0} → Kind J → ℕ → ℕ → List ℕ → Option (Recorded J)
+record_at K workers real [] = None
+record_at K workers real (tag ∷ bytes) =
     if tag == 1 then if_some (K.decoded (take 128 (drop 2 bytes))) (λ s. Some (submitted (little_number 2 bytes) s))
-    else (if tag == 2 then if_some (row_at K workers bytes) (λ row. Some (ran row)) else Some (withdrawn (little_number 2 bytes)))
+    else (if tag == 2 then if_some (row_at K workers bytes) (λ row. Some (ran row))
+    else (if tag == 3 then Some (withdrawn (little_number 2 bytes)) else Some (reweighed (slice_index bytes 0) (weights_of real (drop 1 bytes)))))
 
-abbrev pub records_at : {J : Type 0} → Kind J → ℕ → ℕ → List ℕ → Option (List (Recorded J))
-records_at K workers zero bytes = Some []
-records_at K workers (suc n) bytes = if_some (record_at K workers bytes)
-    (λ done. if_some (records_at K workers n (drop (length (record_bytes K done)) bytes)) (λ records. Some (done ∷ records)))
+abbrev pub records_at : {J : Type 0} → Kind J → ℕ → ℕ → ℕ → List ℕ → Option (List (Recorded J))
+records_at K workers real zero bytes = Some []
+records_at K workers real (suc n) bytes = if_some (record_at K workers real bytes)
+    (λ done. if_some (records_at K workers real n (drop (length (record_bytes K done)) bytes)) (λ records. Some (done ∷ records)))
 
 -- the number of a frame's first command, and how many it has
 abbrev pub first_in : List ℕ → ℕ
@@ -47,11 +45,11 @@ count_in frame = little_number 2 (drop 13 frame)
 abbrev pub begun : {J : Type 0} → List ℕ → List (Recorded J) → PlainBatch J
 begun frame records = record { first = first_in frame; records = records }
 
--- the batch, if it has a spelling where no task is said to be real, and these very bytes are it
-abbrev pub checked : {J : Type 0} → Kind J → ℕ → List ℕ → List (Recorded J) → Option (PlainBatch J)
-checked K workers frame records = if batch_fits workers 0 (begun frame records) && bytes_eq frame (batch_bytes K (begun frame records))
+-- the batch, if it has a spelling, and these very bytes are it
+abbrev pub checked : {J : Type 0} → Kind J → ℕ → ℕ → List ℕ → List (Recorded J) → Option (PlainBatch J)
+checked K workers real frame records = if batch_fits workers real (begun frame records) && bytes_eq frame (batch_bytes K (begun frame records))
     then Some (begun frame records) else None
 
--- the batch that these bytes are, of rows of so many tasks
-unfoldable pub batch_in : {J : Type 0} → Kind J → ℕ → List ℕ → Option (PlainBatch J)
-batch_in K workers frame = if_some (records_at K workers (count_in frame) (drop 15 frame)) (checked K workers frame)
+-- the batch that these bytes are, of rows of so many tasks, and of weights for so many real ones
+unfoldable pub batch_in : {J : Type 0} → Kind J → ℕ → ℕ → List ℕ → Option (PlainBatch J)
+batch_in K workers real frame = if_some (records_at K workers real (count_in frame) (drop 15 frame)) (checked K workers real frame)

@@ -1,3 +1,4 @@
+pub mod Areas
 pub mod Batches
 pub mod Format
 pub mod Frames

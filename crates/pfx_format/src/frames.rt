@@ -9,7 +9,7 @@ use byteorder::{ByteOrder, LittleEndian};
 use pfx_jobs::job::Job;
 use pfx_machine::State;
 use pfx_record::{Form, head_of, read_head, read_next};
-use pfx_redo::apply_record;
+use pfx_redo::apply_reweigh;
 use pfx_segment::frame::FRAME_HEAD;
 use std::alloc::{AllocError, Global};
 
@@ -63,7 +63,8 @@ fn take_records<J: Job>(
         match read_next(alloc, form, &body[at..])? {
             None => return Ok(false),
             Some((entry, taken)) => {
-                if !apply_record(state, &entry) {
+                let right = apply_reweigh(alloc, state, &entry)?;
+                if !right {
                     return Ok(false);
                 }
                 at += taken;
@@ -90,7 +91,9 @@ pub fn apply_frame<J: Job>(
         None => return Ok(false),
         Some(_) => (),
     }
+    let _total = state.columns().total();
     let workers = state.columns().workers();
+    let real = state.columns().real() as u32;
     match read_head(workers, frame) {
         None => Ok(false),
         Some(head) => {
@@ -100,7 +103,7 @@ pub fn apply_frame<J: Job>(
             }
             let form = Form {
                 workers,
-                real: 0,
+                real,
                 alone: head.count == 1,
             };
             take_records(alloc, state, form, head.count, &frame[FRAME_HEAD..end])

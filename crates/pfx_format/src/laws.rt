@@ -9,8 +9,8 @@ use pfx_jobs::job::Job;
 
 /// The batch that is found in bytes is the one that they spell.
 pub fn batches_are_read_as_they_are_written<J: Job>()
-    ensures { (workers : ℕ) (bytes : List ℕ) (batch : PlainBatch J)
-        → (batch_in J.kind workers bytes ≡ Some batch) ↔ (IsTrue (batch_fits workers 0 batch) × (bytes ≡ batch_bytes J.kind batch)) }
+    ensures { (workers real : ℕ) (bytes : List ℕ) (batch : PlainBatch J)
+        → (batch_in J.kind workers real bytes ≡ Some batch) ↔ (IsTrue (batch_fits workers real batch) × (bytes ≡ batch_bytes J.kind batch)) }
 {}
 
 /// The format keeps what recovery asks of a codec.

@@ -1,7 +1,7 @@
-//! The format of a store's file, version 1: what the bytes of its header, its checkpoint areas and its frames stand for.
+//! The format of a store's file, version 2: what the bytes of its header, its checkpoint areas and its frames stand for.
 //!
 //! `specs/Format.antt` gives the codec that `pfx_recovery` leaves open. A header is that of `pfx_header`, and a checkpoint area's body
-//! the bytes of a state of `pfx_checkpoint`. A frame is a batch of `pfx_record`, which leads from a state to the one after
+//! the bytes of a state of `pfx_checkpoint` with its set, in whose segments the longest batch of its workers has room. A frame is a batch of `pfx_record`, which leads from a state to the one after
 //! its records:
 //! 1. its head is right after the state's number: 1 to 16 commands, the next number first, none above 2^48 - 1;
 //! 2. its bytes are the spelling of a batch, all of them;
@@ -13,8 +13,10 @@
 //! `laws` has that the codec keeps what recovery asks of one.
 #![tactic(auto)]
 
+mod areas;
 mod frames;
 mod idle;
 pub mod laws;
 
+pub use areas::read_area;
 pub use frames::{apply_frame, number_after, number_of};

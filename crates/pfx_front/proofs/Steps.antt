@@ -89,6 +89,9 @@ module _ {J : Type 0} where
   memory_device : ◌≡◌ {A = Note J} (Failed Memory) (Failed Device) → ⊥
   memory_device e = false≢true (ap is_device e)
 
+  device_memory : ◌≡◌ {A = Note J} (Failed Device) (Failed Memory) → ⊥
+  device_memory e = memory_device (sym e)
+
   failed_marked : (cause : Cause) (n d : ℕ) → ◌≡◌ {A = Note J} (Failed cause) (Marked n d) → ⊥
   failed_marked cause n d e = false≢true (ap is_mark e)
 
@@ -137,7 +140,7 @@ module _ {J : Type 0} where
 
   -- a store in step has what its marks promise
   pub step_behind : (K : Kind J) (start : Plain J) (failures clock : ℕ) (notes : List (Note J)) (broken : Bool) (s : Plain J) (disk : View)
-      → InStep K start failures clock notes broken s disk → Behind K start failures clock notes s disk
+      → InStep K start failures clock notes broken s disk → Behind K start failures clock notes broken s disk
   step_behind K start failures clock notes broken s disk h = record {
     at = notes;
     rest = [];
@@ -147,14 +150,15 @@ module _ {J : Type 0} where
     low = h.low;
     began = h.began;
     device = λ failed. absurd (h.unfailed Device failed);
+    memory = λ failed. absurd (h.unfailed Memory failed);
     kept = λ honest. (h.covers honest).marks;
   }
 
   -- the device failed, which is noted
-  pub failed_behind : (K : Kind J) (start : Plain J) (failures clock : ℕ) (notes after : List (Note J)) (broken : Bool) (s t : Plain J) (disk new : View)
+  pub failed_behind : (K : Kind J) (start : Plain J) (failures clock : ℕ) (notes after : List (Note J)) (broken is : Bool) (s t : Plain J) (disk new : View)
       → InStep K start failures clock notes broken s disk → after ≡ notes ++ Failed Device ∷ [] → t ≡ s → HasFailed disk new
-      → (IsHonest new → AreKept K start (frames_of K notes) (marks_of notes) new) → Behind K start failures clock after t new
-  failed_behind K start failures clock notes after broken s t disk new h noted same lost kept = record {
+      → (IsHonest new → AreKept K start (frames_of K notes) (marks_of notes) new) → Behind K start failures clock after is t new
+  failed_behind K start failures clock notes after broken is s t disk new h noted same lost kept = record {
     at = notes;
     rest = Failed Device ∷ [];
     begins = sym noted;
@@ -166,6 +170,10 @@ module _ {J : Type 0} where
     ];
     began = subst (Noted (Marked start.number clock)) (sym noted) (noted_more (Marked start.number clock) notes (Failed Device ∷ []) h.began);
     device = λ is. elim lost [ inl more ↦ inl (let since = h.since in omega (arith, since, more)) | inr spent ↦ inr spent ];
+    memory = λ is_noted. elim (noted_split (Failed Memory) notes (Failed Device) (subst (Noted (Failed Memory)) noted is_noted)) [
+      | inl before ↦ absurd (h.unfailed Memory before)
+      | inr last ↦ absurd (device_memory last)
+    ];
     kept = λ honest.
         let frames : frames_of K after ≡ frames_of K notes = ap (frames_of K) noted ∙ frames_more K notes (Failed Device) ∙ append-nil (frames_of K notes) in
         let marks : marks_of after ≡ marks_of notes = ap marks_of noted ∙ marks_more notes (Failed Device) in
@@ -303,11 +311,11 @@ module _ {J : Type 0} where
         }
 
     -- the batch is appended, and memory is refused for the board
-    pub memory_behind : (after : List (Note J)) (mark : Mark) → after ≡ notes ++ Failed Memory ∷ [] → applied K s (map plain batch.records.items) ≡ Some t → (IsHonest new → IsHonest disk)
+    pub memory_behind : (after : List (Note J)) (mark : Mark) → is ≡ false → after ≡ notes ++ Failed Memory ∷ [] → applied K s (map plain batch.records.items) ≡ Some t → (IsHonest new → IsHonest disk)
         → (IsHonest disk → (start : Plain J) (all : List (List ℕ)) (marks : List Mark) → Covers K start all marks broken s disk
         → Covers K start (all ++ batch_bytes K (batch_of batch.first batch.records.items) ∷ []) (mark ∷ marks) is t new)
-        → Behind K start failures clock after t new
-    memory_behind after mark lost leads honest appends =
+        → Behind K start failures clock after is t new
+    memory_behind after mark whole lost leads honest appends =
         let behind = applied_behind K s t (map plain batch.records.items) leads in
         record {
           at = notes;
@@ -324,6 +332,7 @@ module _ {J : Type 0} where
             | inl before ↦ absurd (unfailed_here Device before)
             | inr last ↦ absurd (memory_device last)
           ];
+          memory = λ is_noted. whole;
           kept = λ here.
               let frames : frames_of K after ≡ frames_of K h.before ++ batch_bytes K (batch_of batch.first batch.records.items) ∷ [] =
               ap (frames_of K) lost ∙ frames_more K notes (Failed Memory) ∙ append-nil (frames_of K notes) ∙ frames_here in
@@ -337,7 +346,7 @@ module _ {J : Type 0} where
     pub batch_behind : (after : List (Note J)) (fault : StoreFault) → after ≡ notes ++ Failed Device ∷ [] → t ≡ s → HasFailed disk new → (IsHonest new → IsHonest disk)
         → (IsHonest disk → (start : Plain J) (all : List (List ℕ)) (marks : List Mark) → Covers K start all marks broken s disk
         → Covers K start (all ++ batch_bytes K (batch_of batch.first batch.records.items) ∷ []) marks is t new)
-        → Behind K start failures clock after t new
+        → Behind K start failures clock after is t new
     batch_behind after fault lost same failed honest appends = record {
       at = h.before;
       rest = Last ∷ Failed Device ∷ [];
@@ -350,6 +359,10 @@ module _ {J : Type 0} where
       ];
       began = subst (Noted (Marked start.number clock)) (sym lost) (noted_more (Marked start.number clock) notes (Failed Device ∷ []) began_here);
       device = λ is_noted. elim failed [ inl more ↦ inl (let since = h.step.since in omega (arith, since, more)) | inr spent ↦ inr spent ];
+      memory = λ is_noted. elim (noted_split (Failed Memory) notes (Failed Device) (subst (Noted (Failed Memory)) lost is_noted)) [
+        | inl before ↦ absurd (unfailed_here Memory before)
+        | inr last ↦ absurd (device_memory last)
+      ];
       kept = λ here.
           let frames : frames_of K after ≡ frames_of K h.before ++ batch_bytes K (batch_of batch.first batch.records.items) ∷ [] =
           ap (frames_of K) lost ∙ frames_more K notes (Failed Device) ∙ append-nil (frames_of K notes) ∙ frames_here in

@@ -91,7 +91,7 @@ impl<J: Job, B: Since<J>, D: Disk, T: Absorb<T, State = [Batch<J>; 0]> + Drop, R
 
     ghost view = { λ f. (f.share, f.store, f.publisher) };
 
-    ghost invariant = { λ f. Behind J.kind B.start B.failures B.clock f.share f.store.state (D.view f.store.file.disk)
+    ghost invariant = { λ f. Behind J.kind B.start B.failures B.clock f.share f.store.file.broken f.store.state (D.view f.store.file.disk)
         × IsShown J.kind B.start f.share f.publisher.batches f.store.state };
 }
 
@@ -140,17 +140,21 @@ fn next_work<J: Job, B: Since<J>, R: Wait + Clock>(
     }
 }
 
-/// Marks what was taken, and wakes those who wait for it. Room for a command more may have come.
+/// Leaves what is durable to those who will be told of it, all that was taken, marks that, and wakes those who wait for it. Room for a
+/// command more may have come.
 fn mark_in<J: Job, B: Since<J>, R: Wait>(
     rt: &R,
     monitor: &Monitor<J, B>,
     share: &mut Share<J, B>,
+    durable: Durable<J, B>,
     mark: Mark,
 )
+    requires durable { records_of durable.word ≡ records_in share.old }
     requires number { mark.number ≡ B.start.number + length (records_in share.old) }
     requires unfailed { (cause : Cause) → Noted (Failed cause) share.old → ⊥ }
     ensures { share.new ≡ share.old ++ Marked mark.number mark.clock ∷ [] }
 {
+    *monitor.durable.lock(rt) = durable;
     let mut guard = monitor.book.lock(rt);
     if let Some(book) = &mut *guard {
         book.settled(share);
@@ -199,8 +203,7 @@ fn room_of<J: Job>(batch: Batch<J>) -> Vec<Record<J>>
     room
 }
 
-/// Publishes a batch that is durable, and leaves what is durable to those who will be told of it. `false` if an allocation fails; then
-/// the book knows.
+/// Publishes a batch that is durable: what is durable then, with all that was taken. `None` if an allocation fails; then the book knows.
 fn show<J: Job, B: Since<J>, D: Disk + Logged<B>, R: Wait + Drop, W: Wait>(
     rt: &W,
     alloc: Global,
@@ -209,22 +212,19 @@ fn show<J: Job, B: Since<J>, D: Disk + Logged<B>, R: Wait + Drop, W: Wait>(
     store: &Store<D, J>,
     publisher: &mut BoardWriter<J, B, Shown<J, B>, R>,
     batch: &Batch<J>,
-) -> bool
+) -> Option<Durable<J, B>>
     requires taken { AreShown share.old (publisher.old.batches ++ batch.now ∷ []) }
     requires leads { applied J.kind B.origin (records_of (publisher.old.batches ++ batch.now ∷ [])) ≡ Some store.now.state }
     requires whole { store.now.file.broken ≡ false }
     ensures batches { publisher.new.batches ≡ publisher.old.batches ++ batch.now ∷ [] }
-    ensures shown { IsTrue result → share.new ≡ share.old }
-    ensures lost { result ≡ false → share.new ≡ share.old ++ Failed Memory ∷ [] }
+    ensures shown { IfSome result (λ durable. (share.new ≡ share.old) × (records_of durable.word ≡ records_in share.new)) }
+    ensures lost { IfNone result (share.new ≡ share.old ++ Failed Memory ∷ []) }
 {
     match publisher.publish(rt, alloc, batch, store.state()) {
-        Ok(()) => {
-            *monitor.durable.lock(rt) = Durable::of(store, share, publisher.published().again());
-            true
-        }
+        Ok(()) => Some(Durable::of(store, share, publisher.published().again())),
         Err(_) => {
             fail_in(rt, monitor, share, Cause::Memory);
-            false
+            None
         }
     }
 }
@@ -247,17 +247,17 @@ fn commit<J: Job, B: Since<J>, D: Disk + Logged<B>, R: Wait + Drop, W: Wait>(
     ensures step { IfSome result (λ _. InStep J.kind B.start B.failures B.clock share.new store.new.file.broken store.new.state (D.view store.new.file.disk)) }
     ensures shown { IfSome result (λ _. AreShown share.new publisher.new.batches) }
     ensures room { IfSome result (λ room. (room.items ≡ []) × (16 ≤ vec_capacity room)) }
-    ensures behind { IfNone result (Behind J.kind B.start B.failures B.clock share.new store.new.state (D.view store.new.file.disk)) }
+    ensures behind { IfNone result (Behind J.kind B.start B.failures B.clock share.new store.new.file.broken store.new.state (D.view store.new.file.disk)) }
     ensures left { IfNone result (IsShown J.kind B.start share.new publisher.new.batches store.new.state) }
 {
     match store.append(&batch) {
-        Ok(mark) => {
-            if !show(rt, alloc, monitor, share, store, publisher, &batch) {
-                return None;
+        Ok(mark) => match show(rt, alloc, monitor, share, store, publisher, &batch) {
+            Some(durable) => {
+                mark_in(rt, monitor, share, durable, mark);
+                Some(room_of(batch))
             }
-            mark_in(rt, monitor, share, mark);
-            Some(room_of(batch))
-        }
+            None => None,
+        },
         Err(_fault) => {
             fail_in(rt, monitor, share, Cause::Device);
             None
@@ -276,7 +276,7 @@ fn tend<J: Job, B: Since<J>, D: Disk, R: Wait>(
     ensures step { IsTrue result → InStep J.kind B.start B.failures B.clock share.new store.new.file.broken store.new.state (D.view store.new.file.disk) }
     ensures notes { records_in share.new ≡ records_in share.old }
     ensures leads { applied J.kind B.start (records_in share.new) ≡ Some store.new.state }
-    ensures behind { result ≡ false → Behind J.kind B.start B.failures B.clock share.new store.new.state (D.view store.new.file.disk) }
+    ensures behind { result ≡ false → Behind J.kind B.start B.failures B.clock share.new store.new.file.broken store.new.state (D.view store.new.file.disk) }
 {
     match store.tend() {
         Ok(_tended) => true,
@@ -293,7 +293,7 @@ fn home<J: Job, B: Since<J>, D: Disk, R: Wait + Drop>(
     store: Store<D, J>,
     publisher: BoardWriter<J, B, Shown<J, B>, R>,
 ) -> Flushed<J, B, D, Shown<J, B>, R>
-    requires behind { Behind J.kind B.start B.failures B.clock share store.state (D.view store.file.disk) }
+    requires behind { Behind J.kind B.start B.failures B.clock share store.file.broken store.state (D.view store.file.disk) }
     requires shown { IsShown J.kind B.start share publisher.batches store.state }
 {
     Flushed {

@@ -80,28 +80,28 @@ counts_out n bytes h more =
     omega arith) in
     cond-false _ _ _ (many (take n bytes) (omega arith)) ∙ sym (cond-false _ _ _ (many bytes more))
 
-header_taken : (n : ℕ) (bytes : List ℕ) → 17 ≤ n → read_counts (take n bytes) ≡ read_counts bytes → read_header (take n bytes) ≡ read_header bytes
+header_taken : (v n : ℕ) (bytes : List ℕ) → 17 ≤ n → read_counts (take n bytes) ≡ read_counts bytes → read_header v (take n bytes) ≡ read_header v bytes
 unfolding read_header read_version
-header_taken n bytes h counts =
+header_taken v n bytes h counts =
     let long = long_taken 17 n bytes h in
     let front : take 9 (take n bytes) ≡ take 9 bytes = take-take 9 n bytes (omega arith) in
     let version : version_at (take n bytes) ≡ version_at bytes = get_or-take n bytes 9 0 (omega arith) in
-    λ i. if long i && bytes_eq (front i) mark then (if version i == 1 then counts i else Err (WrongVersion (version i))) else Err NotAStore
+    λ i. if long i && bytes_eq (front i) mark then (if version i == v then counts i else Err (WrongVersion (version i))) else Err NotAStore
 
-pub enough : (n : ℕ) (bytes : List ℕ) → 17 + 8 * 1024 ≤ n → read_header (take n bytes) ≡ read_header bytes
-enough n bytes h =
+pub enough : (v n : ℕ) (bytes : List ℕ) → 17 + 8 * 1024 ≤ n → read_header v (take n bytes) ≡ read_header v bytes
+enough v n bytes h =
     elim (cases_lt 1024 (real_at bytes)) [
-      | inl more ↦ header_taken n bytes (omega arith) (counts_out n bytes (omega arith) more)
-      | inr few ↦ header_taken n bytes (omega arith) (counts_in n bytes (omega arith) (omega arith))
+      | inl more ↦ header_taken v n bytes (omega arith) (counts_out n bytes (omega arith) more)
+      | inr few ↦ header_taken v n bytes (omega arith) (counts_in n bytes (omega arith) (omega arith))
     ]
 
-taken_alone : (n : ℕ) (bytes : List ℕ) → 17 ≤ n → 17 + 8 * real_at bytes ≤ n → read_header (take n bytes) ≡ read_header bytes
-taken_alone n bytes h more = header_taken n bytes h (counts_in n bytes h more)
+taken_alone : (v n : ℕ) (bytes : List ℕ) → 17 ≤ n → 17 + 8 * real_at bytes ≤ n → read_header v (take n bytes) ≡ read_header v bytes
+taken_alone v n bytes h more = header_taken v n bytes h (counts_in n bytes h more)
 
-pub alone : (bytes other : List ℕ) (h : Header) → read_header bytes ≡ Ok h → take (header_len h.set) other ≡ take (header_len h.set) bytes → read_header other ≡ Ok h
-alone bytes other h is same =
+pub alone : (v : ℕ) (bytes other : List ℕ) (h : Header) → read_header v bytes ≡ Ok h → take (header_len h.set) other ≡ take (header_len h.set) bytes → read_header v other ≡ Ok h
+alone v bytes other h is same =
     let n = header_len h.set in
-    let real : h.set.real ≡ real_at bytes = read_real bytes h (read_is bytes h is) in
+    let real : h.set.real ≡ real_at bytes = read_real v bytes h (read_is v bytes h is) in
     let there : real_at other ≡ real_at bytes = sym (real_taken n other (omega arith)) ∙ (ap real_at same ∙ real_taken n bytes (omega arith)) in
-    sym (taken_alone n other (omega arith) (omega arith))
-    ∙ (ap read_header same ∙ (taken_alone n bytes (omega arith) (omega arith) ∙ is))
+    sym (taken_alone v n other (omega arith) (omega arith))
+    ∙ (ap (read_header v) same ∙ (taken_alone v n bytes (omega arith) (omega arith) ∙ is))

@@ -15,10 +15,10 @@ use Rattle.pfx_weights.proofs.Tests.{sets_from}
 use Rattle.pfx_weights.proofs.Written.{length-weights_of}
 use Rattle.pfx_header.specs.Headers.{Header, IsHeader, IsSegmentSize, real_tasks, mark, header_len, version_at, workers_at, real_at, segment_at, tasks_at, damaged, is_segment_size, sized, read_tasks, are_counts, read_counts, read_version, is_store, read_header}
 
-pub record IsRead (bytes : List ℕ) (h : Header) : Type 0 where
+pub record IsRead (v : ℕ) (bytes : List ℕ) (h : Header) : Type 0 where
   pub front : 17 ≤ length bytes
   pub mark : take 9 bytes ≡ mark
-  pub version : version_at bytes ≡ 1
+  pub version : version_at bytes ≡ v
   pub counts : are_counts (workers_at bytes) (real_at bytes) ≡ true
   pub long : 17 + 8 * real_at bytes ≤ length bytes
   pub set : set_of (workers_at bytes) (tasks_at bytes) ≡ Some h.set
@@ -37,11 +37,11 @@ sized_ok segment (Some s) h is =
     let same : record { set = s; segment = segment } ≡ h = cc in
     (ap (λ (k : Header). Some k.set) same, ap (λ (k : Header). k.segment) same, sym (ap (λ (k : Header). is_segment_size k.set.workers k.segment) same) ∙ parts.0)
 
-pub read_is : (bytes : List ℕ) (h : Header) → read_header bytes ≡ Ok h → IsRead bytes h
+pub read_is : (v : ℕ) (bytes : List ℕ) (h : Header) → read_header v bytes ≡ Ok h → IsRead v bytes h
 unfolding read_header read_version read_counts read_tasks
-read_is bytes h is =
-    let store = guard_ok (is_store bytes) (read_version bytes) NotAStore h is in
-    let version = guard_ok (version_at bytes == 1) (read_counts bytes) (WrongVersion (version_at bytes)) h store.1 in
+read_is v bytes h is =
+    let store = guard_ok (is_store bytes) (read_version v bytes) NotAStore h is in
+    let version = guard_ok (version_at bytes == v) (read_counts bytes) (WrongVersion (version_at bytes)) h store.1 in
     let counts = guard_ok (are_counts (workers_at bytes) (real_at bytes)) (read_tasks bytes) damaged h version.1 in
     let tasks = guard_ok (nat_le (17 + 8 * real_at bytes) (length bytes)) (sized (segment_at bytes) (set_of (workers_at bytes) (tasks_at bytes))) NotAStore h counts.1 in
     let set = sized_ok (segment_at bytes) (set_of (workers_at bytes) (tasks_at bytes)) h tasks.1 in
@@ -57,9 +57,9 @@ read_is bytes h is =
       limits = set.2;
     }
 
-pub is_read : (bytes : List ℕ) (h : Header) → IsRead bytes h → read_header bytes ≡ Ok h
+pub is_read : (v : ℕ) (bytes : List ℕ) (h : Header) → IsRead v bytes h → read_header v bytes ≡ Ok h
 unfolding read_header read_version read_counts read_tasks sized
-is_read bytes h r =
+is_read v bytes h r =
     cond-true _ _ _ (and_from _ _ (le-leb _ _ r.front) ((bytes_eq-Decides (take 9 bytes) mark).1 r.mark))
     ∙ (cond-true _ _ _ (eq-eqb _ _ r.version)
     ∙ (cond-true _ _ _ r.counts
@@ -93,11 +93,11 @@ accepted_filled m tasks s a = subst IsFilled (sym a.is) (filled_set m s.hyper ta
 
 -- what is read
 
-pub read_accepted : (bytes : List ℕ) (h : Header) → IsRead bytes h → Accepts (workers_at bytes) (tasks_at bytes) h.set
-read_accepted bytes h r = sets_from (workers_at bytes) (tasks_at bytes) h.set r.set
+pub read_accepted : (v : ℕ) (bytes : List ℕ) (h : Header) → IsRead v bytes h → Accepts (workers_at bytes) (tasks_at bytes) h.set
+read_accepted v bytes h r = sets_from (workers_at bytes) (tasks_at bytes) h.set r.set
 
-pub read_real : (bytes : List ℕ) (h : Header) → IsRead bytes h → h.set.real ≡ real_at bytes
-read_real bytes h r = (accepted_has _ _ _ (read_accepted bytes h r)).real ∙ length-weights_of (real_at bytes) (drop 17 bytes)
+pub read_real : (v : ℕ) (bytes : List ℕ) (h : Header) → IsRead v bytes h → h.set.real ≡ real_at bytes
+read_real v bytes h r = (accepted_has _ _ _ (read_accepted v bytes h r)).real ∙ length-weights_of (real_at bytes) (drop 17 bytes)
 
 pub size_from : (m segment : ℕ) → is_segment_size m segment ≡ true → IsSegmentSize m segment
 size_from m segment is = let parts = and_parts _ _ is in (leb-true _ _ parts.0, leb-true _ _ parts.1)
@@ -105,20 +105,20 @@ size_from m segment is = let parts = and_parts _ _ is in (leb-true _ _ parts.0, 
 pub size_to : (m segment : ℕ) → IsSegmentSize m segment → is_segment_size m segment ≡ true
 size_to m segment h = and_from _ _ (le-leb _ _ h.0) (le-leb _ _ h.1)
 
-pub read_whole : (bytes : List ℕ) (h : Header) → read_header bytes ≡ Ok h → header_len h.set ≤ length bytes
-read_whole bytes h is =
-    let r = read_is bytes h is in
-    let real = read_real bytes h r in
+pub head_inside : (v : ℕ) (bytes : List ℕ) (h : Header) → read_header v bytes ≡ Ok h → header_len h.set ≤ length bytes
+head_inside v bytes h is =
+    let r = read_is v bytes h is in
+    let real = read_real v bytes h r in
     let long = r.long in
     omega arith
 
-pub read_filled : (bytes : List ℕ) (h : Header) → read_header bytes ≡ Ok h → IsFilled h.set
-read_filled bytes h is = accepted_filled _ _ _ (read_accepted bytes h (read_is bytes h is))
+pub read_filled : (v : ℕ) (bytes : List ℕ) (h : Header) → read_header v bytes ≡ Ok h → IsFilled h.set
+read_filled v bytes h is = accepted_filled _ _ _ (read_accepted v bytes h (read_is v bytes h is))
 
-pub read_a_header : (bytes : List ℕ) (h : Header) → read_header bytes ≡ Ok h → IsHeader h
-read_a_header bytes h is =
-    let r = read_is bytes h is in
-    record { accepted = accepted_again _ _ _ (read_accepted bytes h r); segment = size_from _ _ r.limits }
+pub read_a_header : (v : ℕ) (bytes : List ℕ) (h : Header) → read_header v bytes ≡ Ok h → IsHeader h
+read_a_header v bytes h is =
+    let r = read_is v bytes h is in
+    record { accepted = accepted_again _ _ _ (read_accepted v bytes h r); segment = size_from _ _ r.limits }
 
 -- what is refused
 
@@ -133,19 +133,19 @@ sized_err segment (Some s) r is =
     let made : Result Header Refusal = Ok (record { set = s; segment = segment }) in
     guard_err IsOfHeader (is_segment_size s.workers segment) made damaged r (refl, refl) (λ (e : made ≡ Err r). absurd cc) is
 
-pub refused_of_header : (bytes : List ℕ) (r : Refusal) → read_header bytes ≡ Err r → IsOfHeader r
+pub refused_of_header : (v : ℕ) (bytes : List ℕ) (r : Refusal) → read_header v bytes ≡ Err r → IsOfHeader r
 unfolding read_header read_version read_counts read_tasks
-refused_of_header bytes r is =
-    guard_err IsOfHeader (is_store bytes) (read_version bytes) NotAStore r tt (λ e1.
-    guard_err IsOfHeader (version_at bytes == 1) (read_counts bytes) (WrongVersion (version_at bytes)) r tt (λ e2.
+refused_of_header v bytes r is =
+    guard_err IsOfHeader (is_store bytes) (read_version v bytes) NotAStore r tt (λ e1.
+    guard_err IsOfHeader (version_at bytes == v) (read_counts bytes) (WrongVersion (version_at bytes)) r tt (λ e2.
     guard_err IsOfHeader (are_counts (workers_at bytes) (real_at bytes)) (read_tasks bytes) damaged r (refl, refl) (λ e3.
     guard_err IsOfHeader (nat_le (17 + 8 * real_at bytes) (length bytes)) (sized (segment_at bytes) (set_of (workers_at bytes) (tasks_at bytes))) NotAStore r tt (λ e4.
     sized_err (segment_at bytes) (set_of (workers_at bytes) (tasks_at bytes)) r e4) e3) e2) e1) is
 
-pub closed_no_store : (bytes : List ℕ) → slice_index bytes 0 ≢ GATE_OPEN → read_header bytes ≡ Err NotAStore
+pub closed_no_store : (v : ℕ) (bytes : List ℕ) → slice_index bytes 0 ≢ GATE_OPEN → read_header v bytes ≡ Err NotAStore
 unfolding read_header
-closed_no_store bytes closed =
-    cond-false (is_store bytes) (read_version bytes) (Err NotAStore) (false_from_ne_true (is_store bytes) (λ (is : is_store bytes ≡ true).
+closed_no_store v bytes closed =
+    cond-false (is_store bytes) (read_version v bytes) (Err NotAStore) (false_from_ne_true (is_store bytes) (λ (is : is_store bytes ≡ true).
     let parts = and_parts (nat_le 17 (length bytes)) (bytes_eq (take 9 bytes) mark) is in
     let first : take 9 bytes ≡ mark = (bytes_eq-Decides (take 9 bytes) mark).0 parts.1 in
     closed (sym (get_or-take 9 bytes 0 0 (omega arith)) ∙ ap (λ xs. slice_index xs 0) first)))

@@ -38,27 +38,27 @@ pub tasks_long : (bytes : List ℕ) (n : ℕ) → n ≡ real_at bytes → 17 + 8
 unfolding read_tasks
 tasks_long bytes n is long = cond-true _ _ _ (le-leb (17 + 8 * real_at bytes) (length bytes) (omega arith))
 
-pub no_store : (bytes : List ℕ) (b : Bool) → b ≡ is_store bytes → b ≡ false → read_header bytes ≡ Err NotAStore
+pub no_store : (v : ℕ) (bytes : List ℕ) (b : Bool) → b ≡ is_store bytes → b ≡ false → read_header v bytes ≡ Err NotAStore
 unfolding read_header
-no_store bytes b is h = cond-false _ _ _ (sym is ∙ h)
+no_store v bytes b is h = cond-false _ _ _ (sym is ∙ h)
 
-store : (bytes : List ℕ) (b : Bool) → b ≡ is_store bytes → b ≡ true → read_header bytes ≡ read_version bytes
+store : (v : ℕ) (bytes : List ℕ) (b : Bool) → b ≡ is_store bytes → b ≡ true → read_header v bytes ≡ read_version v bytes
 unfolding read_header
-store bytes b is h = cond-true _ _ _ (sym is ∙ h)
+store v bytes b is h = cond-true _ _ _ (sym is ∙ h)
 
-version_one : (bytes : List ℕ) → version_at bytes ≡ 1 → read_version bytes ≡ read_counts bytes
+version_same : (v : ℕ) (bytes : List ℕ) → version_at bytes ≡ v → read_version v bytes ≡ read_counts bytes
 unfolding read_version
-version_one bytes h = cond-true _ _ _ (eq-eqb _ _ h)
+version_same v bytes h = cond-true _ _ _ (eq-eqb _ _ h)
 
-version_other : (bytes : List ℕ) → (version_at bytes ≡ 1 → ⊥) → read_version bytes ≡ Err (WrongVersion (version_at bytes))
+version_other : (v : ℕ) (bytes : List ℕ) → (version_at bytes ≡ v → ⊥) → read_version v bytes ≡ Err (WrongVersion (version_at bytes))
 unfolding read_version
-version_other bytes h = cond-false _ _ _ (ne_eqb _ _ h)
+version_other v bytes h = cond-false _ _ _ (ne_eqb _ _ h)
 
-pub other_version : (bytes : List ℕ) (b : Bool) → b ≡ is_store bytes → b ≡ true → (version_at bytes ≡ 1 → ⊥) → read_header bytes ≡ Err (WrongVersion (version_at bytes))
-other_version bytes b is h other = store bytes b is h ∙ version_other bytes other
+pub other_version : (v : ℕ) (bytes : List ℕ) (b : Bool) → b ≡ is_store bytes → b ≡ true → (version_at bytes ≡ v → ⊥) → read_header v bytes ≡ Err (WrongVersion (version_at bytes))
+other_version v bytes b is h other = store v bytes b is h ∙ version_other v bytes other
 
-pub this_version : (bytes : List ℕ) (b : Bool) → b ≡ is_store bytes → b ≡ true → version_at bytes ≡ 1 → read_header bytes ≡ read_counts bytes
-this_version bytes b is h one = store bytes b is h ∙ version_one bytes one
+pub this_version : (v : ℕ) (bytes : List ℕ) (b : Bool) → b ≡ is_store bytes → b ≡ true → version_at bytes ≡ v → read_header v bytes ≡ read_counts bytes
+this_version v bytes b is h one = store v bytes b is h ∙ version_same v bytes one
 
 pub counts_in : (bytes : List ℕ) (n : ℕ) (b : Bool) → n ≡ real_at bytes → b ≡ are_counts (workers_at bytes) n → b ≡ true → read_counts bytes ≡ read_tasks bytes
 unfolding read_counts

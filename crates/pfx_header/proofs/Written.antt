@@ -15,31 +15,31 @@ use Rattle.pfx_weights.proofs.Written.{length-weights, weights_back, small_weigh
 use Rattle.pfx_header.specs.Headers.{Header, IsHeader, IsSegmentSize, real_tasks, front_bytes, header_bytes, header_len, version_at, workers_at, real_at, segment_at, tasks_at, read_header}
 use Rattle.pfx_header.proofs.Meanings.{IsRead, read_is, is_read, accepted_has, accepted_again, read_accepted, read_real, size_to}
 
-length-front : (h : Header) → length (front_bytes h) ≡ 17
+length-front : (v : ℕ) (h : Header) → length (front_bytes v h) ≡ 17
 unfolding front_bytes
-length-front h = refl
+length-front v h = refl
 
-header_long_by : (h : Header) → h.set.real ≡ length (real_tasks h.set) → length (header_bytes h) ≡ header_len h.set
+header_long_by : (v : ℕ) (h : Header) → h.set.real ≡ length (real_tasks h.set) → length (header_bytes v h) ≡ header_len h.set
 unfolding header_bytes
-header_long_by h real =
-    let front = length-front h in
+header_long_by v h real =
+    let front = length-front v h in
     let tasks = length-weights (real_tasks h.set) in
-    length-append (front_bytes h) (weights_bytes (real_tasks h.set)) ∙ omega arith
+    length-append (front_bytes v h) (weights_bytes (real_tasks h.set)) ∙ omega arith
 
-pub header_long : (h : Header) → IsHeader h → length (header_bytes h) ≡ header_len h.set
-header_long h is = header_long_by h (accepted_has _ _ _ is.accepted).real
+pub header_long : (v : ℕ) (h : Header) → IsHeader h → length (header_bytes v h) ≡ header_len h.set
+header_long v h is = header_long_by v h (accepted_has _ _ _ is.accepted).real
 
 -- what is written is read
 
-written_is : (h : Header) (rest : List ℕ) → IsHeader h → IsRead (header_bytes h ++ rest) h
+written_is : (v : ℕ) (h : Header) (rest : List ℕ) → IsHeader h → IsRead v (header_bytes v h ++ rest) h
 unfolding header_bytes front_bytes
-written_is h rest is =
+written_is v h rest is =
     let s = h.set in
     let a = is.accepted in
     let tasks = real_tasks s in
     let real : s.real ≡ length tasks = (accepted_has _ _ _ a).real in
     let few = a.count in
-    let bytes = header_bytes h ++ rest in
+    let bytes = header_bytes v h ++ rest in
     let behind = weights_bytes tasks ++ rest in
     let count : real_at bytes ≡ s.real = little_number-reads_back 2 s.real (little_bytes 4 h.segment ++ behind) (omega arith) in
     let size : segment_at bytes ≡ h.segment = little_number-reads_back 4 h.segment behind (let most = is.segment.1 in omega arith) in
@@ -60,8 +60,8 @@ written_is h rest is =
       limits = size_to _ _ is.segment;
     }
 
-pub written_read : (h : Header) (rest : List ℕ) → IsHeader h → read_header (header_bytes h ++ rest) ≡ Ok h
-written_read h rest is = is_read (header_bytes h ++ rest) h (written_is h rest is)
+pub written_read : (v : ℕ) (h : Header) (rest : List ℕ) → IsHeader h → read_header v (header_bytes v h ++ rest) ≡ Ok h
+written_read v h rest is = is_read v (header_bytes v h ++ rest) h (written_is v h rest is)
 
 pub accepted_header : (m : ℕ) (tasks : List (ℕ × ℕ)) (h : Header) → Accepts m tasks h.set → IsSegmentSize m h.segment → IsHeader h
 accepted_header m tasks h a size = record {
@@ -89,13 +89,13 @@ front_split bytes long small =
     ∙ ap (λ t. version_at bytes ∷ t) (drop_more bytes 10 0 (omega arith)
     ∙ ap (λ t. workers_at bytes ∷ t) (two ∙ ap (λ t. little_bytes 2 (real_at bytes) ++ t) four)))
 
-read_split : (bytes : List ℕ) (h : Header) → AreBytes bytes → IsRead bytes h → bytes ≡ header_bytes h ++ drop (header_len h.set) bytes
+read_split : (v : ℕ) (bytes : List ℕ) (h : Header) → AreBytes bytes → IsRead v bytes h → bytes ≡ header_bytes v h ++ drop (header_len h.set) bytes
 unfolding header_bytes front_bytes
-read_split bytes h small r =
+read_split v bytes h small r =
     let s = h.set in
     let n = real_at bytes in
-    let has = accepted_has _ _ _ (read_accepted bytes h r) in
-    let real : n ≡ s.real = sym (read_real bytes h r) in
+    let has = accepted_has _ _ _ (read_accepted v bytes h r) in
+    let real : n ≡ s.real = sym (read_real v bytes h r) in
     let behind = drop 17 bytes in
     let left : length behind + 17 ≡ length bytes = (let k = length-drop 17 bytes in let f = r.front in omega arith) in
     let end : 17 + 8 * n ≡ header_len s = omega arith in
@@ -107,18 +107,18 @@ read_split bytes h small r =
     front_split bytes r.front small
     ∙ (λ i. r.mark i ++ (version i ∷ workers i ∷ (little_bytes 2 (real i) ++ (little_bytes 4 (r.segment i) ++ tasks i))))
 
-pub read_written : (bytes : List ℕ) (h : Header) → All (λ b. b < 256) bytes → read_header bytes ≡ Ok h → take (header_len h.set) bytes ≡ header_bytes h
-read_written bytes h small is =
-    let r = read_is bytes h is in
-    let a = read_accepted bytes h r in
-    let long : length (header_bytes h) ≡ header_len h.set = (let has = accepted_has _ _ _ a in header_long_by h (has.real ∙ ap length (sym has.tasks))) in
+pub read_written : (v : ℕ) (bytes : List ℕ) (h : Header) → All (λ b. b < 256) bytes → read_header v bytes ≡ Ok h → take (header_len h.set) bytes ≡ header_bytes v h
+read_written v bytes h small is =
+    let r = read_is v bytes h is in
+    let a = read_accepted v bytes h r in
+    let long : length (header_bytes v h) ≡ header_len h.set = (let has = accepted_has _ _ _ a in header_long_by v h (has.real ∙ ap length (sym has.tasks))) in
     ap (λ n. take n bytes) (sym long)
-    ∙ (ap (take (length (header_bytes h))) (read_split bytes h small r)
-    ∙ take-append_seam (header_bytes h) (drop (header_len h.set) bytes))
+    ∙ (ap (take (length (header_bytes v h))) (read_split v bytes h small r)
+    ∙ take-append_seam (header_bytes v h) (drop (header_len h.set) bytes))
 
 -- bytes that begin with a header's are read as it
-pub begun_read : (bytes : List ℕ) (h : Header) → IsHeader h → take (header_len h.set) bytes ≡ header_bytes h → read_header bytes ≡ Ok h
-begun_read bytes h is same =
+pub begun_read : (v : ℕ) (bytes : List ℕ) (h : Header) → IsHeader h → take (header_len h.set) bytes ≡ header_bytes v h → read_header v bytes ≡ Ok h
+begun_read v bytes h is same =
     let n = header_len h.set in
-    let split : header_bytes h ++ drop n bytes ≡ bytes = ap (λ t. t ++ drop n bytes) (sym same) ∙ take-append-drop n bytes in
-    ap read_header (sym split) ∙ written_read h (drop n bytes) is
+    let split : header_bytes v h ++ drop n bytes ≡ bytes = ap (λ t. t ++ drop n bytes) (sym same) ∙ take-append-drop n bytes in
+    ap (read_header v) (sym split) ∙ written_read v h (drop n bytes) is

@@ -38,12 +38,17 @@ pub record IsHeader (h : Header) : Type 0 where
 abbrev pub mark : List ℕ
 mark = GATE_OPEN ∷ 0x50 ∷ 0x46 ∷ 0x58 ∷ 0x53 ∷ 0x54 ∷ 0x4F ∷ 0x52 ∷ 0x45 ∷ []
 
--- the mark, the version, the workers, how many tasks are real, and the segment's length
-unfoldable pub front_bytes : Header → List ℕ
-front_bytes h = mark ++ (1 ∷ h.set.workers ∷ (little_bytes 2 h.set.real ++ little_bytes 4 h.segment))
+-- the version of stores that are written; those of version 1 are read to be copied
+abbrev pub this_version : ℕ
+this_version = 2
 
-unfoldable pub header_bytes : Header → List ℕ
-header_bytes h = front_bytes h ++ weights_bytes (real_tasks h.set)
+-- the mark, the version, the workers, how many tasks are real, and the segment's length
+unfoldable pub front_bytes : ℕ → Header → List ℕ
+front_bytes v h = mark ++ (v ∷ h.set.workers ∷ (little_bytes 2 h.set.real ++ little_bytes 4 h.segment))
+
+-- the header of a store of version v
+unfoldable pub header_bytes : ℕ → Header → List ℕ
+header_bytes v h = front_bytes v h ++ weights_bytes (real_tasks h.set)
 
 abbrev pub header_len : FilledSet → ℕ
 header_len s = 17 + 8 * s.real
@@ -90,14 +95,14 @@ are_counts m n = (nat_lt 0 m && nat_le m 64) && (nat_lt 0 n && nat_le n 1024)
 unfoldable pub read_counts : List ℕ → Result Header Refusal
 read_counts bytes = if are_counts (workers_at bytes) (real_at bytes) then read_tasks bytes else Err damaged
 
--- the version
-unfoldable pub read_version : List ℕ → Result Header Refusal
-read_version bytes = if version_at bytes == 1 then read_counts bytes else Err (WrongVersion (version_at bytes))
+-- version v
+unfoldable pub read_version : ℕ → List ℕ → Result Header Refusal
+read_version v bytes = if version_at bytes == v then read_counts bytes else Err (WrongVersion (version_at bytes))
 
 abbrev pub is_store : List ℕ → Bool
 is_store bytes = nat_le 17 (length bytes) && bytes_eq (take 9 bytes) mark
 
 -- Bytes for all that comes before the tasks, with the mark in front: with this test first, it is the header at the front
--- of the bytes, or why there is none. What stands behind the header doesn't matter.
-unfoldable pub read_header : List ℕ → Result Header Refusal
-read_header bytes = if is_store bytes then read_version bytes else Err NotAStore
+-- of the bytes of a store of version v, or why there is none. What stands behind the header doesn't matter.
+unfoldable pub read_header : ℕ → List ℕ → Result Header Refusal
+read_header v bytes = if is_store bytes then read_version v bytes else Err NotAStore

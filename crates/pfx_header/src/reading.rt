@@ -2,7 +2,7 @@
 
 ghost use Rattle.std.specs.Prelude.{◌≡◌, ◌+◌, ◌*◌, ◌≤◌, length, drop, IfOk};
 ghost use Rattle.pfx_weights.specs.Bytes.{weight_of, weights_of};
-ghost use Rattle.pfx_header.specs.Headers.{is_store, are_counts, read_header, read_tasks, sized, workers_at, real_at};
+ghost use Rattle.pfx_header.specs.Headers.{is_store, are_counts, read_header, read_tasks, sized, this_version, workers_at, real_at};
 ghost use Rattle.pfx_header.specs.Answers.{Reads};
 
 use crate::HeaderFault;
@@ -91,20 +91,31 @@ fn read_tasks(
     }
 }
 
-/// The task set and the segment's length, in bytes, of the header at the front of the bytes.
+/// The task set and the segment's length, in bytes, of the header at the front of the bytes, of a store of this version.
 ///
 /// It is refused by the first test that fails: `NotAStore` for fewer than 17 bytes, a closed gate or other letters;
 /// `WrongVersion`; `Damaged` for counts out of range; `NotAStore` for fewer bytes than the header has; `Damaged` for
 /// tasks that are no set or a segment out of its limits. `NoMemory` comes only if an allocation failed.
 pub fn read_header(alloc: Global, bytes: &[u8]) -> Result<(TaskSet, u32), HeaderFault>
-    ensures { Reads (read_header bytes.now) result }
+    ensures { Reads (read_header this_version bytes.now) result }
+{
+    read_header_of(alloc, VERSION, bytes)
+}
+
+/// The same of a store of another version, whose header has this form.
+pub fn read_header_of(
+    alloc: Global,
+    version: u8,
+    bytes: &[u8],
+) -> Result<(TaskSet, u32), HeaderFault>
+    ensures { Reads (read_header version bytes.now) result }
 {
     if !is_store(bytes) {
         return Err(HeaderFault::NotAStore);
     }
-    let version = bytes[9];
-    if version != VERSION {
-        return Err(HeaderFault::WrongVersion { version });
+    let found = bytes[9];
+    if found != version {
+        return Err(HeaderFault::WrongVersion { version: found });
     }
     let workers = bytes[10];
     let real = LittleEndian::read_u16(&bytes[11..]);

@@ -3,7 +3,7 @@
 ghost use Rattle.std.specs.Prelude.{◌≡◌, ◌+◌, ◌≤◌, ◌++◌, length, take};
 ghost use Rattle.byteorder.specs.Endian.{little_bytes};
 ghost use Rattle.pfx_weights.specs.Bytes.{weight_bytes};
-ghost use Rattle.pfx_header.specs.Headers.{header_len, header_bytes, front_bytes};
+ghost use Rattle.pfx_header.specs.Headers.{header_len, header_bytes, front_bytes, this_version};
 
 use crate::sizes::FRONT;
 use byteorder::{ByteOrder, LittleEndian};
@@ -14,7 +14,7 @@ use pfx_weights::TaskSet;
 pub(crate) const MARK: [u8; 9] = [GATE_OPEN, b'P', b'F', b'X', b'S', b'T', b'O', b'R', b'E'];
 
 /// The version of stores that are written and read.
-pub(crate) const VERSION: u8 = 1;
+pub(crate) const VERSION: u8 = 2;
 
 /// Writes a number of two bytes at a place.
 fn put_u16(out: &mut [u8], at: usize, number: u16)
@@ -37,7 +37,7 @@ fn put_u32(out: &mut [u8], at: usize, number: u32)
 /// Writes what comes before the tasks.
 fn put_front(set: &TaskSet, segment: u32, out: &mut [u8])
     requires { 17 ≤ length out.old }
-    ensures front { take 17 out.new ≡ front_bytes (record { set = set.now; segment = segment }) }
+    ensures front { take 17 out.new ≡ front_bytes this_version (record { set = set.now; segment = segment }) }
     ensures long { length out.new ≡ length out.old }
 {
     let _total = set.total();
@@ -62,7 +62,7 @@ fn put_task(out: &mut [u8], at: usize, weight: (u32, u32))
 /// takes no memory. What `check_segment` passes is read again.
 pub fn write_header(set: &TaskSet, segment: u32, out: &mut [u8])
     requires { length out.old ≡ header_len set.now }
-    ensures { out.new ≡ header_bytes (record { set = set.now; segment = segment }) }
+    ensures { out.new ≡ header_bytes this_version (record { set = set.now; segment = segment }) }
 {
     let _total = set.total();
     put_front(set, segment, out);

@@ -4,7 +4,7 @@
 pub const HEADER: usize = 41;
 
 /// How many bytes a checkpoint's area has.
-pub const AREA: usize = 428;
+pub const AREA: usize = 1485;
 
 /// How many bytes a segment has.
 pub const SEGMENT: usize = 8192;
@@ -24,8 +24,11 @@ pub const SECOND_SEGMENT: usize = FIRST_SEGMENT + SEGMENT;
 /// How many bytes the file has.
 pub const END: usize = SECOND_SEGMENT + SEGMENT;
 
-/// Where the tasks stand in an area: behind its gate and the state's two numbers.
-pub const TASKS: usize = 17;
+/// Where the set stands in an area: behind its gate and the state's three numbers.
+pub const SET: usize = 25;
+
+/// Where the tasks stand in an area: behind the workers and the weights, of eight bytes each.
+pub const TASKS: usize = 50;
 
 /// How many bytes a real task has there: its allocations, and its job if it has one.
 pub const TASK: usize = 137;

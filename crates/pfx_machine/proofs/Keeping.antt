@@ -20,13 +20,14 @@ use Rattle.pfx_jobs.specs.Kind.{Kind, Laws}
 use Rattle.pfx_machine.specs.Plain.{Plain, whole, IsState}
 use Rattle.pfx_machine.specs.Choosing.{row_in}
 use Rattle.pfx_machine.proofs.Rowing.{row_chosen, row_below}
+use Rattle.pfx_machine.proofs.Reweighs.{accepted_set}
 use Rattle.pfx_machine.specs.Happenings.{Happening, row_or_none}
 use Rattle.pfx_machine.specs.Outcome.{outcome}
 use Rattle.pfx_machine.specs.Refusals.{refusal, command_fault, slot_fault}
 use Rattle.pfx_machine.specs.Sessions.{AllAccepted, IsAcceptable}
 use Rattle.pfx_machine.specs.Steps.{jobs_step, ledger_step, state_step, happening_in}
 use Rattle.pfx_machine.specs.declared.command.Command.{Command}
-use Rattle.pfx_machine.specs.declared.command.Command.TheVariants.{Submit, Slot, Withdraw}
+use Rattle.pfx_machine.specs.declared.command.Command.TheVariants.{Submit, Slot, Withdraw, Reweigh}
 use Rattle.pfx_machine.specs.declared.faults.MachineFault.{MachineFault}
 use Rattle.pfx_machine.specs.declared.faults.MachineFault.TheVariants.{NumberLimit, NoRow}
 use Rattle.pfx_machine.proofs.Compose.{outcome-none}
@@ -60,23 +61,27 @@ step_ledger K s (Withdraw task) h accepted = h.ledger
 step_ledger K s Slot h accepted =
     let row = row_or_none (row_in s) in
     ledger_after_row s.ledger row h.ledger (chosen_is s.ledger row (row_chosen s row (slot_row (row_in s) accepted)))
+step_ledger K s (Reweigh workers weights) h accepted = (accepted_set s workers weights accepted).ledger
 
 same_real : {J : Type 0} (K : Kind J) (s : Plain J) (c : Command J) → command_fault K s c ≡ None → (ledger_step s.ledger (happening_in s c)).set.real ≡ s.ledger.set.real
 same_real K s (Submit task job) accepted = refl
 same_real K s (Withdraw task) accepted = refl
 same_real K s Slot accepted = refl
+same_real K s (Reweigh workers weights) accepted = (accepted_set s workers weights accepted).real
 
 -- the set stays the one of its tasks
 step_set : {J : Type 0} (K : Kind J) (s : Plain J) (c : Command J) → IsState s → command_fault K s c ≡ None → IsOfItsTasks (ledger_step s.ledger (happening_in s c)).set
 step_set K s (Submit task job) h accepted = h.set
 step_set K s (Withdraw task) h accepted = h.set
 step_set K s Slot h accepted = h.set
+step_set K s (Reweigh workers weights) h accepted = (accepted_set s workers weights accepted).of
 
 -- the slot stays below its limit
 step_slot : {J : Type 0} (K : Kind J) (s : Plain J) (c : Command J) → IsState s → command_fault K s c ≡ None → whole (state_step K s (happening_in s c)) < 2 ^ 40
 step_slot K s (Submit task job) h accepted = h.slot
 step_slot K s (Withdraw task) h accepted = h.slot
 step_slot K s Slot h accepted = (let b = row_below s (row_or_none (row_in s)) (slot_row (row_in s) accepted) in omega (arith, b))
+step_slot K s (Reweigh workers weights) h accepted = (let a = h.slot in omega (arith, a))
 
 pub state_goes_on : {J : Type 0} (K : Kind J) (s : Plain J) (c : Command J) → IsState s → refusal K s c ≡ None → IsState (state_step K s (happening_in s c))
 state_goes_on K s c h accepted =

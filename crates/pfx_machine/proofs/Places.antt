@@ -4,10 +4,12 @@ use Rattle.std.proofs.Common.{zero, suc, sym, ◌∙◌, ap, ap₂, arith, eq-eq
 use Rattle.std.proofs.lemmas.Bool.{cond-true, cond-false, ne_eqb}
 use Rattle.pfx_jobs.specs.Kind.{Kind}
 use Rattle.pfx_weights.specs.Rows.{is_in}
-use Rattle.pfx_columns.specs.Ledgers.{Ledger, after}
+use Rattle.pfx_weights.specs.Sets.{FilledSet}
+use Rattle.pfx_columns.specs.Ledgers.{Ledger, after, start}
 use Rattle.pfx_machine.specs.Plain.{Plain, whole}
 use Rattle.pfx_machine.specs.Choosing.{row_in}
-use Rattle.pfx_machine.specs.Happenings.{given, taken, ran, row_or_none}
+use Rattle.pfx_machine.specs.Reweighing.{renewed}
+use Rattle.pfx_machine.specs.Happenings.{given, taken, ran, reweighed, row_or_none}
 use Rattle.pfx_machine.specs.Steps.{jobs_step, served, state_step, happening_in}
 use Rattle.pfx_machine.specs.declared.command.Command.TheVariants.{Slot}
 use Rattle.pfx_machine.proofs.Serving.{served-slot}
@@ -36,7 +38,17 @@ taken_from K t i (suc k) (o ∷ jobs) e = ap₂ ◌∷◌ (cond-false _ _ _ (ne_
 pub jobs_step-taken : {J : Type 0} (K : Kind J) (t : ℕ) (jobs : List (Option J)) → jobs_step K 0 (taken t) jobs ≡ slice_set jobs t None
 jobs_step-taken K t jobs = taken_from K t 0 t jobs (omega arith)
 
+-- a new set leaves the jobs
+jobs_step-new : {J : Type 0} (K : Kind J) (i slot : ℕ) (set : FilledSet) (jobs : List (Option J)) → jobs_step K i (reweighed slot set) jobs ≡ jobs
+jobs_step-new K i slot set [] = refl
+jobs_step-new K i slot set (o ∷ jobs) = ap (λ rest. o ∷ rest) (jobs_step-new K (i + 1) slot set jobs)
+
 -- the whole state after a command, by what changed
+
+pub state_step-new : {J : Type 0} (K : Kind J) (s : Plain J) (set : FilledSet) → renewed s set ≡ state_step K s (reweighed (whole s) set)
+state_step-new K s set =
+    let jobs = sym (jobs_step-new K 0 (whole s) set s.jobs) in
+    λ i. record { number = s.number + 1; from = whole s; ledger = start set; jobs = jobs i; segment = s.segment }
 
 pub state_step-given : {J : Type 0} (K : Kind J) (s : Plain J) (t : ℕ) (job : J) →
     record { number = s.number + 1; from = s.from; ledger = s.ledger; jobs = slice_set s.jobs t (Some job); segment = s.segment } ≡ state_step K s (given t job)

@@ -4,16 +4,18 @@ use Rattle.std.proofs.Common.{suc, sym, ◌∙◌, ap, ap₂, arith, length-appe
 use Rattle.std.proofs.lemmas.Bool.{cond-true, cond-false, cases_lt, ne_eqb}
 use Rattle.pfx_weights.specs.Rows.{is_in}
 use Rattle.pfx_choice.specs.Plans.{past}
-use Rattle.pfx_choice.proofs.Planning.{past_push}
+use Rattle.pfx_choice.proofs.Planning.{past_push, past_none}
+use Rattle.pfx_columns.specs.Ledgers.{Ledger, start}
 use Rattle.pfx_jobs.specs.Kind.{Kind, Laws}
 use Rattle.pfx_jobs.specs.Steps.{times}
 use Rattle.pfx_jobs.proofs.FromLaws.{left-times}
 use Rattle.pfx_machine.specs.Plain.{Plain}
-use Rattle.pfx_machine.specs.Happenings.{Happening, given, taken, ran, rows_of, ledger_after, happening, happenings_behind, happenings}
-use Rattle.pfx_machine.specs.Outcome.{last_that, rest_of, behind_last, job_given, slots_of, first_slots, stepped_by, job_after, jobs_after, state_after, outcome, changes_task}
-use Rattle.pfx_machine.specs.Steps.{once, once_job, job_step, jobs_step, ledger_step, state_step, happening_in}
+use Rattle.pfx_machine.specs.Happenings.{Happening, given, taken, ran, reweighed, rows_of, is_new, begun, begun_at, ledger_after, from_after, happening, happenings_behind, happenings}
+use Rattle.pfx_machine.specs.Last.{last_that, rest_of, behind_last}
+use Rattle.pfx_machine.specs.Outcome.{job_given, slots_of, first_slots, stepped_by, job_after, jobs_after, state_after, outcome, changes_task}
+use Rattle.pfx_machine.specs.Steps.{once, once_job, job_step, jobs_step, ledger_step, from_step, state_step, happening_in}
 use Rattle.pfx_machine.specs.declared.command.Command.{Command}
-use Rattle.pfx_machine.specs.declared.command.Command.TheVariants.{Submit, Slot, Withdraw}
+use Rattle.pfx_machine.specs.declared.command.Command.TheVariants.{Submit, Slot, Withdraw, Reweigh}
 
 pub happenings-snoc : {J : Type 0} (B : Plain J) (happened : List (Happening J)) (H : List (Command J)) (c : Command J) →
     happenings_behind B happened (H ++ c ∷ []) ≡ happenings_behind B happened H ++ happening B (happenings_behind B happened H) c ∷ []
@@ -27,15 +29,11 @@ rows-snoc [] h = refl
 rows-snoc (given task job ∷ happened) h = rows-snoc happened h
 rows-snoc (taken task ∷ happened) h = rows-snoc happened h
 rows-snoc (ran slot row ∷ happened) h = ap (λ rows. row ∷ rows) (rows-snoc happened h)
-
-pub ledger-snoc : {J : Type 0} (B : Plain J) (happened : List (Happening J)) (h : Happening J) → ledger_after B (happened ++ h ∷ []) ≡ ledger_step (ledger_after B happened) h
-ledger-snoc B happened (given task job) = ap (past B.ledger) (rows-snoc happened (given task job) ∙ append-nil (rows_of happened))
-ledger-snoc B happened (taken task) = ap (past B.ledger) (rows-snoc happened (taken task) ∙ append-nil (rows_of happened))
-ledger-snoc B happened (ran slot row) = ap (past B.ledger) (rows-snoc happened (ran slot row)) ∙ past_push B.ledger (rows_of happened) row
+rows-snoc (reweighed slot set ∷ happened) h = rows-snoc happened h
 
 -- a task's span
 
-last_that-snoc : {A : Type 0} (p : A → Bool) (xs : List A) (y : A) → last_that p (xs ++ y ∷ []) ≡ (if p y then Some y else last_that p xs)
+pub last_that-snoc : {A : Type 0} (p : A → Bool) (xs : List A) (y : A) → last_that p (xs ++ y ∷ []) ≡ (if p y then Some y else last_that p xs)
 last_that-snoc p [] y = refl
 last_that-snoc p (x ∷ xs) y = rw (last_that-snoc p xs y) (elim (p y) as (λ b. (elim (if b then Some y else last_that p xs) [ Some z ↦ Some z | None ↦ if p x then Some x else None ]) ≡ (if b then Some y else last_that p (x ∷ xs))) [ true ↦ refl | false ↦ refl ])
 
@@ -46,17 +44,49 @@ behind_at false (Some z) passes x xs rest y = refl
 behind_at false None true x xs rest y = refl
 behind_at false None false x xs rest y = refl
 
-behind_last-snoc : {A : Type 0} (p : A → Bool) (xs : List A) (y : A) → behind_last p (xs ++ y ∷ []) ≡ (if p y then [] else behind_last p xs ++ y ∷ [])
+pub behind_last-snoc : {A : Type 0} (p : A → Bool) (xs : List A) (y : A) → behind_last p (xs ++ y ∷ []) ≡ (if p y then [] else behind_last p xs ++ y ∷ [])
 behind_last-snoc p [] y = elim (p y) as (λ b. rest_of None b y [] [] ≡ (if b then [] else y ∷ [])) [ true ↦ refl | false ↦ refl ]
 behind_last-snoc p (x ∷ xs) y =
     ap (λ o. rest_of o (p x) x (xs ++ y ∷ []) (behind_last p (xs ++ y ∷ []))) (last_that-snoc p xs y)
     ∙ (ap (λ r. rest_of (if p y then Some y else last_that p xs) (p x) x (xs ++ y ∷ []) r) (behind_last-snoc p xs y)
     ∙ behind_at (p y) (last_that p xs) (p x) x xs (behind_last p xs) y)
 
+-- the epoch
+
+-- the rows behind the last new set, by that set and what stands behind it
+abbrev past_of : {J : Type 0} → Plain J → Option (Happening J) → List (Happening J) → Ledger
+past_of B last behind = past (begun B.ledger last) (rows_of behind)
+
+past_stays : {J : Type 0} (B : Plain J) (last : Option (Happening J)) (behind : List (Happening J)) (h : Happening J) → rows_of (h ∷ []) ≡ [] → past_of B last (behind ++ h ∷ []) ≡ past_of B last behind
+past_stays B last behind h none = ap (past (begun B.ledger last)) (rows-snoc behind h ∙ (ap (λ r. rows_of behind ++ r) none ∙ append-nil (rows_of behind)))
+
+past_step : {J : Type 0} (B : Plain J) (last : Option (Happening J)) (behind : List (Happening J)) (h : Happening J) →
+    past_of B (if is_new h then Some h else last) (if is_new h then [] else behind ++ h ∷ []) ≡ ledger_step (past_of B last behind) h
+past_step B last behind (given task job) = past_stays B last behind (given task job) refl
+past_step B last behind (taken task) = past_stays B last behind (taken task) refl
+past_step B last behind (ran slot row) = ap (past (begun B.ledger last)) (rows-snoc behind (ran slot row)) ∙ past_push (begun B.ledger last) (rows_of behind) row
+past_step B last behind (reweighed slot set) = past_none (start set)
+
+pub ledger-snoc : {J : Type 0} (B : Plain J) (happened : List (Happening J)) (h : Happening J) → ledger_after B (happened ++ h ∷ []) ≡ ledger_step (ledger_after B happened) h
+ledger-snoc B happened h =
+    ap (λ o. past_of B o (behind_last is_new (happened ++ h ∷ []))) (last_that-snoc is_new happened h)
+    ∙ (ap (λ l. past_of B (if is_new h then Some h else last_that is_new happened) l) (behind_last-snoc is_new happened h)
+    ∙ past_step B (last_that is_new happened) (behind_last is_new happened) h)
+
+begun_step : {J : Type 0} (from : ℕ) (last : Option (Happening J)) (h : Happening J) → begun_at from (if is_new h then Some h else last) ≡ from_step (begun_at from last) h
+begun_step from last (given task job) = refl
+begun_step from last (taken task) = refl
+begun_step from last (ran slot row) = refl
+begun_step from last (reweighed slot set) = refl
+
+pub from-snoc : {J : Type 0} (B : Plain J) (happened : List (Happening J)) (h : Happening J) → from_after B (happened ++ h ∷ []) ≡ from_step (from_after B happened) h
+from-snoc B happened h = ap (begun_at B.from) (last_that-snoc is_new happened h) ∙ begun_step B.from (last_that is_new happened) h
+
 slots-snoc : {J : Type 0} (task : ℕ) (happened : List (Happening J)) (h : Happening J) → slots_of task (happened ++ h ∷ []) ≡ slots_of task happened ++ slots_of task (h ∷ [])
 slots-snoc task [] h = refl
 slots-snoc task (given other job ∷ happened) h = slots-snoc task happened h
 slots-snoc task (taken other ∷ happened) h = slots-snoc task happened h
+slots-snoc task (reweighed slot set ∷ happened) h = slots-snoc task happened h
 slots-snoc task (ran slot row ∷ happened) h = elim (is_in row task) as (λ b.
     (if b then slot ∷ slots_of task (happened ++ h ∷ []) else slots_of task (happened ++ h ∷ [])) ≡ (if b then slot ∷ slots_of task happened else slots_of task happened) ++ slots_of task (h ∷ [])) [
       | true ↦ ap (λ slots. slot ∷ slots) (slots-snoc task happened h)
@@ -115,6 +145,8 @@ job_at K L task before behind last (taken other) = elim (other == task) as (λ b
       | true ↦ refl
       | false ↦ ap (λ slots. served_job K slots (job_given before last)) (slots-snoc task behind (taken other) ∙ append-nil (slots_of task behind))
     ]
+job_at K L task before behind last (reweighed slot set) =
+    ap (λ slots. served_job K slots (job_given before last)) (slots-snoc task behind (reweighed slot set) ∙ append-nil (slots_of task behind))
 job_at K L task before behind last (ran slot row) =
     ap (λ slots. served_job K slots (job_given before last)) (slots-snoc task behind (ran slot row))
     ∙ (elim (is_in row task) as (λ b. served_job K (slots_of task behind ++ (if b then slot ∷ [] else [])) (job_given before last)
@@ -141,14 +173,16 @@ pub state-snoc : {J : Type 0} (K : Kind J) (L : Laws K) (B : Plain J) (happened 
     state_after K B (happened ++ h ∷ []) ≡ state_step K (state_after K B happened) h
 state-snoc K L B happened h =
     let numbers : B.number + length (happened ++ h ∷ []) ≡ B.number + length happened + 1 = omega (arith, length-append happened (h ∷ [])) in
+    let from = from-snoc B happened h in
     let ledger = ledger-snoc B happened h in
     let jobs = jobs-snoc K L 0 B.jobs happened h in
-    λ i. record { number = numbers i; from = B.from; ledger = ledger i; jobs = jobs i; segment = B.segment }
+    λ i. record { number = numbers i; from = from i; ledger = ledger i; jobs = jobs i; segment = B.segment }
 
 happening-in : {J : Type 0} (K : Kind J) (B : Plain J) (happened : List (Happening J)) (c : Command J) → happening B happened c ≡ happening_in (state_after K B happened) c
 happening-in K B happened (Submit task job) = refl
 happening-in K B happened (Withdraw task) = refl
 happening-in K B happened Slot = refl
+happening-in K B happened (Reweigh workers weights) = refl
 
 -- the state after one more command is one step of the machine on the state before it
 pub outcome-snoc : {J : Type 0} (K : Kind J) (L : Laws K) (B : Plain J) (H : List (Command J)) (c : Command J) →

@@ -1,12 +1,15 @@
+pub mod Batches
 pub mod Board
 pub mod Choosing
 pub mod Faults
 pub mod Fitting
 pub mod Happenings
 pub mod Jobs
+pub mod Last
 pub mod Outcome
 pub mod Plain
 pub mod Refusals
+pub mod Reweighing
 pub mod Rising
 pub mod Runs
 pub mod Sessions

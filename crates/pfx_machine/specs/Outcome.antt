@@ -1,10 +1,11 @@
 -- The state after a list of commands, from the list as a whole.
-use Rattle.std.specs.Prelude.{ℕ, ◌+◌, ◌==◌, Bool, true, false, if◌then◌else◌, List, [], ◌∷◌, length, take, Option, Some, None}
+use Rattle.std.specs.Prelude.{ℕ, ◌+◌, ◌==◌, Bool, false, if◌then◌else◌, List, [], ◌∷◌, length, take, Option, Some, None}
 use Rattle.pfx_weights.specs.Rows.{is_in}
 use Rattle.pfx_jobs.specs.Kind.{Kind}
 use Rattle.pfx_jobs.specs.Steps.{times}
 use Rattle.pfx_machine.specs.Plain.{Plain}
-use Rattle.pfx_machine.specs.Happenings.{Happening, given, taken, ran, ledger_after, happenings}
+use Rattle.pfx_machine.specs.Happenings.{Happening, given, taken, ran, reweighed, ledger_after, from_after, happenings}
+use Rattle.pfx_machine.specs.Last.{last_that, behind_last}
 use Rattle.pfx_machine.specs.declared.command.Command.{Command}
 
 -- the task was given a job, or its job was taken away
@@ -12,22 +13,7 @@ abbrev pub changes_task : {J : Type 0} → ℕ → Happening J → Bool
 changes_task task (given other job) = other == task
 changes_task task (taken other) = other == task
 changes_task task (ran slot row) = false
-
--- the last element that passes a test
-abbrev pub last_that : {A : Type 0} → (A → Bool) → List A → Option A
-last_that p [] = None
-last_that p (x ∷ xs) = elim (last_that p xs) [ Some y ↦ Some y | None ↦ if p x then Some x else None ]
-
--- with the last element that passes a test behind x, if there is one: what stands behind it, else behind x or from x on
-abbrev pub rest_of : {A : Type 0} → Option A → Bool → A → List A → List A → List A
-rest_of (Some y) passes x xs rest = rest
-rest_of None true x xs rest = xs
-rest_of None false x xs rest = x ∷ xs
-
--- the elements after the last one that passes a test; all of them where none does
-abbrev pub behind_last : {A : Type 0} → (A → Bool) → List A → List A
-behind_last p [] = []
-behind_last p (x ∷ xs) = rest_of (last_that p xs) (p x) x xs (behind_last p xs)
+changes_task task (reweighed slot set) = false
 
 -- the job that a task was last given, as it was then; `before` is the task's job at the beginning
 abbrev pub job_given : {J : Type 0} → Option J → Option (Happening J) → Option J
@@ -35,6 +21,7 @@ job_given before None = before
 job_given before (Some (given task job)) = Some job
 job_given before (Some (taken task)) = None
 job_given before (Some (ran slot row)) = None
+job_given before (Some (reweighed slot set)) = None
 
 -- a task's job at the start of its span, which begins with the last change of the task's job
 abbrev pub job_at_start : {J : Type 0} → ℕ → Option J → List (Happening J) → Option J
@@ -50,6 +37,7 @@ slots_of task [] = []
 slots_of task (given other job ∷ happened) = slots_of task happened
 slots_of task (taken other ∷ happened) = slots_of task happened
 slots_of task (ran slot row ∷ happened) = if is_in row task then slot ∷ slots_of task happened else slots_of task happened
+slots_of task (reweighed slot set ∷ happened) = slots_of task happened
 
 -- the first of these slots, as many as a job has steps left
 abbrev pub first_slots : {J : Type 0} → Kind J → Option J → List ℕ → List ℕ
@@ -78,7 +66,7 @@ jobs_after K task (before ∷ rest) happened = job_after K task before happened 
 abbrev pub state_after : {J : Type 0} → Kind J → Plain J → List (Happening J) → Plain J
 state_after K B happened = record {
   number = B.number + length happened;
-  from = B.from;
+  from = from_after B happened;
   ledger = ledger_after B happened;
   jobs = jobs_after K 0 B.jobs happened;
   segment = B.segment;

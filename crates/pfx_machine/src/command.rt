@@ -1,6 +1,6 @@
 //! Commands and their replies.
 
-use pfx_weights::Row;
+use pfx_weights::{Row, Weights};
 
 /// A command. Task numbers count from 0; only real tasks have jobs.
 #[derive(Debug, Drop)]
@@ -11,6 +11,9 @@ pub enum Command<J> {
     Slot,
     /// Takes a task's job away, finished or not.
     Withdraw { task: u16 },
+    /// Gives all real tasks new weights, one each in the order of the tasks, and the set 1 to 64 workers. Every lag has to be
+    /// zero. From the next slot on tasks are chosen by the new set, as from its first slot; jobs stay as they are.
+    Reweigh { workers: u32, weights: Weights },
 }
 
 /// The answer to a command that is accepted.
@@ -22,4 +25,6 @@ pub enum Reply {
     Ran { slot: u64, row: Row },
     /// The task has no job any more.
     Withdrawn { task: u16 },
+    /// The new weights are in force from this slot on.
+    Reweighed { slot: u64 },
 }

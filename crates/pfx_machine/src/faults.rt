@@ -4,6 +4,7 @@ ghost use Rattle.std.specs.Prelude.{◌≡◌, ◌↔◌, IsTrue};
 ghost use Rattle.pfx_machine.specs.Faults.{no_memory};
 
 use pfx_choice::ChoiceFault;
+use pfx_weights::SetFault;
 use thiserror::Error;
 
 /// Why a command is refused. A refused command takes no number and changes nothing.
@@ -21,10 +22,23 @@ pub enum MachineFault {
     /// The task has no job.
     #[error("task {task} has no job")]
     NoJob { task: u16 },
-    /// A Slot has no row, or an allocation failed before it was run. The machine refuses only a Slot so; a book, each command
-    /// for which it finds no memory.
+    /// A Slot has no row, or an allocation failed before a Slot was run or new weights came into force. The machine refuses no
+    /// other command so; a book, each one for which it finds no memory.
     #[error("{0}")]
     NoRow(ChoiceFault),
+    /// A Reweigh hasn't as many weights as there are real tasks.
+    #[error("there is not one weight for each task")]
+    WrongCount,
+    /// The lag of this task, the first such one, isn't zero, so no new weights come into force. It may be an idle task.
+    #[error("task {task} has a lag other than zero")]
+    NotLevel { task: u16 },
+    /// The new workers and weights are no set. The fault isn't NoMemory: that is a NoRow.
+    #[error("{0}")]
+    NoSet(SetFault),
+    /// The segments of the store are too short for the new set: they would have to have `least` bytes, for the longest batch of
+    /// its workers and the record of its weights.
+    #[error("a segment would have to have {least} bytes")]
+    SegmentTooSmall { least: u32 },
 }
 
 impl MachineFault {

@@ -1,11 +1,12 @@
 //! What holds of every list of commands, each the contract of a function without a body.
 
-ghost use Rattle.std.specs.Prelude.{◌≡◌, ℕ, List, ◌++◌, length, map, Option, Ok, true};
+ghost use Rattle.std.specs.Prelude.{◌≡◌, ℕ, List, ◌++◌, ◌+◌, length, map, Option, Ok, true};
 ghost use Rattle.pfx_weights.specs.Sets.{IsFilled, IsOfItsTasks};
 ghost use Rattle.pfx_machine.specs.Fitting.{fits};
 ghost use Rattle.pfx_machine.specs.Plain.{Plain, whole, IsState};
+ghost use Rattle.pfx_machine.specs.Last.{last_that, behind_last};
 ghost use Rattle.pfx_choice.specs.Plans.{IsPlan};
-ghost use Rattle.pfx_machine.specs.Happenings.{happenings, rows_of};
+ghost use Rattle.pfx_machine.specs.Happenings.{happenings, rows_of, begun, is_new};
 ghost use Rattle.pfx_machine.specs.Outcome.{outcome, quanta_of};
 ghost use Rattle.pfx_machine.specs.Rising.{RisesFrom};
 ghost use Rattle.pfx_machine.specs.Sessions.{IsAcceptable, replies};
@@ -37,15 +38,20 @@ pub fn acceptable_lists_are_accepted<J: Job>()
     ensures answers { (B : Plain J) (H : List (Command J)) → IsAcceptable J.kind B H → answers J.kind B H ≡ map Ok (replies J.kind B H) }
 {}
 
-/// The rows of an acceptable list are a plan from its start: each is the one that is chosen at the ledger that the rows
-/// before it leave.
+/// The rows of an acceptable list since its last new set are a plan from that set's start, or from the list's: each is the one
+/// that is chosen at the ledger that the rows before it leave.
 pub fn rows_are_chosen<J: Job>()
-    ensures { (B : Plain J) (H : List (Command J)) → IsAcceptable J.kind B H → IsPlan B.ledger (rows_of (happenings B H)) }
+    ensures { (B : Plain J) (H : List (Command J)) → IsAcceptable J.kind B H → IsPlan (begun B.ledger (last_that is_new (happenings B H))) (rows_of (behind_last is_new (happenings B H))) }
 {}
 
 /// The quanta of a job are different slots, none before the start: no slot steps a job twice.
 pub fn quanta_are_apart<J: Job>()
     ensures { (B : Plain J) (H : List (Command J)) (task : ℕ) (before : Option J) → RisesFrom (whole B) (quanta_of J.kind task before (happenings B H)) }
+{}
+
+/// Slots are counted over all sets: one for each row.
+pub fn slots_are_counted<J: Job>()
+    ensures { (B : Plain J) (H : List (Command J)) → whole (outcome J.kind B H) ≡ whole B + length (rows_of (happenings B H)) }
 {}
 
 /// The tests of a state, of its numbers and of each lag, are passed exactly by states, if its set is filled, and there is a

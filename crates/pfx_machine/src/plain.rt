@@ -7,10 +7,10 @@ ghost use Rattle.pfx_machine.specs.Outcome.{job_after};
 ghost use Rattle.pfx_machine.specs.Steps.{once_job, job_step};
 
 use pfx_jobs::job::Job;
-use pfx_weights::Row;
+use pfx_weights::{Row, TaskSet};
 
 /// What a command did.
-#[derive(Debug, Drop)]
+#[derive(Drop)]
 pub enum Happening<J> {
     /// A task was given a job.
     Given { task: u16, job: J },
@@ -18,6 +18,8 @@ pub enum Happening<J> {
     Taken { task: u16 },
     /// A slot was run with this row.
     Ran { slot: u64, row: Row },
+    /// At this slot this set came into force.
+    Reweighed { slot: u64, set: TaskSet },
 }
 
 /// A task's job after all that happened: as it was at the start of its span, stepped once for each of its quanta.
@@ -48,6 +50,7 @@ fn after_one<J: Job>(task: u16, job: Option<J>, happening: &Happening<J>) -> Opt
         }
         Happening::Taken { task: other } => { if *other == task { None } else { job } }
         Happening::Ran { row, .. } => { if row.holds(task) { once(job) } else { job } }
+        Happening::Reweighed { .. } => job,
     }
 }
 

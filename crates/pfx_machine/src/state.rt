@@ -1,6 +1,6 @@
 //! The machine's state.
 
-ghost use Rattle.std.specs.Prelude.{◌≡◌, ◌↔◌, ◌+◌, ◌<◌, ◌≤◌, ◌^◌, ◌++◌, [], ◌∷◌, List, length, map, replicate, slice_get, slice_set, Some, None, Ok, IsTrue};
+ghost use Rattle.std.specs.Prelude.{◌≡◌, ◌↔◌, ℕ, ◌+◌, ◌<◌, ◌≤◌, ◌^◌, ◌++◌, [], ◌∷◌, List, length, map, replicate, slice_get, slice_set, Some, None, Ok, IsTrue};
 ghost use Rattle.std.specs.Prelude.{IsFalse, MatchResult, IfOk, IfNone, OnOk, OnErr};
 ghost use Rattle.std.specs.Option.{option_copied};
 ghost use Rattle.pfx_weights.specs.Rows.{is_in, IsFullRow};
@@ -9,6 +9,7 @@ ghost use Rattle.pfx_columns.specs.Ledgers.{start, after, IsFair};
 ghost use Rattle.pfx_machine.specs.Plain.{Plain, whole, IsState, empty};
 ghost use Rattle.pfx_choice.specs.PfRows.{AnswersFunction};
 ghost use Rattle.pfx_machine.specs.Choosing.{row_in};
+ghost use Rattle.pfx_machine.specs.Reweighing.{new_set, renewed};
 ghost use Rattle.pfx_machine.specs.Outcome.{outcome};
 ghost use Rattle.pfx_machine.specs.Steps.{state_step, happening_in};
 ghost use Rattle.pfx_machine.specs.Refusals.{submit_fault, withdraw_fault, refusal, reply, IsFaultOf};
@@ -16,13 +17,14 @@ ghost use Rattle.pfx_machine.specs.Slots.{deal, deals_in};
 ghost use Rattle.pfx_machine.specs.declared.command.Command.{Command};
 
 use crate::jobs::{copy_jobs, has_job, is_free};
+use crate::reweighing::{NewEpoch, new_epoch};
 use crate::slot::{deal_all, serve_all, write_back};
 use crate::{Command, MachineFault, Reply};
 use pfx_choice::{ChoiceFault, Chooser, give};
 use pfx_columns::Columns;
 use pfx_jobs::job::Job;
 use pfx_jobs::quantum::{Done, Quantum};
-use pfx_weights::{Row, TaskSet};
+use pfx_weights::{Row, TaskSet, Weights};
 use std::alloc::{AllocError, Global};
 use std::marker::Model;
 
@@ -36,6 +38,7 @@ const LAST_NUMBER: u64 = (1 << 48) - 1;
 /// for a job for each real task.
 #[derive(Drop)]
 pub struct State<J: Job> {
+    alloc: Global,
     number: u64,
     from: u64,
     ledger: Columns,
@@ -105,6 +108,7 @@ impl<J: Job> State<J> {
         let jobs = no_jobs(alloc, set.real())?;
         let _total = ledger.total();
         Ok(State {
+            alloc,
             number: 0,
             from: 0,
             ledger,
@@ -132,6 +136,7 @@ impl<J: Job> State<J> {
     {
         let _total = ledger.total();
         State {
+            alloc,
             number,
             from,
             ledger,
@@ -246,6 +251,7 @@ impl<J: Job> State<J> {
         let ledger = self.ledger.copy_of(alloc)?;
         let jobs = copy_jobs(alloc, &self.jobs)?;
         Ok(State {
+            alloc,
             number: self.number,
             from: self.from,
             ledger,
@@ -284,6 +290,7 @@ impl<J: Job> State<J> {
                 Err(fault) => Err(fault),
                 Ok(row) => Ok(self.run_row(row)),
             },
+            Command::Reweigh { workers, weights } => self.reweigh(workers, &weights),
         }
     }
 
@@ -295,6 +302,20 @@ impl<J: Job> State<J> {
     {
         self.jobs[usize::from(task)] = place;
         self.number += 1;
+    }
+
+    /// A set of these workers and weights comes into force, if it may.
+    fn reweigh(&mut self, workers: u32, weights: &Weights) -> Result<Reply, MachineFault>
+        ensures exact { MatchResult result (λ _. refusal J.kind self.old (Command.Reweigh workers weights.now) ≡ None) (λ fault. IsFaultOf J.kind self.old (Command.Reweigh workers weights.now) fault) }
+        ensures reply { IfOk result (λ said. said ≡ Reply.Reweighed (whole self.old)) }
+        ensures step { OnOk result (self.new ≡ renewed self.old (new_set self.old.ledger.set workers weights.now)) }
+        ensures kept { OnErr result (self.new ≡ self.old) }
+    {
+        let alloc = self.alloc;
+        match self.prepare(alloc, workers, weights) {
+            Err(fault) => Err(fault),
+            Ok(epoch) => Ok(self.begin(epoch)),
+        }
     }
 
     /// The row of the next slot.
@@ -343,7 +364,8 @@ impl<J: Job> State<J> {
     /// If the state is the outcome of commands from some start, it is afterwards the outcome of these and this one. A
     /// command is refused by the first of these that holds, and then nothing changes: NumberLimit; for a Submit
     /// NoSuchTask, TaskBusy; for a Withdraw NoSuchTask, NoJob; for a Slot, as NoRow, SlotLimit, TooManyUrgent,
-    /// TooFewEligible. NoRow(NoMemory) comes only for a Slot, and only if an allocation failed.
+    /// TooFewEligible; for a Reweigh WrongCount, NotLevel, as NoSet the first fault that `TaskSet::new` finds, SegmentTooSmall.
+    /// NoRow(NoMemory) comes only for a Slot or a Reweigh, and only if an allocation failed.
     pub fn apply(&mut self, command: Command<J>) -> Result<Reply, MachineFault>
         ensures exact { MatchResult result (λ _. refusal J.kind self.old command ≡ None) (λ fault. IsFaultOf J.kind self.old command fault) }
         ensures reply { IfOk result (λ said. said ≡ reply self.old command) }
@@ -351,6 +373,52 @@ impl<J: Job> State<J> {
         ensures kept { OnErr result (self.new ≡ self.old) }
     {
         self.accept(command)
+    }
+
+    /// The set of a Reweigh's workers and weights, with the ledger that it begins with. The state stays as it is. It is refused
+    /// as a Reweigh is, in the same order.
+    pub fn prepare(
+        &self,
+        alloc: Global,
+        workers: u32,
+        weights: &Weights,
+    ) -> Result<NewEpoch, MachineFault>
+        ensures set { IfOk result (λ epoch. epoch ≡ new_set self.now.ledger.set workers weights.now) }
+        ensures number { OnOk result (self.now.number + 1 < 2 ^ 48) }
+        ensures real { IfOk result (λ epoch. epoch.real ≡ self.now.ledger.set.real) }
+        ensures exact { MatchResult result (λ _. refusal J.kind self.now (Command.Reweigh workers weights.now) ≡ None) (λ fault. IsFaultOf J.kind self.now (Command.Reweigh workers weights.now) fault) }
+    {
+        if self.number >= LAST_NUMBER {
+            return Err(MachineFault::NumberLimit);
+        }
+        new_epoch(
+            alloc,
+            &self.ledger,
+            self.segment,
+            workers,
+            weights.as_slice(),
+        )
+    }
+
+    /// Puts a set in force that was prepared: from the next slot on tasks are chosen by it, as from its first slot. It takes no
+    /// memory.
+    ///
+    /// The reply is that of `apply` of a Reweigh. So is the state, if the set is that of the Reweigh's workers and weights.
+    pub fn begin(&mut self, epoch: NewEpoch) -> Reply
+        requires number { self.old.number + 1 < 2 ^ 48 }
+        requires real { epoch.real ≡ self.old.ledger.set.real }
+        ensures reply { result ≡ Reply.Reweighed (whole self.old) }
+        ensures state { self.new ≡ renewed self.old epoch }
+        ensures outcome { (workers : ℕ) (weights : List (ℕ × ℕ)) → epoch ≡ new_set self.old.ledger.set workers weights →
+            (B : Plain J) (H : List (Command J)) → self.old ≡ outcome J.kind B H → self.new ≡ outcome J.kind B (H ++ Command.Reweigh workers weights ∷ []) }
+    {
+        let slot = self.slot();
+        let ledger = epoch.ledger();
+        let _total = ledger.total();
+        self.from = slot;
+        self.ledger = ledger;
+        self.number += 1;
+        Reply::Reweighed { slot }
     }
 
     /// The row of the next slot, and a quantum for each of its tasks with an unfinished job, in rising task order. The

@@ -471,7 +471,7 @@ pub(crate) const NO_STORE_FIRST: Texts = Texts {
 };
 
 pub(crate) const VERSION: Texts = Texts {
-    what: "store {0}: it is of version {1}, and this program reads version 1",
+    what: "store {0}: it is of version {1}, and this program reads version 2",
     change: "Use the program that made it. Nothing is changed in it.",
 };
 

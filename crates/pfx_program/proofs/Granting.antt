@@ -23,7 +23,8 @@ use Rattle.pfx_machine.specs.Refusals.{refusal, reply, command_fault, submit_fau
 use Rattle.pfx_machine.specs.Runs.{answer_by}
 use Rattle.pfx_machine.specs.Steps.{once, once_job, job_step, jobs_step, state_step, happening_in}
 use Rattle.pfx_machine.specs.declared.command.Command.{Command}
-use Rattle.pfx_machine.specs.declared.command.Command.TheVariants.{Submit, Slot, Withdraw}
+use Rattle.pfx_machine.specs.declared.command.Command.TheVariants.{Submit, Slot, Withdraw, Reweigh}
+use Rattle.pfx_machine.specs.Batches.{IsCommon}
 use Rattle.pfx_machine.specs.declared.faults.MachineFault.{MachineFault}
 use Rattle.pfx_machine.specs.declared.faults.MachineFault.TheVariants.{NoSuchTask}
 use Rattle.pfx_machine.proofs.Compose.{outcome-none, outcome-outcome}
@@ -34,7 +35,7 @@ use Rattle.pfx_fault.specs.declared.refusals.Fault.TheVariants as fault
 use Rattle.pfx_script.specs.Records.{Fields}
 use Rattle.pfx_script.specs.Verbs.{Said, submit, slot, withdraw, settle, status, show, verb_of}
 use Rattle.pfx_kinds.specs.Units.{unit_of, last_by, is_behind, is_taken}
-use Rattle.pfx_program.specs.Grants.{last_at, is_next, last_of, AreGranted, FollowsAt, Follows, AllFollow, with_unit, units_of, KeepsAnswers, CountUp}
+use Rattle.pfx_program.specs.Grants.{last_at, is_next, last_of, AreGranted, FollowsAt, Follows, Anew, AllFollow, with_unit, units_of, KeepsAnswers, CountUp}
 use Rattle.pfx_program.specs.Jobs.{shown_jobs}
 use Rattle.pfx_program.specs.Script.{Run, with_command, commands_of, moved, answered, refused, command_step, follows, slot_steps, job_by, submitted, jobs_step as shown_step, verb_steps, course_by, course_from}
 use Rattle.pfx_program.proofs.StepLemmas.{commands_append}
@@ -81,9 +82,9 @@ alloc_grows s k (a ∷ allocs) (suc x) = alloc_grows s (k + 1) allocs x
 equal_by : (y x : ℕ) → (y == x) ≡ true → y ≡ x
 equal_by y x e = grind (arith, nat_tests)
 
--- a command that follows keeps it so that each answered unit was granted
-granted_step : (s : Plain AnyJob) (c : Command AnyJob) → AreGranted s → Follows s c → AreGranted (state_step any_kind s (happening_in s c))
-granted_step s (Submit y job) h f x last is = by (slice_get s.jobs x) refl (y == x) refl (sym (last_step s (given y job) x) ∙ is)
+-- a command that follows, all but new weights, keeps it so that each answered unit was granted
+granted_step : (s : Plain AnyJob) (c : Command AnyJob) → IsCommon c → AreGranted s → Follows s c → AreGranted (state_step any_kind s (happening_in s c))
+granted_step s (Submit y job) common h f x last is = by (slice_get s.jobs x) refl (y == x) refl (sym (last_step s (given y job) x) ∙ is)
   where
     by : (place : Option (Option AnyJob)) → slice_get s.jobs x ≡ place → (b : Bool) → (y == x) ≡ b → last_at (option_map (λ o. if b then Some job else o) place) ≡ Some last → last ≤ (task s.ledger x).alloc
     by None p b e l = absurd (none-some last l)
@@ -91,13 +92,14 @@ granted_step s (Submit y job) h f x last is = by (slice_get s.jobs x) refl (y ==
     by (Some o) p true e l =
         let follows : FollowsAt s y (Some last) = subst (FollowsAt s y) l f in
         subst (λ z. last ≤ (task s.ledger z).alloc) (equal_by y x e) follows.0
-granted_step s (Withdraw y) h f x last is = by (slice_get s.jobs x) refl (y == x) (sym (last_step s (taken y) x) ∙ is)
+granted_step s (Withdraw y) common h f x last is = by (slice_get s.jobs x) refl (y == x) (sym (last_step s (taken y) x) ∙ is)
   where
     by : (place : Option (Option AnyJob)) → slice_get s.jobs x ≡ place → (b : Bool) → last_at (option_map (λ o. if b then None else o) place) ≡ Some last → last ≤ (task s.ledger x).alloc
     by None p b l = absurd (none-some last l)
     by (Some o) p false l = h x last (ap last_at p ∙ l)
     by (Some o) p true l = absurd (none-some last l)
-granted_step s Slot h f x last is =
+granted_step s (Reweigh workers weights) common h f x last is = absurd common
+granted_step s Slot common h f x last is =
     let before : last ≤ (task s.ledger x).alloc = h x last (sym (last_step s (happening_in s Slot) x ∙ last_ran x (whole s) (row_or_none (row_in s)) (slice_get s.jobs x)) ∙ is) in
     let grows = alloc_grows (is_in (row_or_none (row_in s))) 0 s.ledger.allocs x in
     omega (arith, before, grows)
@@ -199,10 +201,20 @@ course_each at r (row ∷ rows) = by (verb_of row) (λ next. course_each (at + 1
         subst (λ (l : List (Command AnyJob)). Each r.state [] l) (sym (commands_append steps (course_from (at + 1) next rows).steps))
         (each_both r.state (commands_of steps) (commands_of (course_from (at + 1) next rows).steps) (verb_each r said) (rest next))
 
+then_anew : {P : Type 0} (s : Plain AnyJob) (before : List (Command AnyJob)) (c : Command AnyJob) → AreGranted (outcome any_kind s before) → Follows (outcome any_kind s before) c
+    → (AreGranted (outcome any_kind s (before ++ c ∷ [])) → P) → Anew c (outcome any_kind s (before ++ c ∷ [])) P
+then_anew {P} s before c g one rest = by c (λ common. rest (subst AreGranted (sym (outcome-snoc any_kind any_laws s before c)) (granted_step (outcome any_kind s before) c common g one))) rest
+  where
+    by : (d : Command AnyJob) → (IsCommon d → P) → (AreGranted (outcome any_kind s (before ++ c ∷ [])) → P) → Anew d (outcome any_kind s (before ++ c ∷ [])) P
+    by (Submit x job) common all = common tt
+    by (Withdraw x) common all = common tt
+    by Slot common all = common tt
+    by (Reweigh workers weights) common all = all
+
 each_granted : (s : Plain AnyJob) (before H : List (Command AnyJob)) → AreGranted (outcome any_kind s before) → Each s before H → AllFollow s before H
 each_granted s before [] g h = g
 each_granted s before (c ∷ H) g (one, rest) =
-    (g, one, each_granted s (before ++ c ∷ []) H (subst AreGranted (sym (outcome-snoc any_kind any_laws s before c)) (granted_step (outcome any_kind s before) c g one)) rest)
+    (g, one, then_anew s before c g one (λ again. each_granted s (before ++ c ∷ []) H again rest))
 
 pub course_follows : (at : ℕ) (r : Run) (rows : List Fields) → AreGranted r.state → AllFollow r.state [] (commands_of (course_from at r rows).steps)
 course_follows at r rows g = each_granted r.state [] (commands_of (course_from at r rows).steps) (subst AreGranted (sym (outcome-none any_kind r.state)) g) (course_each at r rows)
@@ -262,6 +274,16 @@ units_count s before (Slot ∷ H) x last (one, rest) is keeps =
     let next : last_of (outcome any_kind s (before ++ Slot ∷ [])) x ≡ last_of (state_step any_kind now (happening_in now Slot)) x
     = ap (λ (t : Plain AnyJob). last_of t x) (outcome-snoc any_kind any_laws s before Slot) in
     units_count s (before ++ Slot ∷ []) H x last rest (next ∙ last_step now (happening_in now Slot) x ∙ last_ran x (whole now) (row_or_none (row_in now)) (slice_get now.jobs x) ∙ is) keeps
+units_count s before (Reweigh workers weights ∷ H) x last (one, rest) is keeps =
+    let now = outcome any_kind s before in
+    let c : Command AnyJob = Reweigh workers weights in
+    let next : last_of (outcome any_kind s (before ++ c ∷ [])) x ≡ last_of (state_step any_kind now (happening_in now c)) x
+    = ap (λ (t : Plain AnyJob). last_of t x) (outcome-snoc any_kind any_laws s before c) in
+    units_count s (before ++ c ∷ []) H x last rest (next ∙ last_step now (happening_in now c) x ∙ last_new x (slice_get now.jobs x) ∙ is) keeps
+  where
+    last_new : (x : ℕ) (place : Option (Option AnyJob)) → last_at (option_map (λ o. o) place) ≡ last_at place
+    last_new x None = refl
+    last_new x (Some o) = refl
 
 pub course_counts : (at : ℕ) (r : Run) (rows : List Fields) (x last : ℕ) → last_of r.state x ≡ Some last → KeepsAnswers x (commands_of (course_from at r rows).steps)
     → CountUp last (units_of x (commands_of (course_from at r rows).steps))

@@ -14,13 +14,13 @@ use Rattle.pfx_kinds.specs.Units.{unit_of, is_taken}
 use Rattle.pfx_kinds.specs.declared.any.AnyJob.{AnyJob}
 use Rattle.pfx_machine.specs.Plain.{Plain}
 use Rattle.pfx_machine.specs.Outcome.{outcome}
-use Rattle.pfx_machine.specs.Refusals.{IsFaultOf, refusal, reply}
+use Rattle.pfx_machine.specs.Refusals.{IsFaultOf, TakesMemory, refusal, reply}
 use Rattle.pfx_machine.specs.Runs.{answer, answer_by}
 use Rattle.pfx_machine.specs.Steps.{job_step, state_step, happening_in}
 use Rattle.pfx_machine.specs.declared.plain.Happening.{Happening}
 use Rattle.pfx_machine.specs.declared.plain.Happening.TheVariants.{Given as given, Taken as taken}
 use Rattle.pfx_machine.specs.declared.command.Command.{Command}
-use Rattle.pfx_machine.specs.declared.command.Command.TheVariants.{Submit, Slot, Withdraw}
+use Rattle.pfx_machine.specs.declared.command.Command.TheVariants.{Submit, Slot, Withdraw, Reweigh}
 use Rattle.pfx_machine.specs.declared.command.Reply.{Reply}
 use Rattle.pfx_machine.specs.declared.faults.MachineFault.{MachineFault}
 use Rattle.pfx_machine.proofs.Compose.{outcome-none, outcome-outcome}
@@ -242,6 +242,7 @@ next_step : (s : Plain AnyJob) (x : ℕ) (job : AnyJob) (c : Command AnyJob) →
 next_step s x job (Submit y other) apart = next_by s x y job (given y other) (λ o. ap (λ (b : Bool). if b then Some other else o) apart) refl
 next_step s x job (Withdraw y) apart = next_by s x y job (taken y) (λ o. ap (λ (b : Bool). if b then None else o) apart) refl
 next_step s x job Slot apart = absurd cc
+next_step s x job (Reweigh workers weights) apart = absurd cc
 
 one_outcome : (s : Plain AnyJob) (c : Command AnyJob) → outcome any_kind s (c ∷ []) ≡ state_step any_kind s (happening_in s c)
 one_outcome s c = outcome-snoc any_kind any_laws s [] c ∙ ap (λ (t : Plain AnyJob). state_step any_kind t (happening_in t c)) (outcome-none any_kind s)
@@ -428,8 +429,15 @@ count_small (Err f ∷ told) = let rest = count_small told in omega (arith, rest
 
 -- ---- commands that are run one after the other
 
+-- and none of them takes memory
+change_takes : (c : Command AnyJob) → IsChange c → TakesMemory c → ⊥
+change_takes (Submit x job) change takes = takes
+change_takes (Withdraw x) change takes = takes
+change_takes Slot change takes = change
+change_takes (Reweigh workers weights) change takes = change
+
 pub change_refused : (s : Plain AnyJob) (c : Command AnyJob) (f : MachineFault) → IsChange c → IsFaultOf any_kind s c f → answer any_kind s c ≡ Err f
-change_refused s c f change fault = ap (answer_by (reply s c)) (fault.1 (λ same. subst IsChange (fault.0 same) change))
+change_refused s c f change fault = ap (answer_by (reply s c)) (fault.1 (λ same. change_takes c change (fault.0 same)))
 
 pub change_accepted : (s : Plain AnyJob) (c : Command AnyJob) (said : Reply) → refusal any_kind s c ≡ None → said ≡ reply s c → answer any_kind s c ≡ Ok said
 change_accepted s c said none is = ap (answer_by (reply s c)) none ∙ ap Ok (sym is)

@@ -8,14 +8,14 @@ use Rattle.pfx_program.specs.declared.engine.Place.{Place}
 use Rattle.pfx_machine.specs.Plain.{Plain}
 use Rattle.pfx_machine.specs.Outcome.{outcome}
 use Rattle.pfx_machine.specs.declared.command.Command.{Command}
-use Rattle.pfx_machine.specs.declared.command.Command.TheVariants.{Submit, Slot, Withdraw}
+use Rattle.pfx_machine.specs.declared.command.Command.TheVariants.{Submit, Slot, Withdraw, Reweigh}
 
 -- the unit that was answered last, by a task's place in the list of jobs
 abbrev pub last_at : Option (Option AnyJob) → Option ℕ
 last_at None = None
 last_at (Some place) = last_by unit_of place
 
--- how many units a task was given
+-- how many units a task was given since its weight came into force
 abbrev pub granted : Plain AnyJob → ℕ → ℕ
 granted s x = (task s.ledger x).alloc
 
@@ -46,11 +46,20 @@ abbrev pub Follows : Plain AnyJob → Command AnyJob → Type 0
 Follows s (Submit x job) = FollowsAt s x (unit_of job)
 Follows s (Withdraw x) = ⊤
 Follows s Slot = ⊤
+Follows s (Reweigh workers weights) = ⊤
+
+-- New weights count units from 0 again: behind them what was last answered has to have been given anew.
+abbrev pub Anew : Command AnyJob → Plain AnyJob → Type 0 → Type 0
+Anew (Submit x job) s rest = rest
+Anew (Withdraw x) s rest = rest
+Anew Slot s rest = rest
+Anew (Reweigh workers weights) s rest = AreGranted s → rest
 
 -- after each first part of these commands, and of none of them: each unit that was last answered was given, and so is the next answer
 abbrev pub AllFollow : Plain AnyJob → List (Command AnyJob) → List (Command AnyJob) → Type 0
 AllFollow s before [] = AreGranted (outcome any_kind s before)
-AllFollow s before (c ∷ H) = AreGranted (outcome any_kind s before) × Follows (outcome any_kind s before) c × AllFollow s (before ++ c ∷ []) H
+AllFollow s before (c ∷ H) = AreGranted (outcome any_kind s before) × Follows (outcome any_kind s before) c
+    × Anew c (outcome any_kind s (before ++ c ∷ [])) (AllFollow s (before ++ c ∷ []) H)
 
 -- ---- the units of one task
 
@@ -64,6 +73,7 @@ units_of x [] = []
 units_of x (Submit y job ∷ H) = if y == x then with_unit (unit_of job) (units_of x H) else units_of x H
 units_of x (Withdraw y ∷ H) = units_of x H
 units_of x (Slot ∷ H) = units_of x H
+units_of x (Reweigh workers weights ∷ H) = units_of x H
 
 -- no command takes the task's answers away: it isn't given a job of pfx's own kinds, and its job isn't withdrawn
 abbrev pub KeepsAnswers : ℕ → List (Command AnyJob) → Type 0
@@ -71,6 +81,7 @@ KeepsAnswers x [] = ⊤
 KeepsAnswers x (Submit y job ∷ H) = (y ≡ x → unit_of job ≢ None) × KeepsAnswers x H
 KeepsAnswers x (Withdraw y ∷ H) = (y ≢ x) × KeepsAnswers x H
 KeepsAnswers x (Slot ∷ H) = KeepsAnswers x H
+KeepsAnswers x (Reweigh workers weights ∷ H) = KeepsAnswers x H
 
 -- each unit is the one behind the one before it, the first the one behind `last`
 abbrev pub CountUp : ℕ → List ℕ → Type 0

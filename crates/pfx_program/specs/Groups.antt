@@ -4,7 +4,7 @@ use Rattle.std.specs.Io.KnownBytes.{Appends}
 use Rattle.pfx_kinds.specs.declared.any.AnyJob.{AnyJob}
 use Rattle.pfx_machine.specs.Plain.{Plain}
 use Rattle.pfx_machine.specs.declared.command.Command.{Command}
-use Rattle.pfx_machine.specs.declared.command.Command.TheVariants.{Submit, Slot, Withdraw}
+use Rattle.pfx_machine.specs.declared.command.Command.TheVariants.{Submit, Slot, Withdraw, Reweigh}
 use Rattle.pfx_fault.specs.declared.refusals.Fault.{Fault}
 use Rattle.pfx_script.specs.Records.{Fields, Records, Takes, Reads, ReadFails}
 use Rattle.pfx_script.specs.Verbs.{Said, verb_of}
@@ -60,11 +60,12 @@ pub record ToldFail (form : Form) (told : List Told) (old new : Option (List ℕ
 
 -- ---- which records join a group
 
--- the command is of this task, or a Slot, which is of every task
+-- the command is of this task, or a Slot or new weights, which are of every task
 abbrev pub touches : ℕ → Command AnyJob → Bool
 touches x (Submit y job) = y == x
 touches x (Withdraw y) = y == x
 touches x Slot = true
+touches x (Reweigh workers weights) = true
 
 abbrev pub Avoid : ℕ → List (Command AnyJob) → Type 0
 Avoid x [] = ⊤

@@ -1,5 +1,5 @@
 -- What is printed as JSON: an object a line, with its keys in alphabetical order.
-use Rattle.std.specs.Prelude.{codes, ◌++◌, ◌+◌, ℕ, List, [], ◌∷◌, map, Option, Some, None, slice_get}
+use Rattle.std.specs.Prelude.{codes, ◌++◌, ◌+◌, ◌==◌, if◌then◌else◌, ℕ, List, [], ◌∷◌, map, Option, Some, None, slice_get}
 use Rattle.serde_json.specs.Data.{Data, unsigned, number, string, array, object, Members, no_members, member}
 use Rattle.serde_json.specs.Find.{of_integer}
 use Rattle.serde_json.specs.View.{items_of}
@@ -77,10 +77,15 @@ abbrev pub ran_object : ℕ → ℕ → List ℕ → Data
 ran_object n slot row =
     object (text_at (codes "did") (codes "ran") (number_at (codes "number") n (number_at (codes "slot") slot (numbers_at (codes "tasks") row no_members))))
 
+-- `{"did":"reweighed","number":4,"slot":3}`
+abbrev pub reweighed_object : ℕ → ℕ → Data
+reweighed_object n slot = object (text_at (codes "did") (codes "reweighed") (number_at (codes "number") n (number_at (codes "slot") slot no_members)))
+
 abbrev pub reply_object : ℕ → Reply → Data
 reply_object n (reply.Submitted task) = task_object n (codes "submitted") task
 reply_object n (reply.Ran slot row) = ran_object n slot row
 reply_object n (reply.Withdrawn task) = task_object n (codes "withdrawn") task
+reply_object n (reply.Reweighed slot) = reweighed_object n slot
 
 -- the fields of a fault, those of its row in the table of refusals
 abbrev pub fault_fields : Fault → Members
@@ -93,6 +98,7 @@ fault_fields (fault.OutOfRange task) = number_at (codes "task") task no_members
 fault_fields (fault.NoSuchTask task) = number_at (codes "task") task no_members
 fault_fields (fault.TaskBusy task) = number_at (codes "task") task no_members
 fault_fields (fault.NoJob task) = number_at (codes "task") task no_members
+fault_fields (fault.NotLevel task) = number_at (codes "task") task no_members
 fault_fields (fault.NotNext task) = number_at (codes "task") task no_members
 fault_fields (fault.Damaged at what) = number_at (codes "at") at (text_at (codes "what") (part_name what) no_members)
 fault_fields (fault.WrongVersion version) = number_at (codes "version") version no_members
@@ -142,7 +148,11 @@ abbrev pub line_objects : List (Option AnyJob) → ℕ → List TaskLine → Lis
 line_objects jobs x [] = []
 line_objects jobs x (t ∷ ts) = line_object (job_word (slice_get jobs x) t.job) x t ∷ line_objects jobs (x + 1) ts
 
+-- the slot from which on the weights are in force, where there were others before
+abbrev pub from_at : ℕ → Members → Members
+from_at from rest = if from == 0 then rest else number_at (codes "from") from rest
+
 -- `{"number":4,"slot":3,"tasks":[{"alloc":1,"job":"none","lag":-1,"period":3,"task":0}]}`
-abbrev pub board_object : ℕ → ℕ → List TaskLine → List (Option AnyJob) → Data
-board_object n slot lines jobs =
-    object (number_at (codes "number") n (number_at (codes "slot") slot (member (codes "tasks") (array (items_of (line_objects jobs 0 lines))) no_members)))
+abbrev pub board_object : ℕ → ℕ → ℕ → List TaskLine → List (Option AnyJob) → Data
+board_object n slot from lines jobs = object (from_at from
+    (number_at (codes "number") n (number_at (codes "slot") slot (member (codes "tasks") (array (items_of (line_objects jobs 0 lines))) no_members))))

@@ -105,7 +105,7 @@ submitted r task (Err f) = refused r.form (fault_of_start f)
 
 -- the board of a state
 abbrev pub board_of : Form → Plain AnyJob → List ℕ
-board_of form s = board_shown form s.number (whole s) (all_lines any_kind s) s.jobs
+board_of form s = board_shown form s.number (whole s) s.from (all_lines any_kind s) s.jobs
 
 -- the lines of jobs, or why there is none
 abbrev pub jobs_step : Form → Result (List ℕ) Fault → Step

@@ -6,7 +6,7 @@ use Rattle.pfx_machine.specs.Plain.{Plain}
 use Rattle.pfx_machine.specs.Outcome.{outcome}
 use Rattle.pfx_machine.specs.Runs.{answer}
 use Rattle.pfx_machine.specs.declared.command.Command.{Command}
-use Rattle.pfx_machine.specs.declared.command.Command.TheVariants.{Submit, Slot, Withdraw}
+use Rattle.pfx_machine.specs.declared.command.Command.TheVariants.{Submit, Slot, Withdraw, Reweigh}
 use Rattle.pfx_machine.specs.declared.command.Reply.{Reply}
 use Rattle.pfx_machine.specs.declared.faults.MachineFault.{MachineFault}
 use Rattle.pfx_program.specs.Promises.{Promise}
@@ -16,6 +16,7 @@ abbrev pub IsChange : Command AnyJob → Type 0
 IsChange (Submit x job) = ⊤
 IsChange (Withdraw x) = ⊤
 IsChange Slot = ⊥
+IsChange (Reweigh workers weights) = ⊥
 
 abbrev pub AreChanges : List (Command AnyJob) → Type 0
 AreChanges [] = ⊤

@@ -65,6 +65,7 @@ fn touches(command: &Command<AnyJob>, task: u16) -> bool
         Command::Submit { task: other, .. } => *other == task,
         Command::Withdraw { task: other } => *other == task,
         Command::Slot => true,
+        Command::Reweigh { .. } => true,
     }
 }
 

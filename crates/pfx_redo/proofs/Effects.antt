@@ -1,7 +1,7 @@
 -- What records do, task by task and job by job.
 use Rattle.std.specs.Prelude.{◌≡◌, ◌≢◌, ℕ, zero, suc, ◌+◌, ◌<◌, ◌≤◌, ◌==◌, ◌||◌, if◌then◌else◌, Bool, true, false, List, [], ◌∷◌, length, Option, Some, None, IsTrue, refl, slice_set}
 use Rattle.std.proofs.Common.{sym, ◌∙◌, ap, ap₂, arith, drop, eq-eqb, get_or}
-use Rattle.std.proofs.lemmas.Bool.{cond-true, cond-false, eqb-true, ne_eqb, true≢false, false≢true}
+use Rattle.std.proofs.lemmas.Bool.{cond-true, cond-false, eqb-true, ne_eqb, true≢false}
 use Rattle.pfx_weights.specs.Rows.{is_in, one}
 use Rattle.pfx_columns.specs.Ledgers.{add, after}
 use Rattle.pfx_jobs.specs.Kind.{Kind}
@@ -10,7 +10,7 @@ use Rattle.pfx_machine.specs.declared.plain.Happening.TheVariants.{Given as give
 use Rattle.pfx_machine.specs.Steps.{jobs_step}
 use Rattle.std.proofs.lemmas.List.{drop_all}
 use Rattle.pfx_machine.proofs.Places.{jobs_step-given, jobs_step-taken}
-use Rattle.pfx_record.specs.Effect.{counted_from, holds, instead_of, job_after, jobs_from, state_in}
+use Rattle.pfx_record.specs.Effect.{counted_from, holds, instead_of, jobs_from, state_in}
 use Rattle.pfx_record.specs.Records.{submitted, ran, withdrawn, rises_from, tasks_of}
 use Rattle.pfx_record.specs.declared.record.Place.{Place}
 use Rattle.pfx_redo.specs.Applying.{after_record}

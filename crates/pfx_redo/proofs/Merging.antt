@@ -5,7 +5,6 @@ use Rattle.std.proofs.lemmas.Bool.{eqb-true}
 use Rattle.pfx_weights.specs.Rows.{is_in}
 use Rattle.pfx_jobs.specs.Kind.{Kind}
 use Rattle.pfx_machine.specs.Slots.{Deal, deal, deal_at, deals}
-use Rattle.pfx_record.specs.declared.record.Place.{Place}
 use Rattle.pfx_redo.specs.Recording.{after_in, place_of, state_after_step}
 
 -- a task that takes no quantum has no state

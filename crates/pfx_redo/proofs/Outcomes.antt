@@ -1,16 +1,14 @@
 -- The record of an accepted command is right, and has the command's outcome.
-use Rattle.std.specs.Prelude.{◌≡◌, ◌≢◌, ℕ, ◌+◌, ◌<◌, ◌≤◌, ◌^◌, ◌==◌, ◌&&◌, ◌||◌, nat_lt, not, if◌then◌else◌, Bool, true, false, List, [], ◌∷◌, ◌++◌, length, map, All, Option, Some, None, Ok, slice_get, IsTrue, refl}
+use Rattle.std.specs.Prelude.{◌≡◌, ℕ, ◌+◌, ◌<◌, ◌≤◌, ◌^◌, ◌==◌, ◌&&◌, ◌||◌, nat_lt, not, if◌then◌else◌, Bool, true, false, List, [], ◌∷◌, ◌++◌, length, map, All, Option, Some, None, Ok, slice_get, IsTrue, refl}
 use Rattle.std.specs.List.{list_all}
 use Rattle.std.specs.List.Sorted.{IsStrictlyIncreasing}
 use Rattle.std.proofs.Common.{suc, sym, ◌∙◌, ap, ap₂, append_assoc, arith, subst, get_or, eq-eqb}
-use Rattle.std.proofs.lemmas.Bool.{cond-true, cond-false, eqb-true, lt-ltb, le-leb, true≢false, false≢true}
+use Rattle.std.proofs.lemmas.Bool.{cond-true, eqb-true, lt-ltb}
 use Rattle.std.proofs.lemmas.List.{length-map}
-use Rattle.std.proofs.lemmas.Option.{none-some, slice_get_past}
+use Rattle.std.proofs.lemmas.Option.{none-some}
 use Rattle.pfx_weights.specs.Rows.{is_in, IsFullRow}
 use Rattle.pfx_columns.specs.Ledgers.{IsFair, after, total}
 use Rattle.pfx_choice.proofs.Planning.{pf_full}
-use Rattle.pfx_machine.specs.Fitting.{fits}
-use Rattle.pfx_machine.proofs.Fits.{fits_of, state_fits}
 use Rattle.pfx_jobs.specs.Kind.{Kind, Laws}
 use Rattle.pfx_machine.specs.Plain.{whole, IsState}
 use Rattle.pfx_machine.specs.Choosing.{row_in}
@@ -18,25 +16,26 @@ use Rattle.pfx_machine.specs.Plain as machine
 use Rattle.pfx_machine.specs.Happenings.{row_or_none}
 use Rattle.pfx_machine.specs.Outcome.{outcome}
 use Rattle.pfx_machine.specs.Refusals.{refusal, slot_fault, submit_fault, withdraw_fault}
+use Rattle.pfx_machine.specs.Reweighing.{new_set}
 use Rattle.pfx_machine.specs.Sessions.{AllAccepted, IsAcceptable}
-use Rattle.pfx_machine.specs.Steps.{jobs_step, once, once_job, state_step, happening_in}
-use Rattle.pfx_machine.specs.declared.plain.Happening.TheVariants.{Given as given, Taken as taken, Ran as ran_row}
+use Rattle.pfx_machine.specs.Steps.{jobs_step, once_job, state_step, happening_in}
+use Rattle.pfx_machine.specs.declared.plain.Happening.TheVariants.{Ran as ran_row}
 use Rattle.pfx_machine.specs.declared.command.Command.{Command}
-use Rattle.pfx_machine.specs.declared.command.Command.TheVariants.{Submit, Slot, Withdraw}
+use Rattle.pfx_machine.specs.declared.command.Command.TheVariants.{Submit, Slot, Withdraw, Reweigh}
 use Rattle.pfx_machine.specs.declared.faults.MachineFault.TheVariants.{NoSuchTask, TaskBusy, NoJob}
 use Rattle.pfx_machine.proofs.Compose.{outcome-none, outcome-outcome}
 use Rattle.pfx_machine.proofs.Keeping.{below_limit, chosen_is, ledger_after_row, slot_row, state_goes_on}
 use Rattle.pfx_machine.proofs.Rowing.{row_below, row_chosen}
-use Rattle.pfx_machine.proofs.Places.{state_step-given, state_step-taken}
+use Rattle.pfx_machine.proofs.Places.{state_step-given, state_step-new, state_step-taken}
 use Rattle.pfx_machine.proofs.Snoc.{outcome-snoc}
-use Rattle.pfx_record.specs.Effect.{holds, instead_of, jobs_from, state_in}
-use Rattle.pfx_record.specs.Records.{Recorded, submitted, ran, withdrawn, record_fits, rises_from, tasks_of}
-use Rattle.pfx_record.specs.declared.record.Place.{Place}
-use Rattle.pfx_record.proofs.Rising.{both, of_both, rises-from}
+use Rattle.pfx_record.specs.Effect.{instead_of, jobs_from, state_in}
+use Rattle.pfx_record.specs.Records.{ran, record_fits, rises_from, tasks_of}
+use Rattle.pfx_record.proofs.Rising.{of_both, rises-from}
 use Rattle.pfx_machine.specs.Jobs.{has_job, is_busy, is_free}
-use Rattle.pfx_redo.specs.Applying.{after_record, applied, form_at, is_apt, is_flagged, is_right}
+use Rattle.pfx_redo.specs.Applying.{after_record, applied, form_at, is_flagged, is_right}
 use Rattle.pfx_redo.specs.Recording.{place_of, record_of, records_of, state_after_step}
-use Rattle.pfx_redo.proofs.Effects.{after-ran, after-submitted, after-withdrawn, submitted-jobs, withdrawn-jobs}
+use Rattle.pfx_redo.proofs.Effects.{after-ran, after-submitted, after-withdrawn}
+use Rattle.pfx_redo.proofs.Renewing.{reweigh_right}
 use Rattle.pfx_redo.proofs.Rightness.{free_is_real, job_is_real, submit_right, withdraw_right, row_right}
 
 -- the jobs after a recorded row are those after the row
@@ -88,6 +87,7 @@ recorded_step K s Slot =
     let tasks : tasks_of (map (place_of K s.jobs) row) ≡ row = tasks_again K s.jobs row in
     let jobs = jobs_recorded K s.jobs (whole s) row 0 s.jobs (λ k. let at : k ≡ 0 + k = omega arith in ap (slice_get s.jobs) at) in
     after-ran s (map (place_of K s.jobs) row) ∙ (λ i. record { number = s.number + 1; from = s.from; ledger = after s.ledger (is_in (tasks i)); jobs = jobs i; segment = s.segment })
+recorded_step K s (Reweigh workers weights) = state_step-new K s (new_set s.ledger.set workers weights)
 
 pub record_outcome : {J : Type 0} (K : Kind J) (L : Laws K) (s : machine.Plain J) (c : Command J) → after_record s (record_of K s c) ≡ outcome K s (c ∷ [])
 record_outcome K L s c = recorded_step K s c ∙ sym (outcome-one K L s c)
@@ -165,6 +165,7 @@ record_right K s (Withdraw task) h accepted =
 record_right K s Slot h accepted =
     let parts = below_limit s.number (slot_fault (row_in s)) accepted in
     row_is_right K s (row_or_none (row_in s)) h parts.0 (slot_row (row_in s) parts.1)
+record_right K s (Reweigh workers weights) h accepted = reweigh_right K s workers weights h accepted
 
 -- lists
 

@@ -1,24 +1,24 @@
 -- When a record is right.
-use Rattle.std.specs.Prelude.{◌≡◌, ℕ, ◌+◌, ◌<◌, ◌≤◌, ◌^◌, ◌==◌, ◌&&◌, nat_lt, Bool, true, false, List, [], ◌∷◌, length, map, Option, Some, None, slice_get, slice_set, IsTrue, refl}
+use Rattle.std.specs.Prelude.{◌≡◌, ℕ, ◌+◌, ◌<◌, ◌≤◌, ◌^◌, ◌==◌, ◌&&◌, nat_lt, Bool, true, false, List, length, Option, slice_get, IsTrue, refl}
 use Rattle.std.specs.List.{list_all}
 use Rattle.std.proofs.Common.{sym, ◌∙◌, ap, arith, subst, inl, inr}
-use Rattle.std.proofs.lemmas.Bool.{cases_lt, eqb-true, false≢true, le-ltb}
-use Rattle.std.proofs.lemmas.List.{length-map, length-set}
+use Rattle.std.proofs.lemmas.Bool.{cases_lt, eqb-true, false≢true}
+use Rattle.std.proofs.lemmas.List.{length-map}
 use Rattle.std.proofs.lemmas.Option.{slice_get_past}
 use Rattle.pfx_weights.specs.Rows.{is_in, IsFullRow}
 use Rattle.pfx_columns.specs.Ledgers.{IsFair, IsLedger, after, total}
 use Rattle.pfx_columns.proofs.Shown.{ledger_after}
 use Rattle.pfx_machine.specs.Fitting.{fits}
-use Rattle.pfx_machine.proofs.Fits.{Fitting, fits_of, fitting, state_fits}
+use Rattle.pfx_machine.proofs.Fits.{fits_of, fitting}
 use Rattle.pfx_jobs.specs.Kind.{Kind}
 use Rattle.pfx_machine.specs.Plain.{whole, IsState}
 use Rattle.pfx_machine.specs.Plain as machine
-use Rattle.pfx_record.specs.Effect.{jobs_from}
 use Rattle.pfx_record.specs.Records.{Recorded, submitted, ran, withdrawn, record_fits, rises_from, tasks_of}
 use Rattle.pfx_record.specs.declared.record.Place.{Place}
 use Rattle.pfx_record.proofs.Rising.{both, of_both}
 use Rattle.pfx_machine.specs.Jobs.{has_job, is_free}
 use Rattle.pfx_redo.specs.Applying.{after_record, form_at, is_apt, is_flagged, is_right}
+use Rattle.pfx_redo.proofs.Commons.{number_after}
 use Rattle.pfx_redo.proofs.Rows.{strict, tasks_below}
 use Rattle.pfx_redo.proofs.Effects.{after-ran, after-submitted, after-withdrawn}
 
@@ -46,7 +46,7 @@ unfit K s done never = by_fits (fits (after_record s done)) refl
   where
     by_fits : (b : Bool) → fits (after_record s done) ≡ b → false ≡ is_right K s done
     by_fits true is = absurd (never is)
-    by_fits false is = sym (ap (λ b. record_fits (form_at s) done && (is_apt K (total s.ledger) s.jobs done && b)) is ∙ none_of (record_fits (form_at s) done) (is_apt K (total s.ledger) s.jobs done))
+    by_fits false is = sym (ap (λ b. record_fits (form_at s) done && (is_apt K s done && b)) is ∙ none_of (record_fits (form_at s) done) (is_apt K s done))
 
 -- no row can be run there
 pub row_wrong : {J : Type 0} (K : Kind J) (s : machine.Plain J) (row : List (Place J)) → s.ledger.set.workers ≤ 64 → IsTrue (record_fits (form_at s) (ran row)) → Flags K s row →
@@ -78,7 +78,7 @@ withdraw_right K s t h below form has = sym (of_both _ _ form (of_both _ _ has (
 
 -- a number above the last one
 pub number_wrong : {J : Type 0} (K : Kind J) (s : machine.Plain J) (done : Recorded J) → 2 ^ 48 ≤ s.number + 1 → false ≡ is_right K s done
-number_wrong K s done above = unfit K s done (λ is. let h = fitting (after_record s done) is in let n = h.number in omega (arith, n, above))
+number_wrong K s done above = unfit K s done (λ is. let h = fitting (after_record s done) is in let n = h.number in let next = number_after s done in omega (arith, n, next, above))
 
 pub free_is_real : {J : Type 0} (K : Kind J) (jobs : List (Option J)) (t : ℕ) → is_free K (slice_get jobs t) ≡ true → t < length jobs
 free_is_real K jobs t h = elim (cases_lt t (length jobs)) [

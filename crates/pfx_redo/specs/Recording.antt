@@ -7,8 +7,8 @@ use Rattle.pfx_machine.specs.Happenings.{row_or_none}
 use Rattle.pfx_machine.specs.Outcome.{outcome}
 use Rattle.pfx_machine.specs.Slots.{Deal}
 use Rattle.pfx_machine.specs.declared.command.Command.{Command}
-use Rattle.pfx_machine.specs.declared.command.Command.TheVariants.{Submit, Slot, Withdraw}
-use Rattle.pfx_record.specs.Records.{Recorded, submitted, ran, withdrawn}
+use Rattle.pfx_machine.specs.declared.command.Command.TheVariants.{Submit, Slot, Withdraw, Reweigh}
+use Rattle.pfx_record.specs.Records.{Recorded, submitted, ran, withdrawn, reweighed}
 use Rattle.pfx_record.specs.declared.record.Place.{Place}
 
 -- the state of an unfinished job after a step, by its task's place in the list of jobs
@@ -31,6 +31,7 @@ abbrev pub record_of : {J : Type 0} → Kind J → machine.Plain J → Command J
 record_of K s (Submit task job) = submitted task job
 record_of K s (Withdraw task) = withdrawn task
 record_of K s Slot = ran (map (place_of K s.jobs) (row_or_none (row_in s)))
+record_of K s (Reweigh workers weights) = reweighed workers weights
 
 -- the records of commands, each accepted after those before it
 abbrev pub records_of : {J : Type 0} → Kind J → machine.Plain J → List (Command J) → List (Recorded J)

@@ -1,8 +1,9 @@
 // Running a command, with its record.
-ghost use Rattle.std.specs.Prelude.{◌≡◌, ◌≤◌, ◌<◌, ◌+◌, ◌∷◌, ◌++◌, [], List, map, length, slice_get, MatchResult, IfOk, OnOk, OnErr, None};
+ghost use Rattle.std.specs.Prelude.{◌≡◌, ◌≤◌, ◌<◌, ◌+◌, ◌∷◌, ◌++◌, ◌^◌, [], List, map, length, slice_get, MatchResult, IfOk, OnOk, OnErr, None};
 ghost use Rattle.pfx_machine.specs.Choosing.{row_in};
 ghost use Rattle.pfx_machine.specs.Plain.{Plain};
 ghost use Rattle.pfx_machine.specs.Outcome.{outcome};
+ghost use Rattle.pfx_machine.specs.Reweighing.{new_set};
 ghost use Rattle.pfx_machine.specs.Refusals.{refusal, reply, IsFaultOf};
 ghost use Rattle.pfx_machine.specs.Slots.{deal};
 ghost use Rattle.pfx_machine.specs.declared.command.Command.{Command};
@@ -12,9 +13,9 @@ ghost use Rattle.pfx_redo.specs.Recording.{after_in, record_of};
 use pfx_choice::ChoiceFault;
 use pfx_jobs::job::Job;
 use pfx_jobs::quantum::Done;
-use pfx_machine::{Command, MachineFault, Reply, State, run_all};
+use pfx_machine::{Command, MachineFault, NewEpoch, Reply, State, run_all};
 use pfx_record::{Place, Record};
-use pfx_weights::Row;
+use pfx_weights::{Row, Weights};
 use std::alloc::{AllocError, Global};
 
 /// What an accepted command answers, and its record.
@@ -80,8 +81,49 @@ fn run_slot<J: Job>(alloc: Global, state: &mut State<J>) -> Result<Recorded<J>, 
     })
 }
 
+/// What `State::prepare` answers for a Reweigh of these workers and weights, and the record of it. The state stays as it is.
+pub fn prepare_recorded<J: Job>(
+    alloc: Global,
+    state: &State<J>,
+    workers: u32,
+    weights: Weights,
+) -> Result<(NewEpoch, Record<J>), MachineFault>
+    ensures set { IfOk result (λ prepared. prepared.0 ≡ new_set state.now.ledger.set workers weights) }
+    ensures kept_as { IfOk result (λ prepared. plain prepared.1 ≡ record_of J.kind state.now (Command.Reweigh workers weights)) }
+    ensures number { OnOk result (state.now.number + 1 < 2 ^ 48) }
+    ensures real { IfOk result (λ prepared. prepared.0.real ≡ state.now.ledger.set.real) }
+    ensures exact { MatchResult result (λ _. refusal J.kind state.now (Command.Reweigh workers weights) ≡ None) (λ fault. IsFaultOf J.kind state.now (Command.Reweigh workers weights) fault) }
+{
+    let epoch = state.prepare(alloc, workers, &weights)?;
+    let entry = Record::Reweigh {
+        workers: workers as u8,
+        weights,
+    };
+    Ok((epoch, entry))
+}
+
+// Runs a Reweigh and records it.
+fn run_reweigh<J: Job>(
+    alloc: Global,
+    state: &mut State<J>,
+    workers: u32,
+    weights: Weights,
+) -> Result<Recorded<J>, MachineFault>
+    ensures exact { MatchResult result (λ _. refusal J.kind state.old (Command.Reweigh workers weights) ≡ None) (λ fault. IsFaultOf J.kind state.old (Command.Reweigh workers weights) fault) }
+    ensures reply { IfOk result (λ done. done.reply ≡ reply state.old (Command.Reweigh workers weights)) }
+    ensures kept_as { IfOk result (λ done. plain done.entry ≡ record_of J.kind state.old (Command.Reweigh workers weights)) }
+    ensures outcome { OnOk result ((B : Plain J) (H : List (Command J)) → state.old ≡ outcome J.kind B H → state.new ≡ outcome J.kind B (H ++ Command.Reweigh workers weights ∷ [])) }
+    ensures kept { OnErr result (state.new ≡ state.old) }
+{
+    let (epoch, entry) = prepare_recorded(alloc, state, workers, weights)?;
+    Ok(Recorded {
+        reply: state.begin(epoch),
+        entry,
+    })
+}
+
 /// Runs a whole command on the state, as `State::apply` does, and records it: the record is right at the state before.
-/// `NoRow(NoMemory)` comes only for a Slot, if an allocation failed.
+/// `NoRow(NoMemory)` comes only for a Slot or a Reweigh, if an allocation failed.
 pub fn run_recorded<J: Job>(
     alloc: Global,
     state: &mut State<J>,
@@ -108,5 +150,6 @@ pub fn run_recorded<J: Job>(
             let reply = state.apply(Command::Withdraw { task })?;
             Ok(Recorded { reply, entry })
         }
+        Command::Reweigh { workers, weights } => run_reweigh(alloc, state, workers, weights),
     }
 }

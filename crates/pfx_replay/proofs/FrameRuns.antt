@@ -5,7 +5,6 @@ use Rattle.std.specs.declared.alloc.Global.{Global}
 use Rattle.pfx_segment.specs.Reading.{views}
 use Rattle.std.proofs.Common.{zero, suc, get_or, sym, ◌∙◌, ap, ap₂, arith, append-nil, append_assoc, length-append, subst}
 use Rattle.pfx_redo.specs.Applying.{applied, after_record, is_right}
-use Rattle.pfx_header.specs.Headers.{Header}
 use Rattle.pfx_jobs.specs.Kind.{Kind, Laws}
 use Rattle.pfx_machine.specs.Plain.{Plain}
 use Rattle.pfx_record.specs.Batches.{PlainBatch, batch_bytes}
@@ -20,11 +19,11 @@ use Rattle.pfx_recovery.specs.Store.{Parts, Replays}
 use Rattle.pfx_recovery.proofs.Answers.{ok_same}
 use Rattle.pfx_recovery.proofs.Stages.{replay_is}
 use Rattle.pfx_format.specs.Batches.{batch_in}
-use Rattle.pfx_format.specs.Format.{format, IsSetOf}
+use Rattle.pfx_format.specs.Format.{format}
+use Rattle.pfx_format.specs.Frames.{state_after}
 use Rattle.pfx_format.proofs.Batches.{batch_spelled, batch_there}
-use Rattle.pfx_format.proofs.Keeping.{after_set}
 use Rattle.pfx_format.proofs.Nexts.{after_of}
-use Rattle.pfx_replay.specs.Trails.{IsWay, records_if, records_in}
+use Rattle.pfx_replay.specs.Trails.{IsWay, onward, records_at, records_behind, records_if}
 use Rattle.pfx_replay.proofs.Following.{applied_by}
 
 -- frames are fewer than the bytes that they stand in
@@ -64,24 +63,24 @@ module _ {J : Type 0} (K : Kind J) (L : Laws K) where
   none_of None h = refl
   none_of (Some a) h = absurd (h a refl)
 
-  module _ (workers : ℕ) (frame : List ℕ) where
+  module _ (workers real : ℕ) (frame : List ℕ) where
     -- no records are found in bytes that begin with no batch, or are longer than one
-    pub no_batch : NoBatch K workers 0 frame → [] ≡ records_if K (batch_in K workers frame)
-    no_batch h = ap (records_if K) (sym (none_of (batch_in K workers frame) (λ batch found.
-        let spelled = batch_spelled K L workers frame batch found in
+    pub no_batch : NoBatch K workers real frame → [] ≡ records_if K (batch_in K workers real frame)
+    no_batch h = ap (records_if K) (sym (none_of (batch_in K workers real frame) (λ batch found.
+        let spelled = batch_spelled K L workers real frame batch found in
         h batch spelled.0 (record { rest = []; is = spelled.1 ∙ sym (append-nil (batch_bytes K batch)) }))))
 
-    pub too_long : (batch : PlainBatch J) (taken : ℕ) → IsBatch K workers 0 frame batch taken → taken ≢ length frame → [] ≡ records_if K (batch_in K workers frame)
-    too_long batch taken h other = ap (records_if K) (sym (none_of (batch_in K workers frame) (λ found is.
-        let spelled = batch_spelled K L workers frame found is in
-        let same = one_batch K L workers 0 frame batch found h.fits spelled.0 h.begins (record { rest = []; is = spelled.1 ∙ sym (append-nil (batch_bytes K found)) }) in
+    pub too_long : (batch : PlainBatch J) (taken : ℕ) → IsBatch K workers real frame batch taken → taken ≢ length frame → [] ≡ records_if K (batch_in K workers real frame)
+    too_long batch taken h other = ap (records_if K) (sym (none_of (batch_in K workers real frame) (λ found is.
+        let spelled = batch_spelled K L workers real frame found is in
+        let same = one_batch K L workers real frame batch found h.fits spelled.0 h.begins (record { rest = []; is = spelled.1 ∙ sym (append-nil (batch_bytes K found)) }) in
         other (h.long ∙ ap length (sym (spelled.1 ∙ ap (batch_bytes K) same))))))
 
-    pub whole : (batch : PlainBatch J) (taken : ℕ) → IsBatch K workers 0 frame batch taken → taken ≡ length frame → batch.records ≡ records_if K (batch_in K workers frame)
+    pub whole : (batch : PlainBatch J) (taken : ℕ) → IsBatch K workers real frame batch taken → taken ≡ length frame → batch.records ≡ records_if K (batch_in K workers real frame)
     whole batch taken h same =
         let none : length h.begins.rest ≡ 0 = (let long = ap length h.begins.is ∙ length-append (batch_bytes K batch) h.begins.rest in omega (arith, h.long, same, long)) in
         let is : frame ≡ batch_bytes K batch = h.begins.is ∙ (ap (λ l. batch_bytes K batch ++ l) (empty h.begins.rest none) ∙ append-nil (batch_bytes K batch)) in
-        sym (ap (records_if K) (ap (batch_in K workers) is ∙ batch_there K L workers batch h.fits))
+        sym (ap (records_if K) (ap (batch_in K workers real) is ∙ batch_there K L workers real batch h.fits))
       where
         empty : (l : List ℕ) → length l ≡ 0 → l ≡ []
         empty [] h = refl
@@ -93,40 +92,35 @@ module _ {J : Type 0} (K : Kind J) (L : Laws K) where
       let by = applied_by K s t x xs (is_right K s x) refl first in
       ap (λ b. if b then applied K (after_record s x) (xs ++ ys) else None) by.0 ∙ applied-append (after_record s x) t u xs ys by.1 next
 
-  -- frames whose records lead to a state have these records
-  pub frames_applied : (h : Header) (s t : Plain J) (frames : List (List ℕ)) → IsSetOf h s → Replays (format K) s frames t → applied K s (records_in K h.set.workers frames) ≡ Some t
-  frames_applied h s t [] set is = ap Some is
-  frames_applied h s t (frame ∷ frames) set run =
+  pub frames_applied : (s t : Plain J) (frames : List (List ℕ)) → Replays (format K) s frames t → applied K s (records_behind K s frames) ≡ Some t
+  frames_applied s t [] is = ap Some is
+  frames_applied s t (frame ∷ frames) run =
       let step = after_of K s frame run.0 run.1 in
-      let same : records_if K (batch_in K h.set.workers frame) ≡ step.batch.records = ap (λ k. records_if K (batch_in K k.workers frame)) (sym set.set) ∙ ap (records_if K) step.found in
-      applied-append s run.0 t (records_if K (batch_in K h.set.workers frame)) (records_in K h.set.workers frames)
-      (ap (applied K s) same ∙ step.taken) (frames_applied h run.0 t frames (after_set K h s frame run.0 set run.1) run.2)
+      let rest : onward K (state_after K s frame) (λ u. records_behind K u frames) ≡ records_behind K run.0 frames = ap (λ o. onward K o (λ u. records_behind K u frames)) run.1 in
+      ap (λ l. applied K s (records_at K s frame ++ l)) rest
+      ∙ applied-append s run.0 t (records_at K s frame) (records_behind K run.0 frames) (ap (λ o. applied K s (records_if K o)) step.found ∙ step.taken) (frames_applied run.0 t frames run.2)
 
-  pub records-append : (workers : ℕ) (xs ys : List (List ℕ)) → records_in K workers (xs ++ ys) ≡ records_in K workers xs ++ records_in K workers ys
-  records-append workers [] ys = refl
-  records-append workers (x ∷ xs) ys = ap (λ l. records_if K (batch_in K workers x) ++ l) (records-append workers xs ys) ∙ sym (append_assoc (records_if K (batch_in K workers x)) (records_in K workers xs) (records_in K workers ys))
+  pub replays_joined : (s m t : Plain J) (before frames : List (List ℕ)) → Replays (format K) s before m → Replays (format K) m frames t → Replays (format K) s (before ++ frames) t
+  replays_joined s m t [] frames one other = subst (λ r. Replays (format K) r frames t) (sym one) other
+  replays_joined s m t (frame ∷ before) frames one other = (one.0, one.1, replays_joined one.0 m t before frames one.2 other)
 
-  pub frames_joined : (h : Header) (s m t : Plain J) (before frames : List (List ℕ)) → IsSetOf h s → IsSetOf h m → Replays (format K) s before m → Replays (format K) m frames t
-      → applied K s (records_in K h.set.workers (before ++ frames)) ≡ Some t
-  frames_joined h s m t before frames set also one other =
-      ap (applied K s) (records-append h.set.workers before frames)
-      ∙ applied-append s m t (records_in K h.set.workers before) (records_in K h.set.workers frames) (frames_applied h s m before set one) (frames_applied h m t frames also other)
-
--- the records of frames from a place on
-pub records_left : {J : Type 0} (K : Kind J) (workers : ℕ) (frames : List (Vec ℕ Global)) (i : ℕ) (f d : Vec ℕ Global) → f ≡ get_or frames i d → i < length frames
-    → records_in K workers (views (drop i frames)) ≡ records_if K (batch_in K workers f.items) ++ records_in K workers (views (drop (i + 1) frames))
-records_left K workers [] i f d is within = absurd (omega arith)
-records_left K workers (x ∷ frames) zero f d is within = ap (λ (y : Vec ℕ Global). records_if K (batch_in K workers y.items) ++ records_in K workers (views frames)) (sym is)
-records_left K workers (x ∷ frames) (suc i) f d is within =
+-- the frames from a place on
+pub views_left : (frames : List (Vec ℕ Global)) (i : ℕ) (f d : Vec ℕ Global) → f ≡ get_or frames i d → i < length frames → views (drop i frames) ≡ f.items ∷ views (drop (i + 1) frames)
+views_left [] i f d is within = absurd (omega arith)
+views_left (x ∷ frames) zero f d is within = ap (λ (y : Vec ℕ Global). y.items ∷ views frames) (sym is)
+views_left (x ∷ frames) (suc i) f d is within =
     let next : i + 1 ≡ suc i = omega arith in
-    records_left K workers frames i f d is (omega arith) ∙ ap (λ k. records_if K (batch_in K workers f.items) ++ records_in K workers (views (drop k frames))) next
-    ∙ ap (λ k. records_if K (batch_in K workers f.items) ++ records_in K workers (views (drop k (x ∷ frames)))) (behind i)
+    views_left frames i f d is (omega arith) ∙ ap (λ k. f.items ∷ views (drop k frames)) next ∙ ap (λ k. f.items ∷ views (drop k (x ∷ frames))) (behind i)
   where
     behind : (k : ℕ) → suc (suc k) ≡ suc k + 1
     behind k = omega arith
 
-pub records_none : {J : Type 0} (K : Kind J) (workers : ℕ) (frames : List (Vec ℕ Global)) (i : ℕ) → length frames ≤ i → records_in K workers (views (drop i frames)) ≡ []
-records_none K workers [] zero past = refl
-records_none K workers [] (suc i) past = refl
-records_none K workers (x ∷ frames) zero past = absurd (omega arith)
-records_none K workers (x ∷ frames) (suc i) past = records_none K workers frames i (omega arith)
+pub views_none : (frames : List (Vec ℕ Global)) (i : ℕ) → length frames ≤ i → views (drop i frames) ≡ []
+views_none [] zero past = refl
+views_none [] (suc i) past = refl
+views_none (x ∷ frames) zero past = absurd (omega arith)
+views_none (x ∷ frames) (suc i) past = views_none frames i (omega arith)
+
+pub views_append : (xs ys : List (Vec ℕ Global)) → views (xs ++ ys) ≡ views xs ++ views ys
+views_append [] ys = refl
+views_append (x ∷ xs) ys = ap (λ (l : List (List ℕ)). x.items ∷ l) (views_append xs ys)

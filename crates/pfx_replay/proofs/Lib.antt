@@ -4,6 +4,7 @@ pub mod FrameRuns
 pub mod Opens
 pub mod Parts
 pub mod ReadOn
+pub mod Reweighs
 pub mod Rowing
 pub mod Rows
 pub mod Sessions

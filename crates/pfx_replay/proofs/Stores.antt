@@ -1,10 +1,9 @@
 -- What is known of a file that a store leaves.
-use Rattle.std.specs.Prelude.{◌≡◌, ◌+◌, ◌++◌, ℕ, List, [], ◌∷◌, not, take, drop, Bool, true, false, Option, Some, None, MatchOption, refl}
+use Rattle.std.specs.Prelude.{◌≡◌, ◌+◌, ◌++◌, ℕ, List, [], not, take, drop, Bool, true, false, Option, Some, None, MatchOption, refl}
 use Rattle.std.proofs.Common.{sym, ◌∙◌, ap, ap₂, subst}
 use Rattle.pfx_redo.specs.Applying.{applied}
-use Rattle.pfx_checkpoint.specs.Found.{read_state}
-use Rattle.pfx_format.specs.Format.{format, layout, IsSetOf}
-use Rattle.pfx_format.proofs.Keeping.{after_set, read_set}
+use Rattle.pfx_format.specs.Areas.{read_area}
+use Rattle.pfx_format.specs.Format.{format, layout}
 use Rattle.pfx_header.specs.Headers.{Header}
 use Rattle.pfx_jobs.specs.Kind.{Kind, Laws}
 use Rattle.pfx_machine.specs.Plain.{Plain}
@@ -12,10 +11,10 @@ use Rattle.pfx_record.specs.Records.{Recorded}
 use Rattle.pfx_recovery.specs.Layout.{segment_at, area_at}
 use Rattle.pfx_recovery.specs.Store.{Parts, IsStore, Other, Replays}
 use Rattle.pfx_segment.specs.Frames.{AreFrames}
-use Rattle.pfx_replay.specs.Trails.{IsWay, IsWayIf, history, records_in}
+use Rattle.pfx_replay.specs.Trails.{IsWay, IsWayIf, history, records_behind}
 use Rattle.pfx_replay.specs.Verdicts.{IsVerdict}
 use Rattle.pfx_replay.specs.declared.verdict.Verdict.{Verdict}
-use Rattle.pfx_replay.proofs.FrameRuns.{frames_applied, frames_joined}
+use Rattle.pfx_replay.proofs.FrameRuns.{frames_applied, replays_joined}
 
 -- the frames of a segment
 abbrev pub AreIn : Header → List ℕ → Bool → List (List ℕ) → Type 0
@@ -28,13 +27,6 @@ verdict_by (Some v) N P Q h never f = f v h
 module _ {J : Type 0} (K : Kind J) (L : Laws K) (h : Header) where
   some_same : {A : Type 0} (a b : A) → Some a ≡ Some b → a ≡ b
   some_same a b is = ap (λ o. elim o [ Some x ↦ x | None ↦ a ]) is
-
-  pub set_of_read : (bytes : List ℕ) (s : Plain J) → Some s ≡ read_state K 0 h.segment h.set bytes → IsSetOf h s
-  set_of_read bytes s is = read_set K h bytes s (sym is)
-
-  replays_set : (s t : Plain J) (frames : List (List ℕ)) → IsSetOf h s → Replays (format K) s frames t → IsSetOf h t
-  replays_set s t [] set is = subst (IsSetOf h) is set
-  replays_set s t (frame ∷ frames) set run = replays_set run.0 t frames (after_set K h s frame run.0 set run.1) run.2
 
   none_before : (b : Bool) (p : Parts (Plain J)) (t : Plain J) (image : List ℕ) → Other (format K) h b p t image → b ≡ false → p.before ≡ []
   none_before false p t image is e = is.2
@@ -55,16 +47,13 @@ module _ {J : Type 0} (K : Kind J) (L : Laws K) (h : Header) where
         (λ e. subst (λ b. AreIn h image (not b) p.before) segment_is (are_before p.turned p t image is.other (turned_is ∙ e)))
         (subst (λ b. AreIn h image b p.frames) segment_is is.current.are)
 
-    base_set : IsSetOf h p.base
-    base_set = read_set K h _ p.base is.area.body
+    pub base_is : (at body : ℕ) (b : Plain J) → at ≡ area_at (layout h) area → body ≡ (layout h).body → Some b ≡ read_area K h (take body (drop (at + 1) image)) → b ≡ p.base
+    base_is at body b at_is body_is read = some_same b p.base (read ∙ ap₂ (λ a n. read_area K h (take n (drop (a + 1) image))) (at_is ∙ ap (area_at (layout h)) (sym area_is)) body_is ∙ is.area.body)
 
-    pub base_is : (at body : ℕ) (b : Plain J) → at ≡ area_at (layout h) area → body ≡ (layout h).body → Some b ≡ read_state K 0 h.segment h.set (take body (drop (at + 1) image)) → b ≡ p.base
-    base_is at body b at_is body_is read = some_same b p.base (read ∙ ap₂ (λ a n. read_state K 0 h.segment h.set (take n (drop (a + 1) image))) (at_is ∙ ap (area_at (layout h)) (sym area_is)) body_is ∙ is.area.body)
-
-    behind_applied : applied K p.base (records_in K h.set.workers (p.before ++ p.frames)) ≡ Some t
+    behind_applied : applied K p.base (records_behind K p.base (p.before ++ p.frames)) ≡ Some t
     behind_applied =
         let lead = lead_before p.turned p t image is.other in
-        frames_joined K L h p.base p.middle t p.before p.frames base_set (replays_set p.base p.middle p.before base_set lead) lead is.state
+        frames_applied K L p.base t (p.before ++ p.frames) (replays_joined K L p.base p.middle t p.before p.frames lead is.state)
 
     -- what is answered of these records
     abbrev pub Answered : (J → Option ℕ) → Plain J → List (Recorded J) → Plain J → List (Recorded J) → Option Verdict → Type 0
@@ -75,33 +64,32 @@ module _ {J : Type 0} (K : Kind J) (L : Laws K) (h : Header) where
     answered_as unit found a b before again base behind same also given = subst (λ s. Answered unit s again base behind found) same (subst (λ l. Answered unit a l base behind found) also given)
 
     -- the verdict where no way leads from the other checkpoint
-    pub verdict_none : (unit : J → Option ℕ) (found : Option Verdict) (base : Plain J) (behind : List (Recorded J)) → base ≡ p.base → behind ≡ records_in K h.set.workers (p.before ++ p.frames) → IsWayIf (format K) h p image None
+    pub verdict_none : (unit : J → Option ℕ) (found : Option Verdict) (base : Plain J) (behind : List (Recorded J)) → base ≡ p.base → behind ≡ records_behind K p.base (p.before ++ p.frames) → IsWayIf (format K) h p image None
         → MatchOption found ((x y : Plain J) → applied K base [] ≡ Some x → applied K base behind ≡ Some y → ⊥) (λ v. IsVerdict K unit (record { start = base; before = []; checkpoint = base; behind = behind }) v)
-        → MatchOption found ⊥ (λ v. (way : Option (Plain J × List (List ℕ))) × IsWayIf (format K) h p image way × IsVerdict K unit (history K h.set.workers p way) v)
+        → MatchOption found ⊥ (λ v. (way : Option (Plain J × List (List ℕ))) × IsWayIf (format K) h p image way × IsVerdict K unit (history K p way) v)
     verdict_none unit found base behind base_same behind_same way given =
         verdict_by found _ _ _ given
         (λ none. none base t refl (subst (λ b. applied K b behind ≡ Some t) (sym base_same) (subst (λ l. applied K p.base l ≡ Some t) (sym behind_same) behind_applied)))
         (λ v verdict. (
           None,
           way,
-          subst (λ b. IsVerdict K unit (record { start = b; before = []; checkpoint = b; behind = records_in K h.set.workers (p.before ++ p.frames) }) v) base_same
+          subst (λ b. IsVerdict K unit (record { start = b; before = []; checkpoint = b; behind = records_behind K p.base (p.before ++ p.frames) }) v) base_same
               (subst (λ l. IsVerdict K unit (record { start = base; before = []; checkpoint = base; behind = l }) v) behind_same verdict),
         ))
 
     -- the verdict where a way does
-    pub verdict_some : (unit : J → Option ℕ) (found : Option Verdict) (start base : Plain J) (frames : List (List ℕ)) (before behind : List (Recorded J)) → base ≡ p.base → before ≡ records_in K h.set.workers frames
-        → behind ≡ records_in K h.set.workers (p.before ++ p.frames) → IsWay (format K) h p image start frames
+    pub verdict_some : (unit : J → Option ℕ) (found : Option Verdict) (start base : Plain J) (frames : List (List ℕ)) (before behind : List (Recorded J)) → base ≡ p.base → before ≡ records_behind K start frames
+        → behind ≡ records_behind K p.base (p.before ++ p.frames) → IsWay (format K) h p image start frames
         → MatchOption found ((x y : Plain J) → applied K start before ≡ Some x → applied K base behind ≡ Some y → ⊥) (λ v. IsVerdict K unit (record { start = start; before = before; checkpoint = base; behind = behind }) v)
-        → MatchOption found ⊥ (λ v. (way : Option (Plain J × List (List ℕ))) × IsWayIf (format K) h p image way × IsVerdict K unit (history K h.set.workers p way) v)
+        → MatchOption found ⊥ (λ v. (way : Option (Plain J × List (List ℕ))) × IsWayIf (format K) h p image way × IsVerdict K unit (history K p way) v)
     verdict_some unit found start base frames before behind base_same before_same behind_same way given =
-        let set = read_set K h _ start way.area.body in
         verdict_by found _ _ _ given
-        (λ none. none way.reached t (subst (λ l. applied K start l ≡ Some way.reached) (sym before_same) (frames_applied K L h start way.reached frames set way.leads))
+        (λ none. none way.reached t (subst (λ l. applied K start l ≡ Some way.reached) (sym before_same) (frames_applied K L start way.reached frames way.leads))
         (subst (λ b. applied K b behind ≡ Some t) (sym base_same) (subst (λ l. applied K p.base l ≡ Some t) (sym behind_same) behind_applied)))
         (λ v verdict. (
           Some (start, frames),
           way,
-          subst (λ b. IsVerdict K unit (record { start = start; before = records_in K h.set.workers frames; checkpoint = b; behind = records_in K h.set.workers (p.before ++ p.frames) }) v) base_same
-              (subst (λ l. IsVerdict K unit (record { start = start; before = records_in K h.set.workers frames; checkpoint = base; behind = l }) v) behind_same
+          subst (λ b. IsVerdict K unit (record { start = start; before = records_behind K start frames; checkpoint = b; behind = records_behind K p.base (p.before ++ p.frames) }) v) base_same
+              (subst (λ l. IsVerdict K unit (record { start = start; before = records_behind K start frames; checkpoint = base; behind = l }) v) behind_same
               (subst (λ l. IsVerdict K unit (record { start = start; before = l; checkpoint = base; behind = behind }) v) before_same verdict)),
         ))

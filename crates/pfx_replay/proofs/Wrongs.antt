@@ -4,13 +4,14 @@ use Rattle.std.proofs.Common.{sym, ◌∙◌, ap, inl, inr}
 use Rattle.std.proofs.lemmas.Bool.{cond-true, cases_lt, lt-ltb}
 use Rattle.pfx_machine.specs.Choosing.{row_in}
 use Rattle.pfx_machine.specs.Fitting.{fits}
-use Rattle.pfx_columns.specs.Ledgers.{total}
 use Rattle.pfx_jobs.specs.Kind.{Kind}
 use Rattle.pfx_machine.specs.Happenings.{row_or_none}
 use Rattle.pfx_machine.specs.Plain as machine
+use Rattle.pfx_machine.specs.Reweighing.{reweigh_fault}
 use Rattle.pfx_machine.specs.Refusals.{refusal, command_fault, slot_fault, submit_fault, withdraw_fault}
 use Rattle.pfx_machine.specs.declared.command.Command.{Command}
-use Rattle.pfx_machine.specs.declared.command.Command.TheVariants.{Submit, Slot, Withdraw}
+use Rattle.pfx_machine.specs.declared.command.Command.TheVariants.{Submit, Slot, Withdraw, Reweigh}
+use Rattle.pfx_machine.specs.declared.faults.MachineFault.{MachineFault}
 use Rattle.pfx_machine.specs.declared.faults.MachineFault.TheVariants.{NumberLimit, TaskBusy}
 use Rattle.pfx_record.specs.Records.{Recorded, submitted, ran, withdrawn, reweighed, record_fits, tasks_of}
 use Rattle.pfx_record.specs.declared.record.Place.{Place}
@@ -43,16 +44,23 @@ module _ {J : Type 0} (K : Kind J) (s : machine.Plain J) where
   no_withdraw_fault t (Some None) has = cc
   no_withdraw_fault t (Some (Some j)) has = refl
 
-  apt : (one : Recorded J) → IsTrue (is_right K s one) → IsTrue (is_apt K (total s.ledger) s.jobs one)
+  apt : (one : Recorded J) → IsTrue (is_right K s one) → IsTrue (is_apt K s one)
   apt one right =
-      let rest = (both (record_fits (form_at s) one) (is_apt K (total s.ledger) s.jobs one && fits (after_record s one)) right).1 in
-      (both (is_apt K (total s.ledger) s.jobs one) (fits (after_record s one)) rest).0
+      let rest = (both (record_fits (form_at s) one) (is_apt K s one && fits (after_record s one)) right).1 in
+      (both (is_apt K s one) (fits (after_record s one)) rest).0
 
   pub submit_accepted : (t : ℕ) (job : J) → IsTrue (is_right K s (submitted t job)) → refusal K s (Submit t job) ≡ None
   submit_accepted t job right = accepted (Submit t job) (number_below (submitted t job) right) (no_submit_fault t (slice_get s.jobs t) (apt (submitted t job) right))
 
   pub withdraw_accepted : (t : ℕ) → IsTrue (is_right K s (withdrawn t)) → refusal K s (Withdraw t) ≡ None
   withdraw_accepted t right = accepted (Withdraw t) (number_below (withdrawn t) right) (no_withdraw_fault t (slice_get s.jobs t) (apt (withdrawn t) right))
+
+  no_reweigh_fault : (o : Option MachineFault) → elim o [ Some fault ↦ false | None ↦ true ] ≡ true → o ≡ None
+  no_reweigh_fault None may = refl
+  no_reweigh_fault (Some fault) may = cc
+
+  pub reweigh_accepted : (m : ℕ) (ws : List (ℕ × ℕ)) → IsTrue (is_right K s (reweighed m ws)) → refusal K s (Reweigh m ws) ≡ None
+  reweigh_accepted m ws right = accepted (Reweigh m ws) (number_below (reweighed m ws) right) (no_reweigh_fault (reweigh_fault s m ws) (apt (reweighed m ws) right))
 
   abbrev places_in : Recorded J → List (Place J)
   places_in (submitted t job) = []

@@ -7,16 +7,16 @@ use Rattle.pfx_machine.specs.Outcome.{outcome}
 use Rattle.pfx_machine.specs.Plain.{Plain}
 use Rattle.pfx_machine.specs.Sessions.{IsAcceptable}
 use Rattle.pfx_machine.specs.declared.command.Command.{Command}
-use Rattle.pfx_machine.specs.declared.command.Command.TheVariants.{Submit, Slot, Withdraw}
+use Rattle.pfx_machine.specs.declared.command.Command.TheVariants.{Submit, Slot, Withdraw, Reweigh}
 use Rattle.pfx_record.specs.Records.{Recorded, submitted, ran, withdrawn, reweighed}
 use Rattle.pfx_redo.specs.Recording.{records_of}
 
--- the command that a record is of; new weights are of none yet: they stand as that of a slot, whose record is another
+-- the command that a record is of
 abbrev pub command_of : {J : Type 0} → Recorded J → Command J
 command_of (submitted task job) = Submit task job
 command_of (ran row) = Slot
 command_of (withdrawn task) = Withdraw task
-command_of (reweighed workers weights) = Slot
+command_of (reweighed workers weights) = Reweigh workers weights
 
 abbrev pub commands_of : {J : Type 0} → List (Recorded J) → List (Command J)
 commands_of records = map command_of records

@@ -2,6 +2,7 @@
 use Rattle.std.specs.Prelude.{◌≡◌, ℕ, ◌+◌, List, [], ◌∷◌, ◌++◌, not, Option, Some, None, Result, Ok}
 use Rattle.pfx_format.specs.Batches.{batch_in}
 use Rattle.pfx_format.specs.Format.{format}
+use Rattle.pfx_format.specs.Frames.{state_after}
 use Rattle.pfx_header.specs.Headers.{Header}
 use Rattle.pfx_jobs.specs.Kind.{Kind}
 use Rattle.pfx_machine.specs.Plain.{Plain}
@@ -31,19 +32,29 @@ module _ {H S : Type 0} (K : Codec H S) (h : H) (p : Parts S) (image : List ℕ)
   IsWayIf None = (s : S) (frames : List (List ℕ)) → IsWay s frames → ⊥
 
 module _ {J : Type 0} (K : Kind J) where
-  -- the records of a frame, and of frames, in their order
+  -- the records of a batch, if there is one
   abbrev pub records_if : Option (PlainBatch J) → List (Recorded J)
   records_if None = []
   records_if (Some batch) = batch.records
 
-  abbrev pub records_in : ℕ → List (List ℕ) → List (Recorded J)
-  records_in workers [] = []
-  records_in workers (frame ∷ frames) = records_if (batch_in K workers frame) ++ records_in workers frames
+  -- the records of a frame behind a state, read by the set that is in force there
+  abbrev pub records_at : Plain J → List ℕ → List (Recorded J)
+  records_at s frame = records_if (batch_in K s.ledger.set.workers s.ledger.set.real frame)
+
+  -- what is behind a state, if there is one
+  abbrev pub onward : Option (Plain J) → (Plain J → List (Recorded J)) → List (Recorded J)
+  onward None behind = []
+  onward (Some t) behind = behind t
+
+  -- the records of frames behind a state, in their order, each frame read by the set that is in force where it comes, up to one that isn't right there
+  abbrev pub records_behind : Plain J → List (List ℕ) → List (Recorded J)
+  records_behind s [] = []
+  records_behind s (frame ∷ frames) = records_at s frame ++ onward (state_after K s frame) (λ t. records_behind t frames)
 
   -- what the file records from the lesser checkpoint on, where a way leads from there; else from the checkpoint in use on
-  abbrev pub history : ℕ → Parts (Plain J) → Option (Plain J × List (List ℕ)) → History J
-  history workers p None = record { start = p.base; before = []; checkpoint = p.base; behind = records_in workers (p.before ++ p.frames) }
-  history workers p (Some w) = record { start = w.0; before = records_in workers w.1; checkpoint = p.base; behind = records_in workers (p.before ++ p.frames) }
+  abbrev pub history : Parts (Plain J) → Option (Plain J × List (List ℕ)) → History J
+  history p None = record { start = p.base; before = []; checkpoint = p.base; behind = records_behind p.base (p.before ++ p.frames) }
+  history p (Some w) = record { start = w.0; before = records_behind w.0 w.1; checkpoint = p.base; behind = records_behind p.base (p.before ++ p.frames) }
 
 module _ {J : Type 0} (K : Kind J) (unit : J → Option ℕ) where
   -- a state is recovered from the image, and this is the verdict on what the file records
@@ -52,4 +63,4 @@ module _ {J : Type 0} (K : Kind J) (unit : J → Option ℕ) where
     pub read_is : read ≡ Ok found
     pub way : Option (Plain J × List (List ℕ))
     pub way_is : IsWayIf (format K) found.head found.parts image way
-    pub is : IsVerdict K unit (history K found.head.set.workers found.parts way) verdict
+    pub is : IsVerdict K unit (history K found.parts way) verdict

@@ -2,12 +2,14 @@
 ghost use Rattle.std.specs.Prelude.{◌≡◌, ◌≢◌, ◌↔◌, ◌∷◌, [], slice_get, IsTrue, IfOk, MatchOption, None};
 ghost use Rattle.pfx_machine.specs.Outcome.{outcome};
 ghost use Rattle.pfx_machine.specs.Refusals.{refusal, submit_fault, withdraw_fault};
+ghost use Rattle.pfx_machine.specs.Reweighing.{least_for, reweigh_fault};
 ghost use Rattle.pfx_machine.specs.Sessions.{IsAcceptable};
 ghost use Rattle.pfx_replay.specs.Stated.{plain_of};
 
 use crate::jobs::PlainState;
 use pfx_jobs::job::Job;
 use pfx_machine::{Command, State};
+use pfx_weights::{SetFault, TaskSet};
 use std::alloc::{AllocError, Global};
 
 /// No command has this number.
@@ -32,6 +34,48 @@ fn may_withdraw<J: Job>(jobs: &[Option<J>], task: u16) -> bool
         None => false,
         Some(None) => false,
         Some(Some(_)) => true,
+    }
+}
+
+// How long a segment has to be for a set: for the longest batch of its workers, and for the record of its weights.
+fn least_for(set: &TaskSet) -> u32
+    ensures { result ≡ least_for set.now.workers set.now.real }
+{
+    let _total = set.total();
+    (41 + 2096 * set.workers()).max(27 + 8 * set.real() as u32)
+}
+
+// Whether an allocation failed.
+fn is_memory(fault: SetFault) -> bool
+    ensures { IsTrue result ↔ (fault ≡ SetFault.NoMemory) }
+{
+    matches!(fault, SetFault::NoMemory)
+}
+
+// Whether new weights may come into force: there is one for each real task, every lag is zero, they are a set, and the segments
+// have room for it. An error comes only if an allocation failed.
+fn may_reweigh<J: Job>(
+    alloc: Global,
+    state: &PlainState<J>,
+    workers: u32,
+    weights: &[(u32, u32)],
+) -> Result<bool, AllocError>
+    ensures { IfOk result (λ may. IsTrue may ↔ (reweigh_fault (plain_of state.now) workers weights.now ≡ None)) }
+{
+    if weights.len() != state.ledger.real {
+        return Ok(false);
+    }
+    if !state.ledger.is_level() {
+        return Ok(false);
+    }
+    match TaskSet::new(alloc, workers, weights) {
+        Ok(set) => Ok(state.segment >= least_for(&set)),
+        Err(fault) => {
+            if is_memory(fault) {
+                return Err(AllocError);
+            }
+            Ok(false)
+        }
     }
 }
 
@@ -66,6 +110,14 @@ fn step<J: Job>(
                 return Ok(None);
             }
             Ok(Some(state.withdrawn(*task)))
+        }
+        Command::Reweigh { workers, weights } => {
+            let weights = weights.as_slice();
+            if !may_reweigh(alloc, &state, *workers, weights)? {
+                return Ok(None);
+            }
+            let next = state.reweighed(alloc, *workers, weights)?;
+            Ok(Some(next))
         }
     }
 }

@@ -3,12 +3,14 @@ ghost use Rattle.std.specs.Prelude.{◌≡◌, ◌↔◌, ◌<◌, ℕ, length, 
 ghost use Rattle.pfx_redo.specs.Applying.{applied};
 ghost use Rattle.pfx_machine.specs.Plain.{Plain};
 ghost use Rattle.pfx_record.specs.Records.{plain};
+ghost use Rattle.pfx_replay.specs.Shown.{ledger_of};
 ghost use Rattle.pfx_replay.specs.Stated.{plain_of};
 ghost use Rattle.pfx_replay.specs.Verdicts.{History, IsVerdict};
 
 use crate::jobs::PlainState;
 use crate::judged::Judged;
 use crate::judging::{is_same, judge_all};
+use crate::numbers::PlainLedger;
 use crate::verdict::{Difference, Verdict};
 use pfx_jobs::job::Job;
 use pfx_kinds::units::Units;
@@ -37,11 +39,45 @@ fn are_jobs<J: Job>(one: &[Option<J>], other: &[Option<J>]) -> bool
     true
 }
 
-// Whether two states of a set are the same.
+// Whether two weights are the same.
+fn is_weight(one: (u32, u32), other: (u32, u32)) -> bool
+    ensures { IsTrue result ↔ (one ≡ other) }
+{
+    one.0 == other.0 && one.1 == other.1
+}
+
+// Whether two lists have the same weights.
+fn are_weights(one: &[(u32, u32)], other: &[(u32, u32)]) -> bool
+    ensures { IsTrue result ↔ (one.now ≡ other.now) }
+{
+    if one.len() != other.len() {
+        return false;
+    }
+    for i in 0..one.len() {
+        if !is_weight(one[i], other[i]) {
+            return false;
+        }
+    }
+    true
+}
+
+// Whether two ledgers are of the same set.
+fn are_sets(one: &PlainLedger, other: &PlainLedger) -> bool
+    ensures { IsTrue result ↔ ((ledger_of one.now).set ≡ (ledger_of other.now).set) }
+{
+    if one.workers != other.workers || one.real != other.real || one.hyper != other.hyper {
+        return false;
+    }
+    are_weights(&one.weights, &other.weights)
+}
+
+// Whether two states are the same.
 fn are_states<J: Job>(one: &PlainState<J>, other: &PlainState<J>) -> bool
-    requires { (plain_of one.now).ledger.set ≡ (plain_of other.now).ledger.set }
     ensures { IsTrue result ↔ (plain_of one.now ≡ plain_of other.now) }
 {
+    if !are_sets(&one.ledger, &other.ledger) {
+        return false;
+    }
     if one.number != other.number {
         return false;
     }
@@ -65,7 +101,6 @@ pub(crate) fn judge_history<J: Job + Units>(
     checkpoint: PlainState<J>,
     behind: &[Record<J>],
 ) -> Result<Verdict, AllocError>
-    requires set { (plain_of start).ledger.set ≡ (plain_of checkpoint).ledger.set }
     requires before { (t : Plain J) × (applied J.kind (plain_of start) (map plain before.now) ≡ Some t) }
     requires behind { (t : Plain J) × (applied J.kind (plain_of checkpoint) (map plain behind.now) ≡ Some t) }
     ensures { IfOk result (IsVerdict J.kind J.unit (record {

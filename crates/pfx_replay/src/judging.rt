@@ -180,14 +180,10 @@ fn judge_one<J: Job + Units>(
         }
         Record::Slot { row } => judge_row(alloc, state, row),
         Record::Withdraw { task } => Ok(Judged::Agrees(state.withdrawn(*task))),
-        // No record of new weights is right yet.
-        Record::Reweigh {
-            workers: _,
-            weights: _,
-        } => Ok(Judged::Differs {
-            number: state.number + 1,
-            what: Difference::Row,
-        }),
+        Record::Reweigh { workers, weights } => {
+            let next = state.reweighed(alloc, u32::from(*workers), weights.as_slice())?;
+            Ok(Judged::Agrees(next))
+        }
     }
 }
 

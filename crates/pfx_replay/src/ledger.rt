@@ -1,15 +1,17 @@
 // A ledger as plain numbers, and PF's row by counting who beats whom.
-ghost use Rattle.std.specs.Prelude.{◌≡◌, ◌≢◌, ◌≤◌, ◌<◌, ◌+◌, ◌-◌, ◌^◌, ℕ, List, length, slice_index, IfOk, Ok, MatchOption};
+ghost use Rattle.std.specs.Prelude.{◌≡◌, ◌≢◌, ◌↔◌, ◌≤◌, ◌<◌, ◌+◌, ◌-◌, ◌^◌, ℕ, List, length, slice_index, IsTrue, IfOk, Ok, MatchOption};
 ghost use Rattle.pfx_weights.specs.Rows.{is_in, one};
-ghost use Rattle.pfx_columns.specs.Ledgers.{add, after, class, task};
+ghost use Rattle.pfx_columns.specs.Ledgers.{add, after, class, start, task};
+ghost use Rattle.pfx_columns.specs.Levels.{IsLevel};
 ghost use Rattle.pfx_choice.specs.Choices.{contending, is_contending, is_urgent, order, urgent};
 ghost use Rattle.pfx_choice.specs.PfRows.{chosen, is_greater, pf_set, rival, rivals};
 ghost use Rattle.pfx_replay.specs.Shown.{ledger_of};
 
 use crate::numbers::PlainLedger;
-use crate::symbols::{class_at, compare};
+use crate::symbols::{class_at, compare, is_even};
 use pfx_columns::Columns;
 use pfx_symbols::Class;
+use pfx_weights::TaskSet;
 use std::alloc::{AllocError, Global};
 use std::cmp::Ordering;
 
@@ -65,6 +67,27 @@ impl PlainLedger {
         })
     }
 
+    /// The ledger that a set begins with.
+    pub(crate) fn begin(alloc: Global, set: &TaskSet) -> Result<PlainLedger, AllocError>
+        ensures { IfOk result (λ l. ledger_of l ≡ start set.now) }
+    {
+        let total = set.total();
+        let mut weights = Vec::with_capacity(alloc, total)?;
+        let mut allocations = Vec::with_capacity(alloc, total)?;
+        for x in 0..total {
+            weights.push(set.weight(x))?;
+            allocations.push(0)?;
+        }
+        Ok(PlainLedger {
+            workers: set.workers(),
+            real: set.real(),
+            hyper: set.hyper(),
+            weights,
+            slot: 0,
+            allocations,
+        })
+    }
+
     // The weight (e, p) of a task.
     fn weight(&self, x: usize) -> (u64, u64)
         requires { x < length self.now.weights.items }
@@ -84,6 +107,19 @@ impl PlainLedger {
         ensures limit { result < 2 ^ 41 }
     {
         self.allocations[x]
+    }
+
+    /// Whether each task got just what it was due.
+    pub(crate) fn is_level(&self) -> bool
+        ensures { IsTrue result ↔ IsLevel (ledger_of self.now) }
+    {
+        for x in 0..self.weights.len() {
+            let (e, p) = self.weight(x);
+            if !is_even(e, p, self.got(x), self.slot) {
+                return false;
+            }
+        }
+        true
     }
 
     /// The class of a task at the slot to come.

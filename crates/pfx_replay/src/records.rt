@@ -1,23 +1,27 @@
 // The records of frames.
-ghost use Rattle.std.specs.Prelude.{◌≡◌, ◌++◌, map, IfOk, OnOk};
+ghost use Rattle.std.specs.Prelude.{◌≡◌, map, IfOk};
 ghost use Rattle.pfx_format.specs.Batches.{batch_in};
 ghost use Rattle.pfx_record.specs.Records.{plain};
 ghost use Rattle.pfx_segment.specs.Reading.{views};
-ghost use Rattle.pfx_replay.specs.Trails.{records_if, records_in};
+ghost use Rattle.pfx_replay.specs.Trails.{records_behind, records_if};
 
 use pfx_jobs::job::Job;
+use pfx_machine::State;
 use pfx_record::{Batch, BatchFault, Record, read_batch};
+use pfx_recover::Format;
+use pfx_store::FileFormat;
 use std::alloc::{AllocError, Global};
 
 // The records of one frame: none if its bytes aren't a batch.
 fn records_of<J: Job>(
     alloc: Global,
     workers: u32,
+    real: u32,
     frame: &[u8],
 ) -> Result<Vec<Record<J>>, AllocError>
-    ensures { IfOk result (λ records. map plain records.items ≡ records_if J.kind (batch_in J.kind workers frame.now)) }
+    ensures { IfOk result (λ records. map plain records.items ≡ records_if J.kind (batch_in J.kind workers real frame.now)) }
 {
-    match read_batch(alloc, workers, 0, frame) {
+    match read_batch(alloc, workers, real, frame) {
         Err(BatchFault::NoMemory) => Err(AllocError),
         Err(BatchFault::Damaged { .. }) => Ok(Vec::new(alloc)),
         Ok((batch, taken)) => {
@@ -30,18 +34,26 @@ fn records_of<J: Job>(
     }
 }
 
-/// Adds the records of frames.
-pub(crate) fn add_records<J: Job>(
+/// The records of frames behind a state, each frame read by the set that is in force where it comes, up to one that isn't right
+/// there. An error comes only if an allocation failed.
+pub(crate) fn records_behind<J: Job>(
     alloc: Global,
-    records: &mut Vec<Record<J>>,
-    workers: u32,
+    state: &State<J>,
     frames: &[Vec<u8>],
-) -> Result<(), AllocError>
-    ensures { OnOk result (map plain records.new.items ≡ map plain records.old.items ++ records_in J.kind workers (views frames.now)) }
+) -> Result<Vec<Record<J>>, AllocError>
+    ensures { IfOk result (λ records. map plain records.items ≡ records_behind J.kind state.now (views frames.now)) }
 {
+    let mut records = Vec::new(alloc);
+    let mut reached = state.copy_of(alloc)?;
     for frame in frames {
-        let mut more = records_of(alloc, workers, frame)?;
+        let _total = reached.columns().total();
+        let workers = reached.columns().workers();
+        let real = reached.columns().real() as u32;
+        let mut more = records_of(alloc, workers, real, frame)?;
         records.append(&mut more)?;
+        if !FileFormat::<J>::apply(alloc, &mut reached, frame)? {
+            return Ok(records);
+        }
     }
-    Ok(())
+    Ok(records)
 }

@@ -4,7 +4,7 @@ ghost use Rattle.pfx_machine.specs.Choosing.{row_in};
 ghost use Rattle.pfx_machine.specs.Outcome.{outcome};
 ghost use Rattle.pfx_machine.specs.Refusals.{refusal};
 ghost use Rattle.pfx_machine.specs.Steps.{once_job, served};
-ghost use Rattle.pfx_machine.specs.declared.command.Command.TheVariants.{Submit, Slot, Withdraw};
+ghost use Rattle.pfx_machine.specs.declared.command.Command.TheVariants.{Submit, Slot, Withdraw, Reweigh};
 ghost use Rattle.pfx_replay.specs.Shown.{ledger_of};
 ghost use Rattle.pfx_replay.specs.Stated.{plain_of};
 
@@ -13,6 +13,7 @@ use crate::ledger::holds;
 use crate::numbers::PlainLedger;
 use pfx_jobs::job::Job;
 use pfx_machine::{State, copy_jobs};
+use pfx_weights::TaskSet;
 use std::alloc::{AllocError, Global};
 
 // Steps a job that runs, unless there is none or it is done.
@@ -130,5 +131,34 @@ impl<J: Job> PlainState<J> {
             jobs,
             segment,
         }
+    }
+    /// The state after new weights came into force. An error comes only if an allocation failed.
+    pub(crate) fn reweighed(
+        self,
+        alloc: Global,
+        workers: u32,
+        weights: &[(u32, u32)],
+    ) -> Result<PlainState<J>, AllocError>
+        requires { refusal J.kind (plain_of self) (Reweigh workers weights.now) ≡ None }
+        ensures { IfOk result (λ next. plain_of next ≡ outcome J.kind (plain_of self) (Reweigh workers weights.now ∷ [])) }
+    {
+        let Ok(set) = TaskSet::new(alloc, workers, weights) else {
+            return Err(AllocError);
+        };
+        let begun = PlainLedger::begin(alloc, &set)?;
+        let PlainState {
+            number,
+            from,
+            ledger,
+            jobs,
+            segment,
+        } = self;
+        Ok(PlainState {
+            number: number + 1,
+            from: from + ledger.slot,
+            ledger: begun,
+            jobs,
+            segment,
+        })
     }
 }

@@ -2,6 +2,7 @@
 ghost use Rattle.std.specs.Prelude.{◌≡◌, ◌≤◌, ◌<◌, ◌+◌, ◌*◌, ◌^◌, ◌↔◌, IsTrue};
 ghost use Rattle.std.specs.Cmp.Lexicographic.{slice_cmp};
 ghost use Rattle.pfx_columns.specs.Lags.{class_at};
+ghost use Rattle.pfx_columns.specs.Levels.{is_even};
 ghost use Rattle.pfx_symbols.specs.Symbols.{sign_of, substring_at, symbol_at, symbol_cmp};
 
 use pfx_symbols::{Class, Symbol};
@@ -74,6 +75,17 @@ pub(crate) fn compare(e: u64, p: u64, f: u64, q: u64, t: u64) -> Ordering
         return Ordering::Greater;
     }
     Ordering::Equal
+}
+
+/// Whether a task of weight e/p that got a of the slots before slot t got just what it was due.
+pub(crate) fn is_even(e: u64, p: u64, a: u64, t: u64) -> bool
+    requires weight { e < p }
+    requires period { p ≤ 2 ^ 20 }
+    requires slot { t < 2 ^ 40 }
+    requires got { a < 2 ^ 41 }
+    ensures { result ≡ is_even t (record { e = e; p = p; alloc = a }) }
+{
+    p * a == e * t
 }
 
 /// The class at slot t of a task of weight e/p that got a of the slots before.

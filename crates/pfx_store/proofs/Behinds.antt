@@ -29,6 +29,13 @@ module _ {J : Type 0} (K : Kind J) (L : Laws K) (batch : PlainBatch J) where
   opens : batch_bytes K batch ≡ GATE_OPEN ∷ rest
   opens = split_batch K L batch
 
+  -- the longest one of rows is short
+  pub most_short : (workers real : ℕ) → IsTrue (batch_fits workers real batch) → length (batch_bytes K batch) ≤ batch_most workers 0 → length (batch_bytes K batch) < 2 ^ 32
+  most_short workers real fits bound =
+      let counts = counts_of workers batch.first (length batch.records) (both (counts_fit workers batch.first (length batch.records)) (all_fit (form_of workers real (length batch.records)) batch.records) fits).0 in
+      let few = counts.few_workers in
+      omega (arith, bound, most_of_rows workers, few)
+
   frame_is : (workers real : ℕ) → IsTrue (batch_fits workers real batch) → length (batch_bytes K batch) < 2 ^ 32 → IsFrame (GATE_OPEN ∷ rest)
   frame_is workers real fits short =
       let head = head_there K L workers real batch fits in
@@ -43,11 +50,8 @@ module _ {J : Type 0} (K : Kind J) (L : Laws K) (batch : PlainBatch J) where
         whole = whole ∙ (let same : number_4 1 (GATE_OPEN ∷ rest) ≡ little_number 4 rest = omega arith in omega (arith, same, there));
       }
 
-  pub behind_is : (workers real : ℕ) (frame : List ℕ) → IsTrue (batch_fits workers real batch) → length (batch_bytes K batch) ≤ batch_most workers 0 → frame ≡ batch_bytes K batch ++ 0 ∷ [] → IsBehind (batch_bytes K batch) (take (length frame - 1) (drop 1 frame))
-  behind_is workers real frame fits bound is =
-      let counts = counts_of workers batch.first (length batch.records) (both (counts_fit workers batch.first (length batch.records)) (all_fit (form_of workers real (length batch.records)) batch.records) fits).0 in
-      let few = counts.few_workers in
-      let short : length (batch_bytes K batch) < 2 ^ 32 = omega (arith, bound, most_of_rows workers, few) in
+  pub behind_is : (workers real : ℕ) (frame : List ℕ) → IsTrue (batch_fits workers real batch) → length (batch_bytes K batch) < 2 ^ 32 → frame ≡ batch_bytes K batch ++ 0 ∷ [] → IsBehind (batch_bytes K batch) (take (length frame - 1) (drop 1 frame))
+  behind_is workers real frame fits short is =
       let spelled : frame ≡ GATE_OPEN ∷ (rest ++ 0 ∷ []) = is ∙ ap (λ l. l ++ 0 ∷ []) opens in
       let split : take (length frame - 1) (drop 1 frame) ≡ rest ++ 0 ∷ [] = ap (λ l. take (length l - 1) (drop 1 l)) spelled ∙ take_all _ (rest ++ 0 ∷ []) (omega arith) in
       (rest, opens, record { split = split; frame = frame_is workers real fits short })

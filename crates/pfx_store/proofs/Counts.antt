@@ -1,5 +1,5 @@
 -- How a call behind another one answers, and how many calls of the disk the two take.
-use Rattle.std.specs.Prelude.{◌≡◌, ◌≤◌, ◌<◌, ◌+◌, ◌-◌, ℕ, Bool, true, false, Result, Ok, Err, IsErrAnd, IsOk, nat_lt, if◌then◌else◌}
+use Rattle.std.specs.Prelude.{◌≡◌, ◌≤◌, ◌+◌, ℕ, Bool, true, false, Result, Ok, Err, IsErrAnd, IsOk, nat_lt, if◌then◌else◌}
 use Rattle.std.proofs.Common.{sym, ◌∙◌, ap, subst, arith, inl, inr}
 use Rattle.std.proofs.lemmas.Bool.{true≢false, false≢true, cond-true, lt-ltb}
 use Rattle.pfx_disk.specs.Disk.{View, HasFailed}

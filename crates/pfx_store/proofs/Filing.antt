@@ -3,16 +3,15 @@ use Rattle.std.specs.Prelude.{◌≡◌, ℕ, ◌+◌, ◌≤◌, List, [], ◌+
 use Rattle.std.specs.declared.alloc.Global.{Global}
 use Rattle.std.proofs.Common.{sym, ◌∙◌, ap, ap₂, subst, arith, inl, inr, ⊎_elim}
 use Rattle.std.proofs.lemmas.Bool.{cases_lt, true≢false, lt-ltb, le-ltb}
-use Rattle.pfx_checkpoint.specs.Found.{read_state}
-use Rattle.pfx_checkpoint.specs.Spelling.{state_bytes}
-use Rattle.pfx_checkpoint.proofs.Readings.{only_states}
+use Rattle.pfx_checkpoint.specs.Whole.{whole_bytes}
 use Rattle.pfx_disk.specs.CallsMade.{HasMade, HasBrokenOff, HasKeptTo}
 use Rattle.pfx_disk.specs.Disk.{View}
 use Rattle.pfx_disk.specs.Stop.{Act}
 use Rattle.pfx_disk.proofs.CallsMade.{made_none, made_then, broken_first, broken_then, within_first, within_then}
+use Rattle.pfx_format.specs.Areas.{read_area}
 use Rattle.pfx_format.specs.Format.{format}
+use Rattle.pfx_format.proofs.Keeping.{read_of}
 use Rattle.pfx_header.specs.Headers.{Header}
-use Rattle.pfx_header.proofs.Meanings.{read_filled, read_a_header}
 use Rattle.pfx_jobs.specs.Kind.{Kind}
 use Rattle.pfx_machine.specs.Plain.{Plain}
 use Rattle.pfx_recovery.specs.Layout.{segment_end}
@@ -52,7 +51,7 @@ module _ {J : Type 0} (K : Kind J) (f : FileOf J) (places : Places) (body : List
   pub tend_file : (after : Places) → AreOf (format K) (tended_file (format K) f) after → HasFile K (tended_file (format K) f) after body
   tend_file after are = let kept = tended_kept (format K) f in record {
     are = are;
-    spells = λ turned. has.spells (kept.turned turned) ∙ ap (state_bytes K) (sym kept.middle);
+    spells = λ turned. has.spells (kept.turned turned) ∙ ap (whole_bytes K) (sym kept.middle);
   }
 
   -- room for a frame of n bytes
@@ -135,9 +134,9 @@ module _ {J : Type 0} (K : Kind J) (f : FileOf J) (places : Places) (body : List
 
     -- the body of the checkpoint in progress is as it was, if there was room, and else the state's
     abbrev Spelled : FileOf J → Type 0
-    Spelled g = g.parts.turned ≡ true → other ≡ state_bytes K g.parts.middle
+    Spelled g = g.parts.turned ≡ true → other ≡ whole_bytes K g.parts.middle
 
-    spelled_by : (HasRoom n places → other ≡ body) → (¬ HasRoom n places → other ≡ state_bytes K s) → Spelled (appended K f s frame)
+    spelled_by : (HasRoom n places → other ≡ body) → (¬ HasRoom n places → other ≡ whole_bytes K s) → Spelled (appended K f s frame)
     spelled_by there full = elim (cases_lt (places.gate + n) places.end) [
       | inl room ↦ subst (λ b. Spelled (framed_file (format K) (if b then f else turned_file (format K) (ended_file (format K) f) s) frame))
           (sym (subst (λ m. has_room (format K) f m ≡ true) (sym long) (room_is n room))) (λ turned. there room ∙ has.spells turned)
@@ -147,7 +146,7 @@ module _ {J : Type 0} (K : Kind J) (f : FileOf J) (places : Places) (body : List
           (sym (subst (λ m. has_room (format K) f m ≡ false) (sym long) (full_is n none))) (λ turned. full none)
     ]
 
-    pub append_file : (after : Places) → (HasRoom n places → other ≡ body) → (¬ HasRoom n places → other ≡ state_bytes K s) → AreOf (format K) (appended_file (format K) (ended K f n) s bytes frame) after → HasFile K (appended K f s frame) after other
+    pub append_file : (after : Places) → (HasRoom n places → other ≡ body) → (¬ HasRoom n places → other ≡ whole_bytes K s) → AreOf (format K) (appended_file (format K) (ended K f n) s bytes frame) after → HasFile K (appended K f s frame) after other
     append_file after there full are = record {
       are = subst (λ g. AreOf (format K) g after) joins_file are;
       spells = spelled_by there full;
@@ -166,12 +165,12 @@ module _ {J : Type 0} (K : Kind J) (f : FileOf J) (places : Places) (body : List
 
 -- if the bytes of a checkpoint area are read as a state, they are that state's
 module _ {J : Type 0} (K : Kind J) (h : Header) (p : Parts (Plain J)) (s : Plain J) (body image : List ℕ) where
-  pub body_same : IsStore (format K) h p s image → read_state K 0 h.segment h.set body ≡ Some p.middle → body ≡ state_bytes K p.middle
-  body_same store read = sym (only_states K 0 h.segment h.set body p.middle (read_a_header image h store.head).accepted (read_filled image h store.head) read).2
+  pub body_same : IsStore (format K) h p s image → read_area K h body ≡ Some p.middle → body ≡ whole_bytes K p.middle
+  body_same store read = sym (read_of K h body p.middle read).spelled
 
 -- a store that was opened has the file that is found
 pub opened_file : {J : Type 0} (K : Kind J) (h : Header) (bytes : List ℕ) (places : Places) (s : Plain J) (middle : Option (Vec ℕ Global)) (body : List ℕ) (disk : View) →
-    (o : IsOpened (format K) h bytes places s middle disk) → (o.parts.turned ≡ true → read_state K 0 h.segment h.set body ≡ Some o.parts.middle) →
+    (o : IsOpened (format K) h bytes places s middle disk) → (o.parts.turned ≡ true → read_area K h body ≡ Some o.parts.middle) →
     (f : FileOf J) × (recovered_file K bytes ≡ Some (s, f)) × HasFile K f places body
 opened_file K h bytes places s middle body disk o reads = (
   file_in (format K) bytes h o.parts,

@@ -1,15 +1,15 @@
 -- Frames of groups of commands: where they lead, and what survives of them.
-use Rattle.std.specs.Prelude.{◌≡◌, ℕ, zero, suc, ◌+◌, ◌<◌, ◌≤◌, ◌^◌, ◌&&◌, List, [], ◌∷◌, ◌++◌, length, take, drop, Bool, true, false, Some, None, Ok, IsTrue, if◌then◌else◌, refl}
+use Rattle.std.specs.Prelude.{◌≡◌, ℕ, zero, suc, ◌+◌, ◌<◌, ◌≤◌, ◌^◌, All, List, [], ◌∷◌, ◌++◌, length, take, drop, Bool, true, false, Some, None, Ok, IsTrue, if◌then◌else◌, refl}
 use Rattle.std.proofs.Common.{sym, ◌∙◌, ap, subst, arith, append_assoc, append-nil}
 use Rattle.std.proofs.lemmas.Bool.{lt-ltb, le-leb}
 use Rattle.std.proofs.lemmas.Option.{none-some, same_Some}
-use Rattle.pfx_machine.specs.Fitting.{fits}
-use Rattle.pfx_columns.specs.Ledgers.{total}
+use Rattle.pfx_weights.specs.Sets.{FilledSet}
 use Rattle.pfx_disk.specs.Disk.{View}
-use Rattle.pfx_redo.specs.Applying.{applied, form_at, is_right, is_apt, after_record}
+use Rattle.pfx_redo.specs.Applying.{applied, form_at, is_common, is_right, after_record}
 use Rattle.pfx_redo.specs.Recording.{record_of, records_of}
 use Rattle.pfx_redo.proofs.Outcomes.{records_outcome}
-use Rattle.pfx_redo.proofs.States.{applied_behind}
+use Rattle.pfx_redo.proofs.Commons.{common_fits, records_common}
+use Rattle.pfx_redo.proofs.States.{applied_behind, in_force, right_parts}
 use Rattle.pfx_format.specs.Format.{format}
 use Rattle.pfx_format.specs.Frames.{state_after}
 use Rattle.pfx_format.proofs.Batches.{some_same}
@@ -18,14 +18,14 @@ use Rattle.pfx_jobs.specs.Kind.{Kind, Laws}
 use Rattle.pfx_machine.specs.Plain.{Plain, IsState}
 use Rattle.pfx_machine.specs.Outcome.{outcome}
 use Rattle.pfx_machine.specs.Refusals.{refusal}
+use Rattle.pfx_machine.specs.Batches.{AreCommon, IsBatchable}
 use Rattle.pfx_machine.specs.Sessions.{AllAccepted, IsAcceptable}
 use Rattle.pfx_machine.specs.declared.command.Command.{Command}
 use Rattle.pfx_machine.proofs.Compose.{outcome-none, outcome-outcome}
 use Rattle.pfx_machine.proofs.Keeping.{prefix_is_state}
 use Rattle.pfx_record.specs.Batches.{PlainBatch, all_fit, batch_bytes, batch_fits, counts_fit}
 use Rattle.pfx_record.specs.Records.{Recorded, form_of, record_fits}
-use Rattle.pfx_record.proofs.Renewed.{fits_anywhere}
-use Rattle.pfx_record.proofs.Rising.{both, of_both}
+use Rattle.pfx_record.proofs.Rising.{of_both}
 use Rattle.pfx_recovery.specs.Codec.{Codec}
 use Rattle.pfx_recovery.specs.Store.{Replays}
 use Rattle.pfx_store_file.specs.Holding as frames
@@ -34,14 +34,28 @@ use Rattle.pfx_store.specs.Groups.{AreRecordsOf, AreSmall, KeepsAll, Survives, a
 -- records that are right have spellings
 fit_by : {J : Type 0} (K : Kind J) (s t : Plain J) (done : Recorded J) (records : List (Recorded J)) (b : Bool) → is_right K s done ≡ b → (if b then applied K (after_record s done) records else None) ≡ Some t →
     IsTrue (record_fits (form_at s) done) × (applied K (after_record s done) records ≡ Some t)
-fit_by K s t done records true is h = ((both (record_fits (form_at s) done) (is_apt K (total s.ledger) s.jobs done && fits (after_record s done)) is).0, h)
+fit_by K s t done records true is h = ((right_parts K s done is).form, h)
 fit_by K s t done records false is h = absurd (none-some t h)
 
-all_fit_of : {J : Type 0} (K : Kind J) (s t : Plain J) (count : ℕ) (records : List (Recorded J)) → applied K s records ≡ Some t → IsTrue (all_fit (form_of s.ledger.set.workers 0 count) records)
-all_fit_of K s t count [] h = refl
-all_fit_of K s t count (done ∷ records) h =
+all_fit_of : {J : Type 0} (K : Kind J) (s t : Plain J) (workers real count : ℕ) (records : List (Recorded J)) → s.ledger.set.workers ≡ workers → All (λ done. IsTrue (is_common done)) records → applied K s records ≡ Some t →
+    IsTrue (all_fit (form_of workers real count) records)
+all_fit_of K s t workers real count [] same common h = refl
+all_fit_of K s t workers real count (done ∷ records) same common h =
     let first = fit_by K s t done records (is_right K s done) refl h in
-    of_both (record_fits (form_of s.ledger.set.workers 0 count) done) (all_fit (form_of s.ledger.set.workers 0 count) records) (fits_anywhere s.ledger.set.workers 1 count done first.0) (all_fit_of K (after_record s done) t count records first.1)
+    let one = common 0 done (omega arith) in
+    let next = ap (λ (f : FilledSet). f.workers) (in_force s done one).set ∙ same in
+    of_both (record_fits (form_of workers real count) done) (all_fit (form_of workers real count) records) (common_fits (form_at s) (form_of workers real count) done one same first.0)
+    (all_fit_of K (after_record s done) t workers real count records next (λ k d l. common (suc k) d (omega (arith, l))) first.1)
+
+-- and one that is alone has a spelling of its state's form
+alone_fits : {J : Type 0} (K : Kind J) (s t : Plain J) (done : Recorded J) → applied K s (done ∷ []) ≡ Some t → IsTrue (all_fit (form_of s.ledger.set.workers s.ledger.set.real 1) (done ∷ []))
+alone_fits K s t done h = of_both (record_fits (form_at s) done) true (fit_by K s t done [] (is_right K s done) refl h).0 refl
+
+-- common commands may be a batch
+pub common_batchable : {J : Type 0} (H : List (Command J)) → AreCommon H → IsBatchable H
+common_batchable [] common = tt
+common_batchable (c ∷ []) common = tt
+common_batchable (c ∷ d ∷ H) common = common
 
 pub length-records : {J : Type 0} (K : Kind J) (s : Plain J) (H : List (Command J)) → length (records_of K s H) ≡ length H
 length-records K s [] = refl
@@ -71,6 +85,18 @@ module _ {J : Type 0} (K : Kind J) (L : Laws K) (s : Plain J) (H : List (Command
   pub group_led : applied K s (records_of K s H) ≡ Some (outcome K s H)
   group_led = records_outcome K L s H state all
 
+  -- its records have spellings where so many tasks are real
+  abbrev Fit : ℕ → List (Command J) → Type 0
+  Fit real G = IsTrue (all_fit (form_of s.ledger.set.workers real (length (records_of K s G))) (records_of K s G))
+
+  common_fit : (real : ℕ) → AreCommon H → Fit real H
+  common_fit real common = all_fit_of K s (outcome K s H) s.ledger.set.workers real (length (records_of K s H)) (records_of K s H) refl (records_common K s H common) group_led
+
+  batch_fit : (G : List (Command J)) → (AreCommon G → Fit s.ledger.set.real G) → IsBatchable G → applied K s (records_of K s G) ≡ Some (outcome K s G) → Fit s.ledger.set.real G
+  batch_fit [] fit may led = refl
+  batch_fit (c ∷ []) fit may led = alone_fits K s (outcome K s (c ∷ [])) (record_of K s c) led
+  batch_fit (c ∷ d ∷ G) fit may led = fit may
+
   module _ (some : 0 < length H) (few : length H ≤ 16) where
     abbrev batch : PlainBatch J
     batch = record { first = s.number + 1; records = records_of K s H }
@@ -84,18 +110,25 @@ module _ {J : Type 0} (K : Kind J) (L : Laws K) (s : Plain J) (H : List (Command
         let n = (behind.state state).number in
         omega (arith, n, behind.number, length-records K s H)
 
-    pub group_fits : IsTrue (batch_fits s.ledger.set.workers 0 (record { first = s.number + 1; records = records_of K s H }))
-    group_fits =
+    counts_here : IsTrue (counts_fit s.ledger.set.workers (s.number + 1) (length (records_of K s H)))
+    counts_here =
         let long = length-records K s H in
         let m = state.ledger.set.workers in
-        let counts : IsTrue (counts_fit workers (s.number + 1) (length (records_of K s H))) =
         of_both _ _ (of_both _ _ (lt-ltb 0 workers (omega (arith, m.0))) (le-leb workers 64 m.1))
         (of_both _ _ (of_both _ _ (lt-ltb 0 (length (records_of K s H)) (omega (arith, long, some))) (le-leb (length (records_of K s H)) 16 (omega (arith, long, few))))
-        (of_both _ _ (lt-ltb 0 (s.number + 1) (omega arith)) (le-leb (s.number + 1 + length (records_of K s H)) (2 ^ 48) (omega (arith, long, below))))) in
-        of_both _ _ counts (all_fit_of K s (outcome K s H) (length (records_of K s H)) (records_of K s H) group_led)
+        (of_both _ _ (lt-ltb 0 (s.number + 1) (omega arith)) (le-leb (s.number + 1 + length (records_of K s H)) (2 ^ 48) (omega (arith, long, below)))))
 
-    pub frame_led : state_after K s (frame_of K s H) ≡ Some (outcome K s H)
-    frame_led = frame_leads K L s (outcome K s H) batch group_fits refl (omega (arith, length-records K s H, below)) group_led
+    pub common_batch_fits : (real : ℕ) → AreCommon H → IsTrue (batch_fits s.ledger.set.workers real (record { first = s.number + 1; records = records_of K s H }))
+    common_batch_fits real common = of_both _ _ counts_here (common_fit real common)
+
+    pub group_fits : IsBatchable H → IsTrue (batch_fits s.ledger.set.workers s.ledger.set.real (record { first = s.number + 1; records = records_of K s H }))
+    group_fits may = of_both _ _ counts_here (batch_fit H (common_fit s.ledger.set.real) may group_led)
+
+    pub batch_led : IsBatchable H → state_after K s (frame_of K s H) ≡ Some (outcome K s H)
+    batch_led may = frame_leads K L s (outcome K s H) batch (group_fits may) refl (omega (arith, length-records K s H, below)) group_led
+
+  pub frame_led : AreCommon H → 0 < length H → length H ≤ 16 → state_after K s (frame_of K s H) ≡ Some (outcome K s H)
+  frame_led common some few = batch_led some few (common_batchable H common)
 
 -- Groups, one behind the other.
 module _ {J : Type 0} (K : Kind J) (L : Laws K) where
@@ -110,10 +143,10 @@ module _ {J : Type 0} (K : Kind J) (L : Laws K) where
   frames_lead s [] t state all small run = sym run ∙ sym (outcome-none K s)
   frames_lead s (group ∷ groups) t state all small run =
       let front : IsAcceptable K s group = front_accepted K s [] group (joined groups) all in
-      let led = frame_led K L s group state front small.0 small.1 in
+      let led = frame_led K L s group state front small.2 small.0 small.1 in
       let same : run.0 ≡ outcome K s group = same_Some _ _ (sym run.1 ∙ led) in
       let next : IsState (outcome K s group) = prefix_is_state K L s state group (joined groups) all in
-      frames_lead (outcome K s group) groups t next (behind_there K L s group (joined groups) all) small.2 (subst (λ r. Replays (format K) r (frames_of K (outcome K s group) groups) t) same run.2)
+      frames_lead (outcome K s group) groups t next (behind_there K L s group (joined groups) all) small.3 (subst (λ r. Replays (format K) r (frames_of K (outcome K s group) groups) t) same run.2)
       ∙ outcome-outcome K L s group (joined groups)
 
   pub frames_there : (s : Plain J) (groups : List (List (Command J))) → IsState s → IsAcceptable K s (joined groups) → AreSmall groups → Replays (format K) s (frames_of K s groups) (outcome K s (joined groups))
@@ -122,9 +155,9 @@ module _ {J : Type 0} (K : Kind J) (L : Laws K) where
       let front : IsAcceptable K s group = front_accepted K s [] group (joined groups) all in
       let next : IsState (outcome K s group) = prefix_is_state K L s state group (joined groups) all in (
         outcome K s group,
-        frame_led K L s group state front small.0 small.1,
+        frame_led K L s group state front small.2 small.0 small.1,
         subst (λ t. Replays (format K) (outcome K s group) (frames_of K (outcome K s group) groups) t) (outcome-outcome K L s group (joined groups))
-            (frames_there (outcome K s group) groups next (behind_there K L s group (joined groups) all) small.2),
+            (frames_there (outcome K s group) groups next (behind_there K L s group (joined groups) all) small.3),
       )
 
   -- the first groups
@@ -141,7 +174,7 @@ module _ {J : Type 0} (K : Kind J) (L : Laws K) where
   take_small : (k : ℕ) (groups : List (List (Command J))) → AreSmall groups → AreSmall (take k groups)
   take_small zero groups small = tt
   take_small (suc k) [] small = tt
-  take_small (suc k) (group ∷ groups) small = (small.0, small.1, take_small k groups small.2)
+  take_small (suc k) (group ∷ groups) small = (small.0, small.1, small.2, take_small k groups small.3)
 
   pub take_accepted : (s : Plain J) (groups : List (List (Command J))) (k : ℕ) → IsAcceptable K s (joined groups) → IsAcceptable K s (joined (take k groups))
   take_accepted s groups k all = front_accepted K s [] (joined (take k groups)) (joined (drop k groups)) (subst (λ l. AllAccepted K s [] l) (sym (take_joined k groups)) all)
@@ -197,7 +230,7 @@ module _ {J : Type 0} (K : Kind J) (L : Laws K) (s : Plain J) (H : List (Command
 
   pub records_fit : (workers first : ℕ) → workers ≡ s.ledger.set.workers → first ≡ s.number → 0 < length records → length records ≤ 16 → IsTrue (batch_fits workers 0 (record { first = first + 1; records = records }))
   records_fit workers first same next some few =
-      (λ i. batch_fits (same i) 0 (record { first = next i + 1; records = are.of i })) ∙ group_fits K L s H state are.accepted (omega (arith, long, some)) (omega (arith, long, few))
+      (λ i. batch_fits (same i) 0 (record { first = next i + 1; records = are.of i })) ∙ common_batch_fits K L s H state are.accepted (omega (arith, long, some)) (omega (arith, long, few)) 0 are.common
 
   pub records_lead : applied K s records ≡ Some (outcome K s H)
   records_lead = ap (applied K s) are.of ∙ group_led K L s H state are.accepted
@@ -220,9 +253,9 @@ pub all_alone : {J : Type 0} (H : List (Command J)) → joined (alone H) ≡ H
 all_alone [] = refl
 all_alone (c ∷ H) = ap (λ l. c ∷ l) (all_alone H)
 
-pub alone_small : {J : Type 0} (H : List (Command J)) → AreSmall (alone H)
-alone_small [] = tt
-alone_small (c ∷ H) = (omega arith, omega arith, alone_small H)
+pub alone_small : {J : Type 0} (H : List (Command J)) → AreCommon H → AreSmall (alone H)
+alone_small [] common = tt
+alone_small (c ∷ H) common = (omega arith, omega arith, (common.0, tt), alone_small H common.1)
 
 pub length-alone : {J : Type 0} (H : List (Command J)) → length (alone H) ≡ length H
 length-alone [] = refl

@@ -5,7 +5,7 @@ use Rattle.std.proofs.lemmas.Bool.{cases_lt}
 use Rattle.std.proofs.lemmas.List.{length-take-le, take_all, take-append-le}
 use Rattle.pfx_format.specs.Format.{format}
 use Rattle.pfx_format.proofs.Keeping.{format_laws}
-use Rattle.pfx_header.specs.Headers.{Header, read_header}
+use Rattle.pfx_header.specs.Headers.{Header, read_header, this_version}
 use Rattle.pfx_jobs.specs.Kind.{Kind, Laws}
 use Rattle.pfx_machine.specs.Plain.{Plain}
 use Rattle.pfx_recover.specs.Answers.{Gives, GivesHead, IsRead, IsRefusal, of_head, refusal_of}
@@ -39,16 +39,16 @@ head_handed {H} read (head.Refused e) (Err x) gives same = subst (λ y. Gives {T
 head_handed {H} read head.NoMemory (Err x) gives same = subst (λ y. Gives {T = H} IsRead read (Err y)) (sym same) tt
 
 -- a file that is found has the header that is read
-pub head_found : {J : Type 0} (K : Kind J) (L : Laws K) (bytes : List ℕ) (result : Result Header OpenFault) → Gives IsRead (read_header bytes) result → IfOk result (λ h. (f : Found Header (Plain J)) → found (format K) bytes ≡ Ok f → f.head ≡ h)
+pub head_found : {J : Type 0} (K : Kind J) (L : Laws K) (bytes : List ℕ) (result : Result Header OpenFault) → Gives IsRead (read_header this_version bytes) result → IfOk result (λ h. (f : Found Header (Plain J)) → found (format K) bytes ≡ Ok f → f.head ≡ h)
 head_found K L bytes (Ok h) read = λ f is. ok_same f.head h (sym (found_stands (format K) (format_laws K L) f bytes is).head ∙ read)
 head_found K L bytes (Err e) read = tt
 
 -- and what refuses the header refuses the file
-refused : {J : Type 0} (K : Kind J) (bytes : List ℕ) (e : Refusal) → read_header bytes ≡ Err e → recovered (format K) bytes ≡ Err e
+refused : {J : Type 0} (K : Kind J) (bytes : List ℕ) (e : Refusal) → read_header this_version bytes ≡ Err e → recovered (format K) bytes ≡ Err e
 unfolding found recovered
 refused K bytes e is = ap (λ r. on_ok (on_ok r (λ h. from_head (format K) h bytes)) (λ f. Ok f.state)) is
 
-pub refused_so : {J : Type 0} (K : Kind J) (bytes : List ℕ) (result : Result Header OpenFault) → Gives IsRead (read_header bytes) result → IfErr result (λ e. IsRefusal e (λ refusal. recovered (format K) bytes ≡ Err refusal))
+pub refused_so : {J : Type 0} (K : Kind J) (bytes : List ℕ) (result : Result Header OpenFault) → Gives IsRead (read_header this_version bytes) result → IfErr result (λ e. IsRefusal e (λ refusal. recovered (format K) bytes ≡ Err refusal))
 refused_so K bytes (Ok h) read = tt
 refused_so K bytes (Err (fault.Refused e)) read = refused K bytes (refusal_of e) read
 refused_so K bytes (Err fault.Device) read = tt

@@ -4,14 +4,13 @@ use Rattle.std.specs.Str.{bytes_eq}
 use Rattle.std.proofs.Common.{sym, ◌∙◌, ap, append-nil, arith, inl, inr}
 use Rattle.std.proofs.Math.Nat.{max-eq_right}
 use Rattle.std.proofs.lemmas.Bool.{leb-true, false_from_ne_true, true≢false}
-use Rattle.pfx_checkpoint.specs.Spelling.{state_bytes, state_len}
-use Rattle.pfx_checkpoint.proofs.Fronts.{place_out}
+use Rattle.pfx_checkpoint.specs.Whole.{whole_bytes, whole_len}
 use Rattle.pfx_create.specs.Attempts.{IsMadeOf, IsNoneOrMade, RefusesUnmade}
 use Rattle.pfx_disk.specs.Disk.{View, IsHonest, Leaves, Same}
 use Rattle.pfx_disk.specs.declared.gates.TheConstants.{GATE_OPEN}
-use Rattle.pfx_format.specs.Format.{format, layout, IsSetOf}
+use Rattle.pfx_format.specs.Format.{format, layout, IsOf}
 use Rattle.pfx_format.proofs.Keeping.{format_laws}
-use Rattle.pfx_header.specs.Headers.{Header, IsHeader, front_bytes, header_bytes, header_len, is_store, mark, read_header}
+use Rattle.pfx_header.specs.Headers.{Header, IsHeader, front_bytes, header_bytes, header_len, is_store, mark, read_header, this_version}
 use Rattle.pfx_header.proofs.Meanings.{accepted_filled, closed_no_store}
 use Rattle.pfx_header.proofs.Stages.{no_store}
 use Rattle.pfx_header.proofs.Written.{header_long, written_read}
@@ -26,23 +25,27 @@ use Rattle.pfx_store_file.specs.Tending.{pieces}
 use Rattle.pfx_store_file.specs.declared.places.Places.{Places}
 use Rattle.pfx_store.specs.Making.{making_calls}
 use Rattle.pfx_store.specs.Standing.{Stands}
-use Rattle.pfx_store.proofs.Areas.{spelled_read, state_long}
+use Rattle.pfx_store.proofs.Areas.{spelled_read, spelled_long}
 
 -- a segment of a header has the room that a layout asks for
 pub segment_same : (h : Header) → IsHeader h → (layout h).segment ≡ h.segment
 segment_same h is = max-eq_right {n = 10} {m = h.segment} (let least = is.segment.0 in omega (arith, least))
 
+-- the empty state is of the header
+pub empty_is_of : {J : Type 0} (h : Header) → IsHeader h → IsOf {J = J} h (empty h.set h.segment)
+empty_is_of h is = record { real = refl; segment = refl; room = is.segment.0 }
+
 -- these are the parts of a new file of the set, at its empty state
-pub made_of : {J : Type 0} (K : Kind J) (L : Laws K) (h : Header) (head body : List ℕ) (segment : ℕ) → IsHeader h → IsState (empty {J = J} h.set h.segment) → head ≡ header_bytes h → body ≡ state_bytes K (empty h.set h.segment) → segment ≡ h.segment →
+pub made_of : {J : Type 0} (K : Kind J) (L : Laws K) (h : Header) (head body : List ℕ) (segment : ℕ) → IsHeader h → IsState (empty {J = J} h.set h.segment) → head ≡ header_bytes this_version h → body ≡ whole_bytes K (empty h.set h.segment) → segment ≡ h.segment →
     IsMadeOf (format K) h (empty h.set h.segment) head body segment
 made_of K L h head body segment is state head_is body_is same = record {
   laws = format_laws K L;
   parts = record {
-    header = ap read_header (head_is ∙ sym (append-nil (header_bytes h))) ∙ written_read h [] is;
-    head_long = ap length head_is ∙ header_long h is;
-    state = spelled_read K L h (empty h.set h.segment) body state (record { set = refl; from = refl; segment = refl }) body_is;
+    header = ap (read_header this_version) (head_is ∙ sym (append-nil (header_bytes this_version h))) ∙ written_read this_version h [] is;
+    head_long = ap length head_is ∙ header_long this_version h is;
+    state = spelled_read K L h (empty h.set h.segment) body state (empty_is_of h is) body_is;
     number = refl;
-    body_long = ap length body_is ∙ state_long K L (empty h.set h.segment) state;
+    body_long = ap length body_is ∙ spelled_long K L (empty h.set h.segment) state;
     one = refl;
     first_long = refl;
   };
@@ -57,10 +60,10 @@ short_is : (image : List ℕ) → length image < 17 → is_store image ≡ false
 short_is image l = ap (λ b. b && bytes_eq (take 9 image) mark) (not_le 17 (length image) l)
 
 pub unmade_refused : {J : Type 0} (K : Kind J) → RefusesUnmade (format K)
-unmade_refused K image (inl short) = no_store image (is_store image) refl (short_is image (omega (arith, short)))
-unmade_refused K image (inr closed) = closed_no_store image closed
+unmade_refused K image (inl short) = no_store this_version image (is_store image) refl (short_is image (omega (arith, short)))
+unmade_refused K image (inr closed) = closed_no_store this_version image closed
 
-none_recovered : {J : Type 0} (K : Kind J) (image : List ℕ) → read_header image ≡ Err NotAStore → recovered (format K) image ≡ Err NotAStore
+none_recovered : {J : Type 0} (K : Kind J) (image : List ℕ) → read_header this_version image ≡ Err NotAStore → recovered (format K) image ≡ Err NotAStore
 unfolding recovered found
 none_recovered K image is = ap (λ r. on_ok (on_ok r (λ h. from_head (format K) h image)) (λ f. Ok f.state)) is
 
@@ -69,33 +72,29 @@ pub still_none : {J : Type 0} (K : Kind J) (s : Plain J) (a : View) → IsNoneOr
 still_none K s a c le before image is = inl (none_recovered K image (unmade_refused K image (inl (omega (arith, ap length (before image is))))))
 
 -- a new store stands
-pub new_stands : {J : Type 0} (K : Kind J) (h : Header) (places : Places) (s : Plain J) (spelled : List ℕ) (disk : View) → ((code : List ℕ) → Holds (format K) h places (new_parts s) s code disk) → IsSetOf h s → Stands K places s spelled disk
+pub new_stands : {J : Type 0} (K : Kind J) (h : Header) (places : Places) (s : Plain J) (spelled : List ℕ) (disk : View) → ((code : List ℕ) → Holds (format K) h places (new_parts s) s code disk) → IsOf h s → Stands K places s spelled disk
 new_stands K h places s spelled disk holds set = record {
   header = h;
   parts = new_parts s;
   holds = holds spelled;
-  set = set;
+  of = set;
   middle = λ turned. absurd (true≢false (sym turned));
 }
 
 -- the header's first gate is open, and the file isn't too long
 
-pub gate_of : (h : Header) → slice_index (header_bytes h) 0 ≡ GATE_OPEN
+pub gate_of : (h : Header) → slice_index (header_bytes this_version h) 0 ≡ GATE_OPEN
 unfolding header_bytes front_bytes
 gate_of h = refl
 
-pub file_short : (h : Header) (head body segment : ℕ) → IsHeader h → head ≡ header_len h.set → body ≡ state_len h.set → segment ≡ h.segment → head + 2 * (1 + body) + 2 * segment < 2 ^ 62
+pub file_short : (h : Header) (head body segment : ℕ) → IsHeader h → head ≡ header_len h.set → body ≡ whole_len h.set.real → segment ≡ h.segment → head + 2 * (1 + body) + 2 * segment < 2 ^ 62
 file_short h head body segment is head_is body_is segment_is =
-    let filled = accepted_filled _ _ _ is.accepted in
-    let real = filled.real.1 in
-    let number = filled.number in
-    let front = filled.front in
-    let long : state_len h.set ≡ 16 + 137 * h.set.real + 8 * (length h.set.weights - h.set.real) = place_out h.set.real (length h.set.weights) front in
+    let real = (accepted_filled _ _ _ is.accepted).real.1 in
     let most = is.segment.1 in
-    omega (arith, head_is, body_is, segment_is, real, number, long, most)
+    omega (arith, head_is, body_is, segment_is, real, most)
 
 -- how many calls the making of a file with parts of these lengths takes
-pub made_calls : (h : Header) (head body segment : ℕ) → IsHeader h → head ≡ header_len h.set → body ≡ state_len h.set → segment ≡ h.segment → 6 + pieces (head + 2 * (1 + body) + 2 * segment - 1) ≡ making_calls h.set h.segment
+pub made_calls : (h : Header) (head body segment : ℕ) → IsHeader h → head ≡ header_len h.set → body ≡ whole_len h.set.real → segment ≡ h.segment → 6 + pieces (head + 2 * (1 + body) + 2 * segment - 1) ≡ making_calls h.set h.segment
 made_calls h head body segment is head_is body_is segment_is =
     let long : head + 2 * (1 + body) + 2 * segment ≡ file_len (layout h) = (let same = segment_same h is in omega (arith, head_is, body_is, segment_is, same)) in
     ap (λ (n : ℕ). 6 + pieces (n - 1)) long

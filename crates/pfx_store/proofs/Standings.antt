@@ -1,14 +1,14 @@
 -- Stores that stand, after the calls of their files.
-use Rattle.std.specs.Prelude.{◌≡◌, ◌≤◌, ◌+◌, ℕ, List, [], ◌∷◌, ◌++◌, length, if◌then◌else◌, Bool, true, false, Option, Some, None, Result, Ok, Err, OnOk, IsErrAnd, Vec, refl}
+use Rattle.std.specs.Prelude.{◌≡◌, ◌≤◌, ◌+◌, ◌*◌, ℕ, List, [], ◌∷◌, ◌++◌, length, if◌then◌else◌, Bool, true, false, Option, Some, None, Result, Ok, Err, OnOk, IsErrAnd, Vec, refl}
 use Rattle.std.specs.declared.alloc.Global.{Global}
 use Rattle.std.proofs.Common.{sym, ◌∙◌, ap, arith, length-append, subst, inl, inr}
 use Rattle.std.proofs.lemmas.Bool.{cases_lt, true≢false}
 use Rattle.std.proofs.lemmas.List.{take-append-le}
-use Rattle.pfx_checkpoint.specs.Found.{read_state}
-use Rattle.pfx_checkpoint.specs.Spelling.{state_bytes}
+use Rattle.pfx_checkpoint.specs.Whole.{whole_bytes}
 use Rattle.pfx_disk.specs.Disk.{View}
-use Rattle.pfx_format.specs.Format.{format, layout, IsSetOf}
-use Rattle.pfx_header.specs.Headers.{Header}
+use Rattle.pfx_format.specs.Areas.{read_area}
+use Rattle.pfx_format.specs.Format.{format, layout, IsOf}
+use Rattle.pfx_header.specs.Headers.{Header, least_segment}
 use Rattle.pfx_jobs.specs.Kind.{Kind, Laws}
 use Rattle.pfx_machine.specs.Plain.{Plain, IsState}
 use Rattle.pfx_recover.specs.Finding.{IsMiddle, IsOpened}
@@ -19,6 +19,7 @@ use Rattle.pfx_store_file.specs.Holding.{Holds, KeepsAll}
 use Rattle.pfx_store_file.specs.Tending.{settled, settled_unless, made_room}
 use Rattle.pfx_store_file.specs.declared.places.Places.{Places}
 use Rattle.pfx_store_file.proofs.Keeping.{keeps_then, room_there, room_made}
+use Rattle.pfx_weights.specs.Sets.{FilledSet}
 use Rattle.pfx_store.specs.Standing.{IsReady, Stands}
 use Rattle.pfx_store.proofs.Areas.{spelled_read}
 
@@ -44,12 +45,12 @@ pub settled_single : {S : Type 0} (p : Parts S) → (settled p).turned ≡ false
 settled_single p = settled_by p p.turned refl
 
 -- if no checkpoint is in progress any more
-pub stands_settled : {J : Type 0} (K : Kind J) (h : Header) (places : Places) (p : Parts (Plain J)) (s : Plain J) (a b : List ℕ) (disk : View) → Holds (format K) h places (settled p) s a disk → IsSetOf h s → Stands K places s b disk
+pub stands_settled : {J : Type 0} (K : Kind J) (h : Header) (places : Places) (p : Parts (Plain J)) (s : Plain J) (a b : List ℕ) (disk : View) → Holds (format K) h places (settled p) s a disk → IsOf h s → Stands K places s b disk
 stands_settled K h places p s a b disk holds same = record {
   header = h;
   parts = settled p;
   holds = respelled K h places (settled p) s a b disk holds (settled_single p);
-  set = same;
+  of = same;
   middle = λ is. absurd (true≢false (sym is ∙ settled_single p));
 }
 
@@ -58,47 +59,55 @@ settled_middle : {S : Type 0} (turned : Bool) (p : Parts S) (P : S → Type 0) �
 settled_middle true p P middle is = middle is
 settled_middle false p P middle is = absurd (true≢false (sym is ∙ settled_single p))
 
-pub stands_tended : {J : Type 0} (K : Kind J) (h : Header) (places : Places) (p : Parts (Plain J)) (s : Plain J) (a b : List ℕ) (disk : View) → a ≡ b → IsSetOf h s → (p.turned ≡ true → read_state K 0 h.segment h.set a ≡ Some p.middle) →
+pub stands_tended : {J : Type 0} (K : Kind J) (h : Header) (places : Places) (p : Parts (Plain J)) (s : Plain J) (a b : List ℕ) (disk : View) → a ≡ b → IsOf h s → (p.turned ≡ true → read_area K h a ≡ Some p.middle) →
     Holds (format K) h places (settled_unless (in_progress places.checkpoint) p) s a disk → Stands K places s b disk
 stands_tended K h places p s a b disk same set middle holds = subst (λ (l : List ℕ). Stands K places s l disk) same (record {
   header = h;
   parts = settled_unless (in_progress places.checkpoint) p;
   holds = holds;
-  set = set;
-  middle = settled_middle (in_progress places.checkpoint) p (λ m. read_state K 0 h.segment h.set a ≡ Some m) middle;
+  of = set;
+  middle = settled_middle (in_progress places.checkpoint) p (λ m. read_area K h a ≡ Some m) middle;
 })
 
 -- if the store was turned, with the state spelled
-pub stands_turned : {J : Type 0} (K : Kind J) (L : Laws K) (h : Header) (places : Places) (p : Parts (Plain J)) (s : Plain J) (spelled : List ℕ) (disk : View) → IsState s → IsSetOf h s → spelled ≡ state_bytes K s →
+pub stands_turned : {J : Type 0} (K : Kind J) (L : Laws K) (h : Header) (places : Places) (p : Parts (Plain J)) (s : Plain J) (spelled : List ℕ) (disk : View) → IsState s → IsOf h s → spelled ≡ whole_bytes K s →
     Holds (format K) h places (turned_at p s) s spelled disk → Stands K places s spelled disk
 stands_turned K L h places p s spelled disk state set is holds = record {
   header = h;
   parts = turned_at p s;
   holds = holds;
-  set = set;
+  of = set;
   middle = λ _. spelled_read K L h s spelled state set is;
+}
+
+-- a state of the same set and store is of the same header
+goes_on_of : {J : Type 0} (h : Header) (s t : Plain J) → t.ledger.set ≡ s.ledger.set → t.segment ≡ s.segment → IsOf h s → IsOf h t
+goes_on_of h s t set segment of = record {
+  real = ap (λ (u : FilledSet). u.real) set ∙ of.real;
+  segment = segment ∙ of.segment;
+  room = subst (λ (u : FilledSet). least_segment u.workers ≤ h.segment) (sym set) of.room;
 }
 
 -- A frame more, which leads to the state t.
 module _ {J : Type 0} (K : Kind J) (L : Laws K) (n : ℕ) (old new : Places) (s t : Plain J) (spelled frame : List ℕ) (before behind : View) where
-  keeps_middle : (h : Header) (p : Parts (Plain J)) → IsState s → IsSetOf h s → (p.turned ≡ true → read_state K 0 h.segment h.set spelled ≡ Some p.middle) → IsReady K n old s spelled →
-      (made_room n old p s).turned ≡ true → read_state K 0 h.segment h.set spelled ≡ Some (made_room n old p s).middle
+  keeps_middle : (h : Header) (p : Parts (Plain J)) → IsState s → IsOf h s → (p.turned ≡ true → read_area K h spelled ≡ Some p.middle) → IsReady K n old s spelled →
+      (made_room n old p s).turned ≡ true → read_area K h spelled ≡ Some (made_room n old p s).middle
   keeps_middle h p state set middle ready = elim (cases_lt (old.gate + n) old.end) [
-    | inl less ↦ subst (λ (q : Parts (Plain J)). q.turned ≡ true → read_state K 0 h.segment h.set spelled ≡ Some q.middle) (sym (room_there n old p s less)) middle
+    | inl less ↦ subst (λ (q : Parts (Plain J)). q.turned ≡ true → read_area K h spelled ≡ Some q.middle) (sym (room_there n old p s less)) middle
     | inr more ↦ elim ready [
       | inl room ↦ absurd (omega (arith, more, room))
-      | inr is ↦ subst (λ (q : Parts (Plain J)). q.turned ≡ true → read_state K 0 h.segment h.set spelled ≡ Some q.middle) (sym (room_made n old p s (λ room. omega (arith, more, room)))) (λ turned. spelled_read K L h s spelled state set is.1)
+      | inr is ↦ subst (λ (q : Parts (Plain J)). q.turned ≡ true → read_area K h spelled ≡ Some q.middle) (sym (room_made n old p s (λ room. omega (arith, more, room)))) (λ turned. spelled_read K L h s spelled state set is.1)
     ]
   ]
 
-  pub stands_behind : (st : Stands K old s spelled before) → IsState s → t.ledger.set ≡ s.ledger.set → t.from ≡ s.from → t.segment ≡ s.segment → IsReady K n old s spelled →
+  pub stands_behind : (st : Stands K old s spelled before) → IsState s → t.ledger.set ≡ s.ledger.set → t.segment ≡ s.segment → IsReady K n old s spelled →
       Holds (format K) st.header new (with_frame (made_room n old st.parts s) frame) t spelled behind → Stands K new t spelled behind
-  stands_behind st state set from segment ready holds = record {
+  stands_behind st state set segment ready holds = record {
     header = st.header;
     parts = with_frame (made_room n old st.parts s) frame;
     holds = holds;
-    set = record { set = set ∙ st.set.set; from = from ∙ st.set.from; segment = segment ∙ st.set.segment };
-    middle = keeps_middle st.header st.parts state st.set st.middle ready;
+    of = goes_on_of st.header s t set segment st.of;
+    middle = keeps_middle st.header st.parts state st.of st.middle ready;
   }
 
 -- what survives survives with a frame more to come
@@ -125,17 +134,17 @@ keeps_appended K start all frame other a b c later one same two =
 
 -- a store that was opened
 pub middle_spelled : {J : Type 0} (K : Kind J) (h : Header) (p : Parts (Plain J)) (middle : Option (Vec ℕ Global)) (spelled : List ℕ) → IsMiddle (format K) h p middle →
-    ((v : Vec ℕ Global) → middle ≡ Some v → length v.items ≡ (layout h).body → spelled ≡ v.items) → p.turned ≡ true → read_state K 0 h.segment h.set spelled ≡ Some p.middle
+    ((v : Vec ℕ Global) → middle ≡ Some v → length v.items ≡ (layout h).body → spelled ≡ v.items) → p.turned ≡ true → read_area K h spelled ≡ Some p.middle
 middle_spelled K h p None spelled between kept turned = absurd (true≢false (sym turned ∙ between))
-middle_spelled K h p (Some v) spelled between kept turned = ap (read_state K 0 h.segment h.set) (kept v refl between.1) ∙ between.2
+middle_spelled K h p (Some v) spelled between kept turned = ap (read_area K h) (kept v refl between.1) ∙ between.2
 
 pub opened_stands : {J : Type 0} (K : Kind J) (h : Header) (bytes : List ℕ) (places : Places) (s : Plain J) (middle : Option (Vec ℕ Global)) (spelled : List ℕ) (disk : View) →
-    IsOpened (format K) h bytes places s middle disk → IsSetOf h s → ((v : Vec ℕ Global) → middle ≡ Some v → length v.items ≡ (layout h).body → spelled ≡ v.items) → Stands K places s spelled disk
+    IsOpened (format K) h bytes places s middle disk → IsOf h s → ((v : Vec ℕ Global) → middle ≡ Some v → length v.items ≡ (layout h).body → spelled ≡ v.items) → Stands K places s spelled disk
 opened_stands K h bytes places s middle spelled disk opened set kept = record {
   header = h;
   parts = opened.parts;
   holds = opened.holds spelled;
-  set = set;
+  of = set;
   middle = middle_spelled K h opened.parts middle spelled opened.between kept;
 }
 

@@ -1,6 +1,6 @@
 -- A store's file in this format, the calls of its acts, and the file that is found in an image.
 use Rattle.std.specs.Prelude.{◌≡◌, ℕ, ◌+◌, if◌then◌else◌, List, [], ◌∷◌, ◌++◌, drop, true, Option, Some, None, Result, Ok, Err}
-use Rattle.pfx_checkpoint.specs.Spelling.{state_bytes}
+use Rattle.pfx_checkpoint.specs.Whole.{whole_bytes}
 use Rattle.pfx_disk.specs.Stop.{Act}
 use Rattle.pfx_format.specs.Format.{format}
 use Rattle.pfx_header.specs.Headers.{Header}
@@ -19,7 +19,7 @@ FileOf J = File Header (Plain J)
 
 -- the body of the checkpoint area that the checkpoint in progress writes
 abbrev pub spelled : {J : Type 0} → Kind J → FileOf J → List ℕ
-spelled K f = state_bytes K f.parts.middle
+spelled K f = whole_bytes K f.parts.middle
 
 -- a store with these places has this file; if a checkpoint is in progress, this is its body
 pub record HasFile {J : Type 0} (K : Kind J) (f : FileOf J) (places : Places) (body : List ℕ) : Type 0 where

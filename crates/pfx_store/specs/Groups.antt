@@ -6,6 +6,7 @@ use Rattle.pfx_format.specs.Format.{format}
 use Rattle.pfx_jobs.specs.Kind.{Kind}
 use Rattle.pfx_machine.specs.Plain.{Plain}
 use Rattle.pfx_machine.specs.Outcome.{outcome}
+use Rattle.pfx_machine.specs.Batches.{AreCommon}
 use Rattle.pfx_machine.specs.Sessions.{IsAcceptable}
 use Rattle.pfx_machine.specs.declared.command.Command.{Command}
 use Rattle.pfx_record.specs.Batches.{batch_bytes}
@@ -17,10 +18,10 @@ abbrev pub joined : {J : Type 0} → List (List (Command J)) → List (Command J
 joined [] = []
 joined (group ∷ groups) = group ++ joined groups
 
--- each has 1 to 16 commands
+-- each has 1 to 16 commands, none of which is a Reweigh
 abbrev pub AreSmall : {J : Type 0} → List (List (Command J)) → Type 0
 AreSmall [] = ⊤
-AreSmall (group ∷ groups) = (0 < length group) × (length group ≤ 16) × AreSmall groups
+AreSmall (group ∷ groups) = (0 < length group) × (length group ≤ 16) × AreCommon group × AreSmall groups
 
 -- each command in a group of its own
 abbrev pub alone : {J : Type 0} → List (Command J) → List (List (Command J))
@@ -36,9 +37,10 @@ frames_of K s [] = []
 frames_of K s (group ∷ groups) = frame_of K s group ∷ frames_of K (outcome K s group) groups
 
 module _ {J : Type 0} (K : Kind J) where
-  -- the commands are accepted one after the other from the state on, and these are their records
+  -- the commands are accepted one after the other from the state on, none of them is a Reweigh, and these are their records
   pub record AreRecordsOf (s : Plain J) (H : List (Command J)) (records : List (recorded.Recorded J)) : Type 0 where
     pub accepted : IsAcceptable K s H
+    pub common : AreCommon H
     pub of : records ≡ records_of K s H
 
   -- the image is recovered to the outcome of the first of these groups, n of them at least

@@ -1,8 +1,8 @@
 -- The calls that the making of a store takes, and which fault comes if it isn't made.
 use Rattle.std.specs.Prelude.{◌≡◌, ◌<◌, ◌≤◌, ◌+◌, ◌-◌, ◌*◌, ℕ, List, ⊤}
-use Rattle.pfx_checkpoint.specs.Spelling.{state_bytes}
+use Rattle.pfx_checkpoint.specs.Whole.{whole_bytes}
 use Rattle.pfx_format.specs.Format.{layout}
-use Rattle.pfx_header.specs.Headers.{IsHeader, IsSegmentSize, header_bytes, least_segment, longest_segment}
+use Rattle.pfx_header.specs.Headers.{IsHeader, IsSegmentSize, header_bytes, least_segment, longest_segment, this_version}
 use Rattle.pfx_jobs.specs.Kind.{Kind}
 use Rattle.pfx_machine.specs.Plain.{Plain, empty}
 use Rattle.pfx_recovery.specs.Layout.{file_len}
@@ -35,7 +35,7 @@ IsBeforeAnyCall NoMemory = ⊤
 pub record IsPrepared {J : Type 0} (K : Kind J) (set : FilledSet) (segment : ℕ) (state : Plain J) (head_bytes spelled_bytes : List ℕ) (capacity : ℕ)
     : Type 0 where
   pub header : IsHeader (record { set = set; segment = segment })
-  pub head : head_bytes ≡ header_bytes (record { set = set; segment = segment })
-  pub spelled : spelled_bytes ≡ state_bytes K (empty set segment)
+  pub head : head_bytes ≡ header_bytes this_version (record { set = set; segment = segment })
+  pub spelled : spelled_bytes ≡ whole_bytes K (empty set segment)
   pub room : 32 + 2096 * set.workers ≤ capacity
   pub empty : state ≡ empty set segment

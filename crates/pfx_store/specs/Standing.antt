@@ -1,10 +1,10 @@
 -- A store that isn't broken, and its disk.
-use Rattle.std.specs.Prelude.{◌≡◌, ℕ, List, ◌∷◌, ◌⊎◌, Some, true, false}
-use Rattle.pfx_checkpoint.specs.Found.{read_state}
-use Rattle.pfx_checkpoint.specs.Spelling.{state_bytes}
+use Rattle.std.specs.Prelude.{◌≡◌, ℕ, List, ◌∷◌, ◌⊎◌, Some, true}
+use Rattle.pfx_checkpoint.specs.Whole.{whole_bytes}
 use Rattle.pfx_disk.specs.Disk.{View}
 use Rattle.pfx_disk.specs.declared.gates.TheConstants.{GATE_OPEN}
-use Rattle.pfx_format.specs.Format.{format, IsSetOf}
+use Rattle.pfx_format.specs.Areas.{read_area}
+use Rattle.pfx_format.specs.Format.{format, IsOf}
 use Rattle.pfx_header.specs.Headers.{Header}
 use Rattle.pfx_jobs.specs.Kind.{Kind}
 use Rattle.pfx_machine.specs.Plain.{Plain}
@@ -20,12 +20,12 @@ pub record Stands {J : Type 0} (K : Kind J) (places : Places) (s : Plain J) (spe
   pub header : Header
   pub parts : Parts (Plain J)
   pub holds : Holds (format K) header places parts s spelled disk
-  pub set : IsSetOf header s
-  pub middle : parts.turned ≡ true → read_state K 0 header.segment header.set spelled ≡ Some parts.middle
+  pub of : IsOf header s
+  pub middle : parts.turned ≡ true → read_area K header spelled ≡ Some parts.middle
 
 -- a frame of n bytes has room, or a turn can make some: no checkpoint is in progress, and the body of one is this state's
 abbrev pub IsReady : {J : Type 0} → Kind J → ℕ → Places → Plain J → List ℕ → Type 0
-IsReady K n places s spelled = HasRoom n places ⊎ ((places.checkpoint ≡ Ended) × (spelled ≡ state_bytes K s))
+IsReady K n places s spelled = HasRoom n places ⊎ ((places.checkpoint ≡ Ended) × (spelled ≡ whole_bytes K s))
 
 -- these bytes, with a closed gate behind them, are what stands behind the gate of this frame
 abbrev pub IsBehind : List ℕ → List ℕ → Type 0

@@ -3,7 +3,7 @@ use Rattle.std.specs.Prelude.{◌≡◌, ◌↔◌, ◌≤◌, ◌<◌, ◌+◌,
 use Rattle.std.specs.Prelude.{Result, Ok, Some, Vec, OnOk, OnErr, IfOk, IfErr, IsErrOf, IsTrue, MatchResult}
 use Rattle.std.specs.declared.alloc.Global.{Global}
 use Rattle.byteorder.specs.Endian.{little_number}
-use Rattle.pfx_checkpoint.specs.Spelling.{state_bytes}
+use Rattle.pfx_checkpoint.specs.Whole.{whole_bytes}
 use Rattle.pfx_disk.specs.CallsMade.{HasMade, HasBrokenOff, HasKeptTo}
 use Rattle.pfx_disk.specs.Disk.{View, HasFailed, IsHonest, Leaves, Only, Same}
 use Rattle.pfx_disk.specs.Stop.{Act, Sync}
@@ -57,7 +57,7 @@ pub record MovesBy {J T : Type 0} (K : Kind J) (records : List (Recorded J)) (re
 
 -- The bytes of a state stand where those of another one stood.
 pub record IsEncoded {J : Type 0} (K : Kind J) (s : Plain J) (old new : List ℕ) : Type 0 where
-  pub spelled : new ≡ state_bytes K s
+  pub spelled : new ≡ whole_bytes K s
   pub long : length new ≡ length old
   pub state : IsState s
 

@@ -1,11 +1,11 @@
 // The format, as those who open files take it.
 ghost use Rattle.std.specs.Prelude.{◌≡◌};
-ghost use Rattle.pfx_format.specs.Format.{format, IsSetOf};
+ghost use Rattle.pfx_format.specs.Format.{format, IsOf};
 ghost use Rattle.pfx_header.specs.declared.sizes.TheConstants.{HEADER_MOST};
 
-use pfx_checkpoint::{CheckpointFault, freeze, read, state_len};
+use pfx_checkpoint::{freeze_whole, whole_len};
 use pfx_fault::Part;
-use pfx_format::{apply_frame, number_after, number_of};
+use pfx_format::{apply_frame, number_after, number_of, read_area};
 use pfx_header::{HEADER_MOST, HeaderFault, header_len, read_header};
 use pfx_jobs::job::Job;
 use pfx_machine::State;
@@ -66,7 +66,7 @@ impl<J: Job> Format for FileFormat<J> {
 
     ghost codec = { format J.kind };
 
-    ghost fits = { IsSetOf };
+    ghost fits = { IsOf };
 
     ghost HEAD_MOST = { HEADER_MOST };
 
@@ -92,7 +92,7 @@ impl<J: Job> Format for FileFormat<J> {
         let _total = set.total();
         Sizes {
             head: header_len(set),
-            body: state_len(set),
+            body: whole_len(set.real()),
             segment: header.segment() as usize,
         }
     }
@@ -106,14 +106,7 @@ impl<J: Job> Format for FileFormat<J> {
         header: &FileHeader,
         bytes: &[u8],
     ) -> Result<Option<State<J>>, AllocError> {
-        if bytes.len() != state_len(&header.set) {
-            return Ok(None);
-        }
-        match read(alloc, 0, header.segment, &header.set, bytes) {
-            Ok(state) => Ok(Some(state)),
-            Err(CheckpointFault::Damaged) => Ok(None),
-            Err(CheckpointFault::NoMemory) => Err(AllocError),
-        }
+        read_area(alloc, &header.set, header.segment, bytes)
     }
 
     fn number(state: &State<J>) -> u64 {
@@ -134,7 +127,7 @@ impl<J: Job> Format for FileFormat<J> {
 
     fn encode(_header: &FileHeader, state: &State<J>, out: &mut [u8]) {
         let _number = state.number();
-        freeze(state, out);
+        freeze_whole(state, out);
     }
 
     ghost laws = { format_laws J.kind J.laws };

@@ -1,6 +1,6 @@
 // A state and the file that keeps it, with nothing said yet of whether they agree.
 ghost use Rattle.std.specs.Prelude.{◌≡◌, ◌≤◌, ◌+◌, ◌*◌, length, vec_capacity};
-ghost use Rattle.pfx_checkpoint.specs.Spelling.{state_len};
+ghost use Rattle.pfx_checkpoint.specs.Whole.{whole_len};
 
 use pfx_disk::Disk;
 use pfx_jobs::job::Job;
@@ -19,7 +19,7 @@ pub(crate) struct Journal<D: Disk, J: Job> {
     /// Room for the longest frame.
     pub frame: Vec<u8>,
     ghost long: { length spelled.items ≡ file.places.sizes.body },
-    ghost body: { file.places.sizes.body ≡ state_len state.ledger.set },
+    ghost body: { file.places.sizes.body ≡ whole_len state.ledger.set.real },
     ghost fits: { 41 + 2096 * state.ledger.set.workers ≤ file.places.sizes.segment },
     ghost room: { 32 + 2096 * state.ledger.set.workers ≤ vec_capacity frame },
 }

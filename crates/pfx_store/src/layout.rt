@@ -2,7 +2,7 @@
 ghost use Rattle.std.specs.Prelude.{◌≡◌, ◌≤◌, ◌+◌, Ok, Err, IfOk, IfErr};
 ghost use Rattle.pfx_disk.specs.Disk.{IsHonest};
 ghost use Rattle.pfx_format.specs.Format.{format};
-ghost use Rattle.pfx_header.specs.Headers.{Header, read_header};
+ghost use Rattle.pfx_header.specs.Headers.{Header, read_header, this_version};
 ghost use Rattle.pfx_header.specs.declared.sizes.TheConstants.{HEADER_MOST};
 ghost use Rattle.pfx_machine.specs.Plain.{Plain};
 ghost use Rattle.pfx_recover.specs.Answers.{Gives, IsRead, IsRefusal};
@@ -25,7 +25,7 @@ impl<D: Disk, J: Job> Store<D, J> {
     /// `Refused` names the first test that the header doesn't pass, as `open` would. `Device` comes only if the disk failed,
     /// and `NoMemory` if an allocation failed.
     pub fn layout(alloc: Global, disk: &mut D) -> Result<FileHeader, OpenFault>
-        ensures header { IsHonest (D.view disk.old) → Gives IsRead (read_header (D.view disk.old).contents) result }
+        ensures header { IsHonest (D.view disk.old) → Gives IsRead (read_header this_version (D.view disk.old).contents) result }
 
         // If `open` finds a file, it has this header; and what is refused here, `open` refuses so.
         ensures opens { IsHonest (D.view disk.old) → IfOk result (λ header. (f : Found Header (Plain J))

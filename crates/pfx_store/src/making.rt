@@ -1,10 +1,10 @@
 // Making a store.
 ghost use Rattle.std.specs.Prelude.{◌≡◌, ◌<◌, [], length, vec_capacity, IfOk, IfErr, MatchResult};
-ghost use Rattle.pfx_checkpoint.specs.Spelling.{state_bytes};
+ghost use Rattle.pfx_checkpoint.specs.Whole.{whole_bytes};
 ghost use Rattle.pfx_disk.specs.Disk.{IsHonest, Leaves, Same};
 ghost use Rattle.pfx_create.specs.Attempts.{IsNoneOrMade};
 ghost use Rattle.pfx_format.specs.Format.{format};
-ghost use Rattle.pfx_header.specs.Headers.{IsSegmentSize, header_bytes};
+ghost use Rattle.pfx_header.specs.Headers.{IsSegmentSize, header_bytes, this_version};
 ghost use Rattle.pfx_machine.specs.Plain.{empty};
 ghost use Rattle.pfx_store.specs.Stores.{as_store};
 ghost use Rattle.pfx_store.specs.Working.{IsDurable, IsMaking, IsNew, IsUnmade, MakesStore};
@@ -14,7 +14,7 @@ use crate::format::FileHeader;
 use crate::journal::Journal;
 use crate::opening::longest_frame;
 use crate::standing::Store;
-use pfx_checkpoint::{freeze, frozen_len};
+use pfx_checkpoint::{freeze_whole, whole_len};
 use pfx_create::{CreateFault, create_file};
 use pfx_disk::Disk;
 use pfx_header::{SegmentSizeFault, check_segment, header_len, write_header};
@@ -46,19 +46,20 @@ pub enum InitFault {
 
 // The bytes of the header.
 fn head_of(alloc: Global, set: &TaskSet, segment: u32) -> Result<Vec<u8>, AllocError>
-    ensures { IfOk result (λ head. head.items ≡ header_bytes (record { set = set.now; segment = segment })) }
+    ensures { IfOk result (λ head. head.items ≡ header_bytes this_version (record { set = set.now; segment = segment })) }
 {
     let mut head = vec![in alloc; 0; header_len(set)]?;
     write_header(set, segment, &mut head);
     Ok(head)
 }
 
-// The bytes of the state.
+// The bytes of the state with its set.
 fn frozen<J: Job>(alloc: Global, state: &State<J>) -> Result<Vec<u8>, AllocError>
-    ensures { IfOk result (λ body. body.items ≡ state_bytes J.kind state.now) }
+    ensures { IfOk result (λ body. body.items ≡ whole_bytes J.kind state.now) }
 {
-    let mut body = vec![in alloc; 0; frozen_len(state)]?;
-    freeze(state, &mut body);
+    let _total = state.columns().total();
+    let mut body = vec![in alloc; 0; whole_len(state.columns().real())]?;
+    freeze_whole(state, &mut body);
     Ok(body)
 }
 

@@ -1,7 +1,7 @@
 // Opening a store.
 ghost use Rattle.std.specs.Prelude.{◌≡◌, ◌≤◌, ◌+◌, ◌*◌, ℕ, List, if◌then◌else◌, false, Ok, Err, IfOk, IfErr, MatchResult};
 ghost use Rattle.pfx_disk.specs.Disk.{IsHonest, HasFailed};
-ghost use Rattle.pfx_format.specs.Format.{format, IsSetOf};
+ghost use Rattle.pfx_format.specs.Format.{format, IsOf};
 ghost use Rattle.pfx_header.specs.Headers.{Header};
 ghost use Rattle.pfx_machine.specs.Plain.{Plain};
 ghost use Rattle.pfx_recover.specs.Answers.{IsRefusal};
@@ -16,7 +16,7 @@ ghost use Rattle.pfx_store.specs.Working.{Finds, IsBody, IsDurable, Opens};
 use crate::format::{FileFormat, FileHeader};
 use crate::journal::Journal;
 use crate::standing::Store;
-use pfx_checkpoint::state_len;
+use pfx_checkpoint::whole_len;
 use pfx_disk::Disk;
 use pfx_jobs::job::Job;
 use pfx_machine::State;
@@ -49,18 +49,19 @@ fn furnished<D: Disk, J: Job>(
     state: State<J>,
     middle: Option<Vec<u8>>,
 ) -> Result<Journal<D, J>, (OpenFault, D)>
-    requires { CanGoOn (format J.kind) IsSetOf header.now file.broken file.places state }
+    requires { CanGoOn (format J.kind) IsOf header.now file.broken file.places state }
     ensures file { IfOk result (λ store. store.file ≡ file) }
     ensures state { IfOk result (λ store. store.state ≡ state) }
     ensures found { (bytes : List ℕ) → IsOpened (format J.kind) header.now bytes file.places state middle (D.view file.disk)
         → IfOk result (λ store. Finds D.view J.kind bytes (stored store)) }
     ensures fault { IfErr result (λ e. (e.0 ≡ OpenFault.NoMemory) × (e.1 ≡ file.disk)) }
 {
-    let set = header.set();
-    let Ok(spelled) = body_of(alloc, middle, state_len(set)) else {
+    let _header = header.set();
+    let _total = state.columns().total();
+    let Ok(spelled) = body_of(alloc, middle, whole_len(state.columns().real())) else {
         return Err((OpenFault::NoMemory, file.into_disk()));
     };
-    let Ok(frame) = Vec::with_capacity(alloc, longest_frame(set.workers())) else {
+    let Ok(frame) = Vec::with_capacity(alloc, longest_frame(state.columns().workers())) else {
         return Err((OpenFault::NoMemory, file.into_disk()));
     };
     Ok(Journal {

@@ -1,6 +1,6 @@
 // Appending to a journal.
 ghost use Rattle.std.specs.Prelude.{◌≡◌, ◌<◌, ◌+◌, ◌*◌, ◌^◌, length, map, vec_capacity, Some, OnOk, false};
-ghost use Rattle.pfx_checkpoint.specs.Spelling.{state_len};
+ghost use Rattle.pfx_checkpoint.specs.Whole.{whole_len};
 ghost use Rattle.pfx_redo.specs.Applying.{applied};
 ghost use Rattle.pfx_machine.specs.Plain.{Plain};
 ghost use Rattle.pfx_record.specs.Batches.{batch_bytes, batch_of};
@@ -15,7 +15,7 @@ ghost use Rattle.pfx_store.specs.Working.{StandsAfter, StandsOn, TakesBatch};
 use crate::format::FileHeader;
 use crate::journal::Journal;
 use byteorder::{ByteOrder, LittleEndian};
-use pfx_checkpoint::freeze;
+use pfx_checkpoint::freeze_whole;
 use pfx_disk::Disk;
 use pfx_jobs::job::Job;
 use pfx_machine::State;
@@ -42,13 +42,13 @@ pub(crate) fn start_behind(number: u64) -> [u8; 9]
     start
 }
 
-// Encodes a state over the encoding of another one.
+// Encodes a state with its set over the encoding of another one.
 pub(crate) fn encode<J: Job>(state: &State<J>, spelled: &mut Vec<u8>)
-    requires { length spelled.old.items ≡ state_len state.now.ledger.set }
+    requires { length spelled.old.items ≡ whole_len state.now.ledger.set.real }
     ensures { IsEncoded J.kind state.now spelled.old.items spelled.new.items }
 {
     let _number = state.number();
-    freeze(state, spelled);
+    freeze_whole(state, spelled);
 }
 
 // Encodes a frame, with the closed gate of the next one behind it.
@@ -72,7 +72,8 @@ fn behind_gate<'a, J: Job>(batch: &Batch<J>, frame: &'a [u8]) -> &'a [u8]
 
 // Takes a batch over that is right at the state.
 fn take_over<J: Job>(state: &mut State<J>, batch: &Batch<J>)
-    requires { (t : Plain J) × (applied J.kind state.old (map plain batch.now.records.items) ≡ Some t) }
+    requires next { (t : Plain J) × (applied J.kind state.old (map plain batch.now.records.items) ≡ Some t) }
+    requires real { batch.now.real ≡ 0 }
     ensures { LeadsOn J.kind state.old (map plain batch.now.records.items) state.new }
 {
     let _taken = apply_all(state, &batch.records);

@@ -70,7 +70,7 @@ one_can : CanRun small begin at_first one_command
 one_can = (
   (tt, refl, refl, refl),
   (
-    (record { none = refl; whole = refl; goes_on = refl }, refl, omega arith, omega arith, omega arith),
+    (record { none = refl; whole = refl; goes_on = refl }, refl, omega arith, omega arith, omega arith, tt),
     (
       (λ none. cc, refl),
       (
@@ -120,7 +120,7 @@ slot_can = (
             (
               (first_slot (Some 2 ∷ []), refl, tt),
               (
-                (record { none = refl; whole = refl; goes_on = refl }, refl, omega arith, omega arith, omega arith),
+                (record { none = refl; whole = refl; goes_on = refl }, refl, omega arith, omega arith, omega arith, tt),
                 (
                   (λ none. cc, refl),
                   (
@@ -166,7 +166,7 @@ unfolding substring_at
 stop_can = (
   (tt, refl, refl, refl),
   (
-    (record { none = refl; whole = refl; goes_on = refl }, refl, omega arith, omega arith, omega arith),
+    (record { none = refl; whole = refl; goes_on = refl }, refl, omega arith, omega arith, omega arith, tt),
     ((λ none. cc, refl), (inr refl, ((λ none. cc, refl), (omega arith, tt)))),
   ),
 )
@@ -211,7 +211,7 @@ failure_can : CanRun small begin at_first (one_failure ++ Stop (0 ∷ 0 ∷ []) 
 failure_can = (
   (tt, refl, refl, refl),
   (
-    (record { none = refl; whole = refl; goes_on = refl }, refl, omega arith, omega arith, omega arith),
+    (record { none = refl; whole = refl; goes_on = refl }, refl, omega arith, omega arith, omega arith, tt),
     ((λ none. cc, refl), ((λ none. cc, refl), (tt, (inl (0 ∷ 0 ∷ [], refl, not_written), tt)))),
   ),
 )

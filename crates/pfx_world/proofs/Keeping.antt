@@ -16,6 +16,7 @@ use Rattle.pfx_weights.specs.Rows.{is_in}
 use Rattle.pfx_columns.specs.Ledgers.{after as ledger_behind}
 use Rattle.pfx_machine.specs.Choosing.{row_in}
 use Rattle.pfx_machine.proofs.Rowing.{row_chosen}
+use Rattle.pfx_machine.specs.Batches.{IsBatchable}
 use Rattle.pfx_machine.specs.Refusals.{command_fault}
 use Rattle.pfx_machine.specs.Steps.{state_step, happening_in, jobs_step}
 use Rattle.pfx_machine.proofs.Dealt.{written-dealt}
@@ -106,12 +107,12 @@ module _ {J : Type 0} (S : Setting J) (sound : IsSound S) (B : Plain J) where
   idle_kept : (w : World S) → Holds S B w → IsIdle S w → w.kept ≡ w.book.taken
   idle_kept w h idle = h.rest idle.whole idle.none
 
-  take_on : (w : World S) (n : ℕ) → Holds S B w → IsIdle S w → 0 < n → n ≤ 16 → w.book.taken + n ≤ length w.book.accepted → Holds S B (taking S B w n)
-  take_on w n h idle some few room =
+  take_on : (w : World S) (n : ℕ) → Holds S B w → IsIdle S w → 0 < n → n ≤ 16 → w.book.taken + n ≤ length w.book.accepted → IsBatchable (next_of S w n) → Holds S B (taking S B w n)
+  take_on w n h idle some few room batchable =
       let s = state_at S B w.book.accepted w.book.taken in
       let batch = next_of S w n in
       let long : length batch ≡ n = next_long w.book.accepted w.book.taken n room in
-      let leads = sound.appends w.place s batch (omega (arith, long, some)) (omega (arith, long, few)) (h.fair w.book.taken h.taken_in) (next_accepted S.kind sound.jobs B w.book.accepted w.book.taken n h.acceptable) in
+      let leads = sound.appends w.place s batch (omega (arith, long, some)) (omega (arith, long, few)) batchable (h.fair w.book.taken h.taken_in) (next_accepted S.kind sound.jobs B w.book.accepted w.book.taken n h.acceptable) in
       let leads2 = subst (λ t. Leads S s w.place (S.calls w.place s batch) t (S.moved w.place s batch)) (next_outcome S.kind sound.jobs B w.book.accepted w.book.taken n) leads in
       let works : Works S w.start w.done (S.calls w.place s batch) (S.moved w.place s batch) s (state_at S B w.book.accepted (w.book.taken + n)) =
       record { base = w.done; gone = []; from = w.place; settled = idle_settled w h idle; leads = leads2; done_is = acts-nil w.done } in
@@ -533,7 +534,7 @@ module _ {J : Type 0} (S : Setting J) (sound : IsSound S) (B : Plain J) where
       more w Slot _ None h (ap (λ s. refusal S.kind s Slot) (sym h.state_is) ∙ was.free) (λ x is. absurd cc)
       (ap (sealed_in w.book.state) may.1 ∙ (sealed w.book.state may.0 (state_now w h) was may.2 ∙ ap (λ s. state_step S.kind s (happening_in s Slot)) h.state_is))
   keeps w Abandon h may = slot_on w None h (λ x is. absurd cc)
-  keeps w (Take n) h may = take_on w n h may.0 may.2 may.3 may.4
+  keeps w (Take n) h may = take_on w n h may.0 may.2 may.3 may.4 may.5
   keeps w Tend h may = tend_on w h may.0 may.2
   keeps w (Device ok) h may = device_any w ok h
   keeps w Publish h may = publish_on w h may

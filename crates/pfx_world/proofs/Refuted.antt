@@ -1,16 +1,14 @@
 -- Worked rows: for each field of each claim a world in which it doesn't hold. A claim that says less lets that world pass, and its row fails.
-use Rattle.std.specs.Prelude.{◌≡◌, ◌⊎◌, ℕ, ◌+◌, ◌≤◌, List, [], ◌∷◌, ◌++◌, length, take, Option, Some, None, refl, slice_get}
-use Rattle.std.proofs.Common.{true, false, inl, inr, ⊎_elim, ap, sym, ◌∙◌, arith}
-use Rattle.pfx_columns.specs.Ledgers.{ledger_at}
-use Rattle.pfx_machine.specs.Plain.{Plain, IsState, empty}
-use Rattle.pfx_machine.specs.declared.command.Command.{Command}
+use Rattle.std.specs.Prelude.{◌≡◌, ℕ, ◌≤◌, List, [], ◌∷◌, take, Option, Some, None, refl}
+use Rattle.std.proofs.Common.{true, inl, ⊎_elim, ap, arith}
+use Rattle.pfx_machine.specs.Plain.{Plain}
 use Rattle.pfx_machine.specs.declared.command.Command.TheVariants.{Submit, Slot}
 use Rattle.pfx_symbols.specs.Symbols.{substring_at}
 use Rattle.pfx_world.specs.Claims.{Survives, IsOrderly, IsShown, HasSurvived, IsRecovered, IsLater}
 use Rattle.pfx_world.specs.Events.{Event, Ask, Take, Device, Publish, Mark, Receipt, run, CanRun}
 use Rattle.pfx_world.specs.Session.{new_session}
 use Rattle.pfx_world.specs.World.{World, new_world, state_at}
-use Rattle.pfx_world.proofs.Examples.{thirds, down, begin, commands, counts, small, at_first}
+use Rattle.pfx_world.proofs.Examples.{begin, commands, counts, small, at_first}
 
 -- the number that recovery finds
 abbrev found_number : Option (Plain ℕ × ℕ) → ℕ
@@ -27,7 +25,7 @@ two_can = (
   (
     (tt, refl, refl, refl),
     (
-      (record { none = refl; whole = refl; goes_on = refl }, refl, omega arith, omega arith, omega arith),
+      (record { none = refl; whole = refl; goes_on = refl }, refl, omega arith, omega arith, omega arith, (tt, (tt, tt))),
       (
         (λ none. cc, refl),
         (

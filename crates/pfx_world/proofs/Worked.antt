@@ -71,7 +71,7 @@ module _ {J : Type 0} (S : Setting J) (B : Plain J) where
           (
             (quick, refl, refl, free),
             (
-              (record { none = refl; whole = refl; goes_on = refl }, refl, omega arith, omega arith, omega arith),
+              (record { none = refl; whole = refl; goes_on = refl }, refl, omega arith, omega arith, omega arith, tt),
               can_join taken_world (all_calls (act ∷ coming)) (Publish ∷ Mark ∷ Receipt (B.number + 1) ∷ []) rest.0 last.0,
             ),
           ),

@@ -11,6 +11,7 @@ use Rattle.pfx_disk.specs.CallsMade.{with_failed}
 use Rattle.pfx_world.specs.Calls.{MayLeave}
 use Rattle.pfx_world.specs.Setting.{Setting}
 use Rattle.pfx_world.specs.World.{World, state_at}
+use Rattle.pfx_machine.specs.Batches.{IsBatchable}
 use Rattle.pfx_world.specs.Session.{Opened, MayAsk, MayBegin, MayGive, MaySeal}
 use Rattle.pfx_world.specs.Session.{asked, begun, gave, sealed, abandoned, took, marked_now, marked_if, receipted, gave_up, cut}
 
@@ -59,7 +60,7 @@ module _ {J : Type 0} where
   MayHappen S B w (Give k place) = (m : Deal J × J) × (slice_get w.made k ≡ Some m) × MayGive w.book place m.0
   MayHappen S B w Seal = MaySeal w.book
   MayHappen S B w Abandon = Unit {0}
-  MayHappen S B w (Take n) = IsIdle S w × (w.book.marked ≡ w.book.taken) × (0 < n) × (n ≤ 16) × (w.book.taken + n ≤ length w.book.accepted)
+  MayHappen S B w (Take n) = IsIdle S w × (w.book.marked ≡ w.book.taken) × (0 < n) × (n ≤ 16) × (w.book.taken + n ≤ length w.book.accepted) × IsBatchable (next_of S w n)
   MayHappen S B w Tend = IsIdle S w × (w.book.marked ≡ w.book.taken) × (S.tends w.place ≢ [])
   MayHappen S B w (Device ok) = (w.coming ≢ []) × (w.book.halted ≡ false)
   MayHappen S B w Publish = IsIdle S w

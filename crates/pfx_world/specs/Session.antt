@@ -11,7 +11,7 @@ use Rattle.pfx_machine.specs.Steps.{state_step, happening_in}
 use Rattle.pfx_machine.specs.Slots.{Deal, deals_in}
 use Rattle.pfx_machine.specs.Refusals.{refusal}
 use Rattle.pfx_machine.specs.declared.command.Command.{Command}
-use Rattle.pfx_machine.specs.declared.command.Command.TheVariants.{Submit, Slot, Withdraw}
+use Rattle.pfx_machine.specs.declared.command.Command.TheVariants.{Submit, Slot, Withdraw, Reweigh}
 
 -- a slot that was opened: its row and quanta, and the results that are back
 pub record Opened (J : Type 0) : Type 0 where
@@ -34,11 +34,12 @@ pub record Session (J : Type 0) : Type 0 where
   pub halted : Bool
 
 module _ {J : Type 0} where
-  -- a Submit or a Withdraw: taken at once, with no quanta to run
+  -- a Submit, a Withdraw or a Reweigh: taken at once, with no quanta to run
   abbrev pub IsQuick : Command J → Type 0
   IsQuick (Submit task job) = Unit {0}
   IsQuick (Withdraw task) = Unit {0}
   IsQuick Slot = ⊥
+  IsQuick (Reweigh workers weights) = Unit {0}
 
   -- each quantum has its result
   abbrev pub AllBack : List (Option J) → Type 0

@@ -6,6 +6,7 @@ use Rattle.pfx_machine.specs.Plain.{Plain, IsState}
 use Rattle.pfx_machine.specs.Outcome.{outcome}
 use Rattle.pfx_machine.specs.Sessions.{IsAcceptable}
 use Rattle.pfx_machine.specs.declared.command.Command.{Command}
+use Rattle.pfx_machine.specs.Batches.{IsBatchable}
 
 -- a kind of job, and a store of it as the world sees one
 pub record Setting (J : Type 0) : Type 1 where
@@ -48,7 +49,7 @@ module _ {J : Type 0} where
     pub reads : (image : List ℕ) (s : Plain J) (p : S.Parts) → S.stands image s p → (q : S.Parts) × (S.recovered image ≡ Some (s, q))
     pub found : (image : List ℕ) (s : Plain J) (q : S.Parts) → S.recovered image ≡ Some (s, q) → S.whole image s q
     pub appends : (p : S.Parts) (s : Plain J) (batch : List (Command J)) → 0 < length batch → length batch ≤ 16 →
-        IsState s → IsAcceptable S.kind s batch →
+        IsBatchable batch → IsState s → IsAcceptable S.kind s batch →
         Leads S s p (S.calls p s batch) (outcome S.kind s batch) (S.moved p s batch)
     pub some_calls : (p : S.Parts) (s : Plain J) (batch : List (Command J)) → 0 < length (S.calls p s batch)
     pub tending : (p : S.Parts) (s : Plain J) → Leads S s p (S.tends p) s (S.tended p)

@@ -14,10 +14,10 @@ use Rattle.pfx_engine.proofs.Stepping.{takes_both, takes_step_alone}
 use Rattle.pfx_engine.proofs.keeping.commit.Goals as goal
 
 pub returns-in_err-_tended-clause-keeps : goal.returns-in_err-_tended-clause-keeps
-returns-in_err-_tended-clause-keeps g c honest start H done h all at given =
+returns-in_err-_tended-clause-keeps g c honest start H done h all common at given =
     let V = g.D.Disk.view in
-    keeps_behind start H (H ++ done) (V c.args.store.now.file.disk) (V c.tend.new.self.file.disk) (V c.tend.new.self.file.disk) h all c.tend.ensures.call.takes.later
-    (c.tend.ensures.keeps honest start (frames_of start H) (replays_to start c.args.store.now.state H h all at)) (keeps_more start H done (V c.tend.new.self.file.disk))
+    keeps_behind start H (H ++ done) (V c.args.store.now.file.disk) (V c.tend.new.self.file.disk) (V c.tend.new.self.file.disk) h all common c.tend.ensures.call.takes.later
+    (c.tend.ensures.keeps honest start (frames_of start H) (replays_to start c.args.store.now.state H h all common at)) (keeps_more start H done (V c.tend.new.self.file.disk))
 
 pub batch_of-batch-requires : goal.batch_of-batch-requires
 batch_of-batch-requires g c =
@@ -34,7 +34,7 @@ returns-clause-state g c done given =
     on_ok_then c.append.result (λ taken. state_with s done (map plain c.batch_of-batch.result.records.items) c.append.new.self.state h is taken ∙ ap (λ (t : Plain AnyJob). outcome any_kind t done) same) c.append.ensures.state.moved
 
 pub returns-clause-keeps : goal.returns-clause-keeps
-returns-clause-keeps g c honest start H done h all at given =
+returns-clause-keeps g c honest start H done h all common at given =
     let V = g.D.Disk.view in
     let s = c.tend.new.self.state in
     let same : s ≡ c.args.store.now.state = c.tend.ensures.state in
@@ -42,10 +42,10 @@ returns-clause-keeps g c honest start H done h all at given =
     let next : c.batch_of-batch.result.first ≡ s.number + 1 = c.batch_of-batch.ensures.next.first ∙ ap (λ (t : Plain AnyJob). t.number + 1) c.state.ensures in
     let long = length_of s done (map plain c.batch_of-batch.result.records.items) is in
     let same_long : length (map plain c.batch_of-batch.result.records.items) ≡ length c.args.records.items = rw c.batch_of-batch.ensures.records (length-map c.args.records.items plain) in
-    keeps_behind start H (H ++ done) (V c.args.store.now.file.disk) (V c.tend.new.self.file.disk) (V c.append.new.self.file.disk) h all c.tend.ensures.call.takes.later
-    (c.tend.ensures.keeps honest start (frames_of start H) (replays_to start c.args.store.now.state H h all at))
-    (keeps_with s done (map plain c.batch_of-batch.result.records.items) start H c.batch_of-batch.result.first (V c.tend.new.self.file.disk) (V c.append.new.self.file.disk) (subst (λ (t : Plain AnyJob). IsState t) c.state.ensures c.batch_of-batch.ensures.state) h all (same ∙ at) is (omega (arith, long, same_long, c.requires.some)) (omega (arith, long, same_long, c.requires.few)) next
-    ((c.append.ensures.commits (c.tend.ensures.call.honest.0 honest)).keeps start (frames_of start H) (replays_to start s H h all (same ∙ at))))
+    keeps_behind start H (H ++ done) (V c.args.store.now.file.disk) (V c.tend.new.self.file.disk) (V c.append.new.self.file.disk) h all common c.tend.ensures.call.takes.later
+    (c.tend.ensures.keeps honest start (frames_of start H) (replays_to start c.args.store.now.state H h all common at))
+    (keeps_with s done (map plain c.batch_of-batch.result.records.items) start H c.batch_of-batch.result.first (V c.tend.new.self.file.disk) (V c.append.new.self.file.disk) (subst (λ (t : Plain AnyJob). IsState t) c.state.ensures c.batch_of-batch.ensures.state) h all common (same ∙ at) is (omega (arith, long, same_long, c.requires.some)) (omega (arith, long, same_long, c.requires.few)) next
+    ((c.append.ensures.commits (c.tend.ensures.call.honest.0 honest)).keeps start (frames_of start H) (replays_to start s H h all common (same ∙ at))))
 
 pub returns-clause-acknowledged : goal.returns-clause-acknowledged
 returns-clause-acknowledged g c honest =

@@ -15,7 +15,7 @@ use Rattle.pfx_program.specs.Sharing.{accepted_of}
 use Rattle.pfx_program.proofs.GroupLemmas.{accepted_err, accepted_ok, change_next, change_refused, ran_err, ran_ok}
 use Rattle.pfx_record.specs.Records.{plain}
 use Rattle.pfx_record.specs.Records as recorded
-use Rattle.pfx_engine.proofs.WindowLemmas.{none_recorded, recorded_snoc}
+use Rattle.pfx_engine.proofs.WindowLemmas.{change_common, none_recorded, recorded_snoc}
 use Rattle.pfx_engine.proofs.windows.run_changes.Goals as goal
 
 pub loop-command-init : goal.loop-command-init
@@ -39,6 +39,7 @@ loop-command-preserved-in-Ok c =
     let told = c.loop-command.told.items in
     let done = c.in-Ok.ensures in
     let x : ℕ × Reply = (c.number-last.result + 1, c.in-Ok.field-0.reply) in
+    let change = change_next c.args.commands.items gone command c.loop-command.command-iterator.rest.items c.next.new.self.rest.items c.requires.changes kept.split c.in-Some.ensures.steps.0 in
     let accepted : answer any_kind c.loop-command.state command ≡ Ok x.1 = search rules in
     let next : x.0 ≡ c.loop-command.state.number + 1 = ap (λ (n : ℕ). n + 1) c.number-last.ensures.number in
     let both = ran_ok s c.loop-command.state c.run_recorded.new.state gone told command x kept.told kept.state accepted next done.outcome in
@@ -54,7 +55,7 @@ loop-command-preserved-in-Ok c =
       told = rw c.push_reserved.ensures.items both.0;
       recorded = rw c.push_reserved.ensures.items (subst (λ (l : List (recorded.Recorded AnyJob)). AreRecordsOf any_kind s (accepted_of (gone ++ command ∷ []) (told ++ Ok x ∷ [])) l) (sym pushed)
           (subst (λ (H : List (Command AnyJob)). AreRecordsOf any_kind s H (records ++ plain c.in-Ok.field-0.entry ∷ [])) (sym (accepted_ok s gone told command x kept.told))
-          (recorded_snoc s (accepted_of gone told) command records (plain c.in-Ok.field-0.entry) kept.recorded (subst (λ (t : Plain AnyJob). refusal any_kind t command ≡ None) kept.state done.exact)
+          (recorded_snoc s (accepted_of gone told) command records (plain c.in-Ok.field-0.entry) kept.recorded (change_common command change) (subst (λ (t : Plain AnyJob). refusal any_kind t command ≡ None) kept.state done.exact)
           (done.kept_as ∙ ap (λ (t : Plain AnyJob). record_of any_kind t command) kept.state))));
       state = rw c.push_reserved.ensures.items both.1;
       split = split_next c.args.commands.items gone command c.loop-command.command-iterator.rest.items c.next.new.self.rest.items kept.split c.in-Some.ensures.steps.0;

@@ -1,8 +1,6 @@
-use Rattle.std.proofs.Common.{◌≡◌, ◌≤◌, ℕ, Ok, inl, inr, take, sym, ap, ◌∙◌, subst}
-use Rattle.pfx_format.specs.Format.{format}
+use Rattle.std.proofs.Common.{◌≤◌, Ok, inl, inr, take, sym, ap, ◌∙◌, subst}
 use Rattle.pfx_machine.specs.Outcome.{outcome}
 use Rattle.pfx_machine.specs.Plain.{Plain}
-use Rattle.pfx_recovery.specs.Recovery.{recovered}
 use Rattle.pfx_world.specs.Claims.{IsReceipted}
 use Rattle.pfx_world.specs.Events.{run}
 use Rattle.pfx_world.specs.World.{new_world}

@@ -13,14 +13,14 @@ returns-in-None-clause-wrong g c not =
     none_next K g.met.J.Job.laws c.args.form c.args.body.now c.args.state.now c.loop-i.at c.loop-i.i c.args.count c.loop-i.state c.loop-i.invariant c.loop-i-test.true
     (subst (λ (l : List ℕ). NoRecord K c.args.form l) (take_rest c.args.body.now c.loop-i.at) none)
 
-pub returns-then-not-apply_record-clause-wrong : goal.returns-then-not-apply_record-clause-wrong
-returns-then-not-apply_record-clause-wrong g c not =
+pub returns-then-not-right-clause-wrong : goal.returns-then-not-right-clause-wrong
+returns-then-not-right-clause-wrong g c not =
     let K = g.J.Job.kind in
     let found = rw c.in-Some.is at c.in_ok-read_next.ensures.found in
     let is = subst (λ (l : List ℕ). IsRecord K c.args.form l (plain c.in-Some.entry) c.in-Some.taken) (take_rest c.args.body.now c.loop-i.at) found in
     let kept = c.pass_idle.ensures.kept c.if-pass_idle.false in
     let now = subst (TakenSoFar K g.met.J.Job.laws c.args.form c.args.body.now c.args.state.now c.loop-i.at c.loop-i.i) (sym kept) c.loop-i.invariant in
-    wrong_next K g.met.J.Job.laws c.args.form c.args.body.now c.args.state.now c.loop-i.at c.loop-i.i c.args.count c.pass_idle.new.state now (plain c.in-Some.entry) c.in-Some.taken c.loop-i-test.true is (sym c.apply_record.ensures.right ∙ c.if-not-apply_record.true)
+    wrong_next K g.met.J.Job.laws c.args.form c.args.body.now c.args.state.now c.loop-i.at c.loop-i.i c.args.count c.pass_idle.new.state now (plain c.in-Some.entry) c.in-Some.taken c.loop-i-test.true is (sym c.in_ok-right-in-Some.ensures.right ∙ c.if-not-right.true)
 
 pub returns-then-at-body-clause-wrong : goal.returns-then-at-body-clause-wrong
 returns-then-at-body-clause-wrong g c not =
@@ -42,4 +42,4 @@ loop-i-preserved g c =
     let is = subst (λ (l : List ℕ). IsRecord K c.args.form l (plain c.in-Some.entry) c.in-Some.taken) (take_rest c.args.body.now c.loop-i.at) found in
     let kept = c.pass_idle.ensures.kept c.if-pass_idle.false in
     let now = subst (TakenSoFar K g.met.J.Job.laws c.args.form c.args.body.now c.args.state.now c.loop-i.at c.loop-i.i) (sym kept) c.loop-i.invariant in
-    taken_more K g.met.J.Job.laws c.args.form c.args.body.now c.args.state.now c.loop-i.at c.loop-i.i c.args.count c.pass_idle.new.state now (plain c.in-Some.entry) c.in-Some.taken c.apply_record.new.state is (sym c.apply_record.ensures.right ∙ c.if-not-apply_record.false) (c.apply_record.ensures.taken c.if-not-apply_record.false)
+    taken_more K g.met.J.Job.laws c.args.form c.args.body.now c.args.state.now c.loop-i.at c.loop-i.i c.args.count c.pass_idle.new.state now (plain c.in-Some.entry) c.in-Some.taken c.apply_reweigh.new.state is (sym c.in_ok-right-in-Some.ensures.right ∙ c.if-not-right.false) (c.in_ok-right-in-Some.ensures.taken c.if-not-right.false)

@@ -25,44 +25,45 @@ pub mark_in-requires : goal.mark_in-requires
 mark_in-requires g c =
     let small = batch_small c.args.batch.workers c.args.batch.real c.args.batch.first c.args.batch.records.items c.args.batch.fits in
     record {
-      number = subst (λ n. c.in-Ok.mark.number ≡ g.B.Named.start.number + length (records_in n)) (sym (c.if-not-show.ensures.shown refl))
+      durable = c.in-Some.ensures.shown.1;
+      number = subst (λ n. c.in-Ok.mark.number ≡ g.B.Named.start.number + length (records_in n)) (sym c.in-Some.ensures.shown.0)
           (mark_number g.J.Job.kind g.B.Named.start g.B.Charted.failures g.B.Charted.clock c.args.share.now c.args.batch c.args.store.now.file.broken c.append.new.self.file.broken
           c.args.store.now.state c.append.new.self.state (g.D.Disk.view c.args.store.now.file.disk) (g.D.Disk.view c.append.new.self.file.disk) c.append.result c.requires.taken small
           c.in-Ok.mark.number c.in-Ok.ensures.state.moved c.in-Ok.ensures.mark.0);
       unfailed = λ cause noted.
           unfailed_here g.J.Job.kind g.B.Named.start g.B.Charted.failures g.B.Charted.clock c.args.share.now c.args.batch c.args.store.now.file.broken c.append.new.self.file.broken
           c.args.store.now.state c.append.new.self.state (g.D.Disk.view c.args.store.now.file.disk) (g.D.Disk.view c.append.new.self.file.disk) c.append.result c.requires.taken small
-          cause (subst (Noted (Failed cause)) (c.if-not-show.ensures.shown refl) noted);
+          cause (subst (Noted (Failed cause)) c.in-Some.ensures.shown.0 noted);
     }
 
-pub returns-then-not-show-clause-behind : goal.returns-then-not-show-clause-behind
-returns-then-not-show-clause-behind g c =
+pub returns-in-None-clause-behind : goal.returns-in-None-clause-behind
+returns-in-None-clause-behind g c =
     let small = batch_small c.args.batch.workers c.args.batch.real c.args.batch.first c.args.batch.records.items c.args.batch.fits in
     memory_behind g.J.Job.kind g.B.Named.start g.B.Charted.failures g.B.Charted.clock c.args.share.now c.args.batch c.args.store.now.file.broken c.append.new.self.file.broken
     c.args.store.now.state c.append.new.self.state (g.D.Disk.view c.args.store.now.file.disk) (g.D.Disk.view c.append.new.self.file.disk) c.append.result c.requires.taken small
-    c.show.new.share c.in-Ok.mark (c.if-not-show.ensures.lost refl) c.in-Ok.ensures.state.moved c.in-Ok.ensures.call.honest.1 c.in-Ok.ensures.marks
+    c.show.new.share c.in-Ok.mark (c.in-Ok.ensures.call.works.whole refl) c.in-None.ensures.lost c.in-Ok.ensures.state.moved c.in-Ok.ensures.call.honest.1 c.in-Ok.ensures.marks
 
-pub returns-then-not-show-clause-left : goal.returns-then-not-show-clause-left
-returns-then-not-show-clause-left g c =
+pub returns-in-None-clause-left : goal.returns-in-None-clause-left
+returns-in-None-clause-left g c =
     let small = batch_small c.args.batch.workers c.args.batch.real c.args.batch.first c.args.batch.records.items c.args.batch.fits in
     subst (λ b. IsShown g.J.Job.kind g.B.Named.start c.show.new.share b c.append.new.self.state) (sym c.show.ensures.batches)
     (memory_shown g.J.Job.kind g.B.Named.start g.B.Charted.failures g.B.Charted.clock c.args.share.now c.args.batch c.args.store.now.file.broken c.append.new.self.file.broken
     c.args.store.now.state c.append.new.self.state (g.D.Disk.view c.args.store.now.file.disk) (g.D.Disk.view c.append.new.self.file.disk) c.append.result c.requires.taken small
-    c.show.new.share c.args.publisher.now.batches (c.if-not-show.ensures.lost refl) c.requires.shown c.in-Ok.ensures.state.moved)
+    c.show.new.share c.args.publisher.now.batches c.in-None.ensures.lost c.requires.shown c.in-Ok.ensures.state.moved)
 
-pub returns-else-not-show-clause-step : goal.returns-else-not-show-clause-step
-returns-else-not-show-clause-step g c =
+pub returns-in-Some-clause-step : goal.returns-in-Some-clause-step
+returns-in-Some-clause-step g c =
     let small = batch_small c.args.batch.workers c.args.batch.real c.args.batch.first c.args.batch.records.items c.args.batch.fits in
-    let noted = c.mark_in.ensures ∙ ap (λ l. l ++ Marked c.in-Ok.mark.number c.in-Ok.mark.clock ∷ []) (c.if-not-show.ensures.shown refl) in
+    let noted = c.mark_in.ensures ∙ ap (λ l. l ++ Marked c.in-Ok.mark.number c.in-Ok.mark.clock ∷ []) c.in-Some.ensures.shown.0 in
     step_marked g.J.Job.kind g.B.Named.start g.B.Charted.failures g.B.Charted.clock c.args.share.now c.args.batch c.args.store.now.file.broken c.append.new.self.file.broken
     c.args.store.now.state c.append.new.self.state (g.D.Disk.view c.args.store.now.file.disk) (g.D.Disk.view c.append.new.self.file.disk) c.append.result c.requires.taken small
     c.mark_in.new.share c.in-Ok.mark noted (c.in-Ok.ensures.call.works.whole refl) c.in-Ok.ensures.state.moved c.in-Ok.ensures.mark.0
     c.in-Ok.ensures.call.takes.no_fewer c.in-Ok.ensures.call.honest.1 c.in-Ok.ensures.marks
 
-pub returns-else-not-show-clause-shown : goal.returns-else-not-show-clause-shown
-returns-else-not-show-clause-shown g c =
+pub returns-in-Some-clause-shown : goal.returns-in-Some-clause-shown
+returns-in-Some-clause-shown g c =
     let small = batch_small c.args.batch.workers c.args.batch.real c.args.batch.first c.args.batch.records.items c.args.batch.fits in
-    let noted = c.mark_in.ensures ∙ ap (λ l. l ++ Marked c.in-Ok.mark.number c.in-Ok.mark.clock ∷ []) (c.if-not-show.ensures.shown refl) in
+    let noted = c.mark_in.ensures ∙ ap (λ l. l ++ Marked c.in-Ok.mark.number c.in-Ok.mark.clock ∷ []) c.in-Some.ensures.shown.0 in
     subst (AreShown c.mark_in.new.share) (sym c.show.ensures.batches)
     (marked_shown g.J.Job.kind g.B.Named.start g.B.Charted.failures g.B.Charted.clock c.args.share.now c.args.batch c.args.store.now.file.broken c.append.new.self.file.broken
     c.args.store.now.state c.append.new.self.state (g.D.Disk.view c.args.store.now.file.disk) (g.D.Disk.view c.append.new.self.file.disk) c.append.result c.requires.taken small

@@ -15,7 +15,7 @@ home-requires g c =
     let start = g.B.Named.start in
     record {
       behind =
-          subst (λ n. Behind K start g.B.Charted.failures g.B.Charted.clock n c.loop.store.state (g.D.Disk.view c.loop.store.file.disk)) (sym c.in-End.ensures)
+          subst (λ n. Behind K start g.B.Charted.failures g.B.Charted.clock n c.loop.store.file.broken c.loop.store.state (g.D.Disk.view c.loop.store.file.disk)) (sym c.in-End.ensures)
           (step_behind K start g.B.Charted.failures g.B.Charted.clock c.loop.share c.loop.store.file.broken c.loop.store.state (g.D.Disk.view c.loop.store.file.disk) c.loop.invariant.0);
       shown =
           subst (λ n. IsShown K start n c.loop.publisher.batches c.loop.store.state) (sym c.in-End.ensures)

@@ -16,7 +16,7 @@ returns-in-Ok-clause-step g c = λ _.
 -- src/flusher.rt:188:1
 pub returns-in-Err-clause-behind : goal.returns-in-Err-clause-behind
 returns-in-Err-clause-behind g c = λ _.
-    failed_behind g.J.Job.kind g.B.Named.start g.B.Charted.failures g.B.Charted.clock c.args.share.now c.fail_in.new.share c.args.store.now.file.broken
+    failed_behind g.J.Job.kind g.B.Named.start g.B.Charted.failures g.B.Charted.clock c.args.share.now c.fail_in.new.share c.args.store.now.file.broken c.tend.new.self.file.broken
     c.args.store.now.state c.tend.new.self.state (g.D.Disk.view c.args.store.now.file.disk) (g.D.Disk.view c.tend.new.self.file.disk) c.requires
     c.fail_in.ensures c.in-Err.ensures.state
     (failed_of (g.D.Disk.view c.args.store.now.file.disk) (g.D.Disk.view c.tend.new.self.file.disk) c.args.store.now.file.broken c.tend.new.self.file.broken

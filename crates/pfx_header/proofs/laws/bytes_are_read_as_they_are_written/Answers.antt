@@ -6,4 +6,4 @@ pub returns-clause-read : goal.returns-clause-read
 returns-clause-read c = read_written
 
 pub returns-clause-exact : goal.returns-clause-exact
-returns-clause-exact c = λ bytes h small. (λ is. (read_a_header bytes h is, read_written bytes h small is), λ is. begun_read bytes h is.0 is.1)
+returns-clause-exact c = λ v bytes h small. (λ is. (read_a_header v bytes h is, read_written v bytes h small is), λ is. begun_read v bytes h is.0 is.1)

@@ -4,4 +4,4 @@ use Rattle.pfx_header.proofs.Alone.{enough}
 use Rattle.pfx_header.proofs.laws.front_is_enough.Goals as goal
 
 pub returns : goal.returns
-returns c = λ bytes. enough HEADER_MOST bytes (omega arith)
+returns c = λ v bytes. enough v HEADER_MOST bytes (omega arith)

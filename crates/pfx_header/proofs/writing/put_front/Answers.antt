@@ -13,16 +13,16 @@ returns-clause-front c =
     let old = c.args.out.now in
     let first = c.copy_from_slice.new.self in
     let marked = first ++ drop 9 old in
-    let counted = slice_set marked 9 1 in
+    let counted = slice_set marked 9 2 in
     let all = slice_set counted 10 c.workers.result in
     let is : first ≡ mark = c.copy_from_slice.ensures.after in
     let nine : length first ≡ 9 = ap length is in
     let long : length marked ≡ length old = (let n = length-drop 9 old in let m = length-append first (drop 9 old) in omega (arith, c.requires)) in
-    let long_2 : length counted ≡ length old = length-set marked 9 1 ∙ long in
+    let long_2 : length counted ≡ length old = length-set marked 9 2 ∙ long in
     let m : c.workers.result ≡ set.workers = c.workers.ensures in
     let to9 : take 9 marked ≡ mark = ap (λ n. take n marked) (sym nine) ∙ (take-append_seam first (drop 9 old) ∙ is) in
-    let to10 : take 10 counted ≡ mark ++ 1 ∷ [] = take_more_set marked 9 1 (omega (arith, c.requires)) ∙ ap (λ t. t ++ 1 ∷ []) to9 in
-    let to11 : take 11 all ≡ (mark ++ 1 ∷ []) ++ set.workers ∷ [] =
+    let to10 : take 10 counted ≡ mark ++ 2 ∷ [] = take_more_set marked 9 2 (omega (arith, c.requires)) ∙ ap (λ t. t ++ 2 ∷ []) to9 in
+    let to11 : take 11 all ≡ (mark ++ 2 ∷ []) ++ set.workers ∷ [] =
     take_more_set counted 10 c.workers.result (omega (arith, c.requires)) ∙ (λ i. to10 i ++ m i ∷ []) in
     c.put_u32.ensures.front
     ∙ (ap (λ t. t ++ little_bytes 4 c.args.segment) c.put_u16.ensures.front

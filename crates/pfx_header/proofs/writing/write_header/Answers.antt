@@ -3,12 +3,12 @@ use Rattle.std.specs.Prelude.{ℕ}
 use Rattle.std.proofs.lemmas.List.{take_all, take_more}
 use Rattle.pfx_weights.specs.Bytes.{weight_bytes, weights_bytes}
 use Rattle.pfx_weights.proofs.Written.{weights_push}
-use Rattle.pfx_header.specs.Headers.{Header, front_bytes, header_bytes}
+use Rattle.pfx_header.specs.Headers.{Header, front_bytes, header_bytes, this_version}
 use Rattle.pfx_header.proofs.writing.write_header.Goals as goal
 
 pub loop-task-init : goal.loop-task-init
 loop-task-init c =
-    (c.put_front.ensures.front ∙ sym (append-nil (front_bytes (record { set = c.args.set.now; segment = c.args.segment }))), c.put_front.ensures.long ∙ c.requires)
+    (c.put_front.ensures.front ∙ sym (append-nil (front_bytes this_version (record { set = c.args.set.now; segment = c.args.segment }))), c.put_front.ensures.long ∙ c.requires)
 
 pub loop-task-preserved : goal.loop-task-preserved
 loop-task-preserved c =
@@ -24,8 +24,8 @@ loop-task-preserved c =
       ap (λ (k : ℕ). take k c.put_task.new.out) end
           ∙ (c.put_task.ensures.front
           ∙ (ap (λ t. t ++ weight_bytes c.weight.result) before
-          ∙ (append_assoc (front_bytes h) (weights_bytes (take n set.weights)) (weight_bytes c.weight.result)
-          ∙ ap (λ t. front_bytes h ++ t) (sym (ap weights_bytes more ∙ weights_push (take n set.weights) c.weight.result))))),
+          ∙ (append_assoc (front_bytes this_version h) (weights_bytes (take n set.weights)) (weight_bytes c.weight.result)
+          ∙ ap (λ t. front_bytes this_version h ++ t) (sym (ap weights_bytes more ∙ weights_push (take n set.weights) c.weight.result))))),
       c.put_task.ensures.long ∙ c.loop-task.invariant.1,
     )
 
@@ -38,4 +38,4 @@ returns c =
     let end : n ≡ set.real = omega (arith, c.loop-task-test.false, c.loop-task.auto.task-end) in
     let out = c.loop-task.out in
     let long : length out ≤ 17 + 8 * n = omega (arith, c.loop-task.invariant.1) in
-    sym (take_all (17 + 8 * n) out long) ∙ (c.loop-task.invariant.0 ∙ ap (λ k. front_bytes h ++ weights_bytes (take k set.weights)) end)
+    sym (take_all (17 + 8 * n) out long) ∙ (c.loop-task.invariant.0 ∙ ap (λ k. front_bytes this_version h ++ weights_bytes (take k set.weights)) end)

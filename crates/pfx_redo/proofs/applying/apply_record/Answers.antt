@@ -1,6 +1,6 @@
-use Rattle.std.proofs.Common.{◌≡◌, ◌+◌, ◌<◌, ◌≤◌, ◌^◌, sym, ◌∙◌, ap, arith, subst, true, IsTrue}
-use Rattle.std.specs.Prelude.{Some, None, slice_get, slice_set}
-use Rattle.pfx_record.specs.Records.{plain, record_fits, submitted, withdrawn}
+use Rattle.std.proofs.Common.{◌≡◌, sym, ◌∙◌, ap, arith, subst, true, IsTrue}
+use Rattle.std.specs.Prelude.{slice_get}
+use Rattle.pfx_record.specs.Records.{plain, record_fits}
 use Rattle.pfx_machine.specs.Jobs.{has_job, is_free}
 use Rattle.pfx_redo.specs.Applying.{form_at, is_right}
 use Rattle.pfx_redo.proofs.Effects.{after-submitted, after-withdrawn}

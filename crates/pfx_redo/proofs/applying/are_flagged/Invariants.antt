@@ -1,4 +1,4 @@
-use Rattle.std.proofs.Common.{◌≡◌, ◌&&◌, nat_lt, drop, slice_get}
+use Rattle.std.proofs.Common.{◌≡◌, ◌&&◌, nat_lt, drop}
 use Rattle.std.specs.List.{list_all}
 use Rattle.pfx_redo.specs.Applying.{is_flagged}
 use Rattle.pfx_redo.proofs.applying.are_flagged.Given as goal

@@ -1,4 +1,4 @@
-use Rattle.std.proofs.Common.{◌∙◌, arith, length}
+use Rattle.std.proofs.Common.{◌∙◌, arith}
 use Rattle.std.proofs.lemmas.List.{length-map}
 use Rattle.pfx_record.specs.Records.{tasks_of}
 use Rattle.pfx_redo.proofs.Rows.{all_copied, row_is}

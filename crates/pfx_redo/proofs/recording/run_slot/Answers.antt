@@ -1,10 +1,9 @@
-use Rattle.std.proofs.Common.{◌≡◌, ℕ, ◌+◌, List, sym, ◌∙◌, ap, map}
+use Rattle.std.proofs.Common.{ℕ, ◌+◌, List, sym, ◌∙◌, ap, map}
 use Rattle.pfx_machine.specs.Plain.{whole}
 use Rattle.pfx_machine.specs.Happenings.{row_or_none}
 use Rattle.pfx_machine.specs.Slots.{Deal, deal}
 use Rattle.pfx_jobs.specs.declared.quantum.Done.{Done}
 use Rattle.pfx_record.specs.Records.{ran}
-use Rattle.pfx_record.specs.declared.record.Place.{Place}
 use Rattle.pfx_redo.specs.Recording.{after_in, place_of}
 use Rattle.pfx_redo.proofs.Merging.{row_places}
 use Rattle.pfx_redo.proofs.recording.run_slot.Goals as goal

@@ -1,16 +1,13 @@
-use Rattle.std.proofs.Common.{◌≤◌, ◌<◌, ◌+◌, ◌++◌, ◌∙◌, length, map, refl, ap, sym, subst, arith}
+use Rattle.std.proofs.Common.{◌≤◌, ◌<◌, ◌+◌, ◌++◌, ◌∙◌, length, refl, ap, sym, subst, arith}
 use Rattle.pfx_format.specs.Format.{layout}
-use Rattle.pfx_record.specs.Records.{plain}
 use Rattle.pfx_recovery.specs.Layout.{segment_at}
 use Rattle.pfx_segment.specs.Frames.{AreFrames}
 use Rattle.pfx_segment.specs.Reading.{views}
-use Rattle.pfx_replay.specs.Trails.{records_in}
-use Rattle.pfx_replay.proofs.FrameRuns.{one_run}
+use Rattle.pfx_replay.proofs.FrameRuns.{one_run, views_append}
 use Rattle.pfx_replay.proofs.file.add_segment.Goals as goal
 
-pub returns-in_ok-add_records-in-Some : goal.returns-in_ok-add_records-in-Some
-returns-in_ok-add_records-in-Some g c frames are =
-    let K = g.J.Job.kind in
+pub returns-in_ok-append-in-Some : goal.returns-in_ok-append-in-Some
+returns-in_ok-append-in-Some g c frames are =
     let h = c.args.header.now in
     let L = layout h in
     let image = c.args.image.now in
@@ -25,8 +22,5 @@ returns-in_ok-add_records-in-Some g c frames are =
     (subst (λ k. AreFrames (segment_at L c.args.second + 9) (segment_at L c.args.second + k) frames image) (sym sized.segment) are) in
     let same = one_run (place + 9) (place + len) (views c.in-Some.frames.items) frames image room inside found there in (
       refl,
-      c.in_ok-add_records-in-Some.ensures
-          ∙ ap (λ l. map plain c.args.records.now.items ++ records_in K c.workers.result (views l)) c.deref.ensures.value
-          ∙ ap (λ l. map plain c.args.records.now.items ++ records_in K c.workers.result l) same
-          ∙ ap (λ k. map plain c.args.records.now.items ++ records_in K k frames) (c.workers.ensures ∙ ap (λ (s : _). s.workers) c.set.ensures.set),
+      ap views c.in_ok-append-in-Some.ensures.items ∙ views_append c.args.all.now.items c.in-Some.frames.items ∙ ap (λ l. views c.args.all.now.items ++ l) same,
     )

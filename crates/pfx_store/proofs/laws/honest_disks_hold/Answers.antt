@@ -1,4 +1,4 @@
-use Rattle.std.proofs.Common.{[], ◌≤◌, length, sym, subst, ap}
+use Rattle.std.proofs.Common.{[], ◌≤◌, length, sym, subst}
 use Rattle.pfx_disk.proofs.Left.{honest_view}
 use Rattle.pfx_format.specs.Format.{format}
 use Rattle.pfx_store_file.specs.Holding.{IsKnown}
@@ -17,7 +17,7 @@ returns g c = λ whole honest.
       stands = record {
         header = st.header;
         parts = st.parts;
-        set = st.set;
+        of = st.of;
         middle = st.middle;
         holds = record {
           honest = honest_view view.contents [] 0 0;

@@ -1,23 +1,23 @@
 use Rattle.std.proofs.Common.{List, ℕ, length, refl, sym, ◌∙◌, ap, arith, rules, subst}
 use Rattle.std.specs.Prelude.{slice_index}
-use Rattle.pfx_checkpoint.specs.Spelling.{state_len}
+use Rattle.pfx_checkpoint.specs.Whole.{whole_len}
 use Rattle.pfx_format.specs.Format.{format}
-use Rattle.pfx_header.specs.Headers.{Header}
+use Rattle.pfx_header.specs.Headers.{Header, this_version}
 use Rattle.pfx_header.proofs.Written.{header_long}
 use Rattle.pfx_machine.specs.Plain.{Plain, IsState, empty}
 use Rattle.pfx_store.specs.Standing.{Stands}
 use Rattle.std.proofs.lemmas.Bool.{true≢false}
 use Rattle.pfx_store.proofs.Counts.{takes_told}
-use Rattle.pfx_store.proofs.Made.{file_short, gate_of, made_calls, made_of, new_stands, unmade_refused}
-use Rattle.pfx_store.proofs.Areas.{state_long}
+use Rattle.pfx_store.proofs.Made.{empty_is_of, file_short, gate_of, made_calls, made_of, new_stands, unmade_refused}
+use Rattle.pfx_store.proofs.Areas.{spelled_long}
 use Rattle.pfx_store.proofs.making.placed.Goals as goal
 
 pub create_file-requires : goal.create_file-requires
 create_file-requires g c =
     let h : Header = record { set = c.args.set.now; segment = c.args.segment } in
     let state : IsState (empty c.args.set.now c.args.segment) = subst IsState c.requires.empty c.number-number.ensures.state in
-    let head = ap length c.requires.head ∙ header_long h c.requires.header in
-    let body = ap length (c.deref.ensures.value ∙ c.requires.spelled) ∙ state_long g.J.Job.kind g.met.J.Job.laws (empty c.args.set.now c.args.segment) state in
+    let head = ap length c.requires.head ∙ header_long this_version h c.requires.header in
+    let body = ap length (c.deref.ensures.value ∙ c.requires.spelled) ∙ spelled_long g.J.Job.kind g.met.J.Job.laws (empty c.args.set.now c.args.segment) state in
     record {
       limits = record { room = search rules; short = file_short h (length c.args.head.now) (length c.deref.result.now) c.args.segment c.requires.header head body refl };
       gate = ap (λ (l : List ℕ). slice_index l 0) c.requires.head ∙ gate_of h;
@@ -32,7 +32,7 @@ invariant_of-result g c =
     let workers = ap (λ (s : Plain g.row.J.Denot). s.ledger.set.workers) c.requires.empty in
     record {
       long = sym (places.body ∙ ap length c.deref.ensures.value);
-      body = places.body ∙ (ap length (c.deref.ensures.value ∙ c.requires.spelled) ∙ (state_long g.J.Job.kind g.met.J.Job.laws (empty c.args.set.now c.args.segment) state ∙ ap (λ (s : Plain g.row.J.Denot). state_len s.ledger.set) (sym c.requires.empty)));
+      body = places.body ∙ (ap length (c.deref.ensures.value ∙ c.requires.spelled) ∙ (spelled_long g.J.Job.kind g.met.J.Job.laws (empty c.args.set.now c.args.segment) state ∙ ap (λ (s : Plain g.row.J.Denot). whole_len s.ledger.set.real) (sym c.requires.empty)));
       fits = omega (arith, places.segment_len, workers, least);
       room = omega (arith, room, workers);
     }
@@ -44,8 +44,8 @@ returns-in-Ok g c = record {
   calls =
       let h : Header = record { set = c.args.set.now; segment = c.args.segment } in
       let state : IsState (empty c.args.set.now c.args.segment) = subst IsState c.requires.empty c.number-number.ensures.state in
-      let head = ap length c.requires.head ∙ header_long h c.requires.header in
-      let body = ap length (c.deref.ensures.value ∙ c.requires.spelled) ∙ state_long g.J.Job.kind g.met.J.Job.laws (empty c.args.set.now c.args.segment) state in
+      let head = ap length c.requires.head ∙ header_long this_version h c.requires.header in
+      let body = ap length (c.deref.ensures.value ∙ c.requires.spelled) ∙ spelled_long g.J.Job.kind g.met.J.Job.laws (empty c.args.set.now c.args.segment) state in
       record {
         calls_made = search rules;
         only = λ honest. (c.in-Ok.ensures.made honest).durable;
@@ -60,7 +60,7 @@ returns-in-Ok g c = record {
       let state : IsState (empty set c.args.segment) = subst IsState c.requires.empty c.number-number.ensures.state in
       let made = made_of K g.met.J.Job.laws h c.args.head.now c.deref.result.now c.args.segment c.requires.header state c.requires.head (c.deref.ensures.value ∙ c.requires.spelled) refl in
       subst (λ (s : Plain g.row.J.Denot). Stands K c.in-Ok.file.places s c.args.spelled.items (g.D.Disk.view c.in-Ok.file.disk)) (sym c.requires.empty)
-      (new_stands K h c.in-Ok.file.places (empty set c.args.segment) c.args.spelled.items (g.D.Disk.view c.in-Ok.file.disk) (c.in-Ok.ensures.holds (format K) h (empty set c.args.segment) made honest) (record { set = refl; from = refl; segment = refl }));
+      (new_stands K h c.in-Ok.file.places (empty set c.args.segment) c.args.spelled.items (g.D.Disk.view c.in-Ok.file.disk) (c.in-Ok.ensures.holds (format K) h (empty set c.args.segment) made honest) (empty_is_of h c.requires.header));
   recovers = λ honest.
       let K = g.J.Job.kind in
       let set = c.args.set.now in
@@ -84,8 +84,8 @@ returns-in-Err-Device-default g c = record {
   calls =
       let h : Header = record { set = c.args.set.now; segment = c.args.segment } in
       let state : IsState (empty c.args.set.now c.args.segment) = subst IsState c.requires.empty c.number-number.ensures.state in
-      let head = ap length c.requires.head ∙ header_long h c.requires.header in
-      let body = ap length (c.deref.ensures.value ∙ c.requires.spelled) ∙ state_long g.J.Job.kind g.met.J.Job.laws (empty c.args.set.now c.args.segment) state in
+      let head = ap length c.requires.head ∙ header_long this_version h c.requires.header in
+      let body = ap length (c.deref.ensures.value ∙ c.requires.spelled) ∙ spelled_long g.J.Job.kind g.met.J.Job.laws (empty c.args.set.now c.args.segment) state in
       record {
         calls_made = search rules;
         only = search rules;
@@ -118,8 +118,8 @@ returns g c = record {
   calls =
       let h : Header = record { set = c.args.set.now; segment = c.args.segment } in
       let state : IsState (empty c.args.set.now c.args.segment) = subst IsState c.requires.empty c.number-number.ensures.state in
-      let head = ap length c.requires.head ∙ header_long h c.requires.header in
-      let body = ap length (c.deref.ensures.value ∙ c.requires.spelled) ∙ state_long g.J.Job.kind g.met.J.Job.laws (empty c.args.set.now c.args.segment) state in
+      let head = ap length c.requires.head ∙ header_long this_version h c.requires.header in
+      let body = ap length (c.deref.ensures.value ∙ c.requires.spelled) ∙ spelled_long g.J.Job.kind g.met.J.Job.laws (empty c.args.set.now c.args.segment) state in
       record {
         calls_made = search rules;
         only = search rules;

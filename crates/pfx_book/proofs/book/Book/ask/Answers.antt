@@ -2,6 +2,7 @@ use Rattle.std.specs.Prelude.{Some, None, is_some}
 use Rattle.std.specs.VecDeque.{deque_items}
 use Rattle.std.proofs.Common.{◌≡◌, ℕ, List, [], ◌∷◌, ◌++◌, ◌<◌, ◌+◌, length, map, true, false, refl, sym, ap, ◌∙◌, subst, arith, inr}
 use Rattle.std.proofs.lemmas.List.{map-append}
+use Rattle.pfx_machine.specs.Batches.{IsCommon}
 use Rattle.pfx_machine.specs.Plain.{Plain}
 use Rattle.pfx_machine.specs.Steps.{state_step, happening_in}
 use Rattle.pfx_machine.specs.declared.command.Command.{Command}
@@ -142,7 +143,7 @@ invariant_of-self-in-Done g c =
     let room : length (commands_of xs) < s.marked + 64 = subst HasRoom (sym (ap (λ (v : Register g.row.J.Denot). v.session) c.self.view_is)) c.requires.ready.room in
     let here = outcome_is K B xs s.keeper s.passes s.state pend s.taken s.marked s.clock s.failure h in
     let a = accepts K L B s.history.items s.keeper s.passes s.state pend s.taken s.marked s.clock s.failure k mine h c.note-in-Done.ensures.known (omega (arith, p.1))
-    c.args.command copy said n u (plain c.in-Done.entry) line _ full t.0 t.1 (c.copy_reply.ensures ∙ t.2) t.3 (t.4 B (commands_of xs) here) c.number-number.ensures.number of_line room in
+    c.args.command copy said n u (plain c.in-Done.entry) line _ full t.0 (subst IsCommon (sym t.0) (c.is_common.ensures.0 c.if-not-is_common.false)) t.1 (c.copy_reply.ensures ∙ t.2) t.3 (t.4 B (commands_of xs) here) c.number-number.ensures.number of_line room in
     let items = c.push_reserved-in-Done.ensures.items ∙ ap (λ l. l ++ line ∷ []) c.make_room.ensures.items in
     let queue = ap (map plain) c.push_back_reserved.ensures.items ∙ map-append plain (deque_items s.pending) (c.in-Done.entry ∷ []) in
     let none = none_shown K s.slot (ap (λ (v : Register g.row.J.Denot). v.session.opened) c.self.view_is ∙ c.requires.ready.none_open) in (
@@ -177,7 +178,7 @@ invariant_of-pass-in-Done g c =
     let room : length (commands_of xs) < s.marked + 64 = subst HasRoom (sym (ap (λ (v : Register g.row.J.Denot). v.session) c.self.view_is)) c.requires.ready.room in
     let here = outcome_is K B xs s.keeper s.passes s.state pend s.taken s.marked s.clock s.failure h in
     let a = accepts K L B s.history.items s.keeper s.passes s.state pend s.taken s.marked s.clock s.failure k mine h c.note-in-Done.ensures.known (omega (arith, p.1))
-    c.args.command copy said n u (plain c.in-Done.entry) line _ full t.0 t.1 (c.copy_reply.ensures ∙ t.2) t.3 (t.4 B (commands_of xs) here) c.number-number.ensures.number of_line room in
+    c.args.command copy said n u (plain c.in-Done.entry) line _ full t.0 (subst IsCommon (sym t.0) (c.is_common.ensures.0 c.if-not-is_common.false)) t.1 (c.copy_reply.ensures ∙ t.2) t.3 (t.4 B (commands_of xs) here) c.number-number.ensures.number of_line room in
     let z = c.note-in-Done.ensures.token in
     let m : greatest (mine ++ e ∷ []) ≡ n = greatest_more mine e ∙ omega (arith, a.2) in (
       p.0 ∙ sym (ap (λ x. x.0) z),
@@ -222,7 +223,7 @@ returns-in-Done-clause-accepted g c =
     let room : length (commands_of xs) < s.marked + 64 = subst HasRoom (sym (ap (λ (v : Register g.row.J.Denot). v.session) c.self.view_is)) c.requires.ready.room in
     let here = outcome_is K B xs s.keeper s.passes s.state pend s.taken s.marked s.clock s.failure h in
     let a = accepts K L B s.history.items s.keeper s.passes s.state pend s.taken s.marked s.clock s.failure k mine h c.note-in-Done.ensures.known (omega (arith, p.1))
-    c.args.command copy said n u (plain c.in-Done.entry) line _ full t.0 t.1 (c.copy_reply.ensures ∙ t.2) t.3 (t.4 B (commands_of xs) here) c.number-number.ensures.number of_line room in
+    c.args.command copy said n u (plain c.in-Done.entry) line _ full t.0 (subst IsCommon (sym t.0) (c.is_common.ensures.0 c.if-not-is_common.false)) t.1 (c.copy_reply.ensures ∙ t.2) t.3 (t.4 B (commands_of xs) here) c.number-number.ensures.number of_line room in
     let items = c.push_reserved-in-Done.ensures.items ∙ ap (λ l. l ++ line ∷ []) c.make_room.ensures.items in
     let v = c.self.view_is in
     let pv = c.pass.view_is in

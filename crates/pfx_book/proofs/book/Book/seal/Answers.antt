@@ -78,7 +78,7 @@ invariant_of-self-2 g c =
     let here = outcome_is K B xs s.keeper s.passes s.state pend s.taken s.marked s.clock s.failure h in
     let free = free_in (length (commands_of xs)) K s.state command.Slot (omega (arith, fits.3, number)) fits.0.accepted in
     let a = accepts K L B s.history.items s.keeper s.passes s.state pend s.taken s.marked s.clock s.failure k mine h c.note.ensures.known (omega (arith, p.1))
-    command.Slot command.Slot said n u (plain done.entry) l (nat_le (2 ^ 20) (length (commands_of xs))) refl refl free (c.copy_reply.ensures ∙ c.in_ok-reply.ensures.reply) c.in_ok-reply.ensures.entry
+    command.Slot command.Slot said n u (plain done.entry) l (nat_le (2 ^ 20) (length (commands_of xs))) refl refl tt free (c.copy_reply.ensures ∙ c.in_ok-reply.ensures.reply) c.in_ok-reply.ensures.entry
     (c.seal_on.ensures.outcome B (commands_of xs) here) c.number-number.ensures.number (p.0, refl, refl) (omega (arith, fits.2, number)) in
     let items = c.push_reserved.ensures.items in
     let queue = ap (map plain) c.push_back_reserved.ensures.items ∙ map-append plain (deque_items s.pending) (done.entry ∷ []) in (
@@ -112,7 +112,7 @@ invariant_of-pass g c =
     let here = outcome_is K B xs s.keeper s.passes s.state pend s.taken s.marked s.clock s.failure h in
     let free = free_in (length (commands_of xs)) K s.state command.Slot (omega (arith, fits.3, number)) fits.0.accepted in
     let a = accepts K L B s.history.items s.keeper s.passes s.state pend s.taken s.marked s.clock s.failure k mine h c.note.ensures.known (omega (arith, p.1))
-    command.Slot command.Slot said n u (plain done.entry) l (nat_le (2 ^ 20) (length (commands_of xs))) refl refl free (c.copy_reply.ensures ∙ c.in_ok-reply.ensures.reply) c.in_ok-reply.ensures.entry
+    command.Slot command.Slot said n u (plain done.entry) l (nat_le (2 ^ 20) (length (commands_of xs))) refl refl tt free (c.copy_reply.ensures ∙ c.in_ok-reply.ensures.reply) c.in_ok-reply.ensures.entry
     (c.seal_on.ensures.outcome B (commands_of xs) here) c.number-number.ensures.number (p.0, refl, refl) (omega (arith, fits.2, number)) in
     let e : Note g.row.J.Denot = Accepted n command.Slot said in
     let z = c.note.ensures.token in
@@ -165,7 +165,7 @@ returns-clause-accepted g c =
     let here = outcome_is K B xs s.keeper s.passes s.state pend s.taken s.marked s.clock s.failure h in
     let free = free_in (length (commands_of xs)) K s.state command.Slot (omega (arith, fits.3, number)) fits.0.accepted in
     let a = accepts K L B s.history.items s.keeper s.passes s.state pend s.taken s.marked s.clock s.failure k mine h c.note.ensures.known (omega (arith, p.1))
-    command.Slot command.Slot said n u (plain done.entry) l (nat_le (2 ^ 20) (length (commands_of xs))) refl refl free (c.copy_reply.ensures ∙ c.in_ok-reply.ensures.reply) c.in_ok-reply.ensures.entry
+    command.Slot command.Slot said n u (plain done.entry) l (nat_le (2 ^ 20) (length (commands_of xs))) refl refl tt free (c.copy_reply.ensures ∙ c.in_ok-reply.ensures.reply) c.in_ok-reply.ensures.entry
     (c.seal_on.ensures.outcome B (commands_of xs) here) c.number-number.ensures.number (p.0, refl, refl) (omega (arith, fits.2, number)) in
     let is_ready : IsReady s.slot = c.is_all_back.ensures.0 c.if-not-is_all_back.false in
     let all : AllBack o.back = subst (λ (q : Option (Dealt g.row.J.Denot)). IsReady q) was is_ready in

@@ -20,16 +20,16 @@ use Rattle.std.specs.Prelude.{IsOk}
 use Rattle.pfx_engine.proofs.durable.DurableEngine.execute.Goals as goal
 
 pub returns-then-is_broken-clause-commits : goal.returns-then-is_broken-clause-commits
-returns-then-is_broken-clause-commits g c = λ honest. record { keeps = λ start H h all at. keeps_more start H (c.args.command ∷ []) (g.D.Disk.view c.args.self.now.store.file.disk); acknowledged = tt }
+returns-then-is_broken-clause-commits g c = λ honest. record { keeps = λ start H h all common at. keeps_more start H (c.args.command ∷ []) (g.D.Disk.view c.args.self.now.store.file.disk); acknowledged = tt }
 
 pub returns-in_default-clause-commits : goal.returns-in_default-clause-commits
-returns-in_default-clause-commits g c = λ honest. record { keeps = λ start H h all at. keeps_more start H (c.args.command ∷ []) (g.D.Disk.view c.args.self.now.store.file.disk); acknowledged = tt }
+returns-in_default-clause-commits g c = λ honest. record { keeps = λ start H h all common at. keeps_more start H (c.args.command ∷ []) (g.D.Disk.view c.args.self.now.store.file.disk); acknowledged = tt }
 
 pub returns-in-Err-clause-commits : goal.returns-in-Err-clause-commits
-returns-in-Err-clause-commits g c = λ honest. record { keeps = λ start H h all at. keeps_more start H (c.args.command ∷ []) (g.D.Disk.view c.args.self.now.store.file.disk); acknowledged = tt }
+returns-in-Err-clause-commits g c = λ honest. record { keeps = λ start H h all common at. keeps_more start H (c.args.command ∷ []) (g.D.Disk.view c.args.self.now.store.file.disk); acknowledged = tt }
 
 pub returns-in-Err-2-clause-commits : goal.returns-in-Err-2-clause-commits
-returns-in-Err-2-clause-commits g c = λ honest. record { keeps = λ start H h all at. keeps_more start H (c.args.command ∷ []) (g.D.Disk.view c.args.self.now.store.file.disk); acknowledged = tt }
+returns-in-Err-2-clause-commits g c = λ honest. record { keeps = λ start H h all common at. keeps_more start H (c.args.command ∷ []) (g.D.Disk.view c.args.self.now.store.file.disk); acknowledged = tt }
 
 pub invariant_of-self-in-Ok-run_recorded : goal.invariant_of-self-in-Ok-run_recorded
 invariant_of-self-in-Ok-run_recorded g c = record {
@@ -38,7 +38,7 @@ invariant_of-self-in-Ok-run_recorded g c = record {
       let at = c.args.self.now.same before in
       let done = c.in-Ok-run_recorded.ensures in
       let mine : AreRecordsOf any_kind c.args.self.now.store.state (c.args.command ∷ []) (map plain c.push_reserved.new.self.items) =
-      one_record c.args.self.now.store.state c.args.command (map plain c.push_reserved.new.self.items) (subst (λ (t : Plain AnyJob). refusal any_kind t c.args.command ≡ None) at done.exact)
+      one_record c.args.self.now.store.state c.args.command (map plain c.push_reserved.new.self.items) (c.is_common.ensures.0 c.if-not-is_common.false) (subst (λ (t : Plain AnyJob). refusal any_kind t c.args.command ≡ None) at done.exact)
       (rw (c.push_reserved.ensures.items, c.in-Ok.ensures.items) (ap (λ r. r ∷ []) (done.kept_as ∙ ap (λ (t : Plain AnyJob). record_of any_kind t c.args.command) at))) in
       done.outcome c.args.self.now.state [] (sym (outcome-none any_kind c.args.self.now.state))
       ∙ (ap (λ (t : Plain AnyJob). outcome any_kind t (c.args.command ∷ [])) at
@@ -51,12 +51,12 @@ returns-in-Ok-commit-clause-commits g c = λ honest.
     let at = c.args.self.now.same (sym c.is_broken.ensures.broken ∙ c.if-is_broken.false) in
     let done = c.in-Ok-run_recorded.ensures in
     let mine : AreRecordsOf any_kind c.args.self.now.store.state (c.args.command ∷ []) (map plain c.push_reserved.new.self.items) =
-    one_record c.args.self.now.store.state c.args.command (map plain c.push_reserved.new.self.items) (subst (λ (t : Plain AnyJob). refusal any_kind t c.args.command ≡ None) at done.exact)
+    one_record c.args.self.now.store.state c.args.command (map plain c.push_reserved.new.self.items) (c.is_common.ensures.0 c.if-not-is_common.false) (subst (λ (t : Plain AnyJob). refusal any_kind t c.args.command ≡ None) at done.exact)
     (rw (c.push_reserved.ensures.items, c.in-Ok.ensures.items) (ap (λ r. r ∷ []) (done.kept_as ∙ ap (λ (t : Plain AnyJob). record_of any_kind t c.args.command) at))) in
     let new = c.commit.new.store in
     let whole : new.file.broken ≡ false = c.in-Ok-commit.ensures.call.works.whole refl in
     record {
-      keeps = λ start H h all there. c.commit.ensures.keeps honest start H (c.args.command ∷ []) h all there mine;
+      keeps = λ start H h all common there. c.commit.ensures.keeps honest start H (c.args.command ∷ []) h all common there mine;
       acknowledged = λ image here. c.in-Ok-commit.ensures.acknowledged honest image (subst (λ n. (V new.file.disk).since n image) c.in-Ok-commit.ensures.call.mark.1 here)
           ∙ ap Ok (c.in-Ok-commit.ensures.state (c.args.command ∷ []) mine ∙ ap (λ (t : Plain AnyJob). outcome any_kind t (c.args.command ∷ [])) (sym at) ∙ sym (done.outcome c.args.self.now.state [] (sym (outcome-none any_kind c.args.self.now.state))));
     })
@@ -66,10 +66,10 @@ returns-clause-commits g c = λ honest.
     (let at = c.args.self.now.same (sym c.is_broken.ensures.broken ∙ c.if-is_broken.false) in
     let done = c.in-Ok-run_recorded.ensures in
     let mine : AreRecordsOf any_kind c.args.self.now.store.state (c.args.command ∷ []) (map plain c.push_reserved.new.self.items) =
-    one_record c.args.self.now.store.state c.args.command (map plain c.push_reserved.new.self.items) (subst (λ (t : Plain AnyJob). refusal any_kind t c.args.command ≡ None) at done.exact)
+    one_record c.args.self.now.store.state c.args.command (map plain c.push_reserved.new.self.items) (c.is_common.ensures.0 c.if-not-is_common.false) (subst (λ (t : Plain AnyJob). refusal any_kind t c.args.command ≡ None) at done.exact)
     (rw (c.push_reserved.ensures.items, c.in-Ok.ensures.items) (ap (λ r. r ∷ []) (done.kept_as ∙ ap (λ (t : Plain AnyJob). record_of any_kind t c.args.command) at))) in
     record {
-      keeps = λ start H h all there. c.commit.ensures.keeps honest start H (c.args.command ∷ []) h all there mine;
+      keeps = λ start H h all common there. c.commit.ensures.keeps honest start H (c.args.command ∷ []) h all common there mine;
       acknowledged = tt;
     })
 
@@ -106,7 +106,7 @@ returns-in-Ok-commit-clause-calls g c =
     let at = c.args.self.now.same (sym c.is_broken.ensures.broken ∙ c.if-is_broken.false) in
     let done = c.in-Ok-run_recorded.ensures in
     let mine : AreRecordsOf any_kind c.args.self.now.store.state (c.args.command ∷ []) (map plain c.push_reserved.new.self.items) =
-    one_record c.args.self.now.store.state c.args.command (map plain c.push_reserved.new.self.items) (subst (λ (t : Plain AnyJob). refusal any_kind t c.args.command ≡ None) at done.exact)
+    one_record c.args.self.now.store.state c.args.command (map plain c.push_reserved.new.self.items) (c.is_common.ensures.0 c.if-not-is_common.false) (subst (λ (t : Plain AnyJob). refusal any_kind t c.args.command ≡ None) at done.exact)
     (rw (c.push_reserved.ensures.items, c.in-Ok.ensures.items) (ap (λ r. r ∷ []) (done.kept_as ∙ ap (λ (t : Plain AnyJob). record_of any_kind t c.args.command) at))) in
     record {
       takes = takes_as (command_calls (frame_len c.args.self.now.state (c.args.command ∷ [])) c.args.self.now.store.file.places) (V c.args.self.now.store.file.disk) (V c.commit.new.store.file.disk) c.commit.result _ (λ _. subst (λ r. IsOk r) (sym c.in-Ok-commit.is) refl)
@@ -120,7 +120,7 @@ returns-clause-calls g c =
     let at = c.args.self.now.same (sym c.is_broken.ensures.broken ∙ c.if-is_broken.false) in
     let done = c.in-Ok-run_recorded.ensures in
     let mine : AreRecordsOf any_kind c.args.self.now.store.state (c.args.command ∷ []) (map plain c.push_reserved.new.self.items) =
-    one_record c.args.self.now.store.state c.args.command (map plain c.push_reserved.new.self.items) (subst (λ (t : Plain AnyJob). refusal any_kind t c.args.command ≡ None) at done.exact)
+    one_record c.args.self.now.store.state c.args.command (map plain c.push_reserved.new.self.items) (c.is_common.ensures.0 c.if-not-is_common.false) (subst (λ (t : Plain AnyJob). refusal any_kind t c.args.command ≡ None) at done.exact)
     (rw (c.push_reserved.ensures.items, c.in-Ok.ensures.items) (ap (λ r. r ∷ []) (done.kept_as ∙ ap (λ (t : Plain AnyJob). record_of any_kind t c.args.command) at))) in
     record {
       takes = takes_as (command_calls (frame_len c.args.self.now.state (c.args.command ∷ [])) c.args.self.now.store.file.places) (V c.args.self.now.store.file.disk) (V c.commit.new.store.file.disk) c.commit.result _ (λ is. absurd (true≢false (sym is)))
@@ -133,7 +133,7 @@ commit-requires-clause-right g c =
     let at = c.args.self.now.same (sym c.is_broken.ensures.broken ∙ c.if-is_broken.false) in
     let done = c.in-Ok-run_recorded.ensures in
     let mine : AreRecordsOf any_kind c.args.self.now.store.state (c.args.command ∷ []) (map plain c.push_reserved.new.self.items) =
-    one_record c.args.self.now.store.state c.args.command (map plain c.push_reserved.new.self.items) (subst (λ (t : Plain AnyJob). refusal any_kind t c.args.command ≡ None) at done.exact)
+    one_record c.args.self.now.store.state c.args.command (map plain c.push_reserved.new.self.items) (c.is_common.ensures.0 c.if-not-is_common.false) (subst (λ (t : Plain AnyJob). refusal any_kind t c.args.command ≡ None) at done.exact)
     (rw (c.push_reserved.ensures.items, c.in-Ok.ensures.items) (ap (λ r. r ∷ []) (done.kept_as ∙ ap (λ (t : Plain AnyJob). record_of any_kind t c.args.command) at))) in
     (c.args.command ∷ [], mine)
 
@@ -142,7 +142,7 @@ returns-in-Ok-commit-clause-done g c =
     let at = c.args.self.now.same (sym c.is_broken.ensures.broken ∙ c.if-is_broken.false) in
     let done = c.in-Ok-run_recorded.ensures in
     let mine : AreRecordsOf any_kind c.args.self.now.store.state (c.args.command ∷ []) (map plain c.push_reserved.new.self.items) =
-    one_record c.args.self.now.store.state c.args.command (map plain c.push_reserved.new.self.items) (subst (λ (t : Plain AnyJob). refusal any_kind t c.args.command ≡ None) at done.exact)
+    one_record c.args.self.now.store.state c.args.command (map plain c.push_reserved.new.self.items) (c.is_common.ensures.0 c.if-not-is_common.false) (subst (λ (t : Plain AnyJob). refusal any_kind t c.args.command ≡ None) at done.exact)
     (rw (c.push_reserved.ensures.items, c.in-Ok.ensures.items) (ap (λ r. r ∷ []) (done.kept_as ∙ ap (λ (t : Plain AnyJob). record_of any_kind t c.args.command) at))) in
     record {
       number = c.in-Ok-commit.ensures.call.mark.0 ∙ ap (λ (t : Plain AnyJob). t.number) (c.in-Ok-commit.ensures.state (c.args.command ∷ []) mine) ∙ ap (λ (t : Plain AnyJob). t.number + 1) (sym at);
@@ -151,3 +151,9 @@ returns-in-Ok-commit-clause-done g c =
       state = done.outcome c.args.self.now.state [] (sym (outcome-none any_kind c.args.self.now.state));
       whole = c.in-Ok-commit.ensures.call.works.whole refl;
     }
+
+pub returns-then-not-is_common-clause-commits : goal.returns-then-not-is_common-clause-commits
+returns-then-not-is_common-clause-commits g c = λ honest. record { keeps = λ start H h all common at. keeps_more start H (c.args.command ∷ []) (g.D.Disk.view c.args.self.now.store.file.disk); acknowledged = tt }
+
+pub returns-then-not-is_common-clause-calls : goal.returns-then-not-is_common-clause-calls
+returns-then-not-is_common-clause-calls g c = record { takes = takes_no_call (command_calls (frame_len c.args.self.now.state (c.args.command ∷ [])) c.args.self.now.store.file.places) (g.D.Disk.view c.args.self.now.store.file.disk) _; honest = (λ h. h, λ h. h) }

@@ -103,7 +103,7 @@ returns-in-Err-clause-left g c =
       answered = subst (λ (s : Plain AnyJob). AreTold s c.args.commands.items told) at c.in-Ok.ensures.told;
       state = inl same;
       keeps = keeps_some (V old.store.file.disk) (V c.commit.new.store.file.disk) old.store.file.broken old.store.state c.commit.new.store.state G (subst IsState at c.number-number.ensures.state) mine.accepted
-          (omega (arith, some, long)) c.in-Err.ensures.call.follows.goes.later c.in-Err.ensures.call.follows.honest.0 (λ honest start H h all there. c.in-Err.ensures.keeps honest start H G h all there mine);
+          (omega (arith, some, long)) c.in-Err.ensures.call.follows.goes.later c.in-Err.ensures.call.follows.honest.0 (λ honest start H h all common there. c.in-Err.ensures.keeps honest start H G h all common there mine);
     }
 
 pub invariant_of-self-then-is_empty : goal.invariant_of-self-then-is_empty

@@ -91,6 +91,6 @@ returns-in-Err-commit-clause-not_done g c =
         answered = subst (λ (s : Plain AnyJob). AreAnswered s said) at ran.answered;
         state = inl same;
         keeps = keeps_some (V old.store.file.disk) (V c.commit.new.store.file.disk) old.store.file.broken old.store.state c.commit.new.store.state G (subst IsState at c.number-number.ensures.state) mine.accepted
-            (omega (arith, some, length_slots said)) c.in-Err-commit.ensures.call.follows.goes.later c.in-Err-commit.ensures.call.follows.honest.0 (λ honest start H h all there. c.in-Err-commit.ensures.keeps honest start H G h all there mine);
+            (omega (arith, some, length_slots said)) c.in-Err-commit.ensures.call.follows.goes.later c.in-Err-commit.ensures.call.follows.honest.0 (λ honest start H h all common there. c.in-Err-commit.ensures.keeps honest start H G h all common there mine);
       }),
     )

@@ -1,5 +1,6 @@
+use Rattle.pfx_header.specs.Headers.{this_version}
 use Rattle.pfx_header.proofs.Meanings.{read_a_header}
 use Rattle.pfx_store.proofs.format.FileFormatFormat.read_head.Goals as goal
 
 pub invariant_of-result : goal.invariant_of-result
-invariant_of-result g c = read_a_header c.args.bytes.now _ c.in-Ok.ensures
+invariant_of-result g c = read_a_header this_version c.args.bytes.now _ c.in-Ok.ensures

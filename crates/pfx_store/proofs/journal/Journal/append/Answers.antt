@@ -15,7 +15,7 @@ use Rattle.pfx_store.proofs.Appends.{batch_leads}
 use Rattle.pfx_store.proofs.Counts.{takes_both, takes_frame, works_answered, works_behind}
 use Rattle.pfx_store.proofs.Standings.{keeps_appended, keeps_more, keeps_still, none_on_fault, stands_behind}
 use Rattle.std.proofs.Common.{⊎_elim, rules}
-use Rattle.pfx_checkpoint.specs.Spelling.{state_bytes}
+use Rattle.pfx_checkpoint.specs.Whole.{whole_bytes}
 use Rattle.pfx_record.specs.Numbers.{number_bytes}
 use Rattle.pfx_store_file.specs.Fitting.{HasRoom}
 use Rattle.pfx_store_file.specs.declared.faults.StoreFault.TheVariants.{Device}
@@ -88,7 +88,7 @@ returns-clause-stands g c = record {
       let n = length c.behind_gate.result.now in
       let ready : IsReady K n mid.file.places mid.state c.deref.result.now = rw (c.deref.ensures.value, (behind_len _ _ c.behind_gate.ensures), ← c.batch_len-len.ensures.value) c.in_ok-make_room.ensures.room.ready in
       subst (λ (l : List ℕ). Stands K c.append_or_turn.new.self.places c.take_over.new.state l (V c.append_or_turn.new.self.disk)) c.deref.ensures.value
-      (stands_behind K L n mid.file.places c.append_or_turn.new.self.places mid.state c.take_over.new.state c.deref.result.now (GATE_OPEN ∷ body) (V mid.file.disk) (V c.append_or_turn.new.self.disk) standing c.number.ensures.state c.take_over.ensures.set c.take_over.ensures.from c.take_over.ensures.segment ready
+      (stands_behind K L n mid.file.places c.append_or_turn.new.self.places mid.state c.take_over.new.state c.deref.result.now (GATE_OPEN ∷ body) (V mid.file.disk) (V c.append_or_turn.new.self.disk) standing c.number.ensures.state c.take_over.ensures.set c.take_over.ensures.segment ready
       ((c.in_ok-append_or_turn.ensures.commits (format K) (format_laws K L) standing.header standing.parts mid.state standing.holds standing.middle begins body c.take_over.new.state c.behind_gate.ensures.2 leads).holds));
   commits = λ stands.
       let K = g.J.Job.kind in
@@ -241,7 +241,7 @@ returns-clause-acts g c =
     let behind : bytes ≡ behind_of frame = sym (behind_same frame bytes c.behind_gate.ensures) in
     let other = c.deref.result.now in
     let e = V c.append_or_turn.new.self.disk in
-    let full : ¬ HasRoom n old.file.places → other ≡ state_bytes K s = λ none. ⊎_elim (λ room. absurd (none (c.make_room.ensures.room.full room))) (λ is. c.deref.ensures.value ∙ is.1 ∙ ap (state_bytes K) same) c.in_ok-make_room.ensures.room.ready in
+    let full : ¬ HasRoom n old.file.places → other ≡ whole_bytes K s = λ none. ⊎_elim (λ room. absurd (none (c.make_room.ensures.room.full room))) (λ is. c.deref.ensures.value ∙ is.1 ∙ ap (whole_bytes K) same) c.in_ok-make_room.ensures.room.ready in
     record {
       made = λ f has honest.
           let made = c.in_ok-make_room.ensures.acts.made f has honest in

@@ -32,7 +32,7 @@ returns-clause-stands g c =
       state = search rules;
       goes_on = λ stands.
           let same : Stands K c.args.self.now.file.places s c.deref.result.now (g.D.Disk.view c.args.self.now.file.disk) = subst (λ (l : List ℕ). Stands K c.args.self.now.file.places s l (g.D.Disk.view c.args.self.now.file.disk)) (sym c.deref.ensures.value) stands in
-          stands_settled K same.header c.end_checkpoint.new.self.places same.parts s c.deref.result.now _ _ ((c.in_ok-end_checkpoint.ensures.keeps (format K) (format_laws K g.met.J.Job.laws) same.header same.parts s same.holds same.middle).holds) same.set;
+          stands_settled K same.header c.end_checkpoint.new.self.places same.parts s c.deref.result.now _ _ ((c.in_ok-end_checkpoint.ensures.keeps (format K) (format_laws K g.met.J.Job.laws) same.header same.parts s same.holds same.middle).holds) same.of;
       keeps = λ stands start all replays.
           let same : Stands K c.args.self.now.file.places s c.deref.result.now (g.D.Disk.view c.args.self.now.file.disk) = subst (λ (l : List ℕ). Stands K c.args.self.now.file.places s l (g.D.Disk.view c.args.self.now.file.disk)) (sym c.deref.ensures.value) stands in
           (c.end_checkpoint.ensures.keeps (format K) (format_laws K g.met.J.Job.laws) same.header same.parts s same.holds same.middle).keeps start all replays;

@@ -16,7 +16,7 @@ returns-clause-stands g c =
       state = refl;
       goes_on = λ stands.
           let same : Stands K c.args.self.now.file.places s c.deref.result.now (g.D.Disk.view c.args.self.now.file.disk) = subst (λ (l : List ℕ). Stands K c.args.self.now.file.places s l (g.D.Disk.view c.args.self.now.file.disk)) (sym c.deref.ensures.value) stands in
-          on_ok_then c.tend.result (stands_tended K same.header c.tend.new.self.places same.parts s c.deref.result.now c.args.self.now.spelled.items (g.D.Disk.view c.tend.new.self.disk) c.deref.ensures.value same.set same.middle)
+          on_ok_then c.tend.result (stands_tended K same.header c.tend.new.self.places same.parts s c.deref.result.now c.args.self.now.spelled.items (g.D.Disk.view c.tend.new.self.disk) c.deref.ensures.value same.of same.middle)
           ((c.tend.ensures.keeps (format K) (format_laws K g.met.J.Job.laws) same.header same.parts s same.holds same.middle).holds);
       keeps = λ stands start all replays.
           let same : Stands K c.args.self.now.file.places s c.deref.result.now (g.D.Disk.view c.args.self.now.file.disk) = subst (λ (l : List ℕ). Stands K c.args.self.now.file.places s l (g.D.Disk.view c.args.self.now.file.disk)) (sym c.deref.ensures.value) stands in

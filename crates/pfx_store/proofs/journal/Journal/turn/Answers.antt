@@ -31,7 +31,7 @@ returns-clause-stands g c =
     let begins : IsStart (format K) (s.number + 1) c.start_behind-start.result = record { long = c.start_behind-start.ensures.long; number = c.start_behind-start.ensures.number ∙ ap (λ n. n + 1) c.number.ensures.number; closed = c.start_behind-start.ensures.closed } in
     record {
       state = search rules;
-      goes_on = λ stands. stands_turned K g.met.J.Job.laws stands.header c.turn.new.self.places stands.parts s c.encode.new.spelled.items (g.D.Disk.view c.turn.new.self.disk) c.encode.ensures.state stands.set c.encode.ensures.spelled
+      goes_on = λ stands. stands_turned K g.met.J.Job.laws stands.header c.turn.new.self.places stands.parts s c.encode.new.spelled.items (g.D.Disk.view c.turn.new.self.disk) c.encode.ensures.state stands.of c.encode.ensures.spelled
           ((c.in_ok-turn.ensures.keeps (format K) (format_laws K g.met.J.Job.laws) stands.header stands.parts s c.args.self.now.spelled.items stands.holds begins c.encode.new.spelled.items).holds);
       keeps = λ stands start all replays. (c.turn.ensures.keeps (format K) (format_laws K g.met.J.Job.laws) stands.header stands.parts s c.args.self.now.spelled.items stands.holds begins []).keeps start all replays;
     }

@@ -38,7 +38,7 @@ invariant_of-result-2 g c still honest =
           record {
             header = st.header;
             parts = st.parts;
-            set = st.set;
+            of = st.of;
             middle = st.middle;
             holds = record {
               honest = honest;

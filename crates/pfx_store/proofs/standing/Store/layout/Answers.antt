@@ -2,7 +2,7 @@ use Rattle.std.proofs.Common.{◌≡◌, length, take, sym, ◌∙◌, ap, subst
 use Rattle.std.specs.Prelude.{Err}
 use Rattle.std.specs.Vec.{vec_len}
 use Rattle.pfx_format.proofs.Keeping.{format_bounds}
-use Rattle.pfx_header.specs.Headers.{read_header}
+use Rattle.pfx_header.specs.Headers.{read_header, this_version}
 use Rattle.pfx_header.specs.declared.sizes.TheConstants.{HEADER_MOST}
 use Rattle.pfx_recover.specs.Answers.{GivesHead}
 use Rattle.pfx_recover.proofs.Looking.{looks_of, looks_then}
@@ -19,8 +19,8 @@ returns-in_err-read_head-clause-header g c = λ honest.
     let front : c.deref.result.now ≡ take HEADER_MOST bytes =
     front_read bytes c.read.new.out c.in_ok-front.front.items c.deref.result.now c.in_ok-len.len (vec_len c.in_ok-front.front) HEADER_MOST (c.in_ok-len.ensures.length honest)
     (c.in_ok-front.ensures.len ∙ c.min.ensures) out c.deref.ensures.value in
-    let there = ap read_header front ∙ (format_bounds g.J.Job.kind g.met.J.Job.laws).front bytes in
-    head_handed (read_header bytes) c.in_err-read_head.field-0.0 c.from_residual-in_err-read_head.result (subst (λ r. GivesHead r (Err c.in_err-read_head.field-0.0)) there c.in_err-read_head.ensures) c.from_residual-in_err-read_head.ensures.1)
+    let there = ap (read_header this_version) front ∙ (format_bounds g.J.Job.kind g.met.J.Job.laws).front bytes in
+    head_handed (read_header this_version bytes) c.in_err-read_head.field-0.0 c.from_residual-in_err-read_head.result (subst (λ r. GivesHead r (Err c.in_err-read_head.field-0.0)) there c.in_err-read_head.ensures) c.from_residual-in_err-read_head.ensures.1)
 
 pub returns-clause-header : goal.returns-clause-header
 returns-clause-header g c = λ honest.
@@ -32,7 +32,7 @@ returns-clause-header g c = λ honest.
     let front : c.deref.result.now ≡ take HEADER_MOST bytes =
     front_read bytes c.read.new.out c.in_ok-front.front.items c.deref.result.now c.in_ok-len.len (vec_len c.in_ok-front.front) HEADER_MOST (c.in_ok-len.ensures.length honest)
     (c.in_ok-front.ensures.len ∙ c.min.ensures) out c.deref.ensures.value in
-    let there = ap read_header front ∙ (format_bounds g.J.Job.kind g.met.J.Job.laws).front bytes in
+    let there = ap (read_header this_version) front ∙ (format_bounds g.J.Job.kind g.met.J.Job.laws).front bytes in
     sym there ∙ c.in_ok-read_head.ensures)
 
 pub returns-clause-reads : goal.returns-clause-reads
