@@ -7,7 +7,7 @@ use pfx_jobs::job::Job;
 use pfx_kinds::any::AnyJob;
 use pfx_machine::State;
 use pfx_record::{Batch, Place, Record, fits};
-use pfx_redo::apply_record;
+use pfx_redo::{apply_record, is_common};
 use pfx_weights::TaskSet;
 use std::alloc::Global;
 use std::marker::Model;
@@ -43,7 +43,7 @@ impl<J: Job, B: Begun<J>, R: Wait + Drop> Line<J, B, R> {
         Line { publisher, state }
     }
 
-    /// Takes a record over and publishes it as a batch of one. Whether it was right there, and memory was enough.
+    /// Takes a record over, but one of new weights, and publishes it as a batch of one. Whether it was right there, and memory was enough.
     pub fn keep<W: Wait>(&mut self, rt: &W, alloc: Global, entry: Record<J>) -> bool {
         let Line { publisher, state } = self;
         let workers = state.columns().workers();
@@ -56,6 +56,9 @@ impl<J: Job, B: Begun<J>, R: Wait + Drop> Line<J, B, R> {
             return false;
         }
         let batch = Batch::new(workers, 0, first, records);
+        if !is_common(&batch.records[0]) {
+            return false;
+        }
         if !apply_record(state, &batch.records[0]) {
             return false;
         }

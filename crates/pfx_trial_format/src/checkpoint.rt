@@ -10,7 +10,7 @@ use pfx_weights::TaskSet;
 use std::alloc::Global;
 
 /// Their state after a job of rule 110 for task 0 and three slots.
-fn worked(alloc: Global) -> Option<State<AnyJob>> {
+pub fn worked(alloc: Global) -> Option<State<AnyJob>> {
     let mut state = new_state(alloc)?;
     let job = AnyJob::start("rule", 3, b"110:00000001").ok()?;
     state.apply(Command::Submit { task: 0, job }).ok()?;
@@ -31,7 +31,7 @@ fn frozen(alloc: Global, state: &State<AnyJob>) -> Option<Vec<u8>> {
 }
 
 /// The worked bytes, or none if memory lacks.
-fn worked_bytes(alloc: Global) -> Vec<u8> {
+pub fn worked_bytes(alloc: Global) -> Vec<u8> {
     match worked(alloc) {
         Some(state) => frozen(alloc, &state).unwrap_or(Vec::new(alloc)),
         None => Vec::new(alloc),
@@ -50,7 +50,7 @@ fn is_thawed(alloc: Global, set: &TaskSet, bytes: &[u8], number: u64, slot: u64)
 }
 
 /// Whether the bytes from a place on begin so.
-fn has(bytes: &[u8], at: usize, wanted: &[u8]) -> bool {
+pub fn has(bytes: &[u8], at: usize, wanted: &[u8]) -> bool {
     match bytes.get(at..) {
         Some(rest) => rest.starts_with(wanted),
         None => false,
@@ -58,7 +58,7 @@ fn has(bytes: &[u8], at: usize, wanted: &[u8]) -> bool {
 }
 
 /// Whether so many bytes from a place on are zeros.
-fn has_zeros(bytes: &[u8], at: usize, number: usize) -> bool {
+pub fn has_zeros(bytes: &[u8], at: usize, number: usize) -> bool {
     bytes.iter().skip(at).take(number).all(|byte| *byte == 0)
 }
 

@@ -6,7 +6,7 @@ use pfx_jobs::job::Job;
 use pfx_kinds::any::AnyJob;
 use pfx_machine::{Command, MachineFault, Reply, State};
 use pfx_record::{Place, Record};
-use pfx_redo::{apply_all, apply_record, laws, run_recorded};
+use pfx_redo::{apply_all, apply_record, apply_reweigh, is_common, laws, run_recorded};
 use pfx_weights::Weights;
 use std::alloc::Global;
 
@@ -61,7 +61,9 @@ fn run_both(
     command: Command<AnyJob>,
 ) -> bool {
     match run_recorded(alloc, one, command) {
-        Ok(done) => apply_record(other, &done.entry) && are_alike(one, other),
+        Ok(done) => {
+            is_common(&done.entry) && apply_record(other, &done.entry) && are_alike(one, other)
+        }
         Err(_) => false,
     }
 }
@@ -191,10 +193,15 @@ fn is_unchanged(alloc: Global, state: &State<AnyJob>) -> bool {
     }
 }
 
-/// Whether the record is refused at `state`, and nothing changes.
+/// Whether the record, which isn't of new weights, is refused at `state` in either way, and nothing changes.
 fn is_wrong(alloc: Global, state: &mut State<AnyJob>, record: Option<Record<AnyJob>>) -> bool {
     match record {
-        Some(record) => !apply_record(state, &record) && is_unchanged(alloc, state),
+        Some(record) => {
+            is_common(&record)
+                && !apply_record(state, &record)
+                && apply_reweigh(alloc, state, &record) == Ok(false)
+                && is_unchanged(alloc, state)
+        }
         None => false,
     }
 }
@@ -205,24 +212,88 @@ fn submit(task: u16) -> Option<Record<AnyJob>> {
     Some(Record::Submit { task, job })
 }
 
-/// New weights for three tasks.
-fn new_weights(alloc: Global) -> Option<Record<AnyJob>> {
-    let weights = Vec::from_array(alloc, [(1, 3), (1, 3), (1, 3)]).ok()?;
+/// New weights.
+fn new_weights(alloc: Global, workers: u8, weights: &[(u32, u32)]) -> Option<Record<AnyJob>> {
+    let weights = Vec::from_slice(alloc, weights).ok()?;
     Some(Record::Reweigh {
-        workers: 1,
+        workers,
         weights: Weights::new(weights),
     })
 }
 
-// No task is said to be real.
+/// A third of the slots for each of three tasks, which one worker has.
+const THIRDS: [(u32, u32); 3] = [(1, 3), (1, 3), (1, 3)];
+
+/// Whether new weights are refused where they could come into force, and nothing changes.
+fn are_wrong(alloc: Global, workers: u8, weights: &[(u32, u32)]) -> Option<bool> {
+    let mut state = busy_thirds(alloc)?;
+    let record = new_weights(alloc, workers, weights)?;
+    let right = apply_reweigh(alloc, &mut state, &record).ok()?;
+    Some(!right && is_unchanged(alloc, &state))
+}
+
+// Too few and too many weights; no worker, 65, and 4, whose longest batch has no room in a segment; a weight that is none, and too much
+// for one worker.
 #[test]
-fn new_weights_change_nothing(rt: HostRuntime) {
+fn wrong_new_weights_change_nothing(rt: HostRuntime) {
     let alloc = rt.alloc();
-    let Some(mut state) = busy_thirds(alloc) else {
-        return check(&rt, false, "a job given");
-    };
-    let record = new_weights(alloc);
-    check(&rt, is_wrong(alloc, &mut state, record), "new weights");
+    let rows: [(u8, &[(u32, u32)]); 7] = [
+        (1, &[(1, 3), (1, 3)]),
+        (1, &[(1, 4), (1, 4), (1, 4), (1, 4)]),
+        (0, &THIRDS),
+        (65, &THIRDS),
+        (4, &THIRDS),
+        (1, &[(1, 3), (3, 3), (1, 3)]),
+        (1, &[(2, 3), (1, 3), (1, 3)]),
+    ];
+    for (number, (workers, weights)) in rows.iter().enumerate() {
+        let holds = are_wrong(alloc, *workers, weights) == Some(true);
+        check_at(&rt, holds, "row", number);
+    }
+}
+
+/// Whether new weights are refused where two tasks are ahead and one is behind, and nothing changes.
+fn are_too_early(alloc: Global) -> Option<bool> {
+    let mut state = busy_thirds(alloc)?;
+    let row = row_of(alloc, &[1, 2], None);
+    if !is_right(&mut state, row) {
+        return None;
+    }
+    let record = new_weights(alloc, 1, &THIRDS)?;
+    let right = apply_reweigh(alloc, &mut state, &record).ok()?;
+    let same = state.number() == 2 && state.from() == 0 && state.columns().workers() == 2;
+    Some(!right && same && state.columns().slot() == 1)
+}
+
+#[test]
+fn new_weights_at_another_lag_change_nothing(rt: HostRuntime) {
+    let holds = are_too_early(rt.alloc()) == Some(true);
+    check(&rt, holds, "behind one slot");
+}
+
+/// The state with a job in which new weights have come into force.
+fn renewed(alloc: Global) -> Option<State<AnyJob>> {
+    let mut state = busy_thirds(alloc)?;
+    let record = new_weights(alloc, 1, &THIRDS)?;
+    let right = apply_reweigh(alloc, &mut state, &record).ok()?;
+    if right { Some(state) } else { None }
+}
+
+/// Whether a row of two tasks is refused behind new weights for one worker, and one of the task with the job is taken over.
+fn are_rows_of_one(alloc: Global) -> Option<bool> {
+    let mut state = renewed(alloc)?;
+    let renewed = state.number() == 2 && state.columns().workers() == 1;
+    let stays = have_same_first_job(&state, &busy_thirds(alloc)?);
+    let two = row_of(alloc, &[0, 1], stepped());
+    let refused = is_refused(&mut state, two);
+    let one = row_of(alloc, &[0], stepped());
+    Some(renewed && stays && refused && is_right(&mut state, one) && state.slot() == 1)
+}
+
+#[test]
+fn new_weights_come_into_force(rt: HostRuntime) {
+    let holds = are_rows_of_one(rt.alloc()) == Some(true);
+    check(&rt, holds, "one worker, and the job stays");
 }
 
 // An unfinished job gets none over it; idle and missing tasks get none; nothing is taken if nothing is.
@@ -262,7 +333,7 @@ fn wrong_rows_change_nothing(rt: HostRuntime) {
 /// Whether the record is taken over by the state.
 fn is_right(state: &mut State<AnyJob>, record: Option<Record<AnyJob>>) -> bool {
     match record {
-        Some(record) => apply_record(state, &record),
+        Some(record) => is_common(&record) && apply_record(state, &record),
         None => false,
     }
 }
@@ -270,7 +341,7 @@ fn is_right(state: &mut State<AnyJob>, record: Option<Record<AnyJob>>) -> bool {
 /// Whether there is such a record, and the state refuses it.
 fn is_refused(state: &mut State<AnyJob>, record: Option<Record<AnyJob>>) -> bool {
     match record {
-        Some(record) => !apply_record(state, &record),
+        Some(record) => is_common(&record) && !apply_record(state, &record),
         None => false,
     }
 }
@@ -305,6 +376,9 @@ fn rows_and_a_withdraw(alloc: Global) -> Option<Vec<Record<AnyJob>>> {
 fn are_applied(alloc: Global, records: &[Record<AnyJob>], number: usize, wanted: bool) -> bool {
     match (new_state(alloc), records.get(..number)) {
         (Some(mut state), Some(front)) => {
+            if !front.iter().all(|entry| is_common(entry)) {
+                return false;
+            }
             let applied = apply_all(&mut state, front);
             applied == wanted && (!wanted || state.number() == number as u64)
         }

@@ -109,3 +109,93 @@ fn wrong_frames_lead_nowhere(rt: HostRuntime) {
     laws::batches_are_read_as_they_are_written::<AnyJob>();
     laws::format_keeps_the_laws::<AnyJob>();
 }
+
+/// The frame of one slot of one worker, of this number and this task.
+fn row_of_one(number: u8, task: u8) -> [u8; 19] {
+    [
+        0xc3, 4, 0, 0, 0, number, 0, 0, 0, 0, 0, 0, 0, 1, 0, 2, task, 0, 0,
+    ]
+}
+
+/// The frame of new weights, of this number: so many workers, and so many thirds of the slots for each of three tasks.
+fn new_weights(number: u8, workers: u8, e: u8) -> [u8; 41] {
+    [
+        0xc3, 26, 0, 0, 0, number, 0, 0, 0, 0, 0, 0, 0, 1, 0, 4, workers, e, 0, 0, 0, 3, 0, 0, 0,
+        e, 0, 0, 0, 3, 0, 0, 0, e, 0, 0, 0, 3, 0, 0, 0,
+    ]
+}
+
+/// The frame of new weights whose head says that there are so many commands.
+fn weights_among(number: u8, count: u8) -> [u8; 41] {
+    let mut frame = new_weights(number, 1, 1);
+    frame[13] = count;
+    frame
+}
+
+/// The state after frames of two workers, of one, and of two again: after so many of them, at most nine.
+fn behind_epochs(alloc: Global, many: usize) -> Option<State<AnyJob>> {
+    let one = new_weights(4, 1, 1);
+    let two = new_weights(8, 2, 2);
+    let frames: [&[u8]; 9] = [
+        &slot_frame(1, 0, 1),
+        &slot_frame(2, 0, 2),
+        &slot_frame(3, 1, 2),
+        &one,
+        &row_of_one(5, 0),
+        &row_of_one(6, 1),
+        &row_of_one(7, 2),
+        &two,
+        &slot_frame(9, 0, 1),
+    ];
+    let mut state = new_state(alloc)?;
+    for frame in frames.iter().take(many) {
+        if !apply_frame(alloc, &mut state, frame).ok()? {
+            return None;
+        }
+    }
+    Some(state)
+}
+
+/// The number, the slot, where the set came into force, and the workers after so many of those frames.
+fn told(alloc: Global, many: usize) -> Option<(u64, u64, u64, u32)> {
+    let state = behind_epochs(alloc, many)?;
+    let workers = state.columns().workers();
+    Some((state.number(), state.slot(), state.from(), workers))
+}
+
+#[test]
+fn rows_are_of_the_workers_in_force(rt: HostRuntime) {
+    let alloc = rt.alloc();
+    let rows = [
+        (0, (0, 0, 0, 2)),
+        (3, (3, 3, 0, 2)),
+        (4, (4, 3, 3, 1)),
+        (5, (5, 4, 3, 1)),
+        (7, (7, 6, 3, 1)),
+        (8, (8, 6, 6, 2)),
+        (9, (9, 7, 6, 2)),
+    ];
+    for (many, wanted) in rows {
+        check_at(&rt, told(alloc, many) == Some(wanted), "frames", many);
+    }
+}
+
+#[test]
+fn wrong_frames_of_new_weights_lead_nowhere(rt: HostRuntime) {
+    let alloc = rt.alloc();
+    // Behind so many frames: too early, new weights for no worker, an overload, among others, rows of too many and of too few workers.
+    let rows: [(usize, &[u8]); 8] = [
+        (2, &new_weights(3, 1, 1)),
+        (3, &new_weights(4, 0, 1)),
+        (3, &new_weights(4, 1, 2)),
+        (3, &weights_among(4, 2)),
+        (3, &weights_among(4, 0)),
+        (3, &row_of_one(4, 0)),
+        (4, &slot_frame(5, 0, 1)),
+        (8, &row_of_one(9, 0)),
+    ];
+    for (row, (many, frame)) in rows.iter().enumerate() {
+        let state = behind_epochs(alloc, *many);
+        check_at(&rt, leads_nowhere(alloc, state, frame), "row", row);
+    }
+}

@@ -11,7 +11,7 @@ use std::alloc::Global;
 
 /// The header of two workers, three tasks of 2/3 and segments of 8,192 bytes.
 const WORKED: [u8; 41] = [
-    0xC3, 0x50, 0x46, 0x58, 0x53, 0x54, 0x4F, 0x52, 0x45, 1, 2, 3, 0, 0, 0x20, 0, 0, 2, 0, 0, 0, 3,
+    0xC3, 0x50, 0x46, 0x58, 0x53, 0x54, 0x4F, 0x52, 0x45, 2, 2, 3, 0, 0, 0x20, 0, 0, 2, 0, 0, 0, 3,
     0, 0, 0, 2, 0, 0, 0, 3, 0, 0, 0, 2, 0, 0, 0, 3, 0, 0, 0,
 ];
 
@@ -103,8 +103,8 @@ fn refuses_what_is_no_store(rt: HostRuntime) {
     let rows: [&[(usize, u8)]; 5] = [
         &[(0, 0)],
         &[(8, 0x65)],
-        &[(0, 0), (9, 2)],
-        &[(1, 0), (9, 2)],
+        &[(0, 0), (9, 1)],
+        &[(1, 0), (9, 1)],
         &[(11, 4)],
     ];
     for (number, row) in rows.iter().enumerate() {
@@ -117,7 +117,7 @@ fn refuses_what_is_no_store(rt: HostRuntime) {
 fn refuses_other_versions(rt: HostRuntime) {
     let alloc = rt.alloc();
     // The workers don't matter.
-    for (version, workers) in [(0u8, 2u8), (0, 0), (2, 2), (2, 0), (255, 2), (255, 0)] {
+    for (version, workers) in [(0u8, 2u8), (0, 0), (1, 2), (1, 0), (255, 2), (255, 0)] {
         let bytes = changed(&[(9, version), (10, workers)]);
         let holds = is_refused(alloc, &bytes, HeaderFault::WrongVersion { version });
         check_at(&rt, holds, "version", usize::from(version));
@@ -219,9 +219,9 @@ fn reads_the_longest_header(rt: HostRuntime) {
 }
 
 fn version_is_named(alloc: Global) -> Option<bool> {
-    let fault = HeaderFault::WrongVersion { version: 2 };
+    let fault = HeaderFault::WrongVersion { version: 1 };
     let words = format!(in alloc; "{}", fault).ok()?;
-    Some(words.as_str() == "the store has version 2")
+    Some(words.as_str() == "the store has version 1")
 }
 
 fn least_is_named(alloc: Global) -> Option<bool> {

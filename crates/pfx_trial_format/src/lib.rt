@@ -4,6 +4,7 @@
 //! |---|---|
 //! | `record` | `pfx_record`: batches as bytes, and bytes that are none |
 //! | `checkpoint` | `pfx_checkpoint`: states as bytes |
+//! | `whole` | `pfx_checkpoint`: states with their sets as bytes |
 //! | `header` | `pfx_header`: headers as bytes |
 //! | `effect` | `pfx_redo`: records taken over by states |
 //! | `format` | `pfx_format`: frames that lead from state to state |
@@ -25,3 +26,5 @@ mod header;
 mod record;
 #[cfg(test)]
 mod thirds;
+#[cfg(test)]
+mod whole;

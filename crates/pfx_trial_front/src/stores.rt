@@ -37,7 +37,7 @@ pub fn desk(alloc: Global) -> Option<JobDesk> {
 
 /// An empty disk with room for the file of three tasks.
 pub fn memory(alloc: Global) -> Option<MemoryDisk> {
-    MemoryDisk::new(alloc, &[], 17_281, 20_000, 4_000_000).ok()
+    MemoryDisk::new(alloc, &[], 19_395, 20_000, 4_000_000).ok()
 }
 
 /// A new store on a disk, with segments of this length in bytes.

@@ -4,6 +4,7 @@
 //! - `kinds`: worked jobs of the three kinds, their encodings, and the quanta of `pfx_jobs`.
 //! - `walk`: a job kind of one's own.
 //! - `machine`: worked commands, slots in parts, and boards.
+//! - `reweighing`: worked sets with new weights.
 //! - `plain`: the machine beside the plain programs, on many lists.
 //! - `endless`: whole hyperperiods of sets.
 #![tactic(auto)]
@@ -16,5 +17,7 @@ mod kinds;
 mod machine;
 #[cfg(test)]
 mod plain;
+#[cfg(test)]
+mod reweighing;
 #[cfg(test)]
 mod walk;

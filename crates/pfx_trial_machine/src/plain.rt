@@ -103,6 +103,7 @@ fn given_by(
             let row = plain_row(alloc, set, happened, slot)?;
             Some(Happening::Ran { slot, row })
         }
+        Command::Reweigh { .. } => None,
     }
 }
 

@@ -4,7 +4,7 @@ use pfx_fault::{Cause, Fault, Part, Refused, put_fault};
 use std::alloc::Global;
 
 /// A refusal, the exit status and the text, as the table of refusals has them.
-const ROWS: [(Fault, u8, &str); 35] = [
+const ROWS: [(Fault, u8, &str); 37] = [
     (Fault::BadSet, 3, "10 BadSet"),
     (Fault::NoTasks, 3, "11 NoTasks"),
     (Fault::TooManyTasks, 3, "12 TooManyTasks"),
@@ -47,6 +47,8 @@ const ROWS: [(Fault, u8, &str); 35] = [
     (Fault::TaskBusy { task: 0 }, 4, "32 TaskBusy task=0"),
     (Fault::NoJob { task: 1 }, 4, "33 NoJob task=1"),
     (Fault::NumberLimit, 4, "34 NumberLimit"),
+    (Fault::NotLevel { task: 2 }, 4, "35 NotLevel task=2"),
+    (Fault::WrongCount, 4, "36 WrongCount"),
     (Fault::BadKind, 4, "41 BadKind"),
     (Fault::BadGoal, 4, "42 BadGoal"),
     (Fault::BadData, 4, "43 BadData"),
@@ -77,9 +79,9 @@ const ROWS: [(Fault, u8, &str); 35] = [
 
 /// Where a store is damaged, in which part, and the text. The status is 4.
 const DAMAGES: [(u64, Part, &str); 3] = [
-    (906, Part::Frame, "52 Damaged at=906 what=Frame"),
+    (3020, Part::Frame, "52 Damaged at=3020 what=Frame"),
     (0, Part::Header, "52 Damaged at=0 what=Header"),
-    (17280, Part::Length, "52 Damaged at=17280 what=Length"),
+    (19394, Part::Length, "52 Damaged at=19394 what=Length"),
 ];
 
 /// What a store that fails has marked, why it fails, and the text. The status is 4.

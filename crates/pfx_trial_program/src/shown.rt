@@ -30,14 +30,14 @@ fn has_line(
 #[test]
 fn tells_what_was_created(rt: HostRuntime) {
     let thirds = [(2, 3), (2, 3), (2, 3)];
-    let line = "created m=2 real=3 idle=0 hyper=3 size=17281\n";
+    let line = "created m=2 real=3 idle=0 hyper=3 size=19395\n";
     assert!(rt;
-        has_line(rt.alloc(), Form::Text, 2, &thirds, 17_281, line),
+        has_line(rt.alloc(), Form::Text, 2, &thirds, 19_395, line),
         "thirds"
     );
-    let line = "{\"created\":{\"hyper\":3,\"idle\":0,\"m\":2,\"real\":3,\"size\":17281}}\n";
+    let line = "{\"created\":{\"hyper\":3,\"idle\":0,\"m\":2,\"real\":3,\"size\":19395}}\n";
     assert!(rt;
-        has_line(rt.alloc(), Form::Json, 2, &thirds, 17_281, line),
+        has_line(rt.alloc(), Form::Json, 2, &thirds, 19_395, line),
         "an object"
     );
     // One idle task of 1/6 fills the worker.

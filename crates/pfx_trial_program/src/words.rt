@@ -258,7 +258,7 @@ fn answers_with_help_and_version(rt: HostRuntime) {
 }
 
 const PAGES: &str = r#"pfx|init|--help => Usage: pfx init [OPTIONS] <SET> <FILE>~
-pfx|init|--help =>   created m=2 real=3 idle=0 hyper=3 size=2098049~
+pfx|init|--help =>   created m=2 real=3 idle=0 hyper=3 size=2100163~
 pfx|init|--help =>   pfx init examples/thirds.toml thirds.pfx 
 pfx|run|--help => Usage: pfx run [OPTIONS] <FILE> <SCRIPT>~
 pfx|run|--help => 0 to 64; as many as the set has if it isn't given~

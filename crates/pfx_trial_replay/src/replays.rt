@@ -5,7 +5,8 @@ use pfx_disk::{Disk, MemoryDisk};
 use pfx_engine::DurableEngine;
 use pfx_fault::Part;
 use pfx_kinds::any::AnyJob;
-use pfx_kit::places::{END, FIRST_FRAME, HEADER, SECOND_AREA, TASK, TASKS};
+use pfx_kit::frames::{LEVEL, new_weights, put_all, row_of_one};
+use pfx_kit::places::{END, FIRST_FRAME, HEADER, SECOND_AREA, SET, TASK, TASKS};
 use pfx_machine::Command;
 use pfx_recover::{OpenFault, Refusal};
 use pfx_replay::{Difference, Verdict, replay};
@@ -211,6 +212,114 @@ fn a_changed_checkpoint_differs(rt: HostRuntime) {
         verdict_of(alloc, changed) == differs(10, Difference::Checkpoint),
         "checkpoint",
     );
+}
+
+/// The bytes of a new store's file with the frames of three slots on two workers, of new weights for one, and of a slot of this task.
+fn renewed(alloc: Global, task: u8) -> Option<Vec<u8>> {
+    let mut bytes = slots(alloc, 0)?;
+    let weights = new_weights(4, 1, 1);
+    let row = row_of_one(5, task);
+    let frames: [&[u8]; 3] = [&LEVEL, &weights, &row];
+    if put_all(&mut bytes, FIRST_FRAME, &frames) {
+        Some(bytes)
+    } else {
+        None
+    }
+}
+
+/// Turns the store and takes the steps of its checkpoint.
+fn checkpoint(store: &mut Store<MemoryDisk, AnyJob>) -> bool {
+    store.turn() == Ok(true)
+        && store.tend() == Ok(Tended::Closed)
+        && store.tend() == Ok(Tended::Piece)
+        && store.tend() == Ok(Tended::Finished)
+}
+
+/// The store of that file after a checkpoint, in which the other area holds the set before.
+fn checkpointed_anew(alloc: Global) -> Option<Store<MemoryDisk, AnyJob>> {
+    let disk = disk_of(alloc, &renewed(alloc, 0)?)?;
+    let mut store = Store::open(alloc, disk).ok()?;
+    if checkpoint(&mut store) {
+        Some(store)
+    } else {
+        None
+    }
+}
+
+/// The bytes of its file.
+fn file_checkpointed_anew(alloc: Global) -> Option<Vec<u8>> {
+    file_of(alloc, checkpointed_anew(alloc)?)
+}
+
+/// The store with so many slots more.
+fn with_slots(
+    alloc: Global,
+    store: Store<MemoryDisk, AnyJob>,
+    count: u32,
+) -> Option<Store<MemoryDisk, AnyJob>> {
+    let mut engine = DurableEngine::new(alloc, store).ok()?;
+    for _ in 0..count {
+        engine.execute(alloc, Command::Slot).ok()?;
+    }
+    Some(engine.into_store())
+}
+
+/// The file after two slots more, a second checkpoint and a slot: both areas hold another set than the header.
+fn file_checkpointed_twice(alloc: Global) -> Option<Vec<u8>> {
+    let mut store = with_slots(alloc, checkpointed_anew(alloc)?, 2)?;
+    if checkpoint(&mut store) {
+        file_of(alloc, with_slots(alloc, store, 1)?)
+    } else {
+        None
+    }
+}
+
+#[test]
+fn files_with_new_weights_agree(rt: HostRuntime) {
+    let alloc = rt.alloc();
+    let frames = verdict_of(alloc, renewed(alloc, 0));
+    check(&rt, frames == agrees(5), "frames alone");
+    let lesser = verdict_of(alloc, file_checkpointed_anew(alloc));
+    check(
+        &rt,
+        lesser == agrees(5),
+        "the lesser checkpoint is of the set before",
+    );
+    let both = verdict_of(alloc, file_checkpointed_twice(alloc));
+    check(&rt, both == agrees(8), "both are of the new set");
+}
+
+#[test]
+fn another_row_behind_new_weights_differs(rt: HostRuntime) {
+    let alloc = rt.alloc();
+    let found = verdict_of(alloc, renewed(alloc, 1));
+    check(&rt, found == differs(5, Difference::Row), "row");
+}
+
+// Another task than the first one has got the slot; the set came into force three slots later; other weights, of the same sum.
+#[test]
+fn a_changed_checkpoint_of_new_weights_differs(rt: HostRuntime) {
+    let alloc = rt.alloc();
+    let tasks = SECOND_AREA + TASKS;
+    let set = SECOND_AREA + SET;
+    let rows = [
+        [(tasks, 1, 0), (tasks + TASK, 0, 1), (tasks, 0, 0)],
+        [
+            (SECOND_AREA + 9, 4, 7),
+            (SECOND_AREA + 17, 3, 6),
+            (tasks, 1, 1),
+        ],
+        [(set + 5, 3, 2), (set + 13, 3, 4), (set + 21, 3, 4)],
+    ];
+    for (number, row) in rows.iter().enumerate() {
+        let mut bytes = file_checkpointed_anew(alloc);
+        for (at, from, to) in row {
+            bytes = with_byte(bytes, *at, *from, *to);
+        }
+        let found = verdict_of(alloc, bytes);
+        let holds = found == differs(5, Difference::Checkpoint);
+        check_at(&rt, holds, "row", number);
+    }
 }
 
 #[test]

@@ -6,7 +6,9 @@ use crate::turns::append_slot;
 use pfx_disk::{Disk, Fate, FaultDisk, MemoryDisk};
 use pfx_fault::Part;
 use pfx_kinds::any::AnyJob;
-use pfx_kit::places::{AREA, END, FIRST_FRAME, FIRST_SEGMENT, HEADER, SECOND_AREA, TASK, TASKS};
+use pfx_kit::places::{
+    AREA, END, FIRST_FRAME, FIRST_SEGMENT, HEADER, SECOND_AREA, SET, TASK, TASKS,
+};
 use pfx_recover::{OpenFault, Refusal};
 use pfx_store::{InitFault, Store};
 use pfx_store_file::Tended;
@@ -15,8 +17,13 @@ use std::alloc::Global;
 
 /// The header, and where it ends the first checkpoint area's gate.
 const HEAD: [u8; 42] = [
-    0xc3, 0x50, 0x46, 0x58, 0x53, 0x54, 0x4f, 0x52, 0x45, 1, 2, 3, 0, 0, 0x20, 0, 0, 2, 0, 0, 0, 3,
+    0xc3, 0x50, 0x46, 0x58, 0x53, 0x54, 0x4f, 0x52, 0x45, 2, 2, 3, 0, 0, 0x20, 0, 0, 2, 0, 0, 0, 3,
     0, 0, 0, 2, 0, 0, 0, 3, 0, 0, 0, 2, 0, 0, 0, 3, 0, 0, 0, 0xc3,
+];
+
+/// The set as it stands in a checkpoint area: two workers, and three weights 2/3.
+const THIRDS: [u8; 25] = [
+    2, 2, 0, 0, 0, 3, 0, 0, 0, 2, 0, 0, 0, 3, 0, 0, 0, 2, 0, 0, 0, 3, 0, 0, 0,
 ];
 
 /// The frame of one slot without jobs.
@@ -47,7 +54,7 @@ pub fn new_file(alloc: Global) -> Option<Vec<u8>> {
 }
 
 /// The bytes of a new store's file, with its first frame.
-fn file_of_one_slot(alloc: Global) -> Option<Vec<u8>> {
+pub fn file_of_one_slot(alloc: Global) -> Option<Vec<u8>> {
     let mut bytes = new_file(alloc)?;
     if bytes.len() != END {
         return None;
@@ -56,7 +63,7 @@ fn file_of_one_slot(alloc: Global) -> Option<Vec<u8>> {
     Some(bytes)
 }
 
-fn opened(alloc: Global, bytes: &[u8]) -> Option<Store<MemoryDisk, AnyJob>> {
+pub fn opened(alloc: Global, bytes: &[u8]) -> Option<Store<MemoryDisk, AnyJob>> {
     let disk = MemoryDisk::new(alloc, bytes, bytes.len(), 200, 1000).ok()?;
     Store::open(alloc, disk).ok()
 }
@@ -64,10 +71,14 @@ fn opened(alloc: Global, bytes: &[u8]) -> Option<Store<MemoryDisk, AnyJob>> {
 /// Where the first segment's number stands.
 const FIRST_NUMBER: usize = FIRST_SEGMENT + 1;
 
+/// Where the first checkpoint area's set stands.
+const FIRST_SET: usize = HEADER + SET;
+
 /// The byte of the new file at a place.
 fn byte_of_new_file(i: usize) -> u8 {
     match i {
         0..42 => HEAD[i],
+        FIRST_SET..91 => THIRDS[i - FIRST_SET],
         FIRST_SEGMENT => 0xc3,
         FIRST_NUMBER => 1,
         _ => 0,
@@ -121,7 +132,7 @@ fn a_frame_is_taken_over(rt: HostRuntime) {
 }
 
 /// Whether the file is refused so.
-fn is_refused(alloc: Global, bytes: &[u8], wanted: Refusal) -> bool {
+pub fn is_refused(alloc: Global, bytes: &[u8], wanted: Refusal) -> bool {
     let Ok(disk) = MemoryDisk::new(alloc, bytes, bytes.len(), 200, 1000) else {
         return false;
     };
@@ -132,7 +143,7 @@ fn is_refused(alloc: Global, bytes: &[u8], wanted: Refusal) -> bool {
 }
 
 /// Whether the file, with these bytes at these places, is refused so.
-fn is_refused_with(
+pub fn is_refused_with(
     alloc: Global,
     bytes: &[u8],
     changes: &[(usize, u8)],
@@ -145,7 +156,7 @@ fn is_refused_with(
     Some(is_refused(alloc, &other, wanted))
 }
 
-fn damaged(at: usize, what: Part) -> Refusal {
+pub fn damaged(at: usize, what: Part) -> Refusal {
     Refusal::Damaged { at, what }
 }
 
@@ -189,6 +200,8 @@ fn a_byte_too_few_is_a_damaged_length(rt: HostRuntime) {
 fn another_version_is_a_wrong_version(rt: HostRuntime) {
     let other = Refusal::WrongVersion { version: 9 };
     check(&rt, is_new_refused(rt.alloc(), 9, 9, other), "version 9");
+    let old = Refusal::WrongVersion { version: 1 };
+    check(&rt, is_new_refused(rt.alloc(), 9, 1, old), "version 1");
 }
 
 #[test]
@@ -201,6 +214,27 @@ fn no_workers_are_a_damaged_header(rt: HostRuntime) {
 fn a_closed_area_alone_is_a_damaged_checkpoint(rt: HostRuntime) {
     let area = damaged(HEADER, Part::Checkpoint);
     check(&rt, is_new_refused(rt.alloc(), HEADER, 0, area), "its gate");
+}
+
+#[test]
+fn a_set_that_is_none_is_a_damaged_checkpoint(rt: HostRuntime) {
+    let alloc = rt.alloc();
+    let area = damaged(HEADER, Part::Checkpoint);
+    // No workers, 65 of them, and 4, whose longest batch has no room in a segment; weights 0/3 and 3/3; a slot before the one at which the
+    // set came into force; and the first and the last of the zeros for idle tasks.
+    let rows = [
+        (FIRST_SET, 0),
+        (FIRST_SET, 65),
+        (FIRST_SET, 4),
+        (FIRST_SET + 1, 0),
+        (FIRST_SET + 1, 3),
+        (FIRST_SET - 8, 1),
+        (HEADER + TASKS + 3 * TASK, 1),
+        (SECOND_AREA - 1, 1),
+    ];
+    for (at, byte) in rows {
+        check_at(&rt, is_new_refused(alloc, at, byte, area), "byte", at);
+    }
 }
 
 #[test]
@@ -346,11 +380,12 @@ fn an_appended_frame_is_its_bytes(rt: HostRuntime) {
 /// Where the second task stands in a checkpoint's area.
 const SECOND_TASK: usize = TASKS + TASK;
 
-/// The byte of the checkpoint area with the state after one slot of tasks 0 and 1: its gate, the number, the slot, and a row of 137
-/// bytes for each task, which begins with what the task got.
+/// The byte of the checkpoint area with the state after one slot of tasks 0 and 1: its gate, the number, the slot, where the set came into
+/// force, the set, and a row of 137 bytes for each task, which begins with what the task got.
 fn byte_of_checkpoint(i: usize) -> u8 {
     match i {
         0 => 0xc3,
+        SET..50 => THIRDS[i - SET],
         1 | 9 | TASKS | SECOND_TASK => 1,
         _ => 0,
     }

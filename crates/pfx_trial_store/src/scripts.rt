@@ -219,7 +219,7 @@ const KEPT: [&str; 4] = [
     "1 submitted 0\n2 ran 0: 0 1\n3 ran 1: 0 2\n",
 ];
 
-/// How many calls it takes to make a store's file of 17,281 bytes, and to append a batch if there is room.
+/// How many calls it takes to make a store's file of 19,395 bytes, and to append a batch if there is room.
 const MADE: u64 = 11;
 
 const APPENDED: u64 = 4;

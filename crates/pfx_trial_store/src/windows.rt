@@ -142,7 +142,7 @@ fn lines(alloc: Global, slots: u64) -> Option<Vec<u8>> {
     Some(text)
 }
 
-/// How many calls it takes to make a store's file of 17,281 bytes, and to append a batch if there is room.
+/// How many calls it takes to make a store's file of 19,395 bytes, and to append a batch if there is room.
 const MADE: u64 = 11;
 
 const APPENDED: u64 = 4;

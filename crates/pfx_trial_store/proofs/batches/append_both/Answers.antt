@@ -1,12 +1,12 @@
 use Rattle.std.proofs.Common.{◌≡◌, ◌+◌, map, sym, ◌∙◌, ap, subst}
 use Rattle.std.specs.Prelude.{Some}
 use Rattle.pfx_redo.specs.Applying.{applied}
-use Rattle.pfx_redo.proofs.States.{applied_behind}
 use Rattle.pfx_store.specs.Groups.{AreRecordsOf}
 use Rattle.pfx_machine.specs.Outcome.{outcome}
 use Rattle.pfx_machine.specs.Plain.{Plain}
 use Rattle.pfx_record.specs.Records.{plain}
 use Rattle.pfx_weights.specs.Sets.{FilledSet}
+use Rattle.pfx_trial_store.proofs.Slots.{set_stays}
 use Rattle.pfx_trial_store.proofs.batches.append_both.Goals as goal
 
 pub batch_of-two-requires-clause-right : goal.batch_of-two-requires-clause-right
@@ -34,9 +34,10 @@ pub ten_calls-requires-clause-workers : goal.ten_calls-requires-clause-workers
 unfolding ten_calls-requires-clause-right
 ten_calls-requires-clause-workers g c =
     let led = (ten_calls-requires-clause-right g c).1 in
-    let behind = applied_behind g.J.Job.kind c.args.store.now.state c.slots.new.state (map plain c.batch_of-one.result.records.items) led in (
+    let batch = c.batch_of-one.result in
+    let set = set_stays g.J.Job.kind c.args.store.now.state c.slots.new.state batch.workers batch.real batch.first batch.records.items batch.fits c.batch_of-one.ensures.next.real led in (
       c.batch_of-one.ensures.next.workers ∙ ap (λ (t : Plain g.row.J.Denot). t.ledger.set.workers) c.state-2.ensures,
-      c.batch_of-two.ensures.next.workers ∙ (ap (λ (t : Plain g.row.J.Denot). t.ledger.set.workers) c.in-Ok-copy_of.ensures ∙ ap (λ (l : FilledSet). l.workers) behind.set),
+      c.batch_of-two.ensures.next.workers ∙ (ap (λ (t : Plain g.row.J.Denot). t.ledger.set.workers) c.in-Ok-copy_of.ensures ∙ ap (λ (l : FilledSet). l.workers) set),
     )
 
 pub ten_calls-requires-clause-real : goal.ten_calls-requires-clause-real

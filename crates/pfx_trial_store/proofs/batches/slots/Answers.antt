@@ -25,7 +25,7 @@ loop-slot-preserved g c =
     let r = c.loop-slot.invariant.records in
     let long = c.loop-slot.invariant.count in
     let done = c.in-Ok.ensures in
-    let more = records_more K g.met.J.Job.laws s c.loop-slot.state r.0 Slot c.loop-slot.records.items c.in-Ok.done.entry r.1 r.2 done.exact done.kept_as in
+    let more = records_more K g.met.J.Job.laws s c.loop-slot.state r.0 Slot c.loop-slot.records.items c.in-Ok.done.entry r.1 tt r.2 done.exact done.kept_as in
     let old = c.loop-slot.records.items in
     let grown : c.push.new.self.items ≡ old ++ c.in-Ok.done.entry ∷ [] =
     c.push.ensures.items ∙ ap (λ (b : Bool). if b then old ++ c.in-Ok.done.entry ∷ [] else old) (c.is_err.ensures.negation ∙ ap not c.if-is_err.false) in

@@ -1,12 +1,12 @@
 use Rattle.std.proofs.Common.{◌≡◌, ◌+◌, ◌++◌, ◌∷◌, [], map, sym, ◌∙◌, ap}
 use Rattle.std.specs.Prelude.{Some}
 use Rattle.pfx_redo.specs.Applying.{applied}
-use Rattle.pfx_redo.proofs.States.{applied_behind}
 use Rattle.pfx_machine.specs.Plain.{Plain}
 use Rattle.pfx_record.specs.Batches.{batch_bytes, batch_of}
 use Rattle.pfx_record.specs.Records.{plain}
 use Rattle.pfx_recovery.proofs.Answers.{some_same}
 use Rattle.pfx_weights.specs.Sets.{FilledSet}
+use Rattle.pfx_trial_store.proofs.Slots.{set_stays}
 use Rattle.pfx_trial_store.proofs.client.ten_calls.Goals as goal
 
 pub returns-clause-marked : goal.returns-clause-marked
@@ -44,10 +44,11 @@ append-requires-2 g c =
     let led : applied K c.args.store.now.state (map plain c.args.first.now.records.items) ≡ Some t = c.in_ok-one.ensures.state.moved in
     let at : r.0 ≡ t = some_same r.0 t (sym r.1 ∙ led) in
     let same : c.tend-finished.new.self.state ≡ t = c.tend-finished.ensures.state ∙ (c.tend-piece.ensures.state ∙ (c.tend-closed.ensures.state ∙ c.turn-turned.ensures.state)) in
-    let behind = applied_behind K c.args.store.now.state t (map plain c.args.first.now.records.items) led in
+    let batch = c.args.first.now in
+    let set = set_stays K c.args.store.now.state t batch.workers batch.real batch.first batch.records.items batch.fits c.requires.real.0 led in
     record {
       next = record {
-        workers = c.requires.workers.1 ∙ sym (ap (λ (s : Plain g.row.J.Denot). s.ledger.set.workers) same ∙ ap (λ (set : FilledSet). set.workers) behind.set);
+        workers = c.requires.workers.1 ∙ sym (ap (λ (s : Plain g.row.J.Denot). s.ledger.set.workers) same ∙ ap (λ (set : FilledSet). set.workers) set);
         real = c.requires.real.1;
         first = r.2 ∙ ap (λ (s : Plain g.row.J.Denot). s.number + 1) (at ∙ sym same);
         right = (r.3, ap (λ s. applied K s (map plain c.args.second.now.records.items)) (same ∙ sym at) ∙ r.4);
