@@ -12,7 +12,7 @@ const SLOTS: usize = 20_000;
 
 // Where the first frame stands in a store of three tasks: behind the header, two checkpoint areas, and the segment's gate and number.
 const HEADER: u64 = 41;
-const AREA: u64 = 428;
+const AREA: u64 = 1485;
 const FIRST_FRAME: u64 = HEADER + 2 * AREA + 9;
 
 fn show(name: &str, mut micros: Vec<u128>) -> u128 {

@@ -42,6 +42,7 @@ fn job_left(job: &[u8]) -> Option<u32> {
     is_right.then_some(left)
 }
 
+// The set in force and since which slot it is, the state, and the length of a segment.
 struct Store {
     workers: usize,
     real: usize,
@@ -49,6 +50,7 @@ struct Store {
     weights: Vec<(i64, i64)>,
     last: u64,
     slot: u64,
+    from: u64,
     got: Vec<u64>,
     jobs: Vec<Option<[u8; 128]>>,
 }
@@ -57,38 +59,63 @@ fn gcd(a: u64, b: u64) -> u64 {
     if b == 0 { a } else { gcd(b, a % b) }
 }
 
+// So many weights that stand here.
+fn weights_at(data: &[u8], at: usize, count: usize) -> Vec<(i64, i64)> {
+    let weight = |task: usize| (number(data, at + 8 * task, 4) as i64, number(data, at + 4 + 8 * task, 4) as i64);
+    (0..count).map(weight).collect()
+}
+
+// The weights with those of the idle tasks, if they are a set of so many workers.
+fn filled(workers: usize, mut weights: Vec<(i64, i64)>) -> Option<Vec<(i64, i64)>> {
+    if !(1..=64).contains(&workers) || weights.is_empty() || weights.iter().any(|(e, p)| *e < 1 || e >= p) {
+        return None;
+    }
+    let mut hyper = 1;
+    for (_, p) in &weights {
+        hyper = hyper / gcd(hyper, *p as u64) * *p as u64;
+        if hyper > 1 << 20 {
+            return None;
+        }
+    }
+    let hyper = hyper as i64;
+    let mut rest = workers as i64 * hyper - weights.iter().map(|(e, p)| hyper / p * e).sum::<i64>();
+    while rest > 0 {
+        weights.push((rest.min(hyper - 1), hyper));
+        rest -= rest.min(hyper - 1);
+    }
+    (rest == 0).then_some(weights)
+}
+
 impl Store {
     fn header(data: &[u8]) -> Option<Store> {
-        if data.get(..10)? != b"\xc3PFXSTORE\x01" {
+        if data.get(..10)? != b"\xc3PFXSTORE\x02" {
             return None;
         }
         let (workers, real, segment) = (usize::from(data[10]), number(data, 11, 2) as usize, number(data, 13, 4) as usize);
-        let weight = |task: usize| (number(data, 17 + 8 * task, 4) as i64, number(data, 21 + 8 * task, 4) as i64);
-        let mut weights: Vec<_> = (0..real).map(weight).collect();
-        let hyper = weights.iter().fold(1, |all, (_, p)| all / gcd(all, *p as u64) * *p as u64) as i64;
-        let mut rest = workers as i64 * hyper - weights.iter().map(|(e, p)| hyper / p * e).sum::<i64>();
-        if hyper > 1 << 20 || rest < 0 || weights.iter().any(|(e, p)| *e < 1 || e >= p) {
-            return None;
-        }
-        while rest > 0 {
-            weights.push((rest.min(hyper - 1), hyper));
-            rest -= rest.min(hyper - 1);
-        }
+        let weights = filled(workers, weights_at(data, 17, real))?;
         let got = vec![0; weights.len()];
-        Some(Store { workers, real, segment, weights, last: 0, slot: 0, got, jobs: vec![None; real] })
+        Some(Store { workers, real, segment, weights, last: 0, slot: 0, from: 0, got, jobs: vec![None; real] })
     }
 
-    fn slot_len(&self) -> usize {
-        17 + 137 * self.real + 8 * (self.weights.len() - self.real)
+    fn area_len(&self) -> usize {
+        26 + 145 * self.real + 1024
+    }
+
+    // Puts a set in force from the slot to come on, if it is one and its longest frames have room.
+    fn renew(&mut self, workers: usize, weights: Vec<(i64, i64)>) -> Option<()> {
+        self.weights = filled(workers, weights)?;
+        (self.workers, self.from, self.got) = (workers, self.slot, vec![0; self.weights.len()]);
+        (41 + 2096 * workers <= self.segment).then_some(())
     }
 
     fn lag(&self, task: usize) -> i64 {
-        self.weights[task].0 * self.slot as i64 - self.weights[task].1 * self.got[task] as i64
+        self.weights[task].0 * (self.slot as i64 - self.from as i64) - self.weights[task].1 * self.got[task] as i64
     }
 
     fn fits(&self) -> bool {
         let fair = (0..self.weights.len()).all(|task| self.lag(task).abs() < self.weights[task].1);
-        fair && self.last < 1 << 48 && self.slot < 1 << 40 && self.got.iter().sum::<u64>() == self.workers as u64 * self.slot
+        let counted = self.from <= self.slot && self.got.iter().sum::<u64>() == self.workers as u64 * (self.slot - self.from);
+        fair && counted && self.last < 1 << 48 && self.slot < 1 << 40
     }
 
     fn is_busy(&self, task: usize) -> bool {
@@ -96,8 +123,9 @@ impl Store {
     }
 
     fn checkpoint(&mut self, data: &[u8], at: usize) -> Option<()> {
-        (self.last, self.slot) = (number(data, at + 1, 8), number(data, at + 9, 8));
-        let mut place = at + 17;
+        self.renew(usize::from(data[at + 25]), weights_at(data, at + 26, self.real))?;
+        (self.last, self.slot, self.from) = (number(data, at + 1, 8), number(data, at + 9, 8), number(data, at + 17, 8));
+        let mut place = at + 26 + 8 * self.real;
         for task in 0..self.weights.len() {
             self.got[task] = number(data, place, 8);
             place += 8;
@@ -110,7 +138,7 @@ impl Store {
                 place += 129;
             }
         }
-        self.fits().then_some(())
+        (is_zero(&data[place..at + self.area_len()]) && self.fits()).then_some(())
     }
 
     // The frames behind the number `last` in a segment, and their last number.
@@ -137,6 +165,7 @@ impl Store {
                 1 => self.take_submit(frame, at + 1)?,
                 2 => self.take_slot(frame, at + 1)?,
                 3 => self.take_withdraw(frame, at + 1)?,
+                4 => self.take_reweigh(frame, at + 1)?,
                 _ => return None,
             };
             self.last += 1;
@@ -159,6 +188,14 @@ impl Store {
     fn take_withdraw(&mut self, frame: &[u8], at: usize) -> Option<usize> {
         let task = number(frame.get(at..at + 2)?, 0, 2) as usize;
         self.jobs.get_mut(task)?.take().map(|_| at + 2)
+    }
+
+    fn take_reweigh(&mut self, frame: &[u8], at: usize) -> Option<usize> {
+        let (end, level) = (at + 1 + 8 * self.real, (0..self.weights.len()).all(|task| self.lag(task) == 0));
+        if number(frame, 13, 2) != 1 || frame.len() < end || !level || 27 + 8 * self.real > self.segment {
+            return None;
+        }
+        self.renew(usize::from(frame[at]), weights_at(frame, at + 1, self.real)).map(|_| end)
     }
 
     fn take_slot(&mut self, frame: &[u8], mut at: usize) -> Option<usize> {
@@ -185,12 +222,12 @@ impl Store {
     fn read(data: &[u8]) -> Option<Store> {
         let mut store = Store::header(data)?;
         let head = 17 + 8 * store.real;
-        let slots = [head, head + store.slot_len()];
-        let segments = [head + 2 * store.slot_len(), head + 2 * store.slot_len() + store.segment];
+        let areas = [head, head + store.area_len()];
+        let segments = [head + 2 * store.area_len(), head + 2 * store.area_len() + store.segment];
         if data.len() != segments[1] + store.segment {
             return None;
         }
-        let taken = slots.into_iter().filter(|at| data[*at] == OPEN).max_by_key(|at| number(data, at + 1, 8))?;
+        let taken = areas.into_iter().filter(|at| data[*at] == OPEN).max_by_key(|at| number(data, at + 1, 8))?;
         store.checkpoint(data, taken)?;
         let begins = |at: usize, last: u64| data[at] == OPEN && number(data, at + 1, 8) == last + 1;
         let one = (0..2).find(|one| begins(segments[*one], store.last))?;
@@ -208,7 +245,8 @@ impl Store {
     }
 
     fn show(&self) {
-        println!("board {} slot {}", self.last, self.slot);
+        let from = if self.from == 0 { String::new() } else { format!(" from {}", self.from) };
+        println!("board {} slot {}{from}", self.last, self.slot);
         for task in 0..self.weights.len() {
             let job = match self.jobs.get(task) {
                 Some(Some(_)) if self.is_busy(task) => "open",
