@@ -1,30 +1,49 @@
 -- Commands in groups of one, and a group of more behind them.
-use Rattle.std.specs.Prelude.{◌≡◌, ◌<◌, ◌≤◌, ◌⊎◌, ℕ, ◌+◌, List, [], ◌∷◌, ◌++◌, length, take, None, Ok}
+use Rattle.std.specs.Prelude.{◌≡◌, ◌<◌, ◌≤◌, ◌⊎◌, ℕ, ◌+◌, List, [], ◌∷◌, ◌++◌, length, take, Option, Some, None, Ok}
 use Rattle.std.proofs.Common.{inl, inr, sym, ◌∙◌, ap, subst, arith, append_assoc, append-nil, length-append}
 use Rattle.std.proofs.lemmas.Bool.{cases_lt}
 use Rattle.std.proofs.lemmas.List.{take-append-le, take_all}
 use Rattle.pfx_redo.specs.Recording.{record_of}
 use Rattle.pfx_format.specs.Format.{format}
-use Rattle.pfx_store.specs.Groups.{AreRecordsOf, AreSmall, alone, frame_of, joined}
+use Rattle.pfx_store.specs.Groups.{AreKeptAs, AreRecordsOf, AreSmall, alone, frame_of, joined}
 use Rattle.pfx_store.specs.Groups as groups
-use Rattle.pfx_store.proofs.Grouping.{all_alone, alone_small, frames_there, joined_alone, length-alone}
+use Rattle.pfx_store.proofs.Grouping.{common_kept, all_alone, alone_small, frames_there, joined_alone, length-alone}
 use Rattle.pfx_store.proofs.Grouping as grouping
 use Rattle.pfx_kinds.specs.AnyKind.{any_kind, any_laws}
 use Rattle.pfx_kinds.specs.declared.any.AnyJob.{AnyJob}
 use Rattle.pfx_machine.specs.Plain.{Plain, IsState}
-use Rattle.pfx_machine.specs.Batches.{AreCommon, IsCommon}
+use Rattle.pfx_machine.specs.Batches.{IsBatchable, IsCommon}
 use Rattle.pfx_machine.specs.Outcome.{outcome}
 use Rattle.pfx_machine.specs.Refusals.{refusal}
 use Rattle.pfx_machine.specs.Sessions.{IsAcceptable}
 use Rattle.pfx_machine.specs.declared.command.Command.{Command}
+use Rattle.pfx_machine.specs.declared.command.Command.TheVariants.{Reweigh}
 use Rattle.pfx_machine.proofs.Compose.{outcome-none}
 use Rattle.pfx_record.specs.Records as recorded
 use Rattle.pfx_recovery.specs.Store.{Replays}
+use Rattle.pfx_engine.specs.Renewing.{IsKeepable, IsRenewalFor}
 use Rattle.pfx_engine.specs.Surviving.{Survives, frames_of}
+use Rattle.pfx_weights.specs.Sets.{FilledSet}
 
 -- one command
 pub one_record : (s : Plain AnyJob) (c : Command AnyJob) (records : List (recorded.Recorded AnyJob)) → IsCommon c → refusal any_kind s c ≡ None → records ≡ record_of any_kind s c ∷ [] → AreRecordsOf any_kind s (c ∷ []) records
 one_record s c records common accepted is = record { accepted = (subst (λ (t : Plain AnyJob). refusal any_kind t c ≡ None) (sym (outcome-none any_kind s)) accepted, tt); common = (common, tt); of = is }
+
+-- and one alone, which may be a Reweigh
+pub one_kept : (s : Plain AnyJob) (c : Command AnyJob) (records : List (recorded.Recorded AnyJob)) → refusal any_kind s c ≡ None → records ≡ record_of any_kind s c ∷ [] → AreKeptAs any_kind s (c ∷ []) records
+one_kept s c records accepted is = record { accepted = (subst (λ (t : Plain AnyJob). refusal any_kind t c ≡ None) (sym (outcome-none any_kind s)) accepted, tt); may = tt; of = is }
+
+-- a command with what is prepared for it can be kept
+pub keepable_one : (s : Plain AnyJob) (c : Command AnyJob) (records : List (recorded.Recorded AnyJob)) (renewal : Option FilledSet) → IsRenewalFor s c renewal → refusal any_kind s c ≡ None → records ≡ record_of any_kind s c ∷ [] → IsKeepable s records renewal
+keepable_one s c records None common accepted is = (c ∷ [], one_record s c records common accepted is)
+keepable_one s c records (Some set) renews accepted is =
+    let (m, weights, same, new) = renews in
+    (m, weights, subst (λ (d : Command AnyJob). AreKeptAs any_kind s (d ∷ []) records) same (one_kept s c records accepted is), new)
+
+-- and so can these commands
+pub keepable_kept : (s : Plain AnyJob) (records : List (recorded.Recorded AnyJob)) (renewal : Option FilledSet) → IsKeepable s records renewal → (G : List (Command AnyJob)) × AreKeptAs any_kind s G records
+keepable_kept s records None keepable = (keepable.0, common_kept any_kind s keepable.0 records keepable.1)
+keepable_kept s records (Some set) keepable = let (m, weights, are, new) = keepable in (Reweigh m weights ∷ [], are)
 
 pub all_in : (s : Plain AnyJob) (H : List (Command AnyJob)) → IsAcceptable any_kind s H → IsAcceptable any_kind s (joined (alone H))
 all_in s H all = subst (λ (l : List (Command AnyJob)). IsAcceptable any_kind s l) (sym (all_alone H)) all
@@ -34,9 +53,9 @@ joined_snoc : (all : List (List (Command AnyJob))) (group : List (Command AnyJob
 joined_snoc [] group = append-nil group
 joined_snoc (one ∷ all) group = ap (λ (l : List (Command AnyJob)). one ++ l) (joined_snoc all group) ∙ sym (append_assoc one (joined all) group)
 
-small_snoc : (all : List (List (Command AnyJob))) (group : List (Command AnyJob)) → AreSmall all → 0 < length group → length group ≤ 16 → AreCommon group → AreSmall (all ++ group ∷ [])
-small_snoc [] group small some few common = (some, few, common, tt)
-small_snoc (one ∷ all) group small some few common = (small.0, small.1, small.2, small_snoc all group small.3 some few common)
+small_snoc : (all : List (List (Command AnyJob))) (group : List (Command AnyJob)) → AreSmall all → 0 < length group → length group ≤ 16 → IsBatchable group → AreSmall (all ++ group ∷ [])
+small_snoc [] group small some few may = (some, few, may, tt)
+small_snoc (one ∷ all) group small some few may = (small.0, small.1, small.2, small_snoc all group small.3 some few may)
 
 -- Commands that were kept alone, and a group behind them.
 module _ (start : Plain AnyJob) (H G : List (Command AnyJob)) where
@@ -49,8 +68,8 @@ module _ (start : Plain AnyJob) (H G : List (Command AnyJob)) where
   pub with_accepted : IsAcceptable any_kind start (H ++ G) → IsAcceptable any_kind start (joined with_group)
   with_accepted all = subst (λ (l : List (Command AnyJob)). IsAcceptable any_kind start l) (sym with_commands) all
 
-  pub with_small : AreCommon H → AreCommon G → 0 < length G → length G ≤ 16 → AreSmall with_group
-  with_small before common some few = small_snoc (alone H) G (alone_small H before) some few common
+  pub with_small : IsBatchable G → 0 < length G → length G ≤ 16 → AreSmall with_group
+  with_small may some few = small_snoc (alone H) G (alone_small H) some few may
 
   pub with_frames : groups.frames_of any_kind start with_group ≡ frames_of start H ++ frame_of any_kind (outcome any_kind start H) G ∷ []
   with_frames =
@@ -98,10 +117,10 @@ module _ (start : Plain AnyJob) (H G : List (Command AnyJob)) where
             recovered = v.recovered ∙ ap (λ (l : List (Command AnyJob)). Ok (outcome any_kind start l)) (front few);
           }
 
-pub replays_commands : (s : Plain AnyJob) (H : List (Command AnyJob)) → IsState s → IsAcceptable any_kind s H → AreCommon H → Replays (format any_kind) s (frames_of s H) (outcome any_kind s H)
-replays_commands s H h all common =
+pub replays_commands : (s : Plain AnyJob) (H : List (Command AnyJob)) → IsState s → IsAcceptable any_kind s H → Replays (format any_kind) s (frames_of s H) (outcome any_kind s H)
+replays_commands s H h all =
     subst (λ (l : List (Command AnyJob)). Replays (format any_kind) s (frames_of s H) (outcome any_kind s l)) (all_alone H)
-    (frames_there any_kind any_laws s (alone H) h (all_in s H all) (alone_small H common))
+    (frames_there any_kind any_laws s (alone H) h (all_in s H all) (alone_small H))
 
 pub take_accepted : (s : Plain AnyJob) (H : List (Command AnyJob)) (n : ℕ) → IsAcceptable any_kind s H → IsAcceptable any_kind s (joined (take n (alone H)))
 take_accepted s H n all = grouping.take_accepted any_kind any_laws s (alone H) n (all_in s H all)

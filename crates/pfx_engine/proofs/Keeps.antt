@@ -1,21 +1,25 @@
 -- What survives of frames, as commands.
-use Rattle.std.specs.Prelude.{◌≡◌, ◌<◌, ◌≤◌, ℕ, ◌+◌, List, [], ◌∷◌, ◌++◌, length, take, Some, Ok, Err, Result, OnOk, IsErrOf, Bool, false, refl}
-use Rattle.std.proofs.Common.{sym, ◌∙◌, ap, arith, length-append, subst}
+use Rattle.std.specs.Prelude.{◌≡◌, ◌<◌, ◌≤◌, ℕ, ◌+◌, List, [], ◌∷◌, ◌++◌, length, take, Some, Ok, Err, Result, OnOk, OnErr, IfOk, IsErrOf, IsErrAnd, Bool, true, false, refl}
+use Rattle.std.proofs.Common.{inl, inr, sym, ◌∙◌, ap, arith, length-append, subst}
 use Rattle.std.proofs.lemmas.Bool.{true≢false}
 use Rattle.std.proofs.lemmas.List.{take-append-le}
-use Rattle.pfx_disk.specs.Disk.{View}
+use Rattle.pfx_disk.specs.Disk.{View, HasFailed, IsHonest}
 use Rattle.pfx_redo.specs.Applying.{applied}
 use Rattle.pfx_format.specs.Format.{format}
 use Rattle.pfx_format.specs.Frames.{state_after}
 use Rattle.pfx_format.proofs.Batches.{some_same}
-use Rattle.pfx_store.specs.Groups.{AreRecordsOf, alone, frame_of}
+use Rattle.pfx_store.specs.Groups.{AreKeptAs, AreRecordsOf, alone, frame_of}
 use Rattle.pfx_store.specs.Groups as groups
-use Rattle.pfx_store.proofs.Grouping.{alone_small, frame_led, joined_alone, keeps_groups, length-alone, length-records, records_lead, replays_same, to_frames, to_groups}
+use Rattle.pfx_store.specs.Stores.{PlainStore}
+use Rattle.pfx_store.specs.Working.{IsCall, MovesBy}
+use Rattle.pfx_store.specs.Working as working
+use Rattle.pfx_store.specs.declared.store.Mark.{Mark}
+use Rattle.pfx_store.proofs.Grouping.{alone_small, batch_led, joined_alone, keeps_groups, length-alone, length-records, records_lead, replays_same, to_frames, to_groups}
 use Rattle.pfx_store.proofs.Grouping as grouping
 use Rattle.pfx_kinds.specs.AnyKind.{any_kind, any_laws}
 use Rattle.pfx_kinds.specs.declared.any.AnyJob.{AnyJob}
 use Rattle.pfx_machine.specs.Plain.{Plain, IsState}
-use Rattle.pfx_machine.specs.Batches.{AreCommon}
+use Rattle.pfx_machine.specs.Batches.{IsBatchable}
 use Rattle.pfx_machine.specs.Outcome.{outcome}
 use Rattle.pfx_machine.specs.Sessions.{IsAcceptable}
 use Rattle.pfx_machine.specs.declared.command.Command.{Command}
@@ -25,21 +29,23 @@ use Rattle.pfx_recovery.specs.Recovery.{recovered}
 use Rattle.pfx_recovery.specs.Store.{Replays}
 use Rattle.pfx_store_file.specs.Calls.{Works}
 use Rattle.pfx_store_file.specs.Holding as frames
+use Rattle.pfx_store_file.specs.Tending.{append_calls}
 use Rattle.pfx_store_file.specs.declared.faults.StoreFault.{StoreFault}
 use Rattle.pfx_store_file.specs.declared.faults.StoreFault.TheVariants.{Device, Broken, NoRoom}
+use Rattle.pfx_engine.specs.Executing.{IsPut}
 use Rattle.pfx_engine.specs.Surviving.{Survives, KeepsAll, frames_of}
 use Rattle.pfx_engine.specs.KeepingLaws.{acceptable_both}
 use Rattle.pfx_engine.proofs.Commands.{all_in, replays_commands, with_accepted, with_frames, with_group, with_small, with_survives}
 
 -- commands more, whose frame this is
-pub keeps_commands : (start s : Plain AnyJob) (H G : List (Command AnyJob)) (frame : List ℕ) (old new : View) → IsState start → IsAcceptable any_kind start H → AreCommon H → s ≡ outcome any_kind start H → IsAcceptable any_kind s G →
-    AreCommon G → 0 < length G → length G ≤ 16 → frame ≡ frame_of any_kind s G → frames.KeepsAll (format any_kind) start (frames_of start H) (frames_of start H ++ frame ∷ []) old new → KeepsAll start H (H ++ G) old new
-keeps_commands start s H G frame old new h all before_common at accepted common some few is keeps c n le before image here =
+pub keeps_commands : (start s : Plain AnyJob) (H G : List (Command AnyJob)) (frame : List ℕ) (old new : View) → IsState start → IsAcceptable any_kind start H → s ≡ outcome any_kind start H → IsAcceptable any_kind s G →
+    IsBatchable G → 0 < length G → length G ≤ 16 → frame ≡ frame_of any_kind s G → frames.KeepsAll (format any_kind) start (frames_of start H) (frames_of start H ++ frame ∷ []) old new → KeepsAll start H (H ++ G) old new
+keeps_commands start s H G frame old new h all at accepted may some few is keeps c n le before image here =
     let more : IsAcceptable any_kind start (H ++ G) = acceptable_both start H G all (subst (λ (t : Plain AnyJob). IsAcceptable any_kind t G) at accepted) in
     let there : frames_of start H ++ frame ∷ [] ≡ groups.frames_of any_kind start (with_group start H G) =
     ap (λ (f : List ℕ). frames_of start H ++ f ∷ []) (is ∙ ap (λ (t : Plain AnyJob). frame_of any_kind t G) at) ∙ sym (with_frames start H G) in
     with_survives start H G n image some
-    (keeps_groups any_kind any_laws start (alone H) (with_group start H G) old new h (all_in start H all) (alone_small H before_common) (with_accepted start H G more) (with_small start H G before_common common some few)
+    (keeps_groups any_kind any_laws start (alone H) (with_group start H G) old new h (all_in start H all) (alone_small H) (with_accepted start H G more) (with_small start H G may some few)
     (subst (λ (l : List (List ℕ)). frames.KeepsAll (format any_kind) start (frames_of start H) l old new) there keeps) c n le before image here)
 
 -- commands that come later
@@ -59,11 +65,11 @@ pub keeps_more : (start : Plain AnyJob) (H G : List (Command AnyJob)) (disk : Vi
 keeps_more start H G disk from n le before image here = survives_more start H G n image (before image here)
 
 -- a call that writes no frame, and then one behind which a command more survives
-pub keeps_behind : (start : Plain AnyJob) (H more : List (Command AnyJob)) (a b c : View) → IsState start → IsAcceptable any_kind start H → AreCommon H → a.clock ≤ b.clock →
+pub keeps_behind : (start : Plain AnyJob) (H more : List (Command AnyJob)) (a b c : View) → IsState start → IsAcceptable any_kind start H → a.clock ≤ b.clock →
     frames.KeepsAll (format any_kind) start (frames_of start H) (frames_of start H) a b → KeepsAll start H more b c → KeepsAll start H more a c
-keeps_behind start H more a b c h all common later one two from n le before =
+keeps_behind start H more a b c h all later one two from n le before =
     let in_groups = all_in start H all in
-    let small = alone_small H common in
+    let small = alone_small H in
     two from n (omega (arith, le, later))
     (λ other was. to_groups any_kind any_laws start (alone H) h in_groups small n other (one from n le (λ image here. to_frames any_kind any_laws start (alone H) h in_groups small n image (before image here)) other was))
 
@@ -77,35 +83,54 @@ one_recovered s t frame image leads v =
 
 -- A batch with the records of accepted commands.
 module _ (s : Plain AnyJob) (G : List (Command AnyJob)) (records : List (recorded.Recorded AnyJob)) where
-  pub state_with : (t : Plain AnyJob) → IsState s → AreRecordsOf any_kind s G records → applied any_kind s records ≡ Some t → t ≡ outcome any_kind s G
+  pub state_with : (t : Plain AnyJob) → IsState s → AreKeptAs any_kind s G records → applied any_kind s records ≡ Some t → t ≡ outcome any_kind s G
   state_with t h is taken = some_same t (outcome any_kind s G) (sym taken ∙ records_lead any_kind any_laws s G records h is)
 
-  pub frame_is : (first : ℕ) → IsState s → AreRecordsOf any_kind s G records → first ≡ s.number + 1 → batch_bytes any_kind (record { first = first; records = records }) ≡ frame_of any_kind s G
+  pub frame_is : (first : ℕ) → IsState s → AreKeptAs any_kind s G records → first ≡ s.number + 1 → batch_bytes any_kind (record { first = first; records = records }) ≡ frame_of any_kind s G
   frame_is first h is next = grouping.frame_is any_kind any_laws s G records h is first next
 
-  pub acknowledged_with : (t : Plain AnyJob) (first : ℕ) → IsState s → AreRecordsOf any_kind s G records → 0 < length G → length G ≤ 16 → first ≡ s.number + 1 → applied any_kind s records ≡ Some t → (image : List ℕ) →
+  pub acknowledged_with : (t : Plain AnyJob) (first : ℕ) → IsState s → AreKeptAs any_kind s G records → 0 < length G → length G ≤ 16 → first ≡ s.number + 1 → applied any_kind s records ≡ Some t → (image : List ℕ) →
       frames.Survives (format any_kind) s (batch_bytes any_kind (record { first = first; records = records }) ∷ []) 1 image → recovered (format any_kind) image ≡ Ok t
   acknowledged_with t first h is some few next taken image survives =
       one_recovered s t (batch_bytes any_kind (record { first = first; records = records })) image
-      (ap (state_after any_kind s) (frame_is first h is next) ∙ (frame_led any_kind any_laws s G h is.accepted is.common some few ∙ ap Some (sym (state_with t h is taken)))) survives
+      (ap (state_after any_kind s) (frame_is first h is next) ∙ (batch_led any_kind any_laws s G h is.accepted some few is.may ∙ ap Some (sym (state_with t h is taken)))) survives
 
-  pub keeps_with : (start : Plain AnyJob) (H : List (Command AnyJob)) (first : ℕ) (old new : View) → IsState s → IsState start → IsAcceptable any_kind start H → AreCommon H → s ≡ outcome any_kind start H → AreRecordsOf any_kind s G records →
+  pub keeps_with : (start : Plain AnyJob) (H : List (Command AnyJob)) (first : ℕ) (old new : View) → IsState s → IsState start → IsAcceptable any_kind start H → s ≡ outcome any_kind start H → AreKeptAs any_kind s G records →
       0 < length G → length G ≤ 16 → first ≡ s.number + 1 → frames.KeepsAll (format any_kind) start (frames_of start H) (frames_of start H ++ batch_bytes any_kind (record { first = first; records = records }) ∷ []) old new
       → KeepsAll start H (H ++ G) old new
-  keeps_with start H first old new h_s h all common at is some few next keeps =
-      keeps_commands start s H G (batch_bytes any_kind (record { first = first; records = records })) old new h all common at is.accepted is.common some few (frame_is first h_s is next) keeps
+  keeps_with start H first old new h_s h all at is some few next keeps =
+      keeps_commands start s H G (batch_bytes any_kind (record { first = first; records = records })) old new h all at is.accepted is.may some few (frame_is first h_s is next) keeps
+
+pub on_ok_then : {T E P Q : Type 0} (r : Result T E) → (P → Q) → OnOk r P → OnOk r Q
+on_ok_then (Ok x) f p = f p
+on_ok_then (Err e) f p = tt
+
+-- their batch, appended to a store, is an append of the commands' frame
+pub put_as : {D : Type 0} (view : D → View) (old : PlainStore D AnyJob) (G : List (Command AnyJob)) (new : PlainStore D AnyJob) (result : Result Mark StoreFault) (first : ℕ) (records : List (recorded.Recorded AnyJob)) →
+    IsState old.state → AreKeptAs any_kind old.state G records → first ≡ old.state.number + 1 →
+    IsCall view old new result (append_calls (length (batch_bytes any_kind (record { first = first; records = records }))) old.file.places) → MovesBy any_kind records result old.state new.state →
+    IfOk result (λ mark. (mark.number ≡ new.state.number) × (mark.clock ≡ (view new.file.disk).clock)) →
+    (IsHonest (view old.file.disk) → working.Commits any_kind old.state (batch_bytes any_kind (record { first = first; records = records })) result (view old.file.disk) (view new.file.disk)) → IsPut view old G new result
+put_as view old G new result first records h is next call moves mark commits =
+    let frame = frame_is old.state G records first h is next in
+    record {
+      call = subst (λ (f : List ℕ). IsCall view old new result (append_calls (length f) old.file.places)) frame call;
+      state = on_ok_then result (λ taken. state_with old.state G records new.state h is taken) moves.moved;
+      same = moves.same;
+      mark = mark;
+      commits = λ honest. subst (λ (f : List ℕ). working.Commits any_kind old.state f result (view old.file.disk) (view new.file.disk)) frame (commits honest);
+    }
 
 -- how many commands the records are of
 pub length_of : (s : Plain AnyJob) (G : List (Command AnyJob)) (records : List (recorded.Recorded AnyJob)) → AreRecordsOf any_kind s G records → length G ≡ length records
 length_of s G records is = sym (length-records any_kind s G) ∙ ap length (sym is.of)
 
--- the frames of commands lead to their outcome
-pub replays_to : (start s : Plain AnyJob) (H : List (Command AnyJob)) → IsState start → IsAcceptable any_kind start H → AreCommon H → s ≡ outcome any_kind start H → Replays (format any_kind) start (frames_of start H) s
-replays_to start s H h all common at = subst (λ (t : Plain AnyJob). Replays (format any_kind) start (frames_of start H) t) (sym at) (replays_commands start H h all common)
+pub kept_length : (s : Plain AnyJob) (G : List (Command AnyJob)) (records : List (recorded.Recorded AnyJob)) → AreKeptAs any_kind s G records → length G ≡ length records
+kept_length s G records is = sym (length-records any_kind s G) ∙ ap length (sym is.of)
 
-pub on_ok_then : {T E P Q : Type 0} (r : Result T E) → (P → Q) → OnOk r P → OnOk r Q
-on_ok_then (Ok x) f p = f p
-on_ok_then (Err e) f p = tt
+-- the frames of commands lead to their outcome
+pub replays_to : (start s : Plain AnyJob) (H : List (Command AnyJob)) → IsState start → IsAcceptable any_kind start H → s ≡ outcome any_kind start H → Replays (format any_kind) start (frames_of start H) s
+replays_to start s H h all at = subst (λ (t : Plain AnyJob). Replays (format any_kind) start (frames_of start H) t) (sym at) (replays_commands start H h all)
 
 pub on_ok_two : {T E P Q R : Type 0} (r : Result T E) → (P → Q → R) → OnOk r P → OnOk r Q → OnOk r R
 on_ok_two (Ok x) f p q = f p q
@@ -117,3 +142,33 @@ worked (Ok x) old new was is works room before after p = p
 worked (Err Device) old new was is works room before after p = absurd (true≢false (sym (works.breaks refl) ∙ after))
 worked (Err Broken) old new was is works room before after p = absurd (true≢false (sym (works.broken.0 refl) ∙ before))
 worked (Err NoRoom) old new was is works room before after p = absurd (room refl)
+
+-- what is said of a success, after a fault, and of a fault, whatever was answered
+pub if_ok_none : {T E : Type 0} (P : T → Type 0) (Q : E → Type 0) (r : Result T E) → IsErrAnd r Q → IfOk r P
+if_ok_none P Q (Ok x) of = absurd of
+if_ok_none P Q (Err e) of = tt
+
+pub on_err_so : {T E P : Type 0} (r : Result T E) → P → OnErr r P
+on_err_so (Ok x) p = tt
+on_err_so (Err e) p = p
+
+pub on_err_then : {T E P Q : Type 0} (r : Result T E) → (P → Q) → OnErr r P → OnErr r Q
+on_err_then (Ok x) f p = tt
+on_err_then (Err e) f p = f p
+
+-- a call behind one that answered
+pub was_whole : {T : Type 0} (a b : View) (was is : Bool) (r : Result T StoreFault) (x : T) → r ≡ Ok x → Works a b was is r → was ≡ false
+was_whole a b false is r x answered works = refl
+was_whole a b true is r x answered works = absurd (let e = sym answered ∙ works.broken.1 refl in cc)
+
+failed_since : (a b c : View) → a.failures ≤ b.failures → HasFailed b c → HasFailed a c
+failed_since a b c fewer (inl less) = inl (omega (arith, fewer, less))
+failed_since a b c fewer (inr spent) = inr spent
+
+pub works_later : {T : Type 0} (a b c : View) (was between is : Bool) (r : Result T StoreFault) → was ≡ false → between ≡ false → a.failures ≤ b.failures → Works b c between is r → Works a c was is r
+works_later a b c was between is r whole still fewer works = record {
+  whole = works.whole;
+  device = λ here. failed_since a b c fewer (works.device here);
+  breaks = works.breaks;
+  broken = (λ here. absurd (true≢false (sym (works.broken.0 here) ∙ still)), λ here. absurd (true≢false (sym here ∙ whole)));
+}

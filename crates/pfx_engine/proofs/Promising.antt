@@ -8,7 +8,6 @@ use Rattle.pfx_recovery.specs.Recovery.{recovered}
 use Rattle.pfx_kinds.specs.AnyKind.{any_kind}
 use Rattle.pfx_kinds.specs.declared.any.AnyJob.{AnyJob}
 use Rattle.pfx_machine.specs.Plain.{Plain, IsState}
-use Rattle.pfx_machine.specs.Batches.{AreCommon}
 use Rattle.pfx_machine.specs.Outcome.{outcome}
 use Rattle.pfx_machine.specs.Sessions.{IsAcceptable}
 use Rattle.pfx_machine.specs.declared.command.Command.{Command}
@@ -55,7 +54,7 @@ keeps_one old new broken s t c accepted at honest anchored = keeps_all old new b
 
 -- it isn't known how many of them are
 pub keeps_some : (old new : View) (broken : Bool) (s t : Plain AnyJob) (G : List (Command AnyJob)) → IsState s → IsAcceptable any_kind s G → 0 < length G → old.clock ≤ new.clock → (IsHonest old → IsHonest new)
-    → (IsHonest old → (start : Plain AnyJob) → (H : List (Command AnyJob)) → IsState start → IsAcceptable any_kind start H → AreCommon H → s ≡ outcome any_kind start H → KeepsAll start H (H ++ G) old new)
+    → (IsHonest old → (start : Plain AnyJob) → (H : List (Command AnyJob)) → IsState start → IsAcceptable any_kind start H → s ≡ outcome any_kind start H → KeepsAll start H (H ++ G) old new)
     → KeepsFrom old broken s G 0 new t
 keeps_some old new broken s t G valid accepted some later honest keeps = record {
   accepted = accepted;
@@ -63,7 +62,7 @@ keeps_some old new broken s t G valid accepted some later honest keeps = record 
   kept = λ whole was anchors. record {
     honest = honest was;
     anchored = λ all. absurd (omega (arith, some, all));
-    survive = λ image here. keeps was s [] valid tt tt (sym (outcome-none any_kind s)) old.clock 0 (omega arith)
+    survive = λ image here. keeps was s [] valid tt (sym (outcome-none any_kind s)) old.clock 0 (omega arith)
         (λ other there. record {
           count = 0;
           at_least = omega arith;
@@ -74,7 +73,7 @@ keeps_some old new broken s t G valid accepted some later honest keeps = record 
 }
 
 pub keeps_doubt : (old new : View) (broken : Bool) (s t : Plain AnyJob) (c : Command AnyJob) → IsState s → IsAccepted s c → old.clock ≤ new.clock → (IsHonest old → IsHonest new)
-    → (IsHonest old → (start : Plain AnyJob) → (H : List (Command AnyJob)) → IsState start → IsAcceptable any_kind start H → AreCommon H → s ≡ outcome any_kind start H → KeepsAll start H (H ++ c ∷ []) old new)
+    → (IsHonest old → (start : Plain AnyJob) → (H : List (Command AnyJob)) → IsState start → IsAcceptable any_kind start H → s ≡ outcome any_kind start H → KeepsAll start H (H ++ c ∷ []) old new)
     → KeepsFrom old broken s (c ∷ []) 0 new t
 keeps_doubt old new broken s t c valid accepted later honest keeps = keeps_some old new broken s t (c ∷ []) valid (one_accepted s c accepted) (omega arith) later honest keeps
 

@@ -1,7 +1,7 @@
 -- Worked rows: for each field of what a noted run leaves, a run of which it doesn't hold. A definition that says less lets them pass, and
 -- its row fails.
 use Rattle.std.specs.Prelude.{Bool}
-use Rattle.std.proofs.Common.{◌≡◌, ◌≢◌, ◌+◌, ◌++◌, ℕ, zero, suc, List, [], ◌∷◌, length, Option, Some, None, IfSome, Result, Ok, Err, true, false, refl, sym, ap, subst, ◌∙◌, arith, append_assoc}
+use Rattle.std.proofs.Common.{◌≡◌, ◌+◌, ◌++◌, ℕ, List, [], ◌∷◌, Option, Some, None, IfSome, Result, Ok, Err, true, false, refl, sym, ap, subst, ◌∙◌, arith, append_assoc}
 use Rattle.std.proofs.lemmas.Bool.{false≢true}
 use Rattle.std.proofs.lemmas.Option.{none-some}
 use Rattle.pfx_chronicle.specs.declared.made.Made.{Made}
@@ -9,7 +9,6 @@ use Rattle.pfx_disk.specs.Disk.{View, IsHonest}
 use Rattle.pfx_fault.specs.declared.parts.Cause.TheVariants as cause
 use Rattle.pfx_fault.specs.declared.refusals.Fault.{Fault}
 use Rattle.pfx_fault.specs.declared.refusals.Fault.TheVariants as fault
-use Rattle.pfx_format.specs.Format.{format}
 use Rattle.pfx_header.specs.Headers.{read_header}
 use Rattle.pfx_kinds.specs.AnyKind.{any_kind}
 use Rattle.pfx_kinds.specs.declared.any.AnyJob.{AnyJob}

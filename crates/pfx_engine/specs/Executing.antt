@@ -4,7 +4,6 @@ use Rattle.pfx_disk.specs.Disk.{View, IsHonest}
 use Rattle.pfx_format.specs.Format.{format}
 use Rattle.pfx_kinds.specs.AnyKind.{any_kind}
 use Rattle.pfx_kinds.specs.declared.any.AnyJob.{AnyJob}
-use Rattle.pfx_machine.specs.Batches.{AreCommon}
 use Rattle.pfx_machine.specs.Outcome.{outcome}
 use Rattle.pfx_machine.specs.Plain.{Plain, IsState}
 use Rattle.pfx_machine.specs.Runs.{answer}
@@ -16,12 +15,17 @@ use Rattle.pfx_machine.specs.declared.command.Reply.{Reply}
 use Rattle.pfx_program.specs.Promises.{AreAnswered, slots_for}
 use Rattle.pfx_recovery.specs.Recovery.{recovered}
 use Rattle.pfx_segment.specs.Segment.{Takes}
+use Rattle.pfx_store.specs.Groups.{frame_of}
 use Rattle.pfx_store.specs.Stores.{PlainStore}
+use Rattle.pfx_store.specs.Working.{IsCall}
+use Rattle.pfx_store.specs.Working as working
 use Rattle.pfx_store.specs.declared.store.Mark.{Mark}
 use Rattle.pfx_store_file.specs.Calls.{GoesOn, Works}
+use Rattle.pfx_store_file.specs.Tending.{append_calls}
 use Rattle.pfx_store_file.specs.declared.faults.StoreFault.{StoreFault}
 use Rattle.pfx_store_file.specs.declared.faults.StoreFault.TheVariants.{NoRoom}
 use Rattle.pfx_engine.specs.Keeping.{Anchors}
+use Rattle.pfx_engine.specs.Stepping.{frame_len}
 use Rattle.pfx_engine.specs.Surviving.{KeepsAll}
 
 -- a command was accepted at a state: the mark has the next number and the disk's clock, the reply is the machine's, and the state is
@@ -61,7 +65,7 @@ pub record Follows (old new : View) : Type 0 where
 -- At every moment of a call the commands that survived before survive, with these or without; and once it succeeded each image is
 -- recovered to the state after it.
 pub record Commits {T E : Type 0} (s : Plain AnyJob) (group : List (Command AnyJob)) (t : Plain AnyJob) (old new : View) (result : Result T E) : Type 0 where
-  pub keeps : (start : Plain AnyJob) → (H : List (Command AnyJob)) → IsState start → IsAcceptable any_kind start H → AreCommon H → s ≡ outcome any_kind start H
+  pub keeps : (start : Plain AnyJob) → (H : List (Command AnyJob)) → IsState start → IsAcceptable any_kind start H → s ≡ outcome any_kind start H
       → KeepsAll start H (H ++ group) old new
   pub acknowledged : OnOk result (Anchors new t)
 
@@ -74,6 +78,15 @@ pub record IsKeeping {D : Type 0} (view : D → View) (old new : PlainStore D An
   pub same : OnErr result (new.state ≡ old.state)
   pub mark : IfOk result (λ mark. (mark.number ≡ new.state.number) × (mark.clock ≡ (view new.file.disk).clock))
 
+-- A call of a store that appends the frame of commands: it is such a call, the state is the one after them unless it failed, the mark has the
+-- last number and the disk's clock, and at every moment what survived before survives, with the frame or without.
+pub record IsPut {D : Type 0} (view : D → View) (old : PlainStore D AnyJob) (group : List (Command AnyJob)) (new : PlainStore D AnyJob) (result : Result Mark StoreFault) : Type 0 where
+  pub call : IsCall view old new result (append_calls (frame_len old.state group) old.file.places)
+  pub state : OnOk result (new.state ≡ outcome any_kind old.state group)
+  pub same : OnErr result (new.state ≡ old.state)
+  pub mark : IfOk result (λ mark. (mark.number ≡ new.state.number) × (mark.clock ≡ (view new.file.disk).clock))
+  pub commits : IsHonest (view old.file.disk) → working.Commits any_kind old.state (frame_of any_kind old.state group) result (view old.file.disk) (view new.file.disk)
+
 -- so many calls of the disk, and an honest disk is one before and after
 pub record TakesCalls {T E : Type 0} (calls : ℕ) (old new : View) (result : Result T E) : Type 0 where
   pub takes : Takes calls old new result
@@ -82,6 +95,6 @@ pub record TakesCalls {T E : Type 0} (calls : ℕ) (old new : View) (result : Re
 -- At every moment of a call the commands that survived before survive, with this one or without; and from its mark on each image is
 -- recovered to the state after it.
 pub record CommitsOne {E : Type 0} (s : Plain AnyJob) (c : Command AnyJob) (t : Plain AnyJob) (old new : View) (result : Result (Mark × Reply) E) : Type 0 where
-  pub keeps : (start : Plain AnyJob) → (H : List (Command AnyJob)) → IsState start → IsAcceptable any_kind start H → AreCommon H → s ≡ outcome any_kind start H
+  pub keeps : (start : Plain AnyJob) → (H : List (Command AnyJob)) → IsState start → IsAcceptable any_kind start H → s ≡ outcome any_kind start H
       → KeepsAll start H (H ++ c ∷ []) old new
   pub acknowledged : IfOk result (λ r. (image : List ℕ) → new.since r.0.clock image → recovered (format any_kind) image ≡ Ok t)

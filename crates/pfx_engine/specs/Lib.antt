@@ -9,3 +9,4 @@ pub mod Running
 pub mod Sessions
 pub mod Stepping
 pub mod Surviving
+pub mod Renewing

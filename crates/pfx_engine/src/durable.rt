@@ -16,14 +16,14 @@ ghost use Rattle.pfx_engine.specs.Keeping.{Anchors, KeepsFrom};
 ghost use Rattle.pfx_engine.specs.KeepingLaws.{keeps_none, keeps_more, keeps_fewer};
 ghost use Rattle.pfx_engine.specs.Stepping.{command_calls, frame_len};
 
-use crate::keeping::{commit, is_common};
+use crate::keeping::{Prepared, commit, run_prepared};
 use crate::windows::{Changes, Window, run_changes, run_slots};
 use pfx_disk::Disk;
 use pfx_fault::{Cause, Fault};
 use pfx_kinds::any::AnyJob;
 use pfx_machine::{Board, Command, Reply, State};
 use pfx_program::{CallFault, Engine, Place, Told, place_of};
-use pfx_redo::{Recorded, run_recorded};
+use pfx_redo::Recorded;
 use pfx_store::{Mark, Store};
 use std::alloc::{AllocError, Global};
 
@@ -100,7 +100,7 @@ impl<D: Disk> DurableEngine<D> {
     ///
     /// A command that the machine refuses changes nothing, nor does `NoMemory`. `StoreFailed` breaks the store, and tells
     /// the number of the last command that was durable before; the command may survive. A broken store does nothing, and
-    /// answers so to every command. A Reweigh isn't carried out, and is answered by `NoMemory`.
+    /// answers so to every command.
     pub fn execute(
         &mut self,
         alloc: Global,
@@ -134,20 +134,18 @@ impl<D: Disk> DurableEngine<D> {
         if self.store.is_broken() {
             return Err(CallFault::Failed(stopped(&self.store)));
         }
-        if !is_common(&command) {
-            return Err(CallFault::Failed(Fault::NoMemory));
-        }
         let _number = self.state.number();
         // The allocations come first: once the state has moved, only the disk can fail.
         let Ok(mut records) = Vec::with_capacity(alloc, 1) else {
             return Err(CallFault::Failed(Fault::NoMemory));
         };
-        match run_recorded(alloc, &mut self.state, command) {
+        match run_prepared(alloc, &self.store, &mut self.state, command) {
             Err(fault) if fault.is_memory() => Err(CallFault::Failed(Fault::NoMemory)),
             Err(fault) => Err(CallFault::Refused(fault)),
-            Ok(Recorded { reply, entry }) => {
+            Ok(Prepared { done, renewal }) => {
+                let Recorded { reply, entry } = done;
                 records.push_reserved(entry);
-                match commit(&mut self.store, records) {
+                match commit(&mut self.store, records, renewal) {
                     Ok(mark) => Ok((mark, reply)),
                     Err(_) => Err(CallFault::Failed(stopped(&self.store))),
                 }
@@ -224,7 +222,7 @@ impl<D: Disk> Engine for DurableEngine<D> {
         let _number = self.state.number();
         match run_slots(alloc, &mut self.state, &mut self.starved, count.min(16)) {
             Err(why) => Err(why),
-            Ok(Window { said, records }) => match commit(&mut self.store, records) {
+            Ok(Window { said, records }) => match commit(&mut self.store, records, None) {
                 Ok(_) => Ok(said),
                 Err(_) => Err(CallFault::Failed(stopped(&self.store))),
             },
@@ -254,7 +252,7 @@ impl<D: Disk> Engine for DurableEngine<D> {
         if records.is_empty() {
             return Ok(told);
         }
-        match commit(&mut self.store, records) {
+        match commit(&mut self.store, records, None) {
             Ok(_) => Ok(told),
             Err(_) => Err(stopped(&self.store)),
         }

@@ -1,63 +1,135 @@
 //! Keeping commands.
 
-ghost use Rattle.std.specs.Prelude.{◌≡◌, ◌↔◌, ◌<◌, ◌≤◌, ◌++◌, List, length, map, IsTrue, OnOk};
+ghost use Rattle.std.specs.Prelude.{◌≡◌, ◌<◌, ◌≤◌, ◌∷◌, ◌++◌, [], List, length, map, MatchResult, IfOk, IfErr, OnOk, OnErr, None};
 ghost use Rattle.pfx_disk.specs.Disk.{IsHonest};
-ghost use Rattle.pfx_store.specs.Groups.{AreRecordsOf};
+ghost use Rattle.pfx_store.specs.Groups.{AreKeptAs};
 ghost use Rattle.pfx_kinds.specs.AnyKind.{any_kind};
 ghost use Rattle.pfx_kinds.specs.declared.any.AnyJob.{AnyJob};
-ghost use Rattle.pfx_machine.specs.Batches.{AreCommon, IsCommon};
 ghost use Rattle.pfx_machine.specs.Outcome.{outcome};
 ghost use Rattle.pfx_machine.specs.Plain.{Plain, IsState};
+ghost use Rattle.pfx_machine.specs.Refusals.{refusal, reply, IsFaultOf};
 ghost use Rattle.pfx_machine.specs.Sessions.{IsAcceptable};
 ghost use Rattle.pfx_machine.specs.declared.command.Command.{Command};
 ghost use Rattle.pfx_record.specs.Records.{plain};
+ghost use Rattle.pfx_redo.specs.Recording.{record_of};
 ghost use Rattle.pfx_segment.specs.Segment.{Takes};
-ghost use Rattle.pfx_engine.specs.Executing.{IsKeeping};
+ghost use Rattle.pfx_engine.specs.Executing.{IsKeeping, IsPut};
 ghost use Rattle.pfx_engine.specs.Keeping.{Anchors};
+ghost use Rattle.pfx_engine.specs.Renewing.{IsKeepable, IsRenewalFor};
 ghost use Rattle.pfx_engine.specs.Stepping.{command_calls, frame_len};
 ghost use Rattle.pfx_engine.specs.Surviving.{KeepsAll};
 
 use pfx_disk::Disk;
 use pfx_kinds::any::AnyJob;
-use pfx_machine::Command;
+use pfx_machine::{Command, MachineFault, State};
 use pfx_record::Record;
-use pfx_store::{Mark, Store, batch_of};
+use pfx_redo::{Recorded, run_recorded};
+use pfx_store::{Mark, Renewal, Store, batch_of, reweigh_of};
 use pfx_store_file::StoreFault;
+use std::alloc::Global;
 
-/// Whether a command is another than a Reweigh: a store keeps it in a batch.
-pub(crate) fn is_common(command: &Command<AnyJob>) -> bool
-    ensures { IsTrue result ↔ IsCommon command.now }
+/// What a store prepares for a command: the set of a Reweigh, and nothing for others.
+fn prepared_for<D: Disk>(
+    alloc: Global,
+    store: &Store<D, AnyJob>,
+    command: &Command<AnyJob>,
+) -> Result<Option<Renewal>, MachineFault>
+    ensures renews { IfOk result (λ renewal. IsRenewalFor store.now.state command.now renewal) }
+    ensures err { IfErr result (λ fault. IsFaultOf any_kind store.now.state command.now fault) }
 {
     match command {
-        Command::Submit { .. } => true,
-        Command::Slot => true,
-        Command::Withdraw { .. } => true,
-        Command::Reweigh { .. } => false,
+        Command::Submit { .. } => Ok(None),
+        Command::Slot => Ok(None),
+        Command::Withdraw { .. } => Ok(None),
+        Command::Reweigh { workers, weights } => {
+            match store.prepare_reweigh(alloc, *workers, weights) {
+                Ok(renewal) => Ok(Some(renewal)),
+                Err(fault) => Err(fault),
+            }
+        }
+    }
+}
+
+/// A command that was run on a state: its reply and its record, and what the store prepared for it.
+#[derive(Drop)]
+pub(crate) struct Prepared {
+    /// Its reply and its record.
+    pub done: Recorded<AnyJob>,
+    /// The set of new weights, if it was a Reweigh.
+    pub renewal: Option<Renewal>,
+}
+
+/// Runs a command on the state, which is the store's, and has the store prepare for it: then no more memory is needed to keep it.
+/// A refusal leaves the state, and is the machine's.
+pub(crate) fn run_prepared<D: Disk>(
+    alloc: Global,
+    store: &Store<D, AnyJob>,
+    state: &mut State<AnyJob>,
+    command: Command<AnyJob>,
+) -> Result<Prepared, MachineFault>
+    requires same { state.old ≡ store.now.state }
+    ensures exact { MatchResult result (λ _. refusal any_kind state.old command ≡ None) (λ fault. IsFaultOf any_kind state.old command fault) }
+    ensures reply { IfOk result (λ ran. ran.done.reply ≡ reply state.old command) }
+    ensures kept_as { IfOk result (λ ran. plain ran.done.entry ≡ record_of any_kind state.old command) }
+    ensures renews { IfOk result (λ ran. IsRenewalFor state.old command ran.renewal) }
+    ensures outcome { OnOk result ((B : Plain AnyJob) (H : List (Command AnyJob)) → state.old ≡ outcome any_kind B H
+        → state.new ≡ outcome any_kind B (H ++ command ∷ [])) }
+    ensures kept { OnErr result (state.new ≡ state.old) }
+{
+    let renewal = prepared_for(alloc, store, &command)?;
+    let done = run_recorded(alloc, state, command)?;
+    Ok(Prepared { done, renewal })
+}
+
+/// Appends the records of commands in one batch, or that of new weights with what was prepared for them.
+fn put<D: Disk>(
+    store: &mut Store<D, AnyJob>,
+    records: Vec<Record<AnyJob>>,
+    renewal: Option<Renewal>,
+) -> Result<Mark, StoreFault>
+    requires some { 0 < length records.items }
+    requires few { length records.items ≤ 16 }
+    requires right { IsKeepable store.old.state (map plain records.items) renewal }
+    ensures put { (G : List (Command AnyJob)) → AreKeptAs any_kind store.old.state G (map plain records.items)
+        → IsPut D.view store.old G store.new result }
+    ensures state { IsState store.old.state }
+{
+    match renewal {
+        None => {
+            let batch = batch_of(store.state(), records);
+            store.append(&batch)
+        }
+        Some(renewal) => {
+            let batch = reweigh_of(store.state(), records);
+            store.append_reweigh(&batch, renewal)
+        }
     }
 }
 
 /// Takes a step of the checkpoint in progress, if there is one, and then appends the records of 1 to 16 commands that the
-/// store's state accepts one after the other, in one batch. The step comes first, so that no reply waits after it.
+/// store's state accepts one after the other, in one batch; or that of a Reweigh, with the set that the store prepared for it. The
+/// step comes first, so that no reply waits after it.
 pub(crate) fn commit<D: Disk>(
     store: &mut Store<D, AnyJob>,
     records: Vec<Record<AnyJob>>,
+    renewal: Option<Renewal>,
 ) -> Result<Mark, StoreFault>
     requires some { 0 < length records.items }
     requires few { length records.items ≤ 16 }
-    requires right { (G : List (Command AnyJob)) × AreRecordsOf any_kind store.old.state G (map plain records.items) }
+    requires right { IsKeepable store.old.state (map plain records.items) renewal }
     ensures call { IsKeeping D.view store.old store.new result }
-    ensures state { (G : List (Command AnyJob)) → AreRecordsOf any_kind store.old.state G (map plain records.items)
+    ensures state { (G : List (Command AnyJob)) → AreKeptAs any_kind store.old.state G (map plain records.items)
         → OnOk result (store.new.state ≡ outcome any_kind store.old.state G) }
 
     // A step of the checkpoint in progress, and then the records.
-    ensures calls { (G : List (Command AnyJob)) → AreRecordsOf any_kind store.old.state G (map plain records.items)
+    ensures calls { (G : List (Command AnyJob)) → AreKeptAs any_kind store.old.state G (map plain records.items)
         → Takes (command_calls (frame_len store.old.state G) store.old.file.places) (D.view store.old.file.disk) (D.view store.new.file.disk) result }
 
     // At every moment of the call, whatever it answers, what survived before survives, with these commands or without.
     ensures keeps { IsHonest (D.view store.old.file.disk)
         → (start : Plain AnyJob) → (H : List (Command AnyJob)) → (G : List (Command AnyJob))
-        → IsState start → IsAcceptable any_kind start H → AreCommon H → store.old.state ≡ outcome any_kind start H
-        → AreRecordsOf any_kind store.old.state G (map plain records.items)
+        → IsState start → IsAcceptable any_kind start H → store.old.state ≡ outcome any_kind start H
+        → AreKeptAs any_kind store.old.state G (map plain records.items)
         → KeepsAll start H (H ++ G) (D.view store.old.file.disk) (D.view store.new.file.disk) }
 
     // From the return on, each image is recovered to the state after the commands.
@@ -65,6 +137,5 @@ pub(crate) fn commit<D: Disk>(
         → OnOk result (Anchors (D.view store.new.file.disk) store.new.state) }
 {
     let _tended = store.tend()?;
-    let batch = batch_of(store.state(), records);
-    store.append(&batch)
+    put(store, records, renewal)
 }

@@ -5,7 +5,6 @@ ghost use Rattle.pfx_feasible.specs.Endless.{IsEndless};
 ghost use Rattle.pfx_format.specs.Format.{format};
 ghost use Rattle.pfx_kinds.specs.AnyKind.{any_kind};
 ghost use Rattle.pfx_kinds.specs.declared.any.AnyJob.{AnyJob};
-ghost use Rattle.pfx_machine.specs.Batches.{AreCommon};
 ghost use Rattle.pfx_machine.specs.Outcome.{outcome};
 ghost use Rattle.pfx_machine.specs.Plain.{Plain, IsState, empty};
 ghost use Rattle.pfx_machine.specs.Sessions.{IsAcceptable};
@@ -16,10 +15,10 @@ ghost use Rattle.pfx_weights.specs.Sets.{FilledSet, IsFilled};
 ghost use Rattle.pfx_engine.specs.Sessions.{Session, AreSessions, AreHeld};
 ghost use Rattle.pfx_engine.specs.Surviving.{Survives, frames_of};
 
-/// The frames that an acceptable list of commands without a Reweigh leaves, each command in a batch of its own, lead from the state before
-/// them to the list's outcome.
+/// The frames that an acceptable list of commands leaves, each command in a batch of its own, lead from the state before them to the
+/// list's outcome.
 pub fn frames_lead_to_outcomes()
-    ensures { (start : Plain AnyJob) → (H : List (Command AnyJob)) → IsState start → IsAcceptable any_kind start H → AreCommon H
+    ensures { (start : Plain AnyJob) → (H : List (Command AnyJob)) → IsState start → IsAcceptable any_kind start H
         → Replays (format any_kind) start (frames_of start H) (outcome any_kind start H) }
 {}
 

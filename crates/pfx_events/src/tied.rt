@@ -8,7 +8,7 @@ ghost use Rattle.pfx_events.specs.Reached.{AreAside, IsReached, going_world};
 ghost use Rattle.pfx_events.specs.Store.{store_of};
 ghost use Rattle.pfx_events.specs.Ties.{Carries, IsIn, IsTied, through, broken_off};
 ghost use Rattle.pfx_store.specs.Files.{FileOf, recovered_file};
-ghost use Rattle.pfx_store.specs.Working.{IsNext};
+ghost use Rattle.pfx_store.specs.Working.{IsNext, IsRenewal};
 ghost use Rattle.pfx_machine.specs.Outcome.{outcome};
 ghost use Rattle.pfx_machine.specs.Plain.{Plain, IsState};
 ghost use Rattle.pfx_machine.specs.Sessions.{IsAcceptable};
@@ -23,7 +23,7 @@ use pfx_disk::Disk;
 use pfx_jobs::job::Job;
 use pfx_record::Batch;
 use pfx_recover::OpenFault;
-use pfx_store::{Mark, Store};
+use pfx_store::{Mark, Renewal, Store};
 use pfx_store_file::{StoreFault, Tended};
 use std::alloc::Global;
 
@@ -83,6 +83,58 @@ pub fn append<D: Disk, J: Job>(
         → KeepsBatches J.kind s (batches ++ H ∷ []) (length batches + 1) image) }
 {
     store.append(batch)
+}
+
+/// `Store::append_reweigh`, in each world whose store this is, if the flusher may take the Reweigh, by itself: its calls are those
+/// of `append`, and so is all that is said of them.
+pub fn append_reweigh<D: Disk, J: Job>(
+    store: &mut Store<D, J>,
+    batch: &Batch<J>,
+    renewal: Renewal,
+) -> Result<Mark, StoreFault>
+    requires next { IsRenewal J.kind store.old.state batch.now.workers batch.now.real batch.now.first
+        (map plain batch.now.records.items) renewal }
+    ensures takes { let S = store_of J.kind in (B : Plain J) → (w : World (store_of J.kind)) → (n : ℕ) → MayHappen S B w (Take n)
+        → IsIn J.kind w store.old.file.places store.old.spelled (D.view store.old.file.disk)
+        → store.old.state ≡ state_at S B w.book.accepted w.book.taken
+        → Carries J.kind store.old.state (next_of S w n) (batch_of batch.now.first batch.now.records.items)
+        → IsHonest (D.view store.old.file.disk)
+        → OnOk result (let events = Take n ∷ through (S.calls w.place (state_at S B w.book.accepted w.book.taken) (next_of S w n)) in
+        CanRun S B w events
+        × IsIn J.kind (run S B w events) store.new.file.places store.new.spelled (D.view store.new.file.disk)) }
+    ensures breaks_off { let S = store_of J.kind in (B : Plain J) → (w : World (store_of J.kind)) → (n : ℕ) → MayHappen S B w (Take n)
+        → IsIn J.kind w store.old.file.places store.old.spelled (D.view store.old.file.disk)
+        → store.old.state ≡ state_at S B w.book.accepted w.book.taken
+        → Carries J.kind store.old.state (next_of S w n) (batch_of batch.now.first batch.now.records.items)
+        → IsHonest (D.view store.old.file.disk)
+        → IsErrOf result StoreFault.Device → (gone : List Act) × CanRun S B w (Take n ∷ broken_off gone)
+        × LeavesAtMost (D.view store.new.file.disk) (run S B w (Take n ∷ broken_off gone)).start (run S B w (Take n ∷ broken_off gone)).done }
+    ensures onward { let S = store_of J.kind in (B : Plain J) → (w : World (store_of J.kind)) → (n : ℕ) → MayHappen S B w (Take n)
+        → IsTied J.kind D.view B w store.old
+        → Carries J.kind store.old.state (next_of S w n) (batch_of batch.now.first batch.now.records.items)
+        → OnOk result (let events = Take n ∷ through (S.calls w.place (state_at S B w.book.accepted w.book.taken) (next_of S w n)) in
+        CanRun S B w events × IsTied J.kind D.view B (run S B w events) store.new) }
+    ensures within { let S = store_of J.kind in (B : Plain J) → (w : World (store_of J.kind)) → (n : ℕ) → MayHappen S B w (Take n)
+        → IsTied J.kind D.view B w store.old
+        → Carries J.kind store.old.state (next_of S w n) (batch_of batch.now.first batch.now.records.items)
+        → (c : ℕ) → (image : List ℕ) → c ≤ (D.view store.old.file.disk).clock → (D.view store.new.file.disk).since c image
+        → (D.view store.old.file.disk).since c image ⊎ ((gone : List Act) × CanRun S B w (Take n ∷ through gone)
+        × MayHappen S B (run S B w (Take n ∷ through gone)) (Stop image)) }
+    ensures keeps { (s : Plain J) → (batches : List (List (Command J))) → (H : List (Command J))
+        → IsState s → IsAcceptable J.kind s (joined (batches ++ H ∷ [])) → AreSmall (batches ++ H ∷ [])
+        → store.old.state ≡ outcome J.kind s (joined batches)
+        → Carries J.kind store.old.state H (batch_of batch.now.first batch.now.records.items) → IsHonest (D.view store.old.file.disk)
+        → (c n : ℕ) → c ≤ (D.view store.old.file.disk).clock
+        → ((image : List ℕ) → (D.view store.old.file.disk).since c image → KeepsBatches J.kind s batches n image)
+        → (image : List ℕ) → (D.view store.new.file.disk).since c image → KeepsBatches J.kind s (batches ++ H ∷ []) n image }
+    ensures acknowledged { (s : Plain J) → (batches : List (List (Command J))) → (H : List (Command J))
+        → IsState s → IsAcceptable J.kind s (joined (batches ++ H ∷ [])) → AreSmall (batches ++ H ∷ [])
+        → store.old.state ≡ outcome J.kind s (joined batches)
+        → Carries J.kind store.old.state H (batch_of batch.now.first batch.now.records.items) → IsHonest (D.view store.old.file.disk)
+        → OnOk result ((image : List ℕ) → (D.view store.new.file.disk).since (D.view store.new.file.disk).clock image
+        → KeepsBatches J.kind s (batches ++ H ∷ []) (length batches + 1) image) }
+{
+    store.append_reweigh(batch, renewal)
 }
 
 /// `Store::tend`, in each world whose store this is, if the flusher may take a step of a checkpoint: `Tend` and its

@@ -1,25 +1,21 @@
 -- What stands behind the gate of a spelled frame.
-use Rattle.std.specs.Prelude.{◌≡◌, ℕ, ◌+◌, ◌*◌, ◌-◌, ◌<◌, ◌≤◌, ◌^◌, List, [], ◌∷◌, ◌++◌, length, take, drop, Bool, true, false, Option, Some, None, IsTrue, IsFalse, refl}
+use Rattle.std.specs.Prelude.{◌≡◌, ℕ, ◌+◌, ◌-◌, ◌<◌, ◌^◌, List, [], ◌∷◌, ◌++◌, length, take, drop, Bool, true, false, Option, Some, None, IsTrue, IsFalse, refl}
 use Rattle.std.proofs.Common.{sym, ◌∙◌, ap, arith, length-append}
 use Rattle.std.proofs.lemmas.List.{length-drop, take_all}
 use Rattle.std.proofs.lemmas.Option.{none-some}
-use Rattle.std.proofs.Math.Nat.{max-eq_left}
 use Rattle.byteorder.specs.Endian.{little_number}
 use Rattle.pfx_disk.specs.declared.gates.TheConstants.{GATE_OPEN}
 use Rattle.pfx_jobs.specs.Kind.{Kind, Laws}
-use Rattle.pfx_record.specs.Batches.{PlainBatch, all_fit, batch_bytes, batch_fits, batch_most, counts_fit}
+use Rattle.pfx_record.specs.Batches.{PlainBatch, all_fit, batch_bytes, batch_fits, counts_fit}
 use Rattle.pfx_record.specs.Numbers.{number_bytes}
 use Rattle.pfx_record.specs.Records.{form_of, records_bytes}
+use Rattle.pfx_record.proofs.Bodies.{records_len, short_batch}
 use Rattle.pfx_record.proofs.Heads.{counts_of, parts_of}
 use Rattle.pfx_record.proofs.Rising.{both}
 use Rattle.pfx_segment.specs.Frames.{IsFrame, number_4}
 use Rattle.pfx_format.proofs.Batches.{head_there, number_there, split_batch}
 use Rattle.pfx_store.specs.Files.{behind_of}
 use Rattle.pfx_store.specs.Standing.{IsBehind}
-
--- the longest batch where no task is said to be real
-pub most_of_rows : (workers : ℕ) → batch_most workers 0 ≡ 31 + 2096 * workers
-most_of_rows workers = max-eq_left (omega arith)
 
 module _ {J : Type 0} (K : Kind J) (L : Laws K) (batch : PlainBatch J) where
   -- the head behind the gate, and the records
@@ -29,12 +25,13 @@ module _ {J : Type 0} (K : Kind J) (L : Laws K) (batch : PlainBatch J) where
   opens : batch_bytes K batch ≡ GATE_OPEN ∷ rest
   opens = split_batch K L batch
 
-  -- the longest one of rows is short
-  pub most_short : (workers real : ℕ) → IsTrue (batch_fits workers real batch) → length (batch_bytes K batch) ≤ batch_most workers 0 → length (batch_bytes K batch) < 2 ^ 32
-  most_short workers real fits bound =
-      let counts = counts_of workers batch.first (length batch.records) (both (counts_fit workers batch.first (length batch.records)) (all_fit (form_of workers real (length batch.records)) batch.records) fits).0 in
-      let few = counts.few_workers in
-      omega (arith, bound, most_of_rows workers, few)
+  -- four bytes can tell its length
+  pub few_bytes : (workers real : ℕ) → IsTrue (batch_fits workers real batch) → length (batch_bytes K batch) < 2 ^ 32
+  few_bytes workers real fits =
+      let parts = both (counts_fit workers batch.first (length batch.records)) (all_fit (form_of workers real (length batch.records)) batch.records) fits in
+      let counts = counts_of workers batch.first (length batch.records) parts.0 in
+      let short = short_batch K L workers real batch.first batch.records fits in
+      omega (arith, short.whole, short.number, records_len K L (form_of workers real (length batch.records)) batch.records counts.few_workers parts.1)
 
   frame_is : (workers real : ℕ) → IsTrue (batch_fits workers real batch) → length (batch_bytes K batch) < 2 ^ 32 → IsFrame (GATE_OPEN ∷ rest)
   frame_is workers real fits short =

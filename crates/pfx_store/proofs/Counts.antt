@@ -7,7 +7,7 @@ use Rattle.pfx_segment.specs.Segment.{Takes}
 use Rattle.pfx_store_file.specs.Calls.{Works}
 use Rattle.pfx_store_file.specs.Checkpoints.{in_progress}
 use Rattle.pfx_store_file.specs.Fitting.{HasRoom, IsTurnable}
-use Rattle.pfx_store_file.specs.Tending.{IsTurnedBefore, MovesOn, TakesFrame, append_calls, calls_left, calls_to_end, pieces, turn_calls}
+use Rattle.pfx_store_file.specs.Tending.{IsTurnedBefore, MovesOn, TakesFrame, append_calls, calls_left, calls_to_end, pieces, room_calls, turn_calls}
 use Rattle.pfx_store_file.specs.declared.progress.Checkpoint.{Checkpoint}
 use Rattle.pfx_store_file.specs.declared.progress.Checkpoint.TheVariants.{Ended, Pending, Writing}
 use Rattle.pfx_store_file.specs.declared.faults.StoreFault.{StoreFault}
@@ -55,6 +55,14 @@ append_by false left n most = omega (arith, most)
 -- no append takes more calls than this
 pub append_most : (n : ℕ) (places : Places) → append_calls n places ≤ 15 + pieces places.sizes.body
 append_most n places = append_by (nat_lt (places.gate + n) places.end) (calls_left places) (pieces places.sizes.body) (left_bound places.sizes.body places.checkpoint)
+
+-- making room takes no more calls than the append that it is for
+few_by : (room : Bool) (left : ℕ) → (if room then 0 else left) ≤ (if room then 4 else 10 + left)
+few_by true left = omega arith
+few_by false left = omega arith
+
+pub room_few : (n : ℕ) (places : Places) → room_calls n places ≤ append_calls n places
+room_few n places = few_by (nat_lt (places.gate + n) places.end) (calls_left places)
 
 -- a frame of n bytes behind room that was made for it
 module _ (n a b : ℕ) (old mid new : Places) (is_a : a ≡ n) (is_b : b ≡ n) (there : HasRoom a old → mid ≡ old) (full : HasRoom a mid → HasRoom a old) (taken : TakesFrame b mid new) where

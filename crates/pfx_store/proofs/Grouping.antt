@@ -29,7 +29,7 @@ use Rattle.pfx_record.proofs.Rising.{of_both}
 use Rattle.pfx_recovery.specs.Codec.{Codec}
 use Rattle.pfx_recovery.specs.Store.{Replays}
 use Rattle.pfx_store_file.specs.Holding as frames
-use Rattle.pfx_store.specs.Groups.{AreRecordsOf, AreSmall, KeepsAll, Survives, alone, frame_of, frames_of, joined}
+use Rattle.pfx_store.specs.Groups.{AreKeptAs, AreRecordsOf, AreSmall, KeepsAll, Survives, alone, frame_of, frames_of, joined}
 
 -- records that are right have spellings
 fit_by : {J : Type 0} (K : Kind J) (s t : Plain J) (done : Recorded J) (records : List (Recorded J)) (b : Bool) → is_right K s done ≡ b → (if b then applied K (after_record s done) records else None) ≡ Some t →
@@ -127,9 +127,6 @@ module _ {J : Type 0} (K : Kind J) (L : Laws K) (s : Plain J) (H : List (Command
     pub batch_led : IsBatchable H → state_after K s (frame_of K s H) ≡ Some (outcome K s H)
     batch_led may = frame_leads K L s (outcome K s H) batch (group_fits may) refl (omega (arith, length-records K s H, below)) group_led
 
-  pub frame_led : AreCommon H → 0 < length H → length H ≤ 16 → state_after K s (frame_of K s H) ≡ Some (outcome K s H)
-  frame_led common some few = batch_led some few (common_batchable H common)
-
 -- Groups, one behind the other.
 module _ {J : Type 0} (K : Kind J) (L : Laws K) where
   -- the records of a list are those of its front, and those of the rest behind the front's outcome
@@ -143,7 +140,7 @@ module _ {J : Type 0} (K : Kind J) (L : Laws K) where
   frames_lead s [] t state all small run = sym run ∙ sym (outcome-none K s)
   frames_lead s (group ∷ groups) t state all small run =
       let front : IsAcceptable K s group = front_accepted K s [] group (joined groups) all in
-      let led = frame_led K L s group state front small.2 small.0 small.1 in
+      let led = batch_led K L s group state front small.0 small.1 small.2 in
       let same : run.0 ≡ outcome K s group = same_Some _ _ (sym run.1 ∙ led) in
       let next : IsState (outcome K s group) = prefix_is_state K L s state group (joined groups) all in
       frames_lead (outcome K s group) groups t next (behind_there K L s group (joined groups) all) small.3 (subst (λ r. Replays (format K) r (frames_of K (outcome K s group) groups) t) same run.2)
@@ -155,7 +152,7 @@ module _ {J : Type 0} (K : Kind J) (L : Laws K) where
       let front : IsAcceptable K s group = front_accepted K s [] group (joined groups) all in
       let next : IsState (outcome K s group) = prefix_is_state K L s state group (joined groups) all in (
         outcome K s group,
-        frame_led K L s group state front small.2 small.0 small.1,
+        batch_led K L s group state front small.0 small.1 small.2,
         subst (λ t. Replays (format K) (outcome K s group) (frames_of K (outcome K s group) groups) t) (outcome-outcome K L s group (joined groups))
             (frames_there (outcome K s group) groups next (behind_there K L s group (joined groups) all) small.3),
       )
@@ -223,15 +220,26 @@ module _ {J : Type 0} (K : Kind J) (L : Laws K) where
   keeps_groups start groups more old new state all small all_more small_more keeps c n le before image here =
       to_groups start more state all_more small_more n image (keeps c n le (λ other was. to_frames start groups state all small n other (before other was)) image here)
 
+-- records without one of new weights may be a batch's
+pub common_kept : {J : Type 0} (K : Kind J) (s : Plain J) (H : List (Command J)) (records : List (Recorded J)) → AreRecordsOf K s H records → AreKeptAs K s H records
+common_kept K s H records are = record { accepted = are.accepted; may = common_batchable H are.common; of = are.of }
+
 -- Records that a batch has.
-module _ {J : Type 0} (K : Kind J) (L : Laws K) (s : Plain J) (H : List (Command J)) (records : List (Recorded J)) (state : IsState s) (are : AreRecordsOf K s H records) where
-  long : length H ≡ length records
-  long = sym (length-records K s H) ∙ ap length (sym are.of)
+module _ {J : Type 0} (K : Kind J) (L : Laws K) (s : Plain J) (H : List (Command J)) (records : List (Recorded J)) (state : IsState s) where
+  long : AreKeptAs K s H records → length H ≡ length records
+  long are = sym (length-records K s H) ∙ ap length (sym are.of)
 
-  pub records_fit : (workers first : ℕ) → workers ≡ s.ledger.set.workers → first ≡ s.number → 0 < length records → length records ≤ 16 → IsTrue (batch_fits workers 0 (record { first = first + 1; records = records }))
-  records_fit workers first same next some few =
-      (λ i. batch_fits (same i) 0 (record { first = next i + 1; records = are.of i })) ∙ common_batch_fits K L s H state are.accepted (omega (arith, long, some)) (omega (arith, long, few)) 0 are.common
+  pub records_fit : AreRecordsOf K s H records → (workers first : ℕ) → workers ≡ s.ledger.set.workers → first ≡ s.number → 0 < length records → length records ≤ 16 → IsTrue (batch_fits workers 0 (record { first = first + 1; records = records }))
+  records_fit are workers first same next some few =
+      let counted = long (common_kept K s H records are) in
+      (λ i. batch_fits (same i) 0 (record { first = next i + 1; records = are.of i })) ∙ common_batch_fits K L s H state are.accepted (omega (arith, counted, some)) (omega (arith, counted, few)) 0 are.common
 
+  pub kept_fit : AreKeptAs K s H records → (workers real first : ℕ) → workers ≡ s.ledger.set.workers → real ≡ s.ledger.set.real → first ≡ s.number → 0 < length records → length records ≤ 16 → IsTrue (batch_fits workers real (record { first = first + 1; records = records }))
+  kept_fit are workers real first same as_many next some few =
+      let counted = long are in
+      (λ i. batch_fits (same i) (as_many i) (record { first = next i + 1; records = are.of i })) ∙ group_fits K L s H state are.accepted (omega (arith, counted, some)) (omega (arith, counted, few)) are.may
+
+module _ {J : Type 0} (K : Kind J) (L : Laws K) (s : Plain J) (H : List (Command J)) (records : List (Recorded J)) (state : IsState s) (are : AreKeptAs K s H records) where
   pub records_lead : applied K s records ≡ Some (outcome K s H)
   records_lead = ap (applied K s) are.of ∙ group_led K L s H state are.accepted
 
@@ -253,9 +261,9 @@ pub all_alone : {J : Type 0} (H : List (Command J)) → joined (alone H) ≡ H
 all_alone [] = refl
 all_alone (c ∷ H) = ap (λ l. c ∷ l) (all_alone H)
 
-pub alone_small : {J : Type 0} (H : List (Command J)) → AreCommon H → AreSmall (alone H)
-alone_small [] common = tt
-alone_small (c ∷ H) common = (omega arith, omega arith, (common.0, tt), alone_small H common.1)
+pub alone_small : {J : Type 0} (H : List (Command J)) → AreSmall (alone H)
+alone_small [] = tt
+alone_small (c ∷ H) = (omega arith, omega arith, tt, alone_small H)
 
 pub length-alone : {J : Type 0} (H : List (Command J)) → length (alone H) ≡ length H
 length-alone [] = refl

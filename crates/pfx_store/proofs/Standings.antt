@@ -1,5 +1,5 @@
 -- Stores that stand, after the calls of their files.
-use Rattle.std.specs.Prelude.{◌≡◌, ◌≤◌, ◌+◌, ◌*◌, ℕ, List, [], ◌∷◌, ◌++◌, length, if◌then◌else◌, Bool, true, false, Option, Some, None, Result, Ok, Err, OnOk, IsErrAnd, Vec, refl}
+use Rattle.std.specs.Prelude.{◌≡◌, ◌≤◌, ◌+◌, ℕ, List, [], ◌∷◌, ◌++◌, length, if◌then◌else◌, Bool, true, false, Option, Some, None, Result, Ok, Err, OnOk, IsErrAnd, Vec, refl}
 use Rattle.std.specs.declared.alloc.Global.{Global}
 use Rattle.std.proofs.Common.{sym, ◌∙◌, ap, arith, length-append, subst, inl, inr}
 use Rattle.std.proofs.lemmas.Bool.{cases_lt, true≢false}
@@ -19,8 +19,8 @@ use Rattle.pfx_store_file.specs.Holding.{Holds, KeepsAll}
 use Rattle.pfx_store_file.specs.Tending.{settled, settled_unless, made_room}
 use Rattle.pfx_store_file.specs.declared.places.Places.{Places}
 use Rattle.pfx_store_file.proofs.Keeping.{keeps_then, room_there, room_made}
-use Rattle.pfx_weights.specs.Sets.{FilledSet}
 use Rattle.pfx_store.specs.Standing.{IsReady, Stands}
+use Rattle.pfx_store.specs.Working.{IsOfStore}
 use Rattle.pfx_store.proofs.Areas.{spelled_read}
 
 -- how the body of a checkpoint is spelled matters only if one is in progress
@@ -80,12 +80,12 @@ stands_turned K L h places p s spelled disk state set is holds = record {
   middle = λ _. spelled_read K L h s spelled state set is;
 }
 
--- a state of the same set and store is of the same header
-goes_on_of : {J : Type 0} (h : Header) (s t : Plain J) → t.ledger.set ≡ s.ledger.set → t.segment ≡ s.segment → IsOf h s → IsOf h t
-goes_on_of h s t set segment of = record {
-  real = ap (λ (u : FilledSet). u.real) set ∙ of.real;
-  segment = segment ∙ of.segment;
-  room = subst (λ (u : FilledSet). least_segment u.workers ≤ h.segment) (sym set) of.room;
+-- a state of the same store is of the same header
+goes_on_of : {J : Type 0} (h : Header) (s t : Plain J) → IsOfStore s t → IsOf h s → IsOf h t
+goes_on_of h s t same of = record {
+  real = same.real ∙ of.real;
+  segment = same.segment ∙ of.segment;
+  room = subst (λ n. least_segment t.ledger.set.workers ≤ n) (same.segment ∙ of.segment) same.fits;
 }
 
 -- A frame more, which leads to the state t.
@@ -100,13 +100,13 @@ module _ {J : Type 0} (K : Kind J) (L : Laws K) (n : ℕ) (old new : Places) (s 
     ]
   ]
 
-  pub stands_behind : (st : Stands K old s spelled before) → IsState s → t.ledger.set ≡ s.ledger.set → t.segment ≡ s.segment → IsReady K n old s spelled →
+  pub stands_behind : (st : Stands K old s spelled before) → IsState s → IsOfStore s t → IsReady K n old s spelled →
       Holds (format K) st.header new (with_frame (made_room n old st.parts s) frame) t spelled behind → Stands K new t spelled behind
-  stands_behind st state set segment ready holds = record {
+  stands_behind st state same ready holds = record {
     header = st.header;
     parts = with_frame (made_room n old st.parts s) frame;
     holds = holds;
-    of = goes_on_of st.header s t set segment st.of;
+    of = goes_on_of st.header s t same st.of;
     middle = keeps_middle st.header st.parts state st.of st.middle ready;
   }
 

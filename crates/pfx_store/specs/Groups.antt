@@ -6,7 +6,7 @@ use Rattle.pfx_format.specs.Format.{format}
 use Rattle.pfx_jobs.specs.Kind.{Kind}
 use Rattle.pfx_machine.specs.Plain.{Plain}
 use Rattle.pfx_machine.specs.Outcome.{outcome}
-use Rattle.pfx_machine.specs.Batches.{AreCommon}
+use Rattle.pfx_machine.specs.Batches.{AreCommon, IsBatchable}
 use Rattle.pfx_machine.specs.Sessions.{IsAcceptable}
 use Rattle.pfx_machine.specs.declared.command.Command.{Command}
 use Rattle.pfx_record.specs.Batches.{batch_bytes}
@@ -18,10 +18,10 @@ abbrev pub joined : {J : Type 0} → List (List (Command J)) → List (Command J
 joined [] = []
 joined (group ∷ groups) = group ++ joined groups
 
--- each has 1 to 16 commands, none of which is a Reweigh
+-- each has 1 to 16 commands, and a Reweigh is alone in its group
 abbrev pub AreSmall : {J : Type 0} → List (List (Command J)) → Type 0
 AreSmall [] = ⊤
-AreSmall (group ∷ groups) = (0 < length group) × (length group ≤ 16) × AreCommon group × AreSmall groups
+AreSmall (group ∷ groups) = (0 < length group) × (length group ≤ 16) × IsBatchable group × AreSmall groups
 
 -- each command in a group of its own
 abbrev pub alone : {J : Type 0} → List (Command J) → List (List (Command J))
@@ -41,6 +41,12 @@ module _ {J : Type 0} (K : Kind J) where
   pub record AreRecordsOf (s : Plain J) (H : List (Command J)) (records : List (recorded.Recorded J)) : Type 0 where
     pub accepted : IsAcceptable K s H
     pub common : AreCommon H
+    pub of : records ≡ records_of K s H
+
+  -- the commands are accepted one after the other from the state on, they may be a batch, and these are their records
+  pub record AreKeptAs (s : Plain J) (H : List (Command J)) (records : List (recorded.Recorded J)) : Type 0 where
+    pub accepted : IsAcceptable K s H
+    pub may : IsBatchable H
     pub of : records ≡ records_of K s H
 
   -- the image is recovered to the outcome of the first of these groups, n of them at least

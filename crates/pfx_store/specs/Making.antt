@@ -1,10 +1,11 @@
 -- The calls that the making of a store takes, and which fault comes if it isn't made.
-use Rattle.std.specs.Prelude.{◌≡◌, ◌<◌, ◌≤◌, ◌+◌, ◌-◌, ◌*◌, ℕ, List, ⊤}
+use Rattle.std.specs.Prelude.{◌≡◌, ◌<◌, ◌≤◌, ◌+◌, ◌-◌, ℕ, List, ⊤}
 use Rattle.pfx_checkpoint.specs.Whole.{whole_bytes}
 use Rattle.pfx_format.specs.Format.{layout}
 use Rattle.pfx_header.specs.Headers.{IsHeader, IsSegmentSize, header_bytes, least_segment, longest_segment, this_version}
 use Rattle.pfx_jobs.specs.Kind.{Kind}
 use Rattle.pfx_machine.specs.Plain.{Plain, empty}
+use Rattle.pfx_record.specs.Batches.{batch_most}
 use Rattle.pfx_recovery.specs.Layout.{file_len}
 use Rattle.pfx_store_file.specs.Tending.{pieces}
 use Rattle.pfx_weights.specs.Sets.{FilledSet}
@@ -37,5 +38,5 @@ pub record IsPrepared {J : Type 0} (K : Kind J) (set : FilledSet) (segment : ℕ
   pub header : IsHeader (record { set = set; segment = segment })
   pub head : head_bytes ≡ header_bytes this_version (record { set = set; segment = segment })
   pub spelled : spelled_bytes ≡ whole_bytes K (empty set segment)
-  pub room : 32 + 2096 * set.workers ≤ capacity
+  pub room : batch_most set.workers set.real + 1 ≤ capacity
   pub empty : state ≡ empty set segment

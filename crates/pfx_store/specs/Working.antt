@@ -1,6 +1,6 @@
 -- What the calls of a store do.
 use Rattle.std.specs.Prelude.{◌≡◌, ◌↔◌, ◌≤◌, ◌<◌, ◌+◌, ◌-◌, ◌++◌, ℕ, List, [], ◌∷◌, length, min, take, slice_index, true, false, Bool, Option}
-use Rattle.std.specs.Prelude.{Result, Ok, Some, Vec, OnOk, OnErr, IfOk, IfErr, IsErrOf, IsTrue, MatchResult}
+use Rattle.std.specs.Prelude.{Result, Ok, Some, None, Vec, OnOk, OnErr, IfOk, IfErr, IsErrOf, IsTrue, MatchResult}
 use Rattle.std.specs.declared.alloc.Global.{Global}
 use Rattle.byteorder.specs.Endian.{little_number}
 use Rattle.pfx_checkpoint.specs.Whole.{whole_bytes}
@@ -9,12 +9,13 @@ use Rattle.pfx_disk.specs.Disk.{View, HasFailed, IsHonest, Leaves, Only, Same}
 use Rattle.pfx_disk.specs.Stop.{Act, Sync}
 use Rattle.pfx_create.specs.Attempts.{IsNoneOrMade}
 use Rattle.pfx_format.specs.Format.{format}
-use Rattle.pfx_header.specs.Headers.{Header, IsSegmentSize}
+use Rattle.pfx_header.specs.Headers.{Header, IsSegmentSize, least_segment}
 use Rattle.pfx_jobs.specs.Kind.{Kind}
 use Rattle.pfx_machine.specs.Plain.{Plain, IsState, empty}
+use Rattle.pfx_machine.specs.Reweighing.{new_set}
 use Rattle.pfx_record.specs.Batches.{batch_most}
 use Rattle.pfx_record.specs.Numbers.{number_bytes}
-use Rattle.pfx_record.specs.Records.{Recorded}
+use Rattle.pfx_record.specs.Records.{Recorded, reweighed}
 use Rattle.pfx_recover.specs.declared.faults.OpenFault.{OpenFault}
 use Rattle.pfx_recovery.specs.Recovery.{Found, found, recovered}
 use Rattle.pfx_recovery.specs.Store.{Replays}
@@ -42,6 +43,10 @@ use Rattle.pfx_store.specs.Stores.{PlainStore}
 use Rattle.pfx_store.specs.declared.store.Mark.{Mark}
 use Rattle.pfx_weights.specs.Sets.{FilledSet}
 
+-- these records are one of new weights, alone, and this is the set that comes into force by it
+abbrev pub Renews : {J : Type 0} → Plain J → List (Recorded J) → FilledSet → Type 0
+Renews s records set = (m : ℕ) × (weights : List (ℕ × ℕ)) × (records ≡ reweighed m weights ∷ []) × (set ≡ new_set s.ledger.set m weights)
+
 -- the records may come next at a state: rows are of its workers, no task is said to be real, the first number is the next, and each record
 -- is right in turn
 pub record IsNext {J : Type 0} (K : Kind J) (s : Plain J) (m r n : ℕ) (records : List (Recorded J)) : Type 0 where
@@ -49,6 +54,20 @@ pub record IsNext {J : Type 0} (K : Kind J) (s : Plain J) (m r n : ℕ) (records
   pub real : r ≡ 0
   pub first : n ≡ s.number + 1
   pub right : (t : Plain J) × (applied K s records ≡ Some t)
+
+-- The record may come next at a state: it is one of new weights, alone, and this is their set; rows are of the state's workers, as many tasks
+-- are said to be real as the state has, the first number is the next, and the record is right.
+pub record IsRenewal {J : Type 0} (K : Kind J) (s : Plain J) (m r n : ℕ) (records : List (Recorded J)) (set : FilledSet) : Type 0 where
+  pub workers : m ≡ s.ledger.set.workers
+  pub real : r ≡ s.ledger.set.real
+  pub first : n ≡ s.number + 1
+  pub right : (t : Plain J) × (applied K s records ≡ Some t)
+  pub renews : Renews s records set
+
+-- records come next at a state as those of an append do, or as new weights with their set
+abbrev pub IsComing : {J : Type 0} → Kind J → Plain J → ℕ → ℕ → ℕ → List (Recorded J) → Option FilledSet → Type 0
+IsComing K s m r n records None = IsNext K s m r n records
+IsComing K s m r n records (Some set) = IsRenewal K s m r n records set
 
 -- the records move the state on, unless the call failed, and then it stays
 pub record MovesBy {J T : Type 0} (K : Kind J) (records : List (Recorded J)) (result : Result T StoreFault) (old new : Plain J) : Type 0 where
@@ -66,17 +85,18 @@ pub record IsSpelled (frame bytes : List ℕ) (old_room new_room : ℕ) : Type 0
   pub items : bytes ≡ frame ++ 0 ∷ []
   pub room : old_room ≤ new_room
 
--- a frame of rows for m workers, with that gate behind it
-pub record IsFrameOf (m : ℕ) (frame bytes : List ℕ) : Type 0 where
-  pub spelled : bytes ≡ frame ++ 0 ∷ []
-  pub short : length frame ≤ batch_most m 0
-
--- the records lead from one state to the other, of the same set and store
-pub record LeadsOn {J : Type 0} (K : Kind J) (old : Plain J) (records : List (Recorded J)) (new : Plain J) : Type 0 where
-  pub taken : applied K old records ≡ Some new
-  pub set : new.ledger.set ≡ old.ledger.set
-  pub from : new.from ≡ old.from
+-- the one state is of the same store as the other: it has as many real tasks, and its segments are as long, with room for the longest batch
+-- of its workers
+pub record IsOfStore {J : Type 0} (old new : Plain J) : Type 0 where
+  pub real : new.ledger.set.real ≡ old.ledger.set.real
   pub segment : new.segment ≡ old.segment
+  pub fits : least_segment new.ledger.set.workers ≤ new.segment
+
+-- The records lead from one state to another of the same store, and there is room for the longest frame there.
+pub record LeadsOn {J : Type 0} (K : Kind J) (old : Plain J) (records : List (Recorded J)) (new : Plain J) (capacity : ℕ) : Type 0 where
+  pub taken : applied K old records ≡ Some new
+  pub of : IsOfStore old new
+  pub room : batch_most new.ledger.set.workers new.ledger.set.real + 1 ≤ capacity
 
 -- room for a body of so many bytes; where a body is given that is as long it is this one
 pub record IsBody (given : Option (Vec ℕ Global)) (len : ℕ) (body : List ℕ) : Type 0 where

@@ -100,6 +100,7 @@ fn made<D: Disk, J: Job>(
     ensures { MakesStore D.view J.kind set.now segment disk (as_store result) }
 {
     set.is_of_its_tasks();
+    let _total = set.total();
     let Ok(state) = State::new(alloc, set, segment) else {
         return Err((InitFault::NoMemory, disk));
     };
@@ -109,7 +110,8 @@ fn made<D: Disk, J: Job>(
     let Ok(spelled) = frozen(alloc, &state) else {
         return Err((InitFault::NoMemory, disk));
     };
-    let Ok(frame) = Vec::with_capacity(alloc, longest_frame(set.workers())) else {
+    let longest = longest_frame(set.workers(), set.real() as u32);
+    let Ok(frame) = Vec::with_capacity(alloc, longest) else {
         return Err((InitFault::NoMemory, disk));
     };
     placed(disk, set, state, &head, spelled, frame, segment)

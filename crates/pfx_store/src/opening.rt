@@ -1,5 +1,5 @@
 // Opening a store.
-ghost use Rattle.std.specs.Prelude.{◌≡◌, ◌≤◌, ◌+◌, ◌*◌, ℕ, List, if◌then◌else◌, false, Ok, Err, IfOk, IfErr, MatchResult};
+ghost use Rattle.std.specs.Prelude.{◌≡◌, ◌≤◌, ◌+◌, ℕ, List, if◌then◌else◌, false, Ok, Err, IfOk, IfErr, MatchResult};
 ghost use Rattle.pfx_disk.specs.Disk.{IsHonest, HasFailed};
 ghost use Rattle.pfx_format.specs.Format.{format, IsOf};
 ghost use Rattle.pfx_header.specs.Headers.{Header};
@@ -7,6 +7,7 @@ ghost use Rattle.pfx_machine.specs.Plain.{Plain};
 ghost use Rattle.pfx_recover.specs.Answers.{IsRefusal};
 ghost use Rattle.pfx_recover.specs.Finding.{CanGoOn, IsOpened};
 ghost use Rattle.pfx_recover.specs.Looking.{Looks};
+ghost use Rattle.pfx_record.specs.Batches.{batch_most};
 ghost use Rattle.pfx_recovery.specs.Recovery.{Found, found, recovered};
 ghost use Rattle.pfx_store_file.specs.Checkpoints.{is_begun};
 ghost use Rattle.pfx_store_file.specs.Tending.{pieces, steps_left};
@@ -20,15 +21,16 @@ use pfx_checkpoint::whole_len;
 use pfx_disk::Disk;
 use pfx_jobs::job::Job;
 use pfx_machine::State;
+use pfx_record::batch_most;
 use pfx_recover::{OpenFault, Opened, open};
 use pfx_store_file::StoreFile;
 use std::alloc::{AllocError, Global};
 
-// How many bytes the longest frame takes, with the closed gate behind it.
-pub(crate) fn longest_frame(workers: u32) -> usize
-    ensures { result ≡ 32 + 2096 * workers }
+// How many bytes the longest frame takes, be it of rows or of new weights, with the closed gate behind it.
+pub(crate) fn longest_frame(workers: u32, real: u32) -> usize
+    ensures { result ≡ batch_most workers real + 1 }
 {
-    32 + 2096 * workers as usize
+    batch_most(workers, real) + 1
 }
 
 // The body of the checkpoint in progress, or room for one.
@@ -58,10 +60,12 @@ fn furnished<D: Disk, J: Job>(
 {
     let _header = header.set();
     let _total = state.columns().total();
-    let Ok(spelled) = body_of(alloc, middle, whole_len(state.columns().real())) else {
+    let real = state.columns().real();
+    let Ok(spelled) = body_of(alloc, middle, whole_len(real)) else {
         return Err((OpenFault::NoMemory, file.into_disk()));
     };
-    let Ok(frame) = Vec::with_capacity(alloc, longest_frame(state.columns().workers())) else {
+    let longest = longest_frame(state.columns().workers(), real as u32);
+    let Ok(frame) = Vec::with_capacity(alloc, longest) else {
         return Err((OpenFault::NoMemory, file.into_disk()));
     };
     Ok(Journal {

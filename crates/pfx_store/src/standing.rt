@@ -1,8 +1,11 @@
 // A store: a journal that stands for its state.
-ghost use Rattle.std.specs.Prelude.{◌≡◌, ◌++◌, ◌∷◌, [], ℕ, List, length, map, true, false, Ok, OnOk, IfOk};
+ghost use Rattle.std.specs.Prelude.{◌≡◌, ◌++◌, ◌∷◌, [], ℕ, List, length, map, true, false, Ok, OnOk, IfOk, MatchResult, None};
 ghost use Rattle.pfx_disk.specs.Disk.{IsHonest};
 ghost use Rattle.pfx_format.specs.Format.{format};
 ghost use Rattle.pfx_machine.specs.Plain.{Plain};
+ghost use Rattle.pfx_machine.specs.Refusals.{refusal, IsFaultOf};
+ghost use Rattle.pfx_machine.specs.Reweighing.{new_set};
+ghost use Rattle.pfx_machine.specs.declared.command.Command.{Command};
 ghost use Rattle.pfx_record.specs.Batches.{batch_bytes, batch_of};
 ghost use Rattle.pfx_record.specs.Records.{plain};
 ghost use Rattle.pfx_recovery.specs.Recovery.{recovered};
@@ -13,15 +16,18 @@ ghost use Rattle.pfx_store_file.specs.Tending.{TakesFrame, append_calls, calls_o
 ghost use Rattle.pfx_store.specs.Files.{appending, appended, tending, turning};
 ghost use Rattle.pfx_store.specs.Marks.{Covers, marked};
 ghost use Rattle.pfx_store.specs.Standing.{Stands};
-ghost use Rattle.pfx_store.specs.Working.{Commits, IsCall, IsNext, Makes, MovesBy, Tends, Turns};
+ghost use Rattle.pfx_store.specs.Working.{Commits, IsCall, IsComing, IsNext, IsRenewal, Makes, MovesBy, Tends, Turns};
 
 use crate::journal::Journal;
+use crate::renewal::{Renewal, prepared};
 use crate::store::Mark;
 use pfx_disk::Disk;
 use pfx_jobs::job::Job;
-use pfx_machine::State;
+use pfx_machine::{MachineFault, State};
 use pfx_record::Batch;
 use pfx_store_file::{Places, StoreFault, Tended};
+use pfx_weights::Weights;
+use std::alloc::Global;
 use std::marker::Model;
 
 /// A state, and the file on a disk that keeps it. If no call of the disk has failed and the disk is honest, the file
@@ -127,7 +133,96 @@ impl<D: Disk, J: Job> Store<D, J> {
             Makes D.view self.old self.new result J.kind (λ f. appending J.kind f self.old.state frame)
             (λ f. appended J.kind f self.old.state frame) (OnOk result) }
     {
-        self.journal.append(batch)
+        self.take(batch, None)
+    }
+
+    /// The set of these workers and weights, prepared for `append_reweigh`, with all memory that it takes. The store stays as it is,
+    /// and the disk isn't asked.
+    ///
+    /// It is refused as a Reweigh is, in the same order; `SegmentTooSmall` tells the least length of segments, in which the
+    /// longest batch of the new workers has room, and the record of the new weights. `NoRow(NoMemory)` comes only if an
+    /// allocation failed.
+    pub fn prepare_reweigh(
+        &self,
+        alloc: Global,
+        workers: u32,
+        weights: &Weights,
+    ) -> Result<Renewal, MachineFault>
+        ensures set { IfOk result (λ renewal. renewal ≡ new_set self.now.state.ledger.set workers weights.now) }
+        ensures exact { MatchResult result (λ _. refusal J.kind self.now.state (Command.Reweigh workers weights.now) ≡ None)
+            (λ fault. IsFaultOf J.kind self.now.state (Command.Reweigh workers weights.now) fault) }
+    {
+        prepared(alloc, &self.journal.state, workers, weights)
+    }
+
+    /// Appends the record of new weights, alone in its frame, and puts their set in force, which was prepared at this state: from
+    /// the mark on it is durable. In all else it does what `append` does: it makes as many calls of the disk, ends a
+    /// checkpoint and turns where its frame doesn't fit, and takes no memory.
+    ///
+    /// The batch begins with the next number, has rows of the state's workers, says of as many tasks that they are real as the
+    /// state has, and its one record is right at the state. `Device` breaks the store, and it keeps its state and its set; a
+    /// broken store answers `Broken` and does nothing.
+    pub fn append_reweigh(&mut self, batch: &Batch<J>, renewal: Renewal) -> Result<Mark, StoreFault>
+        requires next { IsRenewal J.kind self.old.state batch.now.workers batch.now.real batch.now.first
+            (map plain batch.now.records.items) renewal }
+        ensures call { let n = length (batch_bytes J.kind (batch_of batch.now.first batch.now.records.items)) in
+            IsCall D.view self.old self.new result (append_calls n self.old.file.places) }
+        ensures state { MovesBy J.kind (map plain batch.now.records.items) result self.old.state self.new.state }
+        ensures place { let n = length (batch_bytes J.kind (batch_of batch.now.first batch.now.records.items)) in
+            OnOk result (TakesFrame n self.old.file.places self.new.file.places) }
+        ensures mark { IfOk result (λ mark. (mark.number ≡ self.new.state.number)
+            × (mark.clock ≡ (D.view self.new.file.disk).clock)) }
+
+        // Each mark is kept, whatever the call answers, and the new one too.
+        ensures marks { IsHonest (D.view self.old.file.disk)
+            → (start : Plain J) → (all : List (List ℕ)) → (marks : List Mark)
+            → Covers J.kind start all marks self.old.file.broken self.old.state (D.view self.old.file.disk)
+            → Covers J.kind start (all ++ batch_bytes J.kind (batch_of batch.now.first batch.now.records.items) ∷ [])
+            (marked result marks) self.new.file.broken self.new.state (D.view self.new.file.disk) }
+
+        // At every moment what survived before survives, with the batch or without; from the return on each image has the batch.
+        ensures commits { IsHonest (D.view self.old.file.disk)
+            → Commits J.kind self.old.state (batch_bytes J.kind (batch_of batch.now.first batch.now.records.items)) result
+            (D.view self.old.file.disk) (D.view self.new.file.disk) }
+
+        // These calls of the disk, and the file after them.
+        ensures acts { let frame = batch_bytes J.kind (batch_of batch.now.first batch.now.records.items) in
+            Makes D.view self.old self.new result J.kind (λ f. appending J.kind f self.old.state frame)
+            (λ f. appended J.kind f self.old.state frame) (OnOk result) }
+    {
+        self.take(batch, Some(renewal))
+    }
+
+    // Appends a batch, or one of new weights with what was prepared for them.
+    fn take(&mut self, batch: &Batch<J>, renewal: Option<Renewal>) -> Result<Mark, StoreFault>
+        requires next { IsComing J.kind self.old.state batch.now.workers batch.now.real batch.now.first
+            (map plain batch.now.records.items) renewal }
+        ensures call { let n = length (batch_bytes J.kind (batch_of batch.now.first batch.now.records.items)) in
+            IsCall D.view self.old self.new result (append_calls n self.old.file.places) }
+        ensures state { MovesBy J.kind (map plain batch.now.records.items) result self.old.state self.new.state }
+        ensures place { let n = length (batch_bytes J.kind (batch_of batch.now.first batch.now.records.items)) in
+            OnOk result (TakesFrame n self.old.file.places self.new.file.places) }
+        ensures mark { IfOk result (λ mark. (mark.number ≡ self.new.state.number)
+            × (mark.clock ≡ (D.view self.new.file.disk).clock)) }
+
+        // Each mark is kept, whatever the call answers, and the new one too.
+        ensures marks { IsHonest (D.view self.old.file.disk)
+            → (start : Plain J) → (all : List (List ℕ)) → (marks : List Mark)
+            → Covers J.kind start all marks self.old.file.broken self.old.state (D.view self.old.file.disk)
+            → Covers J.kind start (all ++ batch_bytes J.kind (batch_of batch.now.first batch.now.records.items) ∷ [])
+            (marked result marks) self.new.file.broken self.new.state (D.view self.new.file.disk) }
+
+        // At every moment what survived before survives, with the batch or without; from the return on each image has the batch.
+        ensures commits { IsHonest (D.view self.old.file.disk)
+            → Commits J.kind self.old.state (batch_bytes J.kind (batch_of batch.now.first batch.now.records.items)) result
+            (D.view self.old.file.disk) (D.view self.new.file.disk) }
+
+        // These calls of the disk, and the file after them.
+        ensures acts { let frame = batch_bytes J.kind (batch_of batch.now.first batch.now.records.items) in
+            Makes D.view self.old self.new result J.kind (λ f. appending J.kind f self.old.state frame)
+            (λ f. appended J.kind f self.old.state frame) (OnOk result) }
+    {
+        self.journal.append(batch, renewal)
     }
 
     /// Takes one step of the checkpoint in progress, if there is one: two calls of the disk for the first, one for each

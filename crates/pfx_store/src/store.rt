@@ -1,19 +1,20 @@
 // Appending to a journal.
-ghost use Rattle.std.specs.Prelude.{◌≡◌, ◌<◌, ◌+◌, ◌*◌, ◌^◌, length, map, vec_capacity, Some, OnOk, false};
+ghost use Rattle.std.specs.Prelude.{◌≡◌, ◌≤◌, ◌<◌, ◌+◌, ◌^◌, ◌++◌, ◌∷◌, [], length, map, vec_capacity, OnOk, false};
 ghost use Rattle.pfx_checkpoint.specs.Whole.{whole_len};
-ghost use Rattle.pfx_redo.specs.Applying.{applied};
-ghost use Rattle.pfx_machine.specs.Plain.{Plain};
-ghost use Rattle.pfx_record.specs.Batches.{batch_bytes, batch_of};
+ghost use Rattle.pfx_header.specs.Headers.{least_segment};
+ghost use Rattle.pfx_machine.specs.Reweighing.{renewed};
+ghost use Rattle.pfx_record.specs.Batches.{batch_bytes, batch_most, batch_of};
 ghost use Rattle.pfx_record.specs.Records.{plain};
 ghost use Rattle.pfx_store_file.specs.Tending.{append_calls, room_calls};
 ghost use Rattle.pfx_store.specs.Files.{appending, appended, ending, ended};
 ghost use Rattle.pfx_store.specs.Standing.{IsBehind};
 ghost use Rattle.pfx_store.specs.Stores.{stored};
-ghost use Rattle.pfx_store.specs.Working.{BeginsBehind, IsCall, IsEncoded, IsFrameOf, IsNext, IsSpelled, LeadsOn, Makes, MakesRoom};
+ghost use Rattle.pfx_store.specs.Working.{BeginsBehind, IsCall, IsComing, IsEncoded, IsSpelled, LeadsOn, Makes, MakesRoom};
 ghost use Rattle.pfx_store.specs.Working.{StandsAfter, StandsOn, TakesBatch};
 
 use crate::format::FileHeader;
 use crate::journal::Journal;
+use crate::renewal::Renewal;
 use byteorder::{ByteOrder, LittleEndian};
 use pfx_checkpoint::freeze_whole;
 use pfx_disk::Disk;
@@ -64,19 +65,46 @@ fn encode_frame<J: Job>(batch: &Batch<J>, frame: &mut Vec<u8>)
 
 // What stands behind a frame's gate: the rest of its encoding, and the closed gate of the next one.
 fn behind_gate<'a, J: Job>(batch: &Batch<J>, frame: &'a [u8]) -> &'a [u8]
-    requires { IsFrameOf batch.now.workers (batch_bytes J.kind (batch_of batch.now.first batch.now.records.items)) frame.now }
+    requires { frame.now ≡ batch_bytes J.kind (batch_of batch.now.first batch.now.records.items) ++ 0 ∷ [] }
     ensures { IsBehind (batch_bytes J.kind (batch_of batch.now.first batch.now.records.items)) result.now }
 {
     &frame[1..]
 }
 
-// Takes a batch over that is right at the state.
-fn take_over<J: Job>(state: &mut State<J>, batch: &Batch<J>)
-    requires next { (t : Plain J) × (applied J.kind state.old (map plain batch.now.records.items) ≡ Some t) }
-    requires real { batch.now.real ≡ 0 }
-    ensures { LeadsOn J.kind state.old (map plain batch.now.records.items) state.new }
+// Puts a set that was prepared in force, with its room for frames.
+fn renew<J: Job>(state: &mut State<J>, frame: &mut Vec<u8>, renewal: Renewal)
+    requires number { state.old.number + 1 < 2 ^ 48 }
+    requires real { renewal.real ≡ state.old.ledger.set.real }
+    ensures state { state.new ≡ renewed state.old renewal }
+    ensures room { batch_most renewal.workers renewal.real + 1 ≤ vec_capacity frame.new }
 {
-    let _taken = apply_all(state, &batch.records);
+    let Renewal {
+        epoch,
+        frame: longest,
+    } = renewal;
+    let _reply = state.begin(epoch);
+    *frame = longest;
+}
+
+// Takes a batch over that is right at the state: its new weights come into force, if it has any, with their room for frames.
+fn take_over<J: Job>(
+    state: &mut State<J>,
+    frame: &mut Vec<u8>,
+    batch: &Batch<J>,
+    renewal: Option<Renewal>,
+)
+    requires next { IsComing J.kind state.old batch.now.workers batch.now.real batch.now.first
+        (map plain batch.now.records.items) renewal }
+    requires fits { least_segment state.old.ledger.set.workers ≤ state.old.segment }
+    requires room { batch_most state.old.ledger.set.workers state.old.ledger.set.real + 1 ≤ vec_capacity frame.old }
+    ensures { LeadsOn J.kind state.old (map plain batch.now.records.items) state.new (vec_capacity frame.new) }
+{
+    match renewal {
+        None => {
+            let _taken = apply_all(state, &batch.records);
+        }
+        Some(renewal) => renew(state, frame, renewal),
+    }
 }
 
 impl<D: Disk, J: Job> Journal<D, J> {
@@ -103,10 +131,14 @@ impl<D: Disk, J: Job> Journal<D, J> {
         Ok(())
     }
 
-    // Appends a batch, as a store does.
-    pub(crate) fn append(&mut self, batch: &Batch<J>) -> Result<Mark, StoreFault>
-        requires next { IsNext J.kind self.old.state batch.now.workers batch.now.real batch.now.first
-            (map plain batch.now.records.items) }
+    // Appends a batch, or one of new weights with what was prepared for them, as a store does.
+    pub(crate) fn append(
+        &mut self,
+        batch: &Batch<J>,
+        renewal: Option<Renewal>,
+    ) -> Result<Mark, StoreFault>
+        requires next { IsComing J.kind self.old.state batch.now.workers batch.now.real batch.now.first
+            (map plain batch.now.records.items) renewal }
         ensures call { let n = length (batch_bytes J.kind (batch_of batch.now.first batch.now.records.items)) in
             IsCall D.view (stored self.old) (stored self.new) result (append_calls n self.old.file.places) }
         ensures moves { let n = length (batch_bytes J.kind (batch_of batch.now.first batch.now.records.items)) in
@@ -135,7 +167,7 @@ impl<D: Disk, J: Job> Journal<D, J> {
                 &start,
                 behind_gate(batch, &self.frame),
             )?;
-        take_over(&mut self.state, batch);
+        take_over(&mut self.state, &mut self.frame, batch, renewal);
         Ok(Mark {
             number: self.state.number(),
             clock: self.file.disk.clock(),

@@ -1,11 +1,8 @@
-use Rattle.std.proofs.Common.{◌≡◌, ℕ, false, List, Ok, Err, max, refl, sym, ap, subst, ◌∙◌}
+use Rattle.std.proofs.Common.{◌≡◌, false, Ok, Err, max, sym, ap, subst, ◌∙◌}
 use Rattle.pfx_chronicle.specs.Chart.{charted_honest, last_only, noted_view}
 use Rattle.pfx_engine.proofs.NotingLemmas.{noted_none, noted_run}
 use Rattle.pfx_engine.specs.Noting.{IsNotedRun}
 use Rattle.pfx_fault.specs.declared.refusals.Fault.TheVariants as fault
-use Rattle.pfx_format.specs.Format.{format}
-use Rattle.pfx_kinds.specs.AnyKind.{any_kind}
-use Rattle.pfx_recovery.specs.Recovery.{recovered}
 use Rattle.pfx_engine.proofs.noting.run_noted.Goals as goal
 
 pub returns-in-Err : goal.returns-in-Err

@@ -1,10 +1,11 @@
-use Rattle.std.proofs.Common.{List, ℕ, length, refl, sym, ◌∙◌, ap, arith, rules, subst}
-use Rattle.std.specs.Prelude.{slice_index}
+use Rattle.std.proofs.Common.{List, ℕ, ◌≤◌, ◌+◌, length, refl, sym, ◌∙◌, ap, arith, rules, subst}
+use Rattle.std.specs.Prelude.{slice_index, vec_capacity}
 use Rattle.pfx_checkpoint.specs.Whole.{whole_len}
 use Rattle.pfx_format.specs.Format.{format}
 use Rattle.pfx_header.specs.Headers.{Header, this_version}
 use Rattle.pfx_header.proofs.Written.{header_long}
 use Rattle.pfx_machine.specs.Plain.{Plain, IsState, empty}
+use Rattle.pfx_record.specs.Batches.{batch_most}
 use Rattle.pfx_store.specs.Standing.{Stands}
 use Rattle.std.proofs.lemmas.Bool.{true≢false}
 use Rattle.pfx_store.proofs.Counts.{takes_told}
@@ -30,11 +31,13 @@ invariant_of-result g c =
     let least = c.requires.header.segment.0 in
     let room = c.requires.room in
     let workers = ap (λ (s : Plain g.row.J.Denot). s.ledger.set.workers) c.requires.empty in
+    let segment = ap (λ (s : Plain g.row.J.Denot). s.segment) c.requires.empty in
     record {
       long = sym (places.body ∙ ap length c.deref.ensures.value);
       body = places.body ∙ (ap length (c.deref.ensures.value ∙ c.requires.spelled) ∙ (spelled_long g.J.Job.kind g.met.J.Job.laws (empty c.args.set.now c.args.segment) state ∙ ap (λ (s : Plain g.row.J.Denot). whole_len s.ledger.set.real) (sym c.requires.empty)));
-      fits = omega (arith, places.segment_len, workers, least);
-      room = omega (arith, room, workers);
+      fits = omega (arith, segment, workers, least);
+      inside = omega (arith, segment, places.segment_len);
+      room = subst (λ (s : Plain g.row.J.Denot). batch_most s.ledger.set.workers s.ledger.set.real + 1 ≤ vec_capacity c.args.frame) (sym c.requires.empty) room;
     }
 
 pub returns-in-Ok : goal.returns-in-Ok

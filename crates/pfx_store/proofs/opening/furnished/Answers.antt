@@ -9,7 +9,7 @@ pub returns-clause-found : goal.returns-clause-found
 returns-clause-found g c bytes opened =
     let K = g.J.Job.kind in
     let disk = g.D.Disk.view c.args.file.disk in
-    let real : c.real.result ≡ c.args.header.now.set.real = c.real.ensures ∙ (ap (λ (l : Ledger). l.set.real) c.columns-2.ensures ∙ c.requires.fits.real) in
+    let real : c.real-real.result ≡ c.args.header.now.set.real = c.real-real.ensures ∙ (ap (λ (l : Ledger). l.set.real) c.columns-2.ensures ∙ c.requires.fits.real) in
     let room : whole_len c.args.header.now.set.real ≡ c.whole_len.result = ap whole_len (sym real) ∙ sym c.whole_len.ensures in
     record {
       recovers = found_recovered K c.args.header.now bytes opened.parts c.args.state opened.found;

@@ -9,8 +9,11 @@ use Rattle.pfx_machine.specs.declared.command.Command.{Command}
 use Rattle.pfx_machine.specs.Refusals.{refusal}
 use Rattle.pfx_machine.proofs.Compose.{outcome-none}
 use Rattle.pfx_record.specs.Records.{plain}
-use Rattle.pfx_store.specs.Groups.{AreRecordsOf}
-use Rattle.pfx_engine.proofs.Commands.{one_record}
+use Rattle.pfx_store.specs.Groups.{AreKeptAs}
+use Rattle.pfx_engine.proofs.Commands.{keepable_one, one_kept}
+use Rattle.pfx_engine.specs.Failing.{IsInDoubt}
+use Rattle.pfx_engine.specs.Renewing.{IsRenewalFor}
+use Rattle.pfx_program.specs.declared.engine.CallFault.TheVariants.{Failed}
 use Rattle.pfx_engine.proofs.Keeps.{keeps_more, worked}
 use Rattle.pfx_engine.specs.Stepping.{command_calls, frame_len}
 use Rattle.pfx_engine.proofs.Serving.{endless_after, limits_refuse}
@@ -20,25 +23,25 @@ use Rattle.std.specs.Prelude.{IsOk}
 use Rattle.pfx_engine.proofs.durable.DurableEngine.execute.Goals as goal
 
 pub returns-then-is_broken-clause-commits : goal.returns-then-is_broken-clause-commits
-returns-then-is_broken-clause-commits g c = λ honest. record { keeps = λ start H h all common at. keeps_more start H (c.args.command ∷ []) (g.D.Disk.view c.args.self.now.store.file.disk); acknowledged = tt }
+returns-then-is_broken-clause-commits g c = λ honest. record { keeps = λ start H h all at. keeps_more start H (c.args.command ∷ []) (g.D.Disk.view c.args.self.now.store.file.disk); acknowledged = tt }
 
 pub returns-in_default-clause-commits : goal.returns-in_default-clause-commits
-returns-in_default-clause-commits g c = λ honest. record { keeps = λ start H h all common at. keeps_more start H (c.args.command ∷ []) (g.D.Disk.view c.args.self.now.store.file.disk); acknowledged = tt }
+returns-in_default-clause-commits g c = λ honest. record { keeps = λ start H h all at. keeps_more start H (c.args.command ∷ []) (g.D.Disk.view c.args.self.now.store.file.disk); acknowledged = tt }
 
 pub returns-in-Err-clause-commits : goal.returns-in-Err-clause-commits
-returns-in-Err-clause-commits g c = λ honest. record { keeps = λ start H h all common at. keeps_more start H (c.args.command ∷ []) (g.D.Disk.view c.args.self.now.store.file.disk); acknowledged = tt }
+returns-in-Err-clause-commits g c = λ honest. record { keeps = λ start H h all at. keeps_more start H (c.args.command ∷ []) (g.D.Disk.view c.args.self.now.store.file.disk); acknowledged = tt }
 
 pub returns-in-Err-2-clause-commits : goal.returns-in-Err-2-clause-commits
-returns-in-Err-2-clause-commits g c = λ honest. record { keeps = λ start H h all common at. keeps_more start H (c.args.command ∷ []) (g.D.Disk.view c.args.self.now.store.file.disk); acknowledged = tt }
+returns-in-Err-2-clause-commits g c = λ honest. record { keeps = λ start H h all at. keeps_more start H (c.args.command ∷ []) (g.D.Disk.view c.args.self.now.store.file.disk); acknowledged = tt }
 
-pub invariant_of-self-in-Ok-run_recorded : goal.invariant_of-self-in-Ok-run_recorded
-invariant_of-self-in-Ok-run_recorded g c = record {
+pub invariant_of-self-in-Ok-run_prepared : goal.invariant_of-self-in-Ok-run_prepared
+invariant_of-self-in-Ok-run_prepared g c = record {
   same = λ whole.
       let before = sym c.is_broken.ensures.broken ∙ c.if-is_broken.false in
       let at = c.args.self.now.same before in
-      let done = c.in-Ok-run_recorded.ensures in
-      let mine : AreRecordsOf any_kind c.args.self.now.store.state (c.args.command ∷ []) (map plain c.push_reserved.new.self.items) =
-      one_record c.args.self.now.store.state c.args.command (map plain c.push_reserved.new.self.items) (c.is_common.ensures.0 c.if-not-is_common.false) (subst (λ (t : Plain AnyJob). refusal any_kind t c.args.command ≡ None) at done.exact)
+      let done = c.in-Ok-run_prepared.ensures in
+      let mine : AreKeptAs any_kind c.args.self.now.store.state (c.args.command ∷ []) (map plain c.push_reserved.new.self.items) =
+      one_kept c.args.self.now.store.state c.args.command (map plain c.push_reserved.new.self.items) (subst (λ (t : Plain AnyJob). refusal any_kind t c.args.command ≡ None) at done.exact)
       (rw (c.push_reserved.ensures.items, c.in-Ok.ensures.items) (ap (λ r. r ∷ []) (done.kept_as ∙ ap (λ (t : Plain AnyJob). record_of any_kind t c.args.command) at))) in
       done.outcome c.args.self.now.state [] (sym (outcome-none any_kind c.args.self.now.state))
       ∙ (ap (λ (t : Plain AnyJob). outcome any_kind t (c.args.command ∷ [])) at
@@ -49,14 +52,14 @@ pub returns-in-Ok-commit-clause-commits : goal.returns-in-Ok-commit-clause-commi
 returns-in-Ok-commit-clause-commits g c = λ honest.
     (let V = g.D.Disk.view in
     let at = c.args.self.now.same (sym c.is_broken.ensures.broken ∙ c.if-is_broken.false) in
-    let done = c.in-Ok-run_recorded.ensures in
-    let mine : AreRecordsOf any_kind c.args.self.now.store.state (c.args.command ∷ []) (map plain c.push_reserved.new.self.items) =
-    one_record c.args.self.now.store.state c.args.command (map plain c.push_reserved.new.self.items) (c.is_common.ensures.0 c.if-not-is_common.false) (subst (λ (t : Plain AnyJob). refusal any_kind t c.args.command ≡ None) at done.exact)
+    let done = c.in-Ok-run_prepared.ensures in
+    let mine : AreKeptAs any_kind c.args.self.now.store.state (c.args.command ∷ []) (map plain c.push_reserved.new.self.items) =
+    one_kept c.args.self.now.store.state c.args.command (map plain c.push_reserved.new.self.items) (subst (λ (t : Plain AnyJob). refusal any_kind t c.args.command ≡ None) at done.exact)
     (rw (c.push_reserved.ensures.items, c.in-Ok.ensures.items) (ap (λ r. r ∷ []) (done.kept_as ∙ ap (λ (t : Plain AnyJob). record_of any_kind t c.args.command) at))) in
     let new = c.commit.new.store in
     let whole : new.file.broken ≡ false = c.in-Ok-commit.ensures.call.works.whole refl in
     record {
-      keeps = λ start H h all common there. c.commit.ensures.keeps honest start H (c.args.command ∷ []) h all common there mine;
+      keeps = λ start H h all there. c.commit.ensures.keeps honest start H (c.args.command ∷ []) h all there mine;
       acknowledged = λ image here. c.in-Ok-commit.ensures.acknowledged honest image (subst (λ n. (V new.file.disk).since n image) c.in-Ok-commit.ensures.call.mark.1 here)
           ∙ ap Ok (c.in-Ok-commit.ensures.state (c.args.command ∷ []) mine ∙ ap (λ (t : Plain AnyJob). outcome any_kind t (c.args.command ∷ [])) (sym at) ∙ sym (done.outcome c.args.self.now.state [] (sym (outcome-none any_kind c.args.self.now.state))));
     })
@@ -64,20 +67,20 @@ returns-in-Ok-commit-clause-commits g c = λ honest.
 pub returns-clause-commits : goal.returns-clause-commits
 returns-clause-commits g c = λ honest.
     (let at = c.args.self.now.same (sym c.is_broken.ensures.broken ∙ c.if-is_broken.false) in
-    let done = c.in-Ok-run_recorded.ensures in
-    let mine : AreRecordsOf any_kind c.args.self.now.store.state (c.args.command ∷ []) (map plain c.push_reserved.new.self.items) =
-    one_record c.args.self.now.store.state c.args.command (map plain c.push_reserved.new.self.items) (c.is_common.ensures.0 c.if-not-is_common.false) (subst (λ (t : Plain AnyJob). refusal any_kind t c.args.command ≡ None) at done.exact)
+    let done = c.in-Ok-run_prepared.ensures in
+    let mine : AreKeptAs any_kind c.args.self.now.store.state (c.args.command ∷ []) (map plain c.push_reserved.new.self.items) =
+    one_kept c.args.self.now.store.state c.args.command (map plain c.push_reserved.new.self.items) (subst (λ (t : Plain AnyJob). refusal any_kind t c.args.command ≡ None) at done.exact)
     (rw (c.push_reserved.ensures.items, c.in-Ok.ensures.items) (ap (λ r. r ∷ []) (done.kept_as ∙ ap (λ (t : Plain AnyJob). record_of any_kind t c.args.command) at))) in
     record {
-      keeps = λ start H h all common there. c.commit.ensures.keeps honest start H (c.args.command ∷ []) h all common there mine;
+      keeps = λ start H h all there. c.commit.ensures.keeps honest start H (c.args.command ∷ []) h all there mine;
       acknowledged = tt;
     })
 
 pub returns-in-Ok-commit-clause-serves : goal.returns-in-Ok-commit-clause-serves
 returns-in-Ok-commit-clause-serves g c = λ endless.
-    (let done = c.in-Ok-run_recorded.ensures in
+    (let done = c.in-Ok-run_prepared.ensures in
     let s = c.args.self.now.state in
-    (tt, endless_after s c.run_recorded.new.state c.args.command c.number-number.ensures.state endless done.exact (done.outcome s [] (sym (outcome-none any_kind s)))))
+    (tt, endless_after s c.run_prepared.new.state c.args.command c.number-number.ensures.state endless done.exact (done.outcome s [] (sym (outcome-none any_kind s)))))
 
 pub returns-in-Err-2-clause-serves : goal.returns-in-Err-2-clause-serves
 returns-in-Err-2-clause-serves g c = λ endless. (
@@ -104,9 +107,9 @@ pub returns-in-Ok-commit-clause-calls : goal.returns-in-Ok-commit-clause-calls
 returns-in-Ok-commit-clause-calls g c =
     let V = g.D.Disk.view in
     let at = c.args.self.now.same (sym c.is_broken.ensures.broken ∙ c.if-is_broken.false) in
-    let done = c.in-Ok-run_recorded.ensures in
-    let mine : AreRecordsOf any_kind c.args.self.now.store.state (c.args.command ∷ []) (map plain c.push_reserved.new.self.items) =
-    one_record c.args.self.now.store.state c.args.command (map plain c.push_reserved.new.self.items) (c.is_common.ensures.0 c.if-not-is_common.false) (subst (λ (t : Plain AnyJob). refusal any_kind t c.args.command ≡ None) at done.exact)
+    let done = c.in-Ok-run_prepared.ensures in
+    let mine : AreKeptAs any_kind c.args.self.now.store.state (c.args.command ∷ []) (map plain c.push_reserved.new.self.items) =
+    one_kept c.args.self.now.store.state c.args.command (map plain c.push_reserved.new.self.items) (subst (λ (t : Plain AnyJob). refusal any_kind t c.args.command ≡ None) at done.exact)
     (rw (c.push_reserved.ensures.items, c.in-Ok.ensures.items) (ap (λ r. r ∷ []) (done.kept_as ∙ ap (λ (t : Plain AnyJob). record_of any_kind t c.args.command) at))) in
     record {
       takes = takes_as (command_calls (frame_len c.args.self.now.state (c.args.command ∷ [])) c.args.self.now.store.file.places) (V c.args.self.now.store.file.disk) (V c.commit.new.store.file.disk) c.commit.result _ (λ _. subst (λ r. IsOk r) (sym c.in-Ok-commit.is) refl)
@@ -118,9 +121,9 @@ pub returns-clause-calls : goal.returns-clause-calls
 returns-clause-calls g c =
     let V = g.D.Disk.view in
     let at = c.args.self.now.same (sym c.is_broken.ensures.broken ∙ c.if-is_broken.false) in
-    let done = c.in-Ok-run_recorded.ensures in
-    let mine : AreRecordsOf any_kind c.args.self.now.store.state (c.args.command ∷ []) (map plain c.push_reserved.new.self.items) =
-    one_record c.args.self.now.store.state c.args.command (map plain c.push_reserved.new.self.items) (c.is_common.ensures.0 c.if-not-is_common.false) (subst (λ (t : Plain AnyJob). refusal any_kind t c.args.command ≡ None) at done.exact)
+    let done = c.in-Ok-run_prepared.ensures in
+    let mine : AreKeptAs any_kind c.args.self.now.store.state (c.args.command ∷ []) (map plain c.push_reserved.new.self.items) =
+    one_kept c.args.self.now.store.state c.args.command (map plain c.push_reserved.new.self.items) (subst (λ (t : Plain AnyJob). refusal any_kind t c.args.command ≡ None) at done.exact)
     (rw (c.push_reserved.ensures.items, c.in-Ok.ensures.items) (ap (λ r. r ∷ []) (done.kept_as ∙ ap (λ (t : Plain AnyJob). record_of any_kind t c.args.command) at))) in
     record {
       takes = takes_as (command_calls (frame_len c.args.self.now.state (c.args.command ∷ [])) c.args.self.now.store.file.places) (V c.args.self.now.store.file.disk) (V c.commit.new.store.file.disk) c.commit.result _ (λ is. absurd (true≢false (sym is)))
@@ -131,18 +134,23 @@ returns-clause-calls g c =
 pub commit-requires-clause-right : goal.commit-requires-clause-right
 commit-requires-clause-right g c =
     let at = c.args.self.now.same (sym c.is_broken.ensures.broken ∙ c.if-is_broken.false) in
-    let done = c.in-Ok-run_recorded.ensures in
-    let mine : AreRecordsOf any_kind c.args.self.now.store.state (c.args.command ∷ []) (map plain c.push_reserved.new.self.items) =
-    one_record c.args.self.now.store.state c.args.command (map plain c.push_reserved.new.self.items) (c.is_common.ensures.0 c.if-not-is_common.false) (subst (λ (t : Plain AnyJob). refusal any_kind t c.args.command ≡ None) at done.exact)
-    (rw (c.push_reserved.ensures.items, c.in-Ok.ensures.items) (ap (λ r. r ∷ []) (done.kept_as ∙ ap (λ (t : Plain AnyJob). record_of any_kind t c.args.command) at))) in
-    (c.args.command ∷ [], mine)
+    let done = c.in-Ok-run_prepared.ensures in
+    let renewal = c.in-Ok-run_prepared.field-0.renewal in
+    keepable_one c.args.self.now.store.state c.args.command (map plain c.push_reserved.new.self.items) renewal (subst (λ (t : Plain AnyJob). IsRenewalFor t c.args.command renewal) at done.renews)
+    (subst (λ (t : Plain AnyJob). refusal any_kind t c.args.command ≡ None) at done.exact)
+    (rw (c.push_reserved.ensures.items, c.in-Ok.ensures.items) (ap (λ r. r ∷ []) (done.kept_as ∙ ap (λ (t : Plain AnyJob). record_of any_kind t c.args.command) at)))
+
+pub returns-clause-doubt : goal.returns-clause-doubt
+returns-clause-doubt g c = λ whole.
+    let done = c.in-Ok-run_prepared.ensures in
+    subst (λ f. IsInDoubt c.args.self.now.state c.args.command (Failed f)) (sym c.stopped-in-Err-commit.ensures) (c.in-Ok-run_prepared.field-0.done.reply, rw done.exact (ap Ok (sym done.reply)))
 
 pub returns-in-Ok-commit-clause-done : goal.returns-in-Ok-commit-clause-done
 returns-in-Ok-commit-clause-done g c =
     let at = c.args.self.now.same (sym c.is_broken.ensures.broken ∙ c.if-is_broken.false) in
-    let done = c.in-Ok-run_recorded.ensures in
-    let mine : AreRecordsOf any_kind c.args.self.now.store.state (c.args.command ∷ []) (map plain c.push_reserved.new.self.items) =
-    one_record c.args.self.now.store.state c.args.command (map plain c.push_reserved.new.self.items) (c.is_common.ensures.0 c.if-not-is_common.false) (subst (λ (t : Plain AnyJob). refusal any_kind t c.args.command ≡ None) at done.exact)
+    let done = c.in-Ok-run_prepared.ensures in
+    let mine : AreKeptAs any_kind c.args.self.now.store.state (c.args.command ∷ []) (map plain c.push_reserved.new.self.items) =
+    one_kept c.args.self.now.store.state c.args.command (map plain c.push_reserved.new.self.items) (subst (λ (t : Plain AnyJob). refusal any_kind t c.args.command ≡ None) at done.exact)
     (rw (c.push_reserved.ensures.items, c.in-Ok.ensures.items) (ap (λ r. r ∷ []) (done.kept_as ∙ ap (λ (t : Plain AnyJob). record_of any_kind t c.args.command) at))) in
     record {
       number = c.in-Ok-commit.ensures.call.mark.0 ∙ ap (λ (t : Plain AnyJob). t.number) (c.in-Ok-commit.ensures.state (c.args.command ∷ []) mine) ∙ ap (λ (t : Plain AnyJob). t.number + 1) (sym at);
@@ -151,9 +159,3 @@ returns-in-Ok-commit-clause-done g c =
       state = done.outcome c.args.self.now.state [] (sym (outcome-none any_kind c.args.self.now.state));
       whole = c.in-Ok-commit.ensures.call.works.whole refl;
     }
-
-pub returns-then-not-is_common-clause-commits : goal.returns-then-not-is_common-clause-commits
-returns-then-not-is_common-clause-commits g c = λ honest. record { keeps = λ start H h all common at. keeps_more start H (c.args.command ∷ []) (g.D.Disk.view c.args.self.now.store.file.disk); acknowledged = tt }
-
-pub returns-then-not-is_common-clause-calls : goal.returns-then-not-is_common-clause-calls
-returns-then-not-is_common-clause-calls g c = record { takes = takes_no_call (command_calls (frame_len c.args.self.now.state (c.args.command ∷ [])) c.args.self.now.store.file.places) (g.D.Disk.view c.args.self.now.store.file.disk) _; honest = (λ h. h, λ h. h) }

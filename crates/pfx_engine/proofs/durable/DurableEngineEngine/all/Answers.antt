@@ -1,6 +1,7 @@
 use Rattle.std.proofs.Common.{rules, ◌≡◌, ◌<◌, inl, [], List, length, map, refl, sym, ap, subst, ◌∙◌, append-nil, arith}
 use Rattle.std.proofs.lemmas.List.{length-map}
 use Rattle.pfx_store.specs.Groups.{AreRecordsOf}
+use Rattle.pfx_store.proofs.Grouping.{common_kept}
 use Rattle.pfx_kinds.specs.AnyKind.{any_kind}
 use Rattle.pfx_kinds.specs.declared.any.AnyJob.{AnyJob}
 use Rattle.pfx_machine.specs.Plain.{Plain, IsState}
@@ -75,7 +76,7 @@ returns-in-Ok-commit-clause-done g c =
     let told = c.in-Ok.field-0.told.items in
     let G : List (Command AnyJob) = accepted_of c.args.commands.items told in
     let mine : AreRecordsOf any_kind old.store.state G (map plain c.in-Ok.field-0.records.items) = subst (λ (s : Plain AnyJob). AreRecordsOf any_kind s G (map plain c.in-Ok.field-0.records.items)) at c.in-Ok.ensures.recorded in
-    let moved : c.commit.new.store.state ≡ outcome any_kind old.store.state G = c.in-Ok-commit.ensures.state G mine in
+    let moved : c.commit.new.store.state ≡ outcome any_kind old.store.state G = c.in-Ok-commit.ensures.state G (common_kept _ _ _ _ mine) in
     record {
       answered = subst (λ (s : Plain AnyJob). AreTold s c.args.commands.items told) at c.in-Ok.ensures.told;
       state = moved;
@@ -103,7 +104,7 @@ returns-in-Err-clause-left g c =
       answered = subst (λ (s : Plain AnyJob). AreTold s c.args.commands.items told) at c.in-Ok.ensures.told;
       state = inl same;
       keeps = keeps_some (V old.store.file.disk) (V c.commit.new.store.file.disk) old.store.file.broken old.store.state c.commit.new.store.state G (subst IsState at c.number-number.ensures.state) mine.accepted
-          (omega (arith, some, long)) c.in-Err.ensures.call.follows.goes.later c.in-Err.ensures.call.follows.honest.0 (λ honest start H h all common there. c.in-Err.ensures.keeps honest start H G h all common there mine);
+          (omega (arith, some, long)) c.in-Err.ensures.call.follows.goes.later c.in-Err.ensures.call.follows.honest.0 (λ honest start H h all there. c.in-Err.ensures.keeps honest start H G h all there (common_kept _ _ _ _ mine));
     }
 
 pub invariant_of-self-then-is_empty : goal.invariant_of-self-then-is_empty

@@ -1,5 +1,6 @@
 use Rattle.std.proofs.Common.{rules, ◌≡◌, false, inl, inr, List, ℕ, map, refl, sym, ap, subst, ◌∙◌, arith}
 use Rattle.pfx_store.specs.Groups.{AreRecordsOf}
+use Rattle.pfx_store.proofs.Grouping.{common_kept}
 use Rattle.pfx_kinds.specs.AnyKind.{any_kind}
 use Rattle.pfx_kinds.specs.declared.any.AnyJob.{AnyJob}
 use Rattle.pfx_machine.specs.Plain.{Plain, IsState}
@@ -60,7 +61,7 @@ returns-in-Ok-commit-clause-done g c =
     let G : List (Command AnyJob) = slots_for said in
     let few = ran.few in
     let mine : AreRecordsOf any_kind old.store.state G (map plain c.in-Ok.field-0.records.items) = subst (λ (s : Plain AnyJob). AreRecordsOf any_kind s G (map plain c.in-Ok.field-0.records.items)) at ran.recorded in
-    let moved : c.commit.new.store.state ≡ outcome any_kind old.store.state G = c.in-Ok-commit.ensures.state G mine in
+    let moved : c.commit.new.store.state ≡ outcome any_kind old.store.state G = c.in-Ok-commit.ensures.state G (common_kept _ _ _ _ mine) in
     record {
       some = ran.some;
       few = omega (arith, few, c.min.ensures);
@@ -91,6 +92,6 @@ returns-in-Err-commit-clause-not_done g c =
         answered = subst (λ (s : Plain AnyJob). AreAnswered s said) at ran.answered;
         state = inl same;
         keeps = keeps_some (V old.store.file.disk) (V c.commit.new.store.file.disk) old.store.file.broken old.store.state c.commit.new.store.state G (subst IsState at c.number-number.ensures.state) mine.accepted
-            (omega (arith, some, length_slots said)) c.in-Err-commit.ensures.call.follows.goes.later c.in-Err-commit.ensures.call.follows.honest.0 (λ honest start H h all common there. c.in-Err-commit.ensures.keeps honest start H G h all common there mine);
+            (omega (arith, some, length_slots said)) c.in-Err-commit.ensures.call.follows.goes.later c.in-Err-commit.ensures.call.follows.honest.0 (λ honest start H h all there. c.in-Err-commit.ensures.keeps honest start H G h all there (common_kept _ _ _ _ mine));
       }),
     )

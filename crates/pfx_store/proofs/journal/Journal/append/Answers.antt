@@ -1,4 +1,4 @@
-use Rattle.std.proofs.Common.{◌≡◌, ◌+◌, ◌++◌, ◌∷◌, [], ℕ, List, length, refl, sym, ◌∙◌, ap, ap₂, arith, subst}
+use Rattle.std.proofs.Common.{◌≡◌, ◌≤◌, map, ◌+◌, ◌++◌, ◌∷◌, [], ℕ, List, length, refl, sym, ◌∙◌, ap, ap₂, arith, subst}
 use Rattle.std.specs.Prelude.{Some}
 use Rattle.pfx_disk.specs.declared.gates.TheConstants.{GATE_OPEN}
 use Rattle.pfx_redo.specs.Applying.{applied}
@@ -7,21 +7,23 @@ use Rattle.pfx_format.specs.Frames.{state_after}
 use Rattle.pfx_format.proofs.Keeping.{format_laws}
 use Rattle.pfx_machine.specs.Plain.{Plain}
 use Rattle.pfx_record.specs.Batches.{PlainBatch, batch_bytes, batch_of}
+use Rattle.pfx_record.specs.Records.{plain}
 use Rattle.pfx_recovery.specs.Store.{Replays}
 use Rattle.pfx_store_file.specs.Holding.{IsStart, Survives}
 use Rattle.pfx_store_file.specs.Tending.{append_calls, room_calls}
 use Rattle.pfx_store.specs.Standing.{IsReady, Stands}
-use Rattle.pfx_store.proofs.Appends.{batch_leads}
-use Rattle.pfx_store.proofs.Counts.{takes_both, takes_frame, works_answered, works_behind}
+use Rattle.pfx_store.specs.Working.{IsComing}
+use Rattle.pfx_store.proofs.Appends.{batch_leads, coming_right, frame_inside}
+use Rattle.pfx_store.proofs.Counts.{not_ok, room_few, takes_both, takes_frame, works_answered, works_behind}
 use Rattle.pfx_store.proofs.Standings.{keeps_appended, keeps_more, keeps_still, none_on_fault, stands_behind}
 use Rattle.std.proofs.Common.{⊎_elim, rules}
 use Rattle.pfx_checkpoint.specs.Whole.{whole_bytes}
 use Rattle.pfx_record.specs.Numbers.{number_bytes}
 use Rattle.pfx_store_file.specs.Fitting.{HasRoom}
-use Rattle.pfx_store_file.specs.declared.faults.StoreFault.TheVariants.{Device}
-use Rattle.pfx_store_file.proofs.Calling.{fault_back}
+use Rattle.pfx_store_file.specs.declared.faults.StoreFault.TheVariants.{Device, Broken, NoRoom}
+use Rattle.pfx_store_file.proofs.Calling.{fault_back, works_handed}
 use Rattle.pfx_store.specs.Files.{HasFile, start_of, behind_of, ended, appended}
-use Rattle.pfx_store.proofs.Behinds.{behind_len, behind_long}
+use Rattle.pfx_store.proofs.Behinds.{behind_len, behind_long, behind_some}
 use Rattle.pfx_store.proofs.Filing.{behind_same, room_broken, room_within, append_made, append_broken, append_within, append_file}
 use Rattle.pfx_store.proofs.journal.Journal.append.Goals as goal
 
@@ -47,7 +49,7 @@ returns-in_err-make_room-clause-stands g c = record {
 
 pub returns-in_err-append_or_turn-clause-stands : goal.returns-in_err-append_or_turn-clause-stands
 returns-in_err-append_or_turn-clause-stands g c = record {
-  goes_on = search rules;
+  goes_on = λ stands. none_on_fault _ _ c.from_residual-in_err-append_or_turn.result c.from_residual-in_err-append_or_turn.ensures.1;
   commits = λ stands.
       let K = g.J.Job.kind in
       let L = g.met.J.Job.laws in
@@ -59,13 +61,14 @@ returns-in_err-append_or_turn-clause-stands g c = record {
       let body = c.behind_gate.ensures.0 in
       let opens : batch_bytes K b ≡ GATE_OPEN ∷ body = c.behind_gate.ensures.1 in
       let begins : IsStart (format K) (mid.state.number + 1) c.start_behind-start.result = record { long = c.start_behind-start.ensures.long; number = c.start_behind-start.ensures.number ∙ ap (λ n. n + 1) c.number.ensures.number; closed = c.start_behind-start.ensures.closed } in
-      let right : applied K mid.state b.records ≡ Some c.requires.next.right.0 = subst (λ (s : Plain g.row.J.Denot). applied K s b.records ≡ Some c.requires.next.right.0) (sym same) c.requires.next.right.1 in
-      let leads : state_after K mid.state (GATE_OPEN ∷ body) ≡ Some c.requires.next.right.0 = subst (λ (f : List ℕ). state_after K mid.state f ≡ Some c.requires.next.right.0) opens (batch_leads K L mid.state c.requires.next.right.0 c.args.batch.now.workers c.args.batch.now.real b c.args.batch.now.fits (c.requires.next.workers ∙ ap (λ (s : Plain g.row.J.Denot). s.ledger.set.workers) (sym same)) c.requires.next.real (c.requires.next.first ∙ ap (λ (s : Plain g.row.J.Denot). s.number + 1) (sym same)) right) in
+      let next = subst (λ (s : Plain g.row.J.Denot). IsComing K s c.args.batch.now.workers c.args.batch.now.real c.args.batch.now.first b.records c.args.renewal) (sym same) c.requires.next in
+      let right = coming_right K L mid.state c.args.batch.now.workers c.args.batch.now.real b c.args.renewal next in
+      let leads : state_after K mid.state (GATE_OPEN ∷ body) ≡ Some right.0 = subst (λ (f : List ℕ). state_after K mid.state f ≡ Some right.0) opens (batch_leads K L mid.state c.args.batch.now.workers c.args.batch.now.real b right.0 c.args.renewal c.args.batch.now.fits next right.1) in
       record {
         keeps = λ start all replays.
             let there : Replays (format K) start all mid.state = subst (λ (s : Plain g.row.J.Denot). Replays (format K) start all s) (sym same) replays in
             keeps_appended K start all (batch_bytes K b) (GATE_OPEN ∷ body) (V c.args.self.now.file.disk) (V mid.file.disk) (V c.append_or_turn.new.self.disk) c.make_room.ensures.call.takes.later (c.make_room.ensures.stands.keeps stands start all replays) opens
-            ((c.append_or_turn.ensures.commits (format K) (format_laws K L) standing.header standing.parts mid.state standing.holds standing.middle begins body c.requires.next.right.0 c.behind_gate.ensures.2 leads).keeps start all there);
+            ((c.append_or_turn.ensures.commits (format K) (format_laws K L) standing.header standing.parts mid.state standing.holds standing.middle begins body right.0 c.behind_gate.ensures.2 leads).keeps start all there);
         acknowledged = λ start all replays. none_on_fault _ _ c.from_residual-in_err-append_or_turn.result c.from_residual-in_err-append_or_turn.ensures.1;
       };
 }
@@ -83,12 +86,13 @@ returns-clause-stands g c = record {
       let body = c.behind_gate.ensures.0 in
       let opens : batch_bytes K b ≡ GATE_OPEN ∷ body = c.behind_gate.ensures.1 in
       let begins : IsStart (format K) (mid.state.number + 1) c.start_behind-start.result = record { long = c.start_behind-start.ensures.long; number = c.start_behind-start.ensures.number ∙ ap (λ n. n + 1) c.number.ensures.number; closed = c.start_behind-start.ensures.closed } in
+      let next = subst (λ (s : Plain g.row.J.Denot). IsComing K s c.args.batch.now.workers c.args.batch.now.real c.args.batch.now.first b.records c.args.renewal) (sym same) c.requires.next in
       let right : applied K mid.state b.records ≡ Some c.take_over.new.state = c.take_over.ensures.taken in
-      let leads : state_after K mid.state (GATE_OPEN ∷ body) ≡ Some c.take_over.new.state = subst (λ (f : List ℕ). state_after K mid.state f ≡ Some c.take_over.new.state) opens (batch_leads K L mid.state c.take_over.new.state c.args.batch.now.workers c.args.batch.now.real b c.args.batch.now.fits (c.requires.next.workers ∙ ap (λ (s : Plain g.row.J.Denot). s.ledger.set.workers) (sym same)) c.requires.next.real (c.requires.next.first ∙ ap (λ (s : Plain g.row.J.Denot). s.number + 1) (sym same)) right) in
+      let leads : state_after K mid.state (GATE_OPEN ∷ body) ≡ Some c.take_over.new.state = subst (λ (f : List ℕ). state_after K mid.state f ≡ Some c.take_over.new.state) opens (batch_leads K L mid.state c.args.batch.now.workers c.args.batch.now.real b c.take_over.new.state c.args.renewal c.args.batch.now.fits next right) in
       let n = length c.behind_gate.result.now in
       let ready : IsReady K n mid.file.places mid.state c.deref.result.now = rw (c.deref.ensures.value, (behind_len _ _ c.behind_gate.ensures), ← c.batch_len-len.ensures.value) c.in_ok-make_room.ensures.room.ready in
       subst (λ (l : List ℕ). Stands K c.append_or_turn.new.self.places c.take_over.new.state l (V c.append_or_turn.new.self.disk)) c.deref.ensures.value
-      (stands_behind K L n mid.file.places c.append_or_turn.new.self.places mid.state c.take_over.new.state c.deref.result.now (GATE_OPEN ∷ body) (V mid.file.disk) (V c.append_or_turn.new.self.disk) standing c.number.ensures.state c.take_over.ensures.set c.take_over.ensures.segment ready
+      (stands_behind K L n mid.file.places c.append_or_turn.new.self.places mid.state c.take_over.new.state c.deref.result.now (GATE_OPEN ∷ body) (V mid.file.disk) (V c.append_or_turn.new.self.disk) standing c.number.ensures.state c.take_over.ensures.of ready
       ((c.in_ok-append_or_turn.ensures.commits (format K) (format_laws K L) standing.header standing.parts mid.state standing.holds standing.middle begins body c.take_over.new.state c.behind_gate.ensures.2 leads).holds));
   commits = λ stands.
       let K = g.J.Job.kind in
@@ -101,17 +105,18 @@ returns-clause-stands g c = record {
       let body = c.behind_gate.ensures.0 in
       let opens : batch_bytes K b ≡ GATE_OPEN ∷ body = c.behind_gate.ensures.1 in
       let begins : IsStart (format K) (mid.state.number + 1) c.start_behind-start.result = record { long = c.start_behind-start.ensures.long; number = c.start_behind-start.ensures.number ∙ ap (λ n. n + 1) c.number.ensures.number; closed = c.start_behind-start.ensures.closed } in
-      let right : applied K mid.state b.records ≡ Some c.requires.next.right.0 = subst (λ (s : Plain g.row.J.Denot). applied K s b.records ≡ Some c.requires.next.right.0) (sym same) c.requires.next.right.1 in
-      let leads : state_after K mid.state (GATE_OPEN ∷ body) ≡ Some c.requires.next.right.0 = subst (λ (f : List ℕ). state_after K mid.state f ≡ Some c.requires.next.right.0) opens (batch_leads K L mid.state c.requires.next.right.0 c.args.batch.now.workers c.args.batch.now.real b c.args.batch.now.fits (c.requires.next.workers ∙ ap (λ (s : Plain g.row.J.Denot). s.ledger.set.workers) (sym same)) c.requires.next.real (c.requires.next.first ∙ ap (λ (s : Plain g.row.J.Denot). s.number + 1) (sym same)) right) in
+      let next = subst (λ (s : Plain g.row.J.Denot). IsComing K s c.args.batch.now.workers c.args.batch.now.real c.args.batch.now.first b.records c.args.renewal) (sym same) c.requires.next in
+      let right = coming_right K L mid.state c.args.batch.now.workers c.args.batch.now.real b c.args.renewal next in
+      let leads : state_after K mid.state (GATE_OPEN ∷ body) ≡ Some right.0 = subst (λ (f : List ℕ). state_after K mid.state f ≡ Some right.0) opens (batch_leads K L mid.state c.args.batch.now.workers c.args.batch.now.real b right.0 c.args.renewal c.args.batch.now.fits next right.1) in
       record {
         keeps = λ start all replays.
             let there : Replays (format K) start all mid.state = subst (λ (s : Plain g.row.J.Denot). Replays (format K) start all s) (sym same) replays in
             keeps_appended K start all (batch_bytes K b) (GATE_OPEN ∷ body) (V c.args.self.now.file.disk) (V mid.file.disk) (V c.append_or_turn.new.self.disk) c.make_room.ensures.call.takes.later (c.make_room.ensures.stands.keeps stands start all replays) opens
-            ((c.append_or_turn.ensures.commits (format K) (format_laws K L) standing.header standing.parts mid.state standing.holds standing.middle begins body c.requires.next.right.0 c.behind_gate.ensures.2 leads).keeps start all there);
+            ((c.append_or_turn.ensures.commits (format K) (format_laws K L) standing.header standing.parts mid.state standing.holds standing.middle begins body right.0 c.behind_gate.ensures.2 leads).keeps start all there);
         acknowledged = λ start all replays.
             let there : Replays (format K) start all mid.state = subst (λ (s : Plain g.row.J.Denot). Replays (format K) start all s) (sym same) replays in
             subst (λ (f : List ℕ). (image : List ℕ) → (V c.append_or_turn.new.self.disk).since (V c.append_or_turn.new.self.disk).clock image → Survives (format K) start (all ++ f ∷ []) (length all + 1) image) (sym opens)
-            ((c.in_ok-append_or_turn.ensures.commits (format K) (format_laws K L) standing.header standing.parts mid.state standing.holds standing.middle begins body c.requires.next.right.0 c.behind_gate.ensures.2 leads).acknowledged start all there);
+            ((c.in_ok-append_or_turn.ensures.commits (format K) (format_laws K L) standing.header standing.parts mid.state standing.holds standing.middle begins body right.0 c.behind_gate.ensures.2 leads).acknowledged start all there);
       };
 }
 
@@ -126,7 +131,7 @@ returns-in_err-append_or_turn-clause-call g c =
       works = works_behind (g.D.Disk.view c.args.self.now.file.disk) (g.D.Disk.view c.make_room.new.self.file.disk) (g.D.Disk.view c.append_or_turn.new.self.disk) c.args.self.now.file.broken c.make_room.new.self.file.broken c.append_or_turn.new.self.broken
           c.append_or_turn.result c.from_residual-in_err-append_or_turn.result _ c.if-self.false (c.in_ok-make_room.ensures.call.works.whole refl) c.make_room.ensures.call.takes.no_fewer c.in_err-append_or_turn.was c.from_residual-in_err-append_or_turn.ensures.1 c.append_or_turn.ensures.call.works;
       takes = record {
-        ok = search rules;
+        ok = λ is. not_ok c.from_residual-in_err-append_or_turn.result _ c.from_residual-in_err-append_or_turn.ensures.1 is;
         later = omega (arith, c.make_room.ensures.call.takes.later, c.append_or_turn.ensures.call.takes.later);
         at_most = omega (arith, c.make_room.ensures.call.takes.at_most, c.append_or_turn.ensures.call.takes.at_most, sum);
         no_fewer = omega (arith, c.make_room.ensures.call.takes.no_fewer, c.append_or_turn.ensures.call.takes.no_fewer);
@@ -206,7 +211,7 @@ returns-in_err-append_or_turn-clause-acts g c =
     let other = c.deref.result.now in
     let e = V c.append_or_turn.new.self.disk in
     record {
-      made = search rules;
+      made = λ f has honest. none_on_fault _ _ c.from_residual-in_err-append_or_turn.result c.from_residual-in_err-append_or_turn.ensures.1;
       broken_off = λ f has honest is.
           let made = c.in_ok-make_room.ensures.acts.made f has honest in
           let there = c.in_ok-make_room.ensures.acts.file f has honest in
@@ -217,7 +222,7 @@ returns-in_err-append_or_turn-clause-acts g c =
           let there = c.in_ok-make_room.ensures.acts.file f has honest in
           let honest_then = c.make_room.ensures.call.honest.0 honest in
           append_within K f old.file.places old.spelled.items has s frame n long other start bytes starts behind a b e made c.make_room.ensures.call.takes.later (c.make_room.ensures.acts.between f has honest) ((c.append_or_turn.ensures.acts (format K) (ended K f n) s there.are honest_then).between);
-      file = search rules;
+      file = λ f has honest. none_on_fault _ _ c.from_residual-in_err-append_or_turn.result c.from_residual-in_err-append_or_turn.ensures.1;
     }
 
 pub returns-clause-acts : goal.returns-clause-acts
@@ -262,3 +267,37 @@ returns-clause-acts g c =
           (append_file K f old.file.places old.spelled.items has s frame n long other start bytes starts behind c.append_or_turn.new.self.places (λ room. c.deref.ensures.value ∙ c.make_room.ensures.room.same room) full
           (c.in_ok-append_or_turn.ensures.file (format K) (ended K f n) s there.are honest_then frame (sym (behind_len _ _ c.behind_gate.ensures))));
     }
+
+pub returns-in_err-make_room-clause-call : goal.returns-in_err-make_room-clause-call
+returns-in_err-make_room-clause-call g c =
+    let few = subst (λ m. room_calls m c.args.self.now.file.places ≤ append_calls m c.args.self.now.file.places) c.batch_len-len.ensures.value (room_few c.batch_len-len.result c.args.self.now.file.places) in
+    let most = subst (λ m. room_calls m c.args.self.now.file.places ≤ append_calls (length (batch_bytes g.J.Job.kind (batch_of c.args.batch.now.first c.args.batch.now.records.items))) c.args.self.now.file.places) (sym c.batch_len-len.ensures.value) few in
+    let takes = c.make_room.ensures.call.takes in
+    record {
+      works = works_handed _ _ _ _ c.make_room.result c.from_residual.result _ c.in_err-make_room.was c.from_residual.ensures.1 c.make_room.ensures.call.works;
+      takes = record {
+        ok = λ is. not_ok c.from_residual.result _ c.from_residual.ensures.1 is;
+        later = takes.later;
+        at_most = omega (arith, takes.at_most, most);
+        no_fewer = takes.no_fewer;
+      };
+      honest = c.make_room.ensures.call.honest;
+      roomy = λ is. c.make_room.ensures.call.roomy (fault_back _ c.make_room.result _ NoRoom c.in_err-make_room.was c.from_residual.ensures.1 is);
+      broken = λ is. c.make_room.ensures.call.broken (fault_back _ c.make_room.result _ Broken c.in_err-make_room.was c.from_residual.ensures.1 is);
+      parts = c.make_room.ensures.call.parts;
+    }
+
+pub append_or_turn-requires-clause-frame : goal.append_or_turn-requires-clause-frame
+append_or_turn-requires-clause-frame g c =
+    let K = g.J.Job.kind in
+    let L = g.met.J.Job.laws in
+    let batch = c.args.batch.now in
+    let mid = c.make_room.new.self in
+    let next = subst (λ (s : Plain g.row.J.Denot). IsComing K s batch.workers batch.real batch.first (map plain batch.records.items) c.args.renewal) (sym c.make_room.ensures.stands.state) c.requires.next in
+    let inside = frame_inside K L mid.state batch.workers batch.real (batch_of batch.first batch.records.items) c.args.renewal batch.fits next mid.fits in
+    let long = behind_len _ _ c.behind_gate.ensures in
+    (behind_some _ _ c.behind_gate.ensures, omega (arith, inside, long, mid.inside))
+
+pub take_over-requires-clause-next : goal.take_over-requires-clause-next
+take_over-requires-clause-next g c =
+    subst (λ (s : Plain g.row.J.Denot). IsComing g.J.Job.kind s c.args.batch.now.workers c.args.batch.now.real c.args.batch.now.first (map plain c.args.batch.now.records.items) c.args.renewal) (sym c.make_room.ensures.stands.state) c.requires.next

@@ -1,7 +1,6 @@
 use Rattle.std.proofs.Common.{◌≡◌, [], sym, ◌∙◌, subst, false}
 use Rattle.pfx_chronicle.specs.Chart.{charted, charted_honest, noted_view}
 use Rattle.pfx_disk.specs.Disk.{IsHonest, Only}
-use Rattle.pfx_format.specs.Format.{format}
 use Rattle.pfx_store.specs.Noting.{IsHeldBy}
 use Rattle.pfx_store.specs.Standing.{Stands}
 use Rattle.pfx_store.specs.Stores.{PlainStore}

@@ -1,4 +1,4 @@
-use Rattle.std.proofs.Common.{◌≡◌, ◌+◌, ◌++◌, ◌∷◌, [], sym, ap, subst}
+use Rattle.std.proofs.Common.{◌≡◌, ◌++◌, ◌∷◌, [], sym, ap, subst}
 use Rattle.std.specs.Prelude.{Some, OnOk}
 use Rattle.pfx_disk.specs.Disk.{View}
 use Rattle.pfx_format.specs.Format.{format}
@@ -6,10 +6,11 @@ use Rattle.pfx_format.specs.Frames.{state_after}
 use Rattle.pfx_record.specs.Batches.{PlainBatch, batch_bytes, batch_of}
 use Rattle.pfx_store_file.specs.Holding.{KeepsAll}
 use Rattle.pfx_store.specs.Stores.{PlainStore}
+use Rattle.pfx_store.specs.Working.{IsComing}
 use Rattle.pfx_store.proofs.Appends.{batch_leads}
 use Rattle.pfx_store.proofs.Marking.{by_broken, covers_appended, holds_after, on_ok_when}
 use Rattle.pfx_store.proofs.Standings.{keeps_more, keeps_still, on_ok_then}
-use Rattle.pfx_store.proofs.standing.Store.append.Goals as goal
+use Rattle.pfx_store.proofs.standing.Store.take.Goals as goal
 
 pub invariant_of-self : goal.invariant_of-self
 invariant_of-self g c =
@@ -23,9 +24,8 @@ returns-clause-marks g c = rw (← c.self.view_is) (λ honest start all marks co
     let b : PlainBatch g.row.J.Denot = batch_of c.args.batch.now.first c.args.batch.now.records.items in
     let a : View = g.D.Disk.view j.file.disk in
     let t = c.append.new.self.state in
-    let workers : c.args.batch.now.workers ≡ j.state.ledger.set.workers = subst (λ (v : PlainStore g.row.D.Denot g.row.J.Denot). c.args.batch.now.workers ≡ v.state.ledger.set.workers) (sym c.self.view_is) c.requires.next.workers in
-    let first : c.args.batch.now.first ≡ j.state.number + 1 = subst (λ (v : PlainStore g.row.D.Denot g.row.J.Denot). c.args.batch.now.first ≡ v.state.number + 1) (sym c.self.view_is) c.requires.next.first in
-    let led : OnOk c.append.result (state_after K j.state (batch_bytes K b) ≡ Some t) = on_ok_then c.append.result (batch_leads K L j.state t c.args.batch.now.workers c.args.batch.now.real b c.args.batch.now.fits workers c.requires.next.real first) c.append.ensures.moves.state.moved in
+    let next = subst (λ (v : PlainStore g.row.D.Denot g.row.J.Denot). IsComing K v.state c.args.batch.now.workers c.args.batch.now.real c.args.batch.now.first b.records c.args.renewal) (sym c.self.view_is) c.requires.next in
+    let led : OnOk c.append.result (state_after K j.state (batch_bytes K b) ≡ Some t) = on_ok_then c.append.result (batch_leads K L j.state c.args.batch.now.workers c.args.batch.now.real b t c.args.renewal c.args.batch.now.fits next) c.append.ensures.moves.state.moved in
     let keeps = by_broken j.file.broken (λ whole. (c.append.ensures.stands.commits (c.self.invariant whole honest)).keeps start all (covers.leads whole))
     (λ broken. subst (λ i. KeepsAll (format K) start all (all ++ batch_bytes K b ∷ []) a (g.D.Disk.view i.file.disk)) (sym (c.append.ensures.call.broken (c.append.ensures.call.works.broken.1 broken))) (keeps_more K start all (batch_bytes K b) a a (keeps_still K start all a))) in
     covers_appended K start all L (batch_bytes K b) marks a (g.D.Disk.view c.append.new.self.file.disk) j.file.broken c.append.new.self.file.broken j.state t c.append.ensures.call.takes.later keeps covers
