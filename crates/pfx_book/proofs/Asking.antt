@@ -6,7 +6,6 @@ use Rattle.pfx_record.specs.Records.{Recorded}
 use Rattle.pfx_redo.specs.Recording.{record_of, records_of}
 use Rattle.pfx_jobs.specs.Kind.{Kind, Laws}
 use Rattle.pfx_machine.specs.Plain.{Plain}
-use Rattle.pfx_machine.specs.Batches.{IsCommon}
 use Rattle.pfx_machine.specs.Outcome.{outcome}
 use Rattle.pfx_machine.specs.Refusals.{reply}
 use Rattle.pfx_machine.specs.Steps.{state_step, happening_in}
@@ -62,12 +61,12 @@ module _ {J : Type 0} (K : Kind J) (L : Laws K) (B : Plain J) (lines : List (Lin
 
   -- an accepted command's line, and the book with it
   pub accepts : (h : Now) → slice_get lists k ≡ Some mine → 0 < k → (c copy : Command J) (said : Reply) (number : ℕ) (t : Plain J) (entry : Recorded J) (line : Line J) (full : Bool)
-      → full ≡ nat_le (2 ^ 20) (length (commands_of Before)) → copy ≡ c → IsCommon copy → refused_at full K s c ≡ None → said ≡ reply s c → entry ≡ record_of K s c
+      → full ≡ nat_le (2 ^ 20) (length (commands_of Before)) → copy ≡ c → refused_at full K s c ≡ None → said ≡ reply s c → entry ≡ record_of K s c
       → t ≡ outcome K B (commands_of Before ++ c ∷ []) → number ≡ t.number → IsOf k false copy line → length (commands_of Before) < marked + 64
       → (told K B [] (lines ++ line ∷ []) ≡ Before ++ (k, Accepted number copy said) ∷ [])
       × IsKept K B (told K B [] (lines ++ line ∷ [])) (set lists k (mine ++ Accepted number copy said ∷ [])) n t (pend ++ entry ∷ []) taken marked clock failure
       × (greatest mine < number) × (number ≡ s.number + 1)
-  accepts h at pos c copy said number t entry line full full_is same common free says is next num of_line room =
+  accepts h at pos c copy said number t entry line full full_is same free says is next num of_line room =
       let H = commands_of Before in
       let e : Note J = Accepted number copy said in
       let here = outcome_is K B Before lists n s pend taken marked clock failure h in
@@ -75,7 +74,7 @@ module _ {J : Type 0} (K : Kind J) (L : Laws K) (B : Plain J) (lines : List (Lin
       let shown = told_accepted K B lines k copy line number said of_line fit in
       let records : records_of K B (H ++ copy ∷ []) ≡ records_of K B H ++ entry ∷ [] =
       record_next K L B H copy ∙ (λ i. records_of K B H ++ (ap (λ (v : Plain J). record_of K v copy) (sym here) ∙ ap (record_of K s) same ∙ sym is) i ∷ []) in
-      let kept = kept_entry K B Before lists n s pend taken marked clock failure h k mine e t (entry ∷ []) at pos refl (common, tt) fit (next ∙ ap (λ d. outcome K B (H ++ d ∷ [])) (sym same)) records (omega (arith, room)) tt in
+      let kept = kept_entry K B Before lists n s pend taken marked clock failure h k mine e t (entry ∷ []) at pos refl fit (next ∙ ap (λ d. outcome K B (H ++ d ∷ [])) (sym same)) records (omega (arith, room)) tt in
       let m = number_next K B H s t full c number here next num in
       let b = below K B Before lists n s pend taken marked clock failure k mine h at pos in
       (shown, subst (λ l. IsKept K B l (set lists k (mine ++ e ∷ [])) n t (pend ++ entry ∷ []) taken marked clock failure) (sym shown) kept, omega (arith, b, m), m)

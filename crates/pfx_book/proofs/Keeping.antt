@@ -6,9 +6,7 @@ use Rattle.std.proofs.lemmas.Option.{none-some}
 use Rattle.pfx_fault.specs.declared.parts.Cause.{Cause}
 use Rattle.pfx_jobs.specs.Kind.{Kind}
 use Rattle.pfx_machine.specs.Plain.{Plain}
-use Rattle.pfx_machine.specs.Batches.{AreCommon}
 use Rattle.pfx_machine.specs.Outcome.{outcome}
-use Rattle.pfx_machine.specs.declared.command.Command.{Command}
 use Rattle.pfx_record.specs.Records.{Recorded}
 use Rattle.pfx_redo.specs.Recording.{records_of}
 use Rattle.pfx_book.specs.Merging.{of, lists_from}
@@ -19,11 +17,6 @@ use Rattle.pfx_book.specs.Notes.{Noted, IsRested, added, commands_of, Fits, Lega
 use Rattle.pfx_book.specs.Kept.{IsTold, HasFailed, IsMarked, IsKept}
 use Rattle.pfx_book.proofs.Merges.{lists_get, lists_set, tagged_more, of_beyond, tagged_wider, lists_more, length_lists, some_is}
 use Rattle.pfx_book.proofs.Notes.{noted_more, number_is, records_long, commands_more, legal_more, bounded, entries_more, entries_else, commands_entries, legal_entries, records_more, all_backed_more, all_backed_last, noted_split, noted_of, lost_noted}
-
--- commands none of which is a Reweigh, one list behind the other
-pub common_join : {J : Type 0} (H G : List (Command J)) → AreCommon H → AreCommon G → AreCommon (H ++ G)
-common_join [] G h g = g
-common_join (c ∷ H) G h g = (h.0, common_join H G h.1 g)
 
 pub failed_more : {J : Type 0} (failure : Option Cause) (xs ys : List (Note J)) → HasFailed failure xs → HasFailed failure (xs ++ ys)
 failed_more None xs ys h = tt
@@ -46,9 +39,6 @@ module _ {J : Type 0} (K : Kind J) (start : Plain J) (session : List (ℕ × Not
 
   pub commands_are : (h : Now) → commands_of session ≡ commands_of h.all
   commands_are h = ap commands_of h.entries ∙ commands_entries h.all
-
-  pub common_in : Now → AreCommon (commands_of session)
-  common_in h = subst AreCommon (sym (commands_are h)) h.is_told.common
 
   pub is_legal : Now → Legal K start [] session
   is_legal h = subst (Legal K start []) (sym h.entries) (legal_entries K start [] h.all h.is_told.is_legal)
@@ -83,11 +73,11 @@ module _ {J : Type 0} (K : Kind J) (start : Plain J) (session : List (ℕ × Not
 
   -- the keeper's lists, with one note more for the pass k
   told_more : (h : Now) (k : ℕ) (mine : List (Note J)) (e : Note J) (next : Plain J) (more : List (Recorded J)) → slice_get lists k ≡ Some mine → 0 < k
-      → AreCommon (added e) → Fits K start (commands_of h.all) e → next ≡ outcome K start (commands_of h.all ++ added e)
+      → Fits K start (commands_of h.all) e → next ≡ outcome K start (commands_of h.all ++ added e)
       → records_of K start (commands_of h.all ++ added e) ≡ records_of K start (commands_of h.all) ++ more
       → IsTold K start h.flushed (h.all ++ (k, e) ∷ []) (set lists k (mine ++ e ∷ [])) n next (pending ++ more)
-  told_more h zero mine e next more at pos common f s same = absurd (omega (arith, pos))
-  told_more h (suc i) mine e next more at pos common f s same =
+  told_more h zero mine e next more at pos f s same = absurd (omega (arith, pos))
+  told_more h (suc i) mine e next more at pos f s same =
       let t = h.is_told in
       let r = lists_get 1 n i mine h.all (subst (λ l. slice_get l (suc i) ≡ Some mine) t.known at) in
       let z : 1 + i ≡ suc i = omega arith in record {
@@ -96,7 +86,6 @@ module _ {J : Type 0} (K : Kind J) (start : Plain J) (session : List (ℕ × Not
         tagged = tagged_more n (suc i) e h.all t.tagged (omega arith) (omega (arith, r.0));
         is_legal = legal_more K start [] h.all (suc i) e t.is_legal f;
         outcome = s ∙ ap (outcome K start) (sym (commands_more h.all (suc i) e));
-        common = subst AreCommon (sym (commands_more h.all (suc i) e)) (common_join (commands_of h.all) (added e) t.common common);
         few = t.few;
         valid = t.valid;
         records = ap (records_of K start) (commands_more h.all (suc i) e) ∙ same ∙ ap (λ l. l ++ more) t.records ∙ append_assoc (records_in h.flushed) pending more;
@@ -121,16 +110,16 @@ module _ {J : Type 0} (K : Kind J) (start : Plain J) (session : List (ℕ × Not
 
   -- the book with one entry more, of the pass k
   pub kept_entry : (h : Now) (k : ℕ) (mine : List (Note J)) (e : Note J) (next : Plain J) (more : List (Recorded J)) → slice_get lists k ≡ Some mine → 0 < k → is_entry e ≡ true
-      → AreCommon (added e) → Fits K start (commands_of session) e → next ≡ outcome K start (commands_of session ++ added e)
+      → Fits K start (commands_of session) e → next ≡ outcome K start (commands_of session ++ added e)
       → records_of K start (commands_of session ++ added e) ≡ records_of K start (commands_of session) ++ more
       → length (commands_of session) + length (added e) ≤ marked + 64 → Backed h.flushed e
       → IsKept K start (session ++ (k, e) ∷ []) (set lists k (mine ++ e ∷ [])) n next (pending ++ more) taken marked clock failure
-  kept_entry h k mine e next more at pos entry common f s same room b =
+  kept_entry h k mine e next more at pos entry f s same room b =
       let c = commands_are h in record {
         flushed = h.flushed;
         all = h.all ++ (k, e) ∷ [];
         entries = ap (λ l. l ++ (k, e) ∷ []) h.entries ∙ sym (entries_more h.all k e entry);
-        is_told = told_more h k mine e next more at pos common (subst (λ G. Fits K start G e) c f) (s ∙ ap (λ G. outcome K start (G ++ added e)) c)
+        is_told = told_more h k mine e next more at pos (subst (λ G. Fits K start G e) c f) (s ∙ ap (λ G. outcome K start (G ++ added e)) c)
             (subst (λ G. records_of K start (G ++ added e) ≡ records_of K start G ++ more) c same);
         is_marked = marks_more h k e (subst (λ G. length G + length (added e) ≤ marked + 64) c room) b
             (λ loss same. absurd (false≢true (ap is_entry (sym same) ∙ entry)));
@@ -144,7 +133,7 @@ module _ {J : Type 0} (K : Kind J) (start : Plain J) (session : List (ℕ × Not
       let same : H ++ added e ≡ H = ap (λ l. H ++ l) none ∙ append-nil H in
       let room : length H + length (added e) ≤ marked + 64 = omega (arith, ap length none, ap length (commands_are h), h.is_marked.room) in
       subst (λ p. IsKept K start (session ++ (k, e) ∷ []) (set lists k (mine ++ e ∷ [])) n state p taken marked clock failure) (append-nil pending)
-      (kept_entry h k mine e state [] at pos entry (subst AreCommon (sym none) tt) f (outcome_is h ∙ ap (outcome K start) (sym same)) (ap (records_of K start) same ∙ sym (append-nil (records_of K start H))) room b)
+      (kept_entry h k mine e state [] at pos entry f (outcome_is h ∙ ap (outcome K start) (sym same)) (ap (records_of K start) same ∙ sym (append-nil (records_of K start H))) room b)
 
   -- a client was told of the failure
   pub kept_loss : (h : Now) (k : ℕ) (mine : List (Note J)) (loss : Loss) → slice_get lists k ≡ Some mine → 0 < k → failure ≡ Some loss.cause → loss.marked ≡ start.number + marked
@@ -158,7 +147,7 @@ module _ {J : Type 0} (K : Kind J) (start : Plain J) (session : List (ℕ × Not
         all = h.all ++ (k, e) ∷ [];
         entries = h.entries ∙ sym (entries_else h.all k e refl);
         is_told = subst (λ p. IsTold K start h.flushed (h.all ++ (k, e) ∷ []) (set lists k (mine ++ e ∷ [])) n state p) (append-nil pending)
-            (told_more h k mine e state [] at pos tt tt (h.is_told.outcome ∙ ap (outcome K start) (sym same)) (ap (records_of K start) same ∙ sym (append-nil (records_of K start H))));
+            (told_more h k mine e state [] at pos tt (h.is_told.outcome ∙ ap (outcome K start) (sym same)) (ap (records_of K start) same ∙ sym (append-nil (records_of K start H))));
         is_marked = marks_more h k e (omega (arith, h.is_marked.room)) (subst (λ o. HasFailed o h.flushed) is h.is_marked.failed)
             (λ other same. ((λ none. none-some loss.cause (sym none ∙ is)), sym (ap mark_told same) ∙ mark));
       }
@@ -176,7 +165,6 @@ module _ {J : Type 0} (K : Kind J) (start : Plain J) (session : List (ℕ × Not
           tagged = tagged_wider n (n + 1) h.all t.tagged (omega arith);
           is_legal = t.is_legal;
           outcome = t.outcome;
-          common = t.common;
           few = omega (arith, few);
           valid = t.valid;
           records = t.records;
@@ -227,7 +215,6 @@ module _ {J : Type 0} (K : Kind J) (start : Plain J) (session : List (ℕ × Not
           tagged = t.tagged;
           is_legal = t.is_legal;
           outcome = t.outcome;
-          common = t.common;
           few = t.few;
           valid = t.valid;
           records = t.records ∙ (λ i. records_in (known i) ++ are i) ∙ sym (append_assoc (records_in mine) (taken_in e) rest) ∙ ap (λ l. l ++ rest) (sym records);

@@ -1,5 +1,7 @@
 mod Merges
 pub mod Notes
+pub mod Sharing
+pub mod Batches
 mod Keeping
 mod Taking
 mod Asking

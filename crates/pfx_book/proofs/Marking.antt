@@ -1,19 +1,22 @@
 -- What the flusher notes.
-use Rattle.std.specs.Prelude.{slice_get}
+use Rattle.std.specs.Prelude.{slice_get, take}
 use Rattle.std.proofs.Common.{◌≡◌, ℕ, ◌+◌, ◌<◌, ◌≤◌, List, [], ◌∷◌, ◌++◌, length, set, Option, Some, None, refl, sym, ap, ◌∙◌, subst, arith, inl, inr}
 use Rattle.std.proofs.lemmas.Bool.{false≢true}
 use Rattle.pfx_fault.specs.declared.parts.Cause.{Cause}
 use Rattle.pfx_jobs.specs.Kind.{Kind}
 use Rattle.pfx_machine.specs.Plain.{Plain, IsState}
+use Rattle.pfx_machine.specs.Outcome.{outcome}
+use Rattle.pfx_machine.specs.declared.command.Command.{Command}
 use Rattle.pfx_machine.proofs.Compose.{outcome-none}
+use Rattle.std.proofs.lemmas.List.{take-append-le}
 use Rattle.pfx_record.specs.Records.{Recorded}
 use Rattle.pfx_slot.specs.Dealt.{Dealt}
 use Rattle.pfx_book.specs.declared.note.Note.{Note}
 use Rattle.pfx_book.specs.declared.note.Note.TheVariants.{Marked, Failed}
-use Rattle.pfx_book.specs.Notes.{Noted, records_in}
-use Rattle.pfx_book.specs.Kept.{HasFailed, IsKept, OpenFits}
+use Rattle.pfx_book.specs.Notes.{Noted, added, commands_of, records_in}
+use Rattle.pfx_book.specs.Kept.{Counts, HasFailed, IsKept, OpenFits}
 use Rattle.std.proofs.lemmas.Option.{none-some}
-use Rattle.pfx_book.proofs.Notes.{noted_more, noted_last}
+use Rattle.pfx_book.proofs.Notes.{commands_more, noted_more, noted_last}
 use Rattle.pfx_book.proofs.Keeping.{is_mark, flushed_is, kept_note, failed_more}
 
 -- the number that a note marks
@@ -62,6 +65,14 @@ fits_wider K state first (Some o) marked entries places wider le h later lt = (h
 pub fits_none : {J : Type 0} (K : Kind J) (state : Plain J) (first : ℕ) (o : Option (Dealt J)) (marked entries places : ℕ) → o ≡ None → OpenFits K state first o marked entries places
 fits_none K state first o marked entries places none = subst (λ p. OpenFits K state first p marked entries places) (sym none) tt
 
+-- one entry more is behind what was taken
+pub counts_more : {J : Type 0} (K : Kind J) (start : Plain J) (session : List (ℕ × Note J)) (k : ℕ) (e : Note J) (began taken width : ℕ) → taken ≤ length (commands_of session)
+    → Counts K start (commands_of session) began taken width → Counts K start (commands_of (session ++ (k, e) ∷ [])) began taken width
+counts_more K start session k e began taken width low h =
+    let H = commands_of session in
+    let same : take taken (commands_of (session ++ (k, e) ∷ [])) ≡ take taken H = ap (take taken) (commands_more session k e) ∙ take-append-le taken H (added e) low in
+    record { first = h.first; here = h.here ∙ ap (λ (G : List (Command _)). (outcome K start G).ledger.set.workers) (sym same) }
+
 -- a book that begins
 pub kept_new : {J : Type 0} (K : Kind J) (start state : Plain J) (lists : List (List (Note J))) (number clock : ℕ) → state ≡ start → IsState state → number ≡ state.number → lists ≡ (Marked number clock ∷ []) ∷ []
     → IsKept K start [] lists 0 state [] 0 0 clock None
@@ -75,7 +86,6 @@ kept_new K start state lists number clock same is num are =
         tagged = refl;
         is_legal = tt;
         outcome = same ∙ sym (outcome-none K start);
-        common = tt;
         few = omega arith;
         valid = subst IsState same is;
         records = refl;

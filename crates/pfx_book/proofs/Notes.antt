@@ -205,12 +205,14 @@ module _ {J : Type 0} where
   is_pass p r c (line.Submit pass refused task job) h = h.0
   is_pass p r c (line.Slot pass refused) h = h.0
   is_pass p r c (line.Withdraw pass refused task) h = h.0
+  is_pass p r c (line.Reweigh pass refused workers weights) h = h.0
   is_pass p r c (line.Receipt pass number clock) h = absurd h
 
   is_said : (K : Kind J) (B : Plain J) (H : List (Command J)) (p : ℕ) (r : Bool) (c : Command J) (l : Line J) → IsOf p r c l → entry_of K B H l ≡ said_of K B H r c
   is_said K B H p r c (line.Submit pass refused task job) h = λ i. said_of K B H (h.1 i) (h.2 i)
   is_said K B H p r c (line.Slot pass refused) h = λ i. said_of K B H (h.1 i) (h.2 i)
   is_said K B H p r c (line.Withdraw pass refused task) h = λ i. said_of K B H (h.1 i) (h.2 i)
+  is_said K B H p r c (line.Reweigh pass refused workers weights) h = λ i. said_of K B H (h.1 i) (h.2 i)
   is_said K B H p r c (line.Receipt pass number clock) h = absurd h
 
   module _ (K : Kind J) (B : Plain J) (xs : List (Line J)) (p : ℕ) (c : Command J) (l : Line J) (n : ℕ) where

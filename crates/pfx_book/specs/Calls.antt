@@ -6,6 +6,7 @@ use Rattle.pfx_crew.specs.declared.gathering.GatherFault.{GatherFault}
 use Rattle.pfx_crew.specs.declared.gathering.GatherFault.TheVariants.{Stranger}
 use Rattle.pfx_jobs.specs.Kind.{Kind}
 use Rattle.pfx_machine.specs.declared.command.Command.{Command}
+use Rattle.pfx_machine.specs.Batches.{IsBatchable}
 use Rattle.pfx_machine.specs.Faults.{no_memory}
 use Rattle.pfx_machine.specs.Plain.{Plain}
 use Rattle.pfx_machine.specs.Outcome.{outcome}
@@ -101,11 +102,12 @@ module _ {J : Type 0} where
     pub noted : later ≡ noted (Receipt number old.session.marked_at) pass
 
   -- The records of the next accepted commands were taken as a batch, which may come next after what the flusher noted and is noted.
-  -- All that was taken before is marked.
+  -- They are of a Reweigh alone, or there is none among them. All that was taken before is marked.
   pub record IsTaken (K : Kind J) (start : Plain J) (workers real first : ℕ) (records : Vec (Record J)) (old new : Register J) (share later : List (Note J))
       : Type 0 where
     pub event : new ≡ record old { session = took (length records.items) old.session }
     pub noted : later ≡ share ++ Took first records ∷ []
+    pub batchable : IsBatchable (take (length records.items) (drop old.session.taken old.session.accepted))
     pub commands : map plain records.items ≡ next_records K start (length records.items) old.session
     pub next : GoesOn K start share workers real first (map plain records.items)
     pub rested : old.session.marked ≡ old.session.taken

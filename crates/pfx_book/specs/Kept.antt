@@ -1,10 +1,10 @@
 -- What a book's type keeps.
-use Rattle.std.specs.Prelude.{◌≡◌, ◌≢◌, ℕ, ◌+◌, ◌^◌, ◌<◌, ◌≤◌, List, [], ◌∷◌, ◌++◌, length, Option, None, Some, ⊤, true}
+use Rattle.std.specs.Prelude.{◌≡◌, ◌≢◌, ℕ, ◌+◌, ◌^◌, ◌<◌, ◌≤◌, List, [], ◌∷◌, ◌++◌, length, take, Option, None, Some, ⊤, true}
 use Rattle.pfx_fault.specs.declared.parts.Cause.{Cause}
 use Rattle.pfx_jobs.specs.Kind.{Kind}
 use Rattle.pfx_machine.specs.Plain.{Plain, IsState}
-use Rattle.pfx_machine.specs.Batches.{AreCommon}
 use Rattle.pfx_machine.specs.Outcome.{outcome}
+use Rattle.pfx_machine.specs.declared.command.Command.{Command}
 use Rattle.pfx_record.specs.Records.{Recorded}
 use Rattle.pfx_redo.specs.Recording.{records_of}
 use Rattle.pfx_slot.specs.Dealt.{Dealt, Answers, StandsAt}
@@ -16,14 +16,13 @@ use Rattle.pfx_book.specs.Notes.{Noted, commands_of, Legal, records_in, AllBacke
 
 module _ {J : Type 0} where
   -- the keeper's lists are the flusher's notes and those of each pass; the notes of the passes are legal from the start, their
-  -- commands come to the state and have no Reweigh among them, and their records are those that were taken and then those that are pending
+  -- commands come to the state, and their records are those that were taken and then those that are pending
   pub record IsTold (K : Kind J) (start : Plain J) (flushed : List (Note J)) (all : List (ℕ × Note J))
       (lists : List (List (Note J))) (passes : ℕ) (state : Plain J) (pending : List (Recorded J)) : Type 0 where
     pub known : lists ≡ flushed ∷ lists_from 1 passes all
     pub tagged : Tagged passes all ≡ true
     pub is_legal : Legal K start [] all
     pub outcome : state ≡ outcome K start (commands_of all)
-    pub common : AreCommon (commands_of all)
     pub few : passes < 65
     pub valid : IsState start
     pub records : records_of K start (commands_of all) ≡ records_in flushed ++ pending
@@ -53,6 +52,12 @@ module _ {J : Type 0} where
     pub entries : session ≡ entries_of all
     pub is_told : IsTold K start flushed all lists passes state pending
     pub is_marked : IsMarked start.number flushed all taken marked clock failure
+
+  -- what a book counts from, the number of its start, and the workers of the state after what was taken, which the rows that are taken
+  -- next have
+  pub record Counts (K : Kind J) (start : Plain J) (accepted : List (Command J)) (began taken width : ℕ) : Type 0 where
+    pub first : began ≡ start.number
+    pub here : width ≡ (outcome K start (take taken accepted)).ledger.set.workers
 
   -- a slot is open: it is the state's, there is a place for its entry, it has room before the mark is 64 behind and before the
   -- session is full, and each result that is back is its quantum's

@@ -1,4 +1,5 @@
 pub mod Merging
+pub mod Batching
 pub mod Notes
 pub mod Lines
 pub mod Register

@@ -10,7 +10,7 @@ use Rattle.pfx_book.specs.declared.faults.BookFault.TheVariants.{SessionFull}
 use Rattle.pfx_book.specs.declared.note.Note.{Note}
 use Rattle.pfx_book.specs.declared.note.Note.TheVariants as note
 use Rattle.pfx_book.specs.declared.line.Line.{Line}
-use Rattle.pfx_book.specs.declared.line.Line.TheVariants.{Submit, Slot, Withdraw, Receipt}
+use Rattle.pfx_book.specs.declared.line.Line.TheVariants.{Submit, Slot, Withdraw, Reweigh, Receipt}
 use Rattle.pfx_book.specs.Notes.{added, refused_in}
 
 module _ {J : Type 0} where
@@ -19,6 +19,7 @@ module _ {J : Type 0} where
   pass_of (Submit pass refused task job) = pass
   pass_of (Slot pass refused) = pass
   pass_of (Withdraw pass refused task) = pass
+  pass_of (Reweigh pass refused workers weights) = pass
   pass_of (Receipt pass number clock) = pass
 
   -- the line is of this pass and this command, which was refused or not
@@ -26,6 +27,7 @@ module _ {J : Type 0} where
   IsOf p r c (Submit pass refused task job) = (pass ≡ p) × (refused ≡ r) × (command.Submit task job.value ≡ c)
   IsOf p r c (Slot pass refused) = (pass ≡ p) × (refused ≡ r) × (command.Slot ≡ c)
   IsOf p r c (Withdraw pass refused task) = (pass ≡ p) × (refused ≡ r) × (command.Withdraw task ≡ c)
+  IsOf p r c (Reweigh pass refused workers weights) = (pass ≡ p) × (refused ≡ r) × (command.Reweigh workers weights.value ≡ c)
   IsOf p r c (Receipt pass number clock) = ⊥
 
   -- the entry of a command after these: its number and reply, or why it is refused, are what they have to be there
@@ -38,6 +40,7 @@ module _ {J : Type 0} where
   entry_of K B H (Submit pass refused task job) = said_of K B H refused (command.Submit task job.value)
   entry_of K B H (Slot pass refused) = said_of K B H refused command.Slot
   entry_of K B H (Withdraw pass refused task) = said_of K B H refused (command.Withdraw task)
+  entry_of K B H (Reweigh pass refused workers weights) = said_of K B H refused (command.Reweigh workers weights.value)
   entry_of K B H (Receipt pass number clock) = note.Receipt number clock
 
   -- the session that lines tell, each entry with its pass's number

@@ -10,6 +10,7 @@ use Rattle.pfx_machine.specs.declared.command.Command.{Command}
 use Rattle.pfx_record.specs.declared.record.Record.{Record}
 use Rattle.pfx_record.specs.Records.{plain, Recorded}
 use Rattle.pfx_redo.specs.Applying.{applied}
+use Rattle.pfx_book.specs.Batching.{real_for}
 use Rattle.pfx_book.specs.declared.faults.BookFault.{BookFault}
 use Rattle.pfx_book.specs.declared.faults.BookFault.TheVariants.{SessionFull, Machine}
 use Rattle.pfx_book.specs.declared.note.Loss.{Loss}
@@ -113,10 +114,10 @@ module _ {J : Type 0} where
   IsRested first notes = (clock : ℕ) × Noted (Marked (first + length (records_in notes)) clock) notes
 
   -- these records may come next after the notes: where the noted ones lead to a state, they are of its set, say of no task that it
-  -- is real, begin after its number, and lead on
+  -- is real unless they are of new weights, begin after its number, and lead on
   abbrev pub GoesOn : Kind J → Plain J → List (Note J) → ℕ → ℕ → ℕ → List (Recorded J) → Type 0
   GoesOn K start notes workers real first records = (t : Plain J) → applied K start (records_in notes) ≡ Some t →
-      (workers ≡ t.ledger.set.workers) × (real ≡ 0) × (first ≡ t.number + 1) × ((u : Plain J) × (applied K t records ≡ Some u))
+      (workers ≡ t.ledger.set.workers) × (real ≡ real_for t.ledger.set.real records) × (first ≡ t.number + 1) × ((u : Plain J) × (applied K t records ≡ Some u))
 
   -- a session has no losses: these are for the clients alone
   abbrev pub is_entry : Note J → Bool

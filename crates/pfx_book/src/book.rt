@@ -15,7 +15,7 @@ use crate::line::{Line, line_of, refused_line};
 use crate::name::Named;
 use crate::note::{Loss, Note};
 use crate::room::make_room;
-use crate::trying::{Tried, is_common, try_command};
+use crate::trying::{Tried, try_command};
 use pfx_choice::ChoiceFault;
 use pfx_fault::Cause;
 use pfx_jobs::job::Job;
@@ -104,6 +104,7 @@ pub struct Book<J: Job, B: Named<J>> {
     pub(crate) slot: Option<OpenSlot<J>>,
     pub(crate) opener: u8,
     pub(crate) taken: u64,
+    pub(crate) width: u32,
     pub(crate) marked: u64,
     pub(crate) clock: u64,
     pub(crate) failure: Option<Cause>,
@@ -115,7 +116,8 @@ impl<J: Job, B: Named<J>> Model for Book<J, B> {
     ghost use Rattle.std.specs.VecDeque.{deque_items, deque_capacity};
     ghost use Rattle.pfx_record.specs.Records.{plain};
     ghost use Rattle.pfx_book.specs.Lines.{told};
-    ghost use Rattle.pfx_book.specs.Kept.{IsKept, OpenFits};
+    ghost use Rattle.pfx_book.specs.Kept.{Counts, IsKept, OpenFits};
+    ghost use Rattle.pfx_book.specs.Notes.{commands_of};
     ghost use Rattle.pfx_book.specs.Register.{Register, register};
 
     ghost Value = { Register J };
@@ -125,7 +127,7 @@ impl<J: Job, B: Named<J>> Model for Book<J, B> {
     ghost invariant = { λ b. IsKept J.kind B.start (told J.kind B.start [] b.history.items) b.keeper b.passes b.state (map plain (deque_items b.pending))
         b.taken b.marked b.clock b.failure
         × OpenFits J.kind b.state B.start.number b.slot b.marked (length b.history.items) (vec_capacity b.history)
-        × (b.began ≡ B.start.number) × (64 ≤ deque_capacity b.pending) };
+        × Counts J.kind B.start (commands_of (told J.kind B.start [] b.history.items)) b.began b.taken b.width × (64 ≤ deque_capacity b.pending) };
 }
 
 impl<J: Job, B: Named<J>> Book<J, B> {
@@ -148,6 +150,7 @@ impl<J: Job, B: Named<J>> Book<J, B> {
         let mut keeper = tokens.named::<B>();
         let mut token = keeper.issue();
         let began = state.number();
+        let width = state.columns().workers();
         keeper.note(&mut token, &Note::Marked(began, clock));
         let book = Book {
             alloc,
@@ -160,6 +163,7 @@ impl<J: Job, B: Named<J>> Book<J, B> {
             slot: None,
             opener: 0,
             taken: 0,
+            width,
             marked: 0,
             clock,
             failure: None,
@@ -253,9 +257,9 @@ impl<J: Job, B: Named<J>> Book<J, B> {
         })
     }
 
-    /// Accepts a Submit or a Withdraw, if the book takes commands and it may be asked, and carries it out; or refuses it, with an
-    /// entry for the pass in both cases: `SessionFull` if 1,048,576 commands were accepted, else as the machine refuses it.
-    /// `Machine(NoRow(NoMemory))` has no entry. A Reweigh has no room in a book, and is answered so.
+    /// Accepts a Submit, a Withdraw or a Reweigh, if the book takes commands and it may be asked, and carries it out; or refuses it,
+    /// with an entry for the pass in both cases: `SessionFull` if 1,048,576 commands were accepted, else as the machine refuses it.
+    /// `Machine(NoRow(NoMemory))` has no entry.
     pub fn ask(
         &mut self,
         pass: &mut Pass<J, B>,
@@ -267,9 +271,6 @@ impl<J: Job, B: Named<J>> Book<J, B> {
         ensures accepted { IfOk result (IsAccepted command (asked J.kind command self.old.session) self.old self.new pass.old pass.new) }
         ensures err { IfErr result (Refuses J.kind command self.old self.new pass.old pass.new) }
     {
-        if !is_common(&command) {
-            return Err(BookFault::Machine(MachineFault::NoRow(ChoiceFault::NoMemory)));
-        }
         let Book {
             alloc,
             keeper,

@@ -1,7 +1,6 @@
 //! Receipts, failures, and the end of a session.
 ghost use Rattle.std.specs.Prelude.{◌≡◌, ◌≢◌, ◌≤◌, ◌+◌, [], map, length, take, IfOk, OnOk, OnErr, Some, None, true, false, IsTrue};
 ghost use Rattle.pfx_redo.specs.Recording.{records_of};
-ghost use Rattle.pfx_machine.specs.Batches.{AreCommon};
 ghost use Rattle.pfx_machine.specs.Outcome.{outcome};
 ghost use Rattle.pfx_machine.specs.Plain.{IsState};
 ghost use Rattle.pfx_machine.specs.Sessions.{IsAcceptable};
@@ -84,14 +83,12 @@ impl<J: Job, B: Named<J>> Book<J, B> {
     }
 
     /// What holds of each session, whatever was called: its entries are right at their places, and its accepted commands are
-    /// acceptable, have no Reweigh among them, and lead from the start to the state; what is marked was taken, and what was taken was accepted. It does
-    /// nothing.
+    /// acceptable and lead from the start to the state; what is marked was taken, and what was taken was accepted. It does nothing.
     pub fn legal(&self)
         ensures start { IsState B.start }
         ensures legal { Legal J.kind B.start [] self.now.history }
         ensures commands { self.now.session.accepted ≡ commands_of self.now.history }
         ensures accepted { IsAcceptable J.kind B.start self.now.session.accepted }
-        ensures common { AreCommon self.now.session.accepted }
         ensures state { self.now.session.state ≡ outcome J.kind B.start self.now.session.accepted }
         ensures marked { self.now.session.marked ≤ self.now.session.taken }
         ensures taken { self.now.session.taken ≤ length self.now.session.accepted }

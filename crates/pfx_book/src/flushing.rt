@@ -1,6 +1,8 @@
 //! What the flusher calls.
-ghost use Rattle.std.specs.Prelude.{◌≡◌, ◌↔◌, [], ◌∷◌, ◌++◌, ◌<◌, ◌≤◌, ◌+◌, length, IfOk, IfErr, OnErr, IsTrue, Some, None, vec_capacity};
+ghost use Rattle.std.specs.Prelude.{◌≡◌, ◌↔◌, [], ◌∷◌, ◌++◌, ◌<◌, ◌≤◌, ◌+◌, length, map, IfOk, IfErr, OnErr, IsTrue, Some, None, vec_capacity};
+ghost use Rattle.pfx_record.specs.Records.{plain};
 ghost use Rattle.pfx_world.specs.Session.{marked_now, gave_up};
+ghost use Rattle.pfx_book.specs.Batching.{real_for, width_behind};
 ghost use Rattle.pfx_book.specs.Calls.{IsTaken};
 ghost use Rattle.pfx_book.specs.Notes.{IsRested, records_in, took_in};
 ghost use Rattle.pfx_book.specs.declared.note.Note.TheVariants.{Marked, Failed};
@@ -23,6 +25,26 @@ fn took_of<J: Job>(note: Note<J>) -> Option<Vec<Record<J>>>
     }
 }
 
+/// How many tasks a batch says to be real, if so many are: none, but for new weights.
+fn real_for<J>(real: u32, records: &[Record<J>]) -> u32
+    ensures { result ≡ real_for real (map plain records.now) }
+{
+    match records.first() {
+        Some(Record::Reweigh { .. }) => real,
+        _ => 0,
+    }
+}
+
+/// The workers behind a batch, if there were so many before it.
+fn width_behind<J>(width: u32, records: &[Record<J>]) -> u32
+    ensures { result ≡ width_behind width (map plain records.now) }
+{
+    match records.first() {
+        Some(Record::Reweigh { workers, .. }) => u32::from(*workers),
+        _ => width,
+    }
+}
+
 impl<J: Job, B: Named<J>> Book<J, B> {
     /// Whether accepted commands wait for the flusher.
     pub fn has_pending(&self) -> bool
@@ -32,8 +54,8 @@ impl<J: Job, B: Named<J>> Book<J, B> {
     }
 
     /// Takes the records of the next commands, 16 at the most, as a batch, which the share notes, into an empty vector with room
-    /// for them. All that was taken before has to be marked. If there are none nothing changes, and the vector comes back. It takes no
-    /// memory.
+    /// for them. A Reweigh is a batch of its own, so the one before it ends there. All that was taken before has to be marked. If
+    /// there are none nothing changes, and the vector comes back. It takes no memory.
     pub fn take_batch(
         &mut self,
         share: &mut Share<J, B>,
@@ -53,9 +75,12 @@ impl<J: Job, B: Named<J>> Book<J, B> {
             state,
             pending,
             taken,
+            width,
             ..
         } = self;
-        let workers = state.columns().workers();
+        let ledger = state.columns();
+        let _total = ledger.total();
+        let most = ledger.real() as u32;
         let count = pending.len() as u64;
         let records = take_front(pending, room);
         if records.is_empty() {
@@ -63,11 +88,15 @@ impl<J: Job, B: Named<J>> Book<J, B> {
         }
         let first = state.number() - count + 1;
         let more = records.len() as u64;
+        let real = real_for(most, &records);
+        let workers = *width;
+        let later = width_behind(workers, &records);
         let note = Note::Took(first, records);
         keeper.note(&mut share.token, &note);
         *taken += more;
+        *width = later;
         match took_of(note) {
-            Some(records) => return Ok(Batch::new(workers, 0, first, records)),
+            Some(records) => return Ok(Batch::new(workers, real, first, records)),
             None => return Err(Vec::new(*alloc)),
         }
     }

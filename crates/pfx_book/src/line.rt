@@ -5,9 +5,10 @@ ghost use Rattle.pfx_book.specs.Lines.{IsOf};
 
 use pfx_jobs::job::Job;
 use pfx_machine::Command;
+use pfx_weights::Weights;
 use std::alloc::Global;
 
-/// One entry of a session, in 24 bytes beside a Submit's job.
+/// One entry of a session, in 24 bytes beside a Submit's job and a Reweigh's weights.
 #[derive(Drop)]
 pub enum Line<J> {
     /// A Submit that was accepted or refused.
@@ -28,6 +29,13 @@ pub enum Line<J> {
         refused: bool,
         task: u16,
     },
+    /// A Reweigh that was accepted or refused.
+    Reweigh {
+        pass: u8,
+        refused: bool,
+        workers: u32,
+        weights: Box<Weights>,
+    },
     /// A receipt, with its mark's clock.
     Receipt {
         pass: u8,
@@ -36,7 +44,17 @@ pub enum Line<J> {
     },
 }
 
-/// The line of an accepted command. `None` for a Reweigh, which has none, and if an allocation fails, which only a Submit takes.
+/// The weights in memory of their own, in a box. `None` if an allocation fails.
+fn boxed(alloc: Global, weights: &Weights) -> Option<Box<Weights>>
+    ensures { IfSome result (λ copy. copy.value ≡ weights.now) }
+{
+    match weights.copy_of(alloc) {
+        Ok(copy) => Box::new(alloc, copy).ok(),
+        Err(_) => None,
+    }
+}
+
+/// The line of an accepted command. `None` if an allocation fails, which only a Submit and a Reweigh take.
 pub fn line_of<J: Job>(alloc: Global, pass: u8, command: &Command<J>) -> Option<Line<J>>
     ensures { IfSome result (IsOf pass false command.now) }
 {
@@ -59,7 +77,15 @@ pub fn line_of<J: Job>(alloc: Global, pass: u8, command: &Command<J>) -> Option<
             refused: false,
             task: *task,
         }),
-        Command::Reweigh { .. } => None,
+        Command::Reweigh { workers, weights } => match boxed(alloc, weights) {
+            Some(weights) => Some(Line::Reweigh {
+                pass,
+                refused: false,
+                workers: *workers,
+                weights,
+            }),
+            None => None,
+        },
     }
 }
 
@@ -88,6 +114,17 @@ pub fn refused_line<J: Job>(line: Line<J>, command: &Command<J>, number: u8) -> 
             pass,
             refused: true,
             task,
+        },
+        Line::Reweigh {
+            pass,
+            workers,
+            weights,
+            ..
+        } => Line::Reweigh {
+            pass,
+            refused: true,
+            workers,
+            weights,
         },
         Line::Receipt {
             pass,

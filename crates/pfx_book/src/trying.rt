@@ -1,6 +1,5 @@
 //! Commands tried on the state.
 ghost use Rattle.std.specs.Prelude.{◌≡◌, ◌≢◌, ◌↔◌, map, IfOk, IfErr, OnOk, None, IsTrue, IsFalse};
-ghost use Rattle.pfx_machine.specs.Batches.{IsCommon};
 ghost use Rattle.pfx_machine.specs.Faults.{no_memory};
 ghost use Rattle.pfx_machine.specs.Slots.{deal};
 ghost use Rattle.pfx_slot.specs.Dealt.{StandsAt};
@@ -36,18 +35,6 @@ pub fn is_no_memory(fault: BookFault) -> bool
         fault,
         BookFault::Machine(MachineFault::NoRow(ChoiceFault::NoMemory))
     )
-}
-
-/// Whether a command is another than a Reweigh.
-pub fn is_common<J>(command: &Command<J>) -> bool
-    ensures { IsTrue result ↔ IsCommon command.now }
-{
-    match command {
-        Command::Submit { .. } => true,
-        Command::Slot => true,
-        Command::Withdraw { .. } => true,
-        Command::Reweigh { .. } => false,
-    }
 }
 
 /// Tries a command on the state of a session that is full or not.

@@ -11,6 +11,7 @@
 //! | `full` | a session of 1,048,576 commands, which accepts no more |
 //! | `flushing` | batches, marks, receipts, and a flusher that gives up |
 //! | `closing` | passes that come back, in order and out of order |
+//! | `reweighing` | new weights among other commands |
 //! | `memory` | calls that are refused memory, and again |
 #![tactic(auto)]
 
@@ -30,6 +31,8 @@ mod full;
 mod memory;
 #[cfg(test)]
 mod refusals;
+#[cfg(test)]
+mod reweighing;
 #[cfg(test)]
 mod states;
 #[cfg(test)]

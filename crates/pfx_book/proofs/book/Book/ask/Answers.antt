@@ -1,8 +1,7 @@
 use Rattle.std.specs.Prelude.{Some, None, is_some}
 use Rattle.std.specs.VecDeque.{deque_items}
-use Rattle.std.proofs.Common.{◌≡◌, ℕ, List, [], ◌∷◌, ◌++◌, ◌<◌, ◌+◌, length, map, true, false, refl, sym, ap, ◌∙◌, subst, arith, inr}
+use Rattle.std.proofs.Common.{◌≡◌, ℕ, List, [], ◌∷◌, ◌++◌, ◌<◌, ◌≤◌, ◌+◌, length, map, true, false, refl, sym, ap, ◌∙◌, subst, arith, inr}
 use Rattle.std.proofs.lemmas.List.{map-append}
-use Rattle.pfx_machine.specs.Batches.{IsCommon}
 use Rattle.pfx_machine.specs.Plain.{Plain}
 use Rattle.pfx_machine.specs.Steps.{state_step, happening_in}
 use Rattle.pfx_machine.specs.declared.command.Command.{Command}
@@ -18,10 +17,10 @@ use Rattle.pfx_book.specs.Register.{Register, register, HasRoom}
 use Rattle.pfx_book.specs.Lines.{IsOf}
 use Rattle.pfx_book.proofs.Taking.{length_map}
 use Rattle.pfx_book.specs.Calls.{entered, refused_by}
-use Rattle.pfx_book.specs.Kept.{IsKept}
+use Rattle.pfx_book.specs.Kept.{Counts, IsKept}
 use Rattle.pfx_book.proofs.Notes.{free_of, greatest_more, greatest_same, lost_more}
 use Rattle.pfx_book.proofs.Keeping.{outcome_is, all_taken, low}
-use Rattle.pfx_book.proofs.Marking.{fits_none}
+use Rattle.pfx_book.proofs.Marking.{counts_more, fits_none}
 use Rattle.pfx_book.proofs.Asking.{full_is, accepts, refuses, one_step}
 use Rattle.pfx_book.proofs.Showing.{none_shown, shows_asked, shows_refused}
 use Rattle.pfx_book.proofs.book.Book.ask.Goals as goal
@@ -51,7 +50,7 @@ invariant_of-self-in-Refused g c =
     let p = c.pass.invariant in
     let mine = c.pass.inside.token.1 in
     let k = c.pass.inside.token.0 in
-    let full = full_is K g.met.J.Job.laws B s.history.items s.keeper s.passes s.state pend s.taken s.marked s.clock s.failure k mine h s.began c.self.invariant.2 c.number.result c.number.ensures.number in
+    let full = full_is K g.met.J.Job.laws B s.history.items s.keeper s.passes s.state pend s.taken s.marked s.clock s.failure k mine h s.began c.self.invariant.2.first c.number.result c.number.ensures.number in
     let t = c.in-Refused.ensures in
     let n = c.number-in-Refused.result in
     let copy = c.in-Refused.copy in
@@ -62,11 +61,13 @@ invariant_of-self-in-Refused g c =
     let r = refuses K g.met.J.Job.laws B s.history.items s.keeper s.passes s.state pend s.taken s.marked s.clock s.failure k mine h c.note.ensures.known (omega (arith, p.1))
     c.args.command copy fault n c.try_command.new.state line _ full t.0 t.1 t.2 c.number-in-Refused.ensures.number of_line in
     let items = c.push_reserved.ensures.items ∙ ap (λ l. l ++ line ∷ []) c.make_room.ensures.items in
+    let low_enough : s.taken ≤ length (commands_of xs) = (let all = all_taken K B xs s.keeper s.passes s.state pend s.taken s.marked s.clock s.failure h in omega (arith, all)) in
+    let counts = counts_more K B xs k e s.began s.taken s.width low_enough c.self.invariant.2 in
     let none = none_shown K s.slot (ap (λ (v : Register g.row.J.Denot). v.session.opened) c.self.view_is ∙ c.requires.ready.none_open) in (
       subst (λ (q : List (List (Note g.row.J.Denot)) × List (Line g.row.J.Denot)). IsKept K B (told K B [] q.1) q.0 s.passes c.try_command.new.state pend s.taken s.marked s.clock s.failure)
           (λ i. (sym c.note.ensures.keeper i, sym items i)) r.1,
       fits_none K c.try_command.new.state B.number s.slot s.marked _ _ none,
-      c.self.invariant.2,
+      subst (λ (l : List (Line g.row.J.Denot)). Counts K B (commands_of (told K B [] l)) s.began s.taken s.width) (sym items) (subst (λ l. Counts K B (commands_of l) s.began s.taken s.width) (sym r.0) counts),
       c.self.invariant.3,
     )
 
@@ -93,7 +94,7 @@ returns-in-Refused-clause-err g c =
     let p = c.pass.invariant in
     let mine = c.pass.inside.token.1 in
     let k = c.pass.inside.token.0 in
-    let full = full_is K g.met.J.Job.laws B s.history.items s.keeper s.passes s.state pend s.taken s.marked s.clock s.failure k mine h s.began c.self.invariant.2 c.number.result c.number.ensures.number in
+    let full = full_is K g.met.J.Job.laws B s.history.items s.keeper s.passes s.state pend s.taken s.marked s.clock s.failure k mine h s.began c.self.invariant.2.first c.number.result c.number.ensures.number in
     let t = c.in-Refused.ensures in
     let n = c.number-in-Refused.result in
     let copy = c.in-Refused.copy in
@@ -131,7 +132,7 @@ invariant_of-self-in-Done g c =
     let p = c.pass.invariant in
     let mine = c.pass.inside.token.1 in
     let k = c.pass.inside.token.0 in
-    let full = full_is K L B s.history.items s.keeper s.passes s.state pend s.taken s.marked s.clock s.failure k mine h s.began c.self.invariant.2 c.number.result c.number.ensures.number in
+    let full = full_is K L B s.history.items s.keeper s.passes s.state pend s.taken s.marked s.clock s.failure k mine h s.began c.self.invariant.2.first c.number.result c.number.ensures.number in
     let t = c.in-Done.ensures in
     let n = c.number-number.result in
     let copy = c.in-Done.copy in
@@ -143,14 +144,16 @@ invariant_of-self-in-Done g c =
     let room : length (commands_of xs) < s.marked + 64 = subst HasRoom (sym (ap (λ (v : Register g.row.J.Denot). v.session) c.self.view_is)) c.requires.ready.room in
     let here = outcome_is K B xs s.keeper s.passes s.state pend s.taken s.marked s.clock s.failure h in
     let a = accepts K L B s.history.items s.keeper s.passes s.state pend s.taken s.marked s.clock s.failure k mine h c.note-in-Done.ensures.known (omega (arith, p.1))
-    c.args.command copy said n u (plain c.in-Done.entry) line _ full t.0 (subst IsCommon (sym t.0) (c.is_common.ensures.0 c.if-not-is_common.false)) t.1 (c.copy_reply.ensures ∙ t.2) t.3 (t.4 B (commands_of xs) here) c.number-number.ensures.number of_line room in
+    c.args.command copy said n u (plain c.in-Done.entry) line _ full t.0 t.1 (c.copy_reply.ensures ∙ t.2) t.3 (t.4 B (commands_of xs) here) c.number-number.ensures.number of_line room in
     let items = c.push_reserved-in-Done.ensures.items ∙ ap (λ l. l ++ line ∷ []) c.make_room.ensures.items in
     let queue = ap (map plain) c.push_back_reserved.ensures.items ∙ map-append plain (deque_items s.pending) (c.in-Done.entry ∷ []) in
+    let low_enough : s.taken ≤ length (commands_of xs) = (let all = all_taken K B xs s.keeper s.passes s.state pend s.taken s.marked s.clock s.failure h in omega (arith, all)) in
+    let counts = counts_more K B xs k e s.began s.taken s.width low_enough c.self.invariant.2 in
     let none = none_shown K s.slot (ap (λ (v : Register g.row.J.Denot). v.session.opened) c.self.view_is ∙ c.requires.ready.none_open) in (
       subst (λ (q : List (List (Note g.row.J.Denot)) × List (Line g.row.J.Denot) × List (Recorded g.row.J.Denot)). IsKept K B (told K B [] q.1) q.0 s.passes u q.2 s.taken s.marked s.clock s.failure)
           (λ i. (sym c.note-in-Done.ensures.keeper i, sym items i, sym queue i)) a.1,
       fits_none K u B.number s.slot s.marked _ _ none,
-      c.self.invariant.2,
+      subst (λ (l : List (Line g.row.J.Denot)). Counts K B (commands_of (told K B [] l)) s.began s.taken s.width) (sym items) (subst (λ l. Counts K B (commands_of l) s.began s.taken s.width) (sym a.0) counts),
       omega (arith, c.self.invariant.3, c.push_back_reserved.ensures.capacity),
     )
 
@@ -166,7 +169,7 @@ invariant_of-pass-in-Done g c =
     let p = c.pass.invariant in
     let mine = c.pass.inside.token.1 in
     let k = c.pass.inside.token.0 in
-    let full = full_is K L B s.history.items s.keeper s.passes s.state pend s.taken s.marked s.clock s.failure k mine h s.began c.self.invariant.2 c.number.result c.number.ensures.number in
+    let full = full_is K L B s.history.items s.keeper s.passes s.state pend s.taken s.marked s.clock s.failure k mine h s.began c.self.invariant.2.first c.number.result c.number.ensures.number in
     let t = c.in-Done.ensures in
     let n = c.number-number.result in
     let copy = c.in-Done.copy in
@@ -178,7 +181,7 @@ invariant_of-pass-in-Done g c =
     let room : length (commands_of xs) < s.marked + 64 = subst HasRoom (sym (ap (λ (v : Register g.row.J.Denot). v.session) c.self.view_is)) c.requires.ready.room in
     let here = outcome_is K B xs s.keeper s.passes s.state pend s.taken s.marked s.clock s.failure h in
     let a = accepts K L B s.history.items s.keeper s.passes s.state pend s.taken s.marked s.clock s.failure k mine h c.note-in-Done.ensures.known (omega (arith, p.1))
-    c.args.command copy said n u (plain c.in-Done.entry) line _ full t.0 (subst IsCommon (sym t.0) (c.is_common.ensures.0 c.if-not-is_common.false)) t.1 (c.copy_reply.ensures ∙ t.2) t.3 (t.4 B (commands_of xs) here) c.number-number.ensures.number of_line room in
+    c.args.command copy said n u (plain c.in-Done.entry) line _ full t.0 t.1 (c.copy_reply.ensures ∙ t.2) t.3 (t.4 B (commands_of xs) here) c.number-number.ensures.number of_line room in
     let z = c.note-in-Done.ensures.token in
     let m : greatest (mine ++ e ∷ []) ≡ n = greatest_more mine e ∙ omega (arith, a.2) in (
       p.0 ∙ sym (ap (λ x. x.0) z),
@@ -211,7 +214,7 @@ returns-in-Done-clause-accepted g c =
     let p = c.pass.invariant in
     let mine = c.pass.inside.token.1 in
     let k = c.pass.inside.token.0 in
-    let full = full_is K L B s.history.items s.keeper s.passes s.state pend s.taken s.marked s.clock s.failure k mine h s.began c.self.invariant.2 c.number.result c.number.ensures.number in
+    let full = full_is K L B s.history.items s.keeper s.passes s.state pend s.taken s.marked s.clock s.failure k mine h s.began c.self.invariant.2.first c.number.result c.number.ensures.number in
     let t = c.in-Done.ensures in
     let n = c.number-number.result in
     let copy = c.in-Done.copy in
@@ -223,7 +226,7 @@ returns-in-Done-clause-accepted g c =
     let room : length (commands_of xs) < s.marked + 64 = subst HasRoom (sym (ap (λ (v : Register g.row.J.Denot). v.session) c.self.view_is)) c.requires.ready.room in
     let here = outcome_is K B xs s.keeper s.passes s.state pend s.taken s.marked s.clock s.failure h in
     let a = accepts K L B s.history.items s.keeper s.passes s.state pend s.taken s.marked s.clock s.failure k mine h c.note-in-Done.ensures.known (omega (arith, p.1))
-    c.args.command copy said n u (plain c.in-Done.entry) line _ full t.0 (subst IsCommon (sym t.0) (c.is_common.ensures.0 c.if-not-is_common.false)) t.1 (c.copy_reply.ensures ∙ t.2) t.3 (t.4 B (commands_of xs) here) c.number-number.ensures.number of_line room in
+    c.args.command copy said n u (plain c.in-Done.entry) line _ full t.0 t.1 (c.copy_reply.ensures ∙ t.2) t.3 (t.4 B (commands_of xs) here) c.number-number.ensures.number of_line room in
     let items = c.push_reserved-in-Done.ensures.items ∙ ap (λ l. l ++ line ∷ []) c.make_room.ensures.items in
     let v = c.self.view_is in
     let pv = c.pass.view_is in

@@ -9,4 +9,4 @@ returns g c =
     let h = c.self.invariant.0 in
     let a = state_number g.J.Job.kind _ _ _ _ _ _ _ _ _ _ h in
     settled_is c.args.self.now.session c.number.result c.self.inside.began c.self.inside.marked
-    (ap (λ (v : Register g.row.J.Denot). length v.session.accepted) (sym c.self.view_is)) (ap (λ (v : Register g.row.J.Denot). v.session.marked) (sym c.self.view_is)) (omega (arith, a, c.self.invariant.2, c.number.ensures.number))
+    (ap (λ (v : Register g.row.J.Denot). length v.session.accepted) (sym c.self.view_is)) (ap (λ (v : Register g.row.J.Denot). v.session.marked) (sym c.self.view_is)) (omega (arith, a, c.self.invariant.2.first, c.number.ensures.number))

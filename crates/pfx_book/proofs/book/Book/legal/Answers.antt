@@ -1,12 +1,11 @@
 use Rattle.std.proofs.Common.{◌≡◌, ◌≤◌, [], length, refl, subst, arith}
-use Rattle.pfx_machine.specs.Batches.{AreCommon}
 use Rattle.pfx_machine.specs.Outcome.{outcome}
 use Rattle.pfx_machine.specs.Sessions.{IsAcceptable}
 use Rattle.pfx_book.specs.Lines.{told}
 use Rattle.pfx_book.specs.Notes.{commands_of, Legal}
 use Rattle.pfx_book.specs.Register.{Register}
 use Rattle.pfx_book.proofs.Notes.{all_accepted}
-use Rattle.pfx_book.proofs.Keeping.{all_taken, common_in, is_legal, low, outcome_is}
+use Rattle.pfx_book.proofs.Keeping.{all_taken, is_legal, low, outcome_is}
 use Rattle.pfx_book.proofs.book.Book.legal.Goals as goal
 
 pub returns-clause-start : goal.returns-clause-start
@@ -27,12 +26,6 @@ returns-clause-accepted g c =
     let B = g.B.Named.start in
     let xs = told K B [] c.self.inside.history.items in
     subst (λ (v : Register g.row.J.Denot). IsAcceptable K B v.session.accepted) c.self.view_is (all_accepted K B [] xs (is_legal K B _ _ _ _ _ _ _ _ _ c.self.invariant.0))
-
-pub returns-clause-common : goal.returns-clause-common
-returns-clause-common g c =
-    let K = g.J.Job.kind in
-    let B = g.B.Named.start in
-    subst (λ (v : Register g.row.J.Denot). AreCommon v.session.accepted) c.self.view_is (common_in K B _ _ _ _ _ _ _ _ _ c.self.invariant.0)
 
 pub returns-clause-state : goal.returns-clause-state
 returns-clause-state g c =

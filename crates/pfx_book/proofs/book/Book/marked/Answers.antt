@@ -8,4 +8,4 @@ overflow_add-result g c =
     let a = state_number g.J.Job.kind _ _ _ _ _ _ _ _ _ _ h in
     let b = all_taken g.J.Job.kind _ _ _ _ _ _ _ _ _ _ h in
     let l = low g.J.Job.kind _ _ _ _ _ _ _ _ _ _ h in
-    omega (arith, a, b, l, c.self.invariant.2, c.number-number.ensures.state.number)
+    omega (arith, a, b, l, c.self.invariant.2.first, c.number-number.ensures.state.number)

@@ -1,6 +1,6 @@
 use Rattle.std.specs.Prelude.{vec_capacity}
 use Rattle.std.specs.VecDeque.{deque_items}
-use Rattle.std.proofs.Common.{◌≡◌, ℕ, List, [], ◌∷◌, ◌++◌, ◌<◌, ◌+◌, ◌^◌, length, map, Some, true, refl, sym, ap, ◌∙◌, subst, arith, inr}
+use Rattle.std.proofs.Common.{◌≡◌, ℕ, List, [], ◌∷◌, ◌++◌, ◌<◌, ◌≤◌, ◌+◌, ◌^◌, length, map, Some, true, refl, sym, ap, ◌∙◌, subst, arith, inr}
 use Rattle.pfx_machine.specs.Plain.{Plain}
 use Rattle.pfx_machine.specs.declared.command.Command.TheVariants as command
 use Rattle.pfx_record.specs.Records.{plain}
@@ -14,10 +14,10 @@ use Rattle.pfx_book.specs.Notes.{greatest, lost_in, commands_of, refused_at}
 use Rattle.pfx_book.specs.Lines.{told}
 use Rattle.pfx_book.specs.Register.{Register, register, HasRoom}
 use Rattle.pfx_book.specs.Calls.{entered, refused_by}
-use Rattle.pfx_book.specs.Kept.{IsKept}
+use Rattle.pfx_book.specs.Kept.{Counts, IsKept}
 use Rattle.pfx_book.proofs.Notes.{greatest_same, lost_more}
-use Rattle.pfx_book.proofs.Keeping.{state_number}
-use Rattle.pfx_book.proofs.Marking.{fits_none}
+use Rattle.pfx_book.proofs.Keeping.{all_taken, state_number}
+use Rattle.pfx_book.proofs.Marking.{counts_more, fits_none}
 use Rattle.pfx_book.proofs.Asking.{full_is, refuses}
 use Rattle.pfx_book.proofs.Dealing.{answers_start, opening_is, other_of, room_of}
 use Rattle.pfx_book.proofs.Showing.{none_shown, shows_opened, shows_refused}
@@ -38,17 +38,20 @@ invariant_of-self-in-Err g c =
     let u = c.try_open.new.state in
     let n = c.number-in-Err.result in
     let fault = c.in-Err.fault in
-    let full = full_is K L B s.history.items s.keeper s.passes s.state pend s.taken s.marked s.clock s.failure k mine h s.began c.self.invariant.2 c.number.result c.number.ensures.number in
+    let full = full_is K L B s.history.items s.keeper s.passes s.state pend s.taken s.marked s.clock s.failure k mine h s.began c.self.invariant.2.first c.number.result c.number.ensures.number in
     let why = other_of K _ s.state fault c.in-Err.ensures.err (c.if-is_no_memory.ensures.no refl) in
     let l : Line g.row.J.Denot = line.Slot c.pass.inside.number true in
     let r = refuses K L B s.history.items s.keeper s.passes s.state pend s.taken s.marked s.clock s.failure k mine h c.note.ensures.known (omega (arith, p.1))
     command.Slot command.Slot fault n u l _ full refl why c.try_open.ensures.same c.number-in-Err.ensures.number (p.0, refl, refl) in
     let items = c.push_reserved.ensures.items ∙ ap (λ q. q ++ l ∷ []) c.make_room.ensures.items in
+    let low_enough : s.taken ≤ length (commands_of xs) = (let all = all_taken K B xs s.keeper s.passes s.state pend s.taken s.marked s.clock s.failure h in omega (arith, all)) in
+    let e : Note g.row.J.Denot = Refused n command.Slot fault in
+    let counts = counts_more K B xs k e s.began s.taken s.width low_enough c.self.invariant.2 in
     let none = none_shown K s.slot (ap (λ (v : Register g.row.J.Denot). v.session.opened) c.self.view_is ∙ c.requires.ready.none_open) in (
       subst (λ (q : List (List (Note g.row.J.Denot)) × List (Line g.row.J.Denot)). IsKept K B (told K B [] q.1) q.0 s.passes u pend s.taken s.marked s.clock s.failure)
           (λ i. (sym c.note.ensures.keeper i, sym items i)) r.1,
       fits_none K u B.number s.slot s.marked _ _ none,
-      c.self.invariant.2,
+      subst (λ (q : List (Line g.row.J.Denot)). Counts K B (commands_of (told K B [] q)) s.began s.taken s.width) (sym items) (subst (λ q. Counts K B (commands_of q) s.began s.taken s.width) (sym r.0) counts),
       c.self.invariant.3,
     )
 
@@ -79,7 +82,7 @@ returns-in-Err-clause-err g c =
     let u = c.try_open.new.state in
     let n = c.number-in-Err.result in
     let fault = c.in-Err.fault in
-    let full = full_is K L B s.history.items s.keeper s.passes s.state pend s.taken s.marked s.clock s.failure k mine h s.began c.self.invariant.2 c.number.result c.number.ensures.number in
+    let full = full_is K L B s.history.items s.keeper s.passes s.state pend s.taken s.marked s.clock s.failure k mine h s.began c.self.invariant.2.first c.number.result c.number.ensures.number in
     let why = other_of K _ s.state fault c.in-Err.ensures.err (c.if-is_no_memory.ensures.no refl) in
     let l : Line g.row.J.Denot = line.Slot c.pass.inside.number true in
     let r = refuses K L B s.history.items s.keeper s.passes s.state pend s.taken s.marked s.clock s.failure k mine h c.note.ensures.known (omega (arith, p.1))
@@ -115,7 +118,7 @@ invariant_of-self-in-Ok g c =
     let wide : length c.make_room.new.list.items < vec_capacity c.make_room.new.list = omega (arith, c.if-not-make_room.ensures.fits refl) in
     let room : length (commands_of xs) < s.marked + 64 = subst HasRoom (sym (ap (λ (v : Register g.row.J.Denot). v.session) c.self.view_is)) c.requires.ready.room in
     let number = state_number K B xs s.keeper s.passes s.state pend s.taken s.marked s.clock s.failure h in
-    let full = full_is K L B s.history.items s.keeper s.passes s.state pend s.taken s.marked s.clock s.failure 0 [] h s.began c.self.invariant.2 c.number.result c.number.ensures.number in
+    let full = full_is K L B s.history.items s.keeper s.passes s.state pend s.taken s.marked s.clock s.failure 0 [] h s.began c.self.invariant.2.first c.number.result c.number.ensures.number in
     let few : length (commands_of xs) < 2 ^ 20 = room_of (length (commands_of xs)) K s.state command.Slot (ap (λ b. refused_at b K s.state command.Slot) (sym full) ∙ c.in-Ok.ensures.free) in (
       subst (λ (q : List (Line g.row.J.Denot) × Plain g.row.J.Denot). IsKept K B (told K B [] q.0) s.keeper s.passes q.1 pend s.taken s.marked s.clock s.failure) (λ i. (sym items i, sym still i)) h,
       (
@@ -125,7 +128,7 @@ invariant_of-self-in-Ok g c =
         omega (arith, few, number, ap (λ (t : Plain g.row.J.Denot). t.number) still),
         subst (Answers o.quanta) (sym c.in-Ok.ensures.none_back) (answers_start o.quanta),
       ),
-      c.self.invariant.2,
+      subst (λ (q : List (Line g.row.J.Denot)). Counts K B (commands_of (told K B [] q)) s.began s.taken s.width) (sym c.make_room.ensures.items) c.self.invariant.2,
       c.self.invariant.3,
     )
 

@@ -10,12 +10,12 @@ use Rattle.pfx_book.specs.declared.line.Line.{Line}
 use Rattle.pfx_book.specs.declared.line.Line.TheVariants as line
 use Rattle.pfx_book.specs.Notes.{greatest, lost_in, commands_of}
 use Rattle.pfx_book.specs.Lines.{told}
-use Rattle.pfx_book.specs.Kept.{IsKept}
+use Rattle.pfx_book.specs.Kept.{Counts, IsKept}
 use Rattle.pfx_book.specs.Register.{Register, register}
 use Rattle.pfx_book.specs.Calls.{entered}
 use Rattle.pfx_book.proofs.Notes.{greatest_same, lost_more, told_receipt, number_is}
 use Rattle.pfx_book.proofs.Keeping.{kept_answer, all_taken, low}
-use Rattle.pfx_book.proofs.Marking.{fits_wider}
+use Rattle.pfx_book.proofs.Marking.{counts_more, fits_wider}
 use Rattle.pfx_book.proofs.Showing.{shows_receipt}
 use Rattle.pfx_book.proofs.book.Book.receipt.Goals as goal
 
@@ -40,11 +40,12 @@ invariant_of-self-2 g c =
     let kept = kept_answer K B xs s.keeper s.passes s.state pend s.taken s.marked s.clock s.failure h k mine e c.note.ensures.known (omega (arith, p.1)) refl refl fit (B.number + s.marked, req, h.is_marked.noted) in
     let items = c.push_reserved.ensures.items ∙ ap (λ v. v ++ l ∷ []) c.make_room.ensures.items in
     let r = ap (told K B []) items ∙ told_receipt K B s.history.items c.pass.inside.number n s.clock ∙ ap (λ (q : ℕ). xs ++ (q, e) ∷ []) p.0 in
+    let counts = counts_more K B xs k e s.began s.taken s.width (omega (arith, all)) c.self.invariant.2 in
     let wide : length s.history.items < vec_capacity c.push_reserved.new.self = search rules in
     let later : length c.push_reserved.new.self.items < vec_capacity c.push_reserved.new.self = search rules in (
       subst (λ (q : List (List (Note g.row.J.Denot)) × List (ℕ × Note g.row.J.Denot)). IsKept K B q.1 q.0 s.passes s.state pend s.taken s.marked s.clock s.failure) (λ i. (sym c.note.ensures.keeper i, sym r i)) kept,
       fits_wider K s.state B.number s.slot s.marked (length s.history.items) (vec_capacity s.history) (vec_capacity c.push_reserved.new.self) wide c.self.invariant.1 (length c.push_reserved.new.self.items) later,
-      c.self.invariant.2,
+      subst (λ q. Counts K B (commands_of q) s.began s.taken s.width) (sym r) counts,
       c.self.invariant.3,
     )
 

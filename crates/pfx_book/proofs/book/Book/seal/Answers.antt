@@ -1,6 +1,6 @@
 use Rattle.std.specs.Prelude.{nat_le, vec_capacity, option_map}
 use Rattle.std.specs.VecDeque.{deque_items}
-use Rattle.std.proofs.Common.{◌≡◌, ℕ, List, [], ◌∷◌, ◌++◌, ◌<◌, ◌+◌, ◌^◌, length, map, Option, Some, false, refl, sym, ap, ◌∙◌, subst, arith, rules}
+use Rattle.std.proofs.Common.{◌≡◌, ℕ, List, [], ◌∷◌, ◌++◌, ◌<◌, ◌≤◌, ◌+◌, ◌^◌, length, map, Option, Some, false, refl, sym, ap, ◌∙◌, subst, arith, rules}
 use Rattle.std.proofs.lemmas.List.{map-append}
 use Rattle.pfx_machine.specs.Refusals.{reply}
 use Rattle.pfx_machine.specs.declared.command.Command.TheVariants as command
@@ -15,11 +15,11 @@ use Rattle.pfx_book.specs.Notes.{greatest, lost_in, commands_of}
 use Rattle.pfx_book.specs.Lines.{told}
 use Rattle.pfx_book.specs.Register.{Register, register, shown}
 use Rattle.pfx_book.specs.Calls.{entered}
-use Rattle.pfx_book.specs.Kept.{IsKept, OpenFits}
+use Rattle.pfx_book.specs.Kept.{Counts, IsKept, OpenFits}
 use Rattle.pfx_book.specs.Trying.{IsReady}
 use Rattle.pfx_book.proofs.Notes.{greatest_more, lost_more}
 use Rattle.pfx_book.proofs.Keeping.{state_number, outcome_is, all_taken, low}
-use Rattle.pfx_book.proofs.Marking.{fits_none}
+use Rattle.pfx_book.proofs.Marking.{counts_more, fits_none}
 use Rattle.pfx_book.proofs.Asking.{accepts, one_step}
 use Rattle.pfx_book.proofs.Taking.{length_map}
 use Rattle.pfx_book.proofs.Dealing.{all_shown, free_in, ready_of, sealed_is}
@@ -78,14 +78,17 @@ invariant_of-self-2 g c =
     let here = outcome_is K B xs s.keeper s.passes s.state pend s.taken s.marked s.clock s.failure h in
     let free = free_in (length (commands_of xs)) K s.state command.Slot (omega (arith, fits.3, number)) fits.0.accepted in
     let a = accepts K L B s.history.items s.keeper s.passes s.state pend s.taken s.marked s.clock s.failure k mine h c.note.ensures.known (omega (arith, p.1))
-    command.Slot command.Slot said n u (plain done.entry) l (nat_le (2 ^ 20) (length (commands_of xs))) refl refl tt free (c.copy_reply.ensures ∙ c.in_ok-reply.ensures.reply) c.in_ok-reply.ensures.entry
+    command.Slot command.Slot said n u (plain done.entry) l (nat_le (2 ^ 20) (length (commands_of xs))) refl refl free (c.copy_reply.ensures ∙ c.in_ok-reply.ensures.reply) c.in_ok-reply.ensures.entry
     (c.seal_on.ensures.outcome B (commands_of xs) here) c.number-number.ensures.number (p.0, refl, refl) (omega (arith, fits.2, number)) in
     let items = c.push_reserved.ensures.items in
+    let low_enough : s.taken ≤ length (commands_of xs) = (let all = all_taken K B xs s.keeper s.passes s.state pend s.taken s.marked s.clock s.failure h in omega (arith, all)) in
+    let e : Note g.row.J.Denot = Accepted n command.Slot said in
+    let counts = counts_more K B xs k e s.began s.taken s.width low_enough c.self.invariant.2 in
     let queue = ap (map plain) c.push_back_reserved.ensures.items ∙ map-append plain (deque_items s.pending) (done.entry ∷ []) in (
       subst (λ (q : List (List (Note g.row.J.Denot)) × List (Line g.row.J.Denot) × List (Recorded g.row.J.Denot)). IsKept K B (told K B [] q.1) q.0 s.passes u q.2 s.taken s.marked s.clock s.failure)
           (λ i. (sym c.note.ensures.keeper i, sym items i, sym queue i)) a.1,
       fits_none K u B.number c.take.new.self s.marked _ _ c.take.ensures.after,
-      c.self.invariant.2,
+      subst (λ (q : List (Line g.row.J.Denot)). Counts K B (commands_of (told K B [] q)) s.began s.taken s.width) (sym items) (subst (λ q. Counts K B (commands_of q) s.began s.taken s.width) (sym a.0) counts),
       omega (arith, c.self.invariant.3, c.push_back_reserved.ensures.capacity),
     )
 
@@ -112,7 +115,7 @@ invariant_of-pass g c =
     let here = outcome_is K B xs s.keeper s.passes s.state pend s.taken s.marked s.clock s.failure h in
     let free = free_in (length (commands_of xs)) K s.state command.Slot (omega (arith, fits.3, number)) fits.0.accepted in
     let a = accepts K L B s.history.items s.keeper s.passes s.state pend s.taken s.marked s.clock s.failure k mine h c.note.ensures.known (omega (arith, p.1))
-    command.Slot command.Slot said n u (plain done.entry) l (nat_le (2 ^ 20) (length (commands_of xs))) refl refl tt free (c.copy_reply.ensures ∙ c.in_ok-reply.ensures.reply) c.in_ok-reply.ensures.entry
+    command.Slot command.Slot said n u (plain done.entry) l (nat_le (2 ^ 20) (length (commands_of xs))) refl refl free (c.copy_reply.ensures ∙ c.in_ok-reply.ensures.reply) c.in_ok-reply.ensures.entry
     (c.seal_on.ensures.outcome B (commands_of xs) here) c.number-number.ensures.number (p.0, refl, refl) (omega (arith, fits.2, number)) in
     let e : Note g.row.J.Denot = Accepted n command.Slot said in
     let z = c.note.ensures.token in
@@ -165,7 +168,7 @@ returns-clause-accepted g c =
     let here = outcome_is K B xs s.keeper s.passes s.state pend s.taken s.marked s.clock s.failure h in
     let free = free_in (length (commands_of xs)) K s.state command.Slot (omega (arith, fits.3, number)) fits.0.accepted in
     let a = accepts K L B s.history.items s.keeper s.passes s.state pend s.taken s.marked s.clock s.failure k mine h c.note.ensures.known (omega (arith, p.1))
-    command.Slot command.Slot said n u (plain done.entry) l (nat_le (2 ^ 20) (length (commands_of xs))) refl refl tt free (c.copy_reply.ensures ∙ c.in_ok-reply.ensures.reply) c.in_ok-reply.ensures.entry
+    command.Slot command.Slot said n u (plain done.entry) l (nat_le (2 ^ 20) (length (commands_of xs))) refl refl free (c.copy_reply.ensures ∙ c.in_ok-reply.ensures.reply) c.in_ok-reply.ensures.entry
     (c.seal_on.ensures.outcome B (commands_of xs) here) c.number-number.ensures.number (p.0, refl, refl) (omega (arith, fits.2, number)) in
     let is_ready : IsReady s.slot = c.is_all_back.ensures.0 c.if-not-is_all_back.false in
     let all : AllBack o.back = subst (λ (q : Option (Dealt g.row.J.Denot)). IsReady q) was is_ready in
