@@ -5,7 +5,6 @@ use Rattle.std.proofs.lemmas.Option.{same_Some}
 use Rattle.pfx_disk.specs.Disk.{View, IsHonest}
 use Rattle.pfx_jobs.specs.Kind.{Kind, Laws}
 use Rattle.pfx_machine.specs.Plain.{Plain, IsState}
-use Rattle.pfx_machine.specs.Batches.{AreCommon}
 use Rattle.pfx_machine.specs.Outcome.{outcome}
 use Rattle.pfx_machine.specs.Sessions.{AllAccepted, IsAcceptable}
 use Rattle.pfx_machine.specs.declared.command.Command.{Command}
@@ -33,7 +32,7 @@ use Rattle.pfx_record.specs.declared.batch.Batch.{Batch}
 use Rattle.pfx_front.specs.Showing.{IsShown}
 use Rattle.pfx_front.specs.Closing.{Acknowledged, IsSeen, IsStored, IsHeld}
 use Rattle.pfx_front.specs.Keeping.{mark_in, marks_of, frames_of, Behind}
-use Rattle.pfx_front.proofs.Groups.{common_parts, take_joined, front_accepted, IsGrouped, grouped}
+use Rattle.pfx_front.proofs.Groups.{take_joined, front_accepted, IsGrouped, grouped}
 
 take_front : {A : Type 0} (xs ys zs : List A) → xs ++ ys ≡ zs → take (length xs) zs ≡ xs
 take_front xs ys zs same = ap (take (length xs)) (sym same) ∙ take_own (length xs) xs ys refl
@@ -125,7 +124,7 @@ seen K L start notes batches last s r shown begins few are =
 
 module _ {J : Type 0} (K : Kind J) (L : Laws K) (start : Plain J) (failures clock : ℕ) (notes : List (Note J)) (broken : Bool) (s : Plain J) (disk : View)
     (b : Behind K start failures clock notes broken s disk) (H : List (Command J)) (taken : ℕ) (valid : IsState start) (all : IsAcceptable K start H)
-    (common : AreCommon H) (few : taken ≤ length H) (are : records_in notes ≡ records_of K start (take taken H)) where
+    (few : taken ≤ length H) (are : records_in notes ≡ records_of K start (take taken H)) where
   abbrev Before : List (Command J)
   Before = take taken H
 
@@ -164,7 +163,7 @@ module _ {J : Type 0} (K : Kind J) (L : Laws K) (start : Plain J) (failures cloc
       omega (arith, at, long)
 
   g : IsGrouped K L start notes Before
-  g = grouped K L start notes Before valid before_ok (common_parts Before (drop taken H) (subst AreCommon (sym (take-append-drop taken H)) common)).0 are b.counted
+  g = grouped K L start notes Before valid before_ok are b.counted
 
   groups_ok : IsAcceptable K start (joined g.gs)
   groups_ok = subst (IsAcceptable K start) (sym g.all) before_ok

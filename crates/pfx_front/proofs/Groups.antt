@@ -3,7 +3,6 @@ use Rattle.std.proofs.Common.{◌≡◌, ℕ, zero, suc, ◌+◌, ◌≤◌, Lis
 use Rattle.std.proofs.lemmas.List.{take-append-drop, length-take-le, length-map}
 use Rattle.pfx_jobs.specs.Kind.{Kind, Laws}
 use Rattle.pfx_machine.specs.Plain.{Plain, IsState}
-use Rattle.pfx_machine.specs.Batches.{AreCommon}
 use Rattle.pfx_machine.specs.Outcome.{outcome}
 use Rattle.pfx_machine.specs.Refusals.{refusal}
 use Rattle.pfx_machine.specs.Sessions.{AllAccepted, IsAcceptable}
@@ -19,8 +18,10 @@ use Rattle.pfx_store.specs.Groups as groups
 use Rattle.pfx_store.proofs.Grouping.{length-records, records_split}
 use Rattle.pfx_book.specs.declared.note.Note.{Note}
 use Rattle.pfx_book.specs.declared.note.Note.TheVariants.{Accepted, Refused, Receipt, Lost, Took, Marked, Failed}
+use Rattle.pfx_book.specs.Batching.{MayShare}
 use Rattle.pfx_book.specs.Notes.{records_in}
 use Rattle.pfx_book.proofs.Notes.{number_is}
+use Rattle.pfx_book.proofs.Sharing.{batchable}
 use Rattle.pfx_front.specs.Keeping.{frames_of, AreCounted}
 
 drop_own : {A : Type 0} (xs rest : List A) → drop (length xs) (xs ++ rest) ≡ rest
@@ -31,11 +32,6 @@ pub take_joined : {J : Type 0} (k : ℕ) (gs : List (List (Command J))) → join
 take_joined zero gs = refl
 take_joined (suc k) [] = refl
 take_joined (suc k) (group ∷ gs) = append_assoc group (joined (take k gs)) (joined (drop k gs)) ∙ ap (λ l. group ++ l) (take_joined k gs)
-
--- commands none of which is a Reweigh, one list behind the other
-pub common_parts : {J : Type 0} (H G : List (Command J)) → AreCommon (H ++ G) → AreCommon H × AreCommon G
-common_parts [] G all = (tt, all)
-common_parts (c ∷ H) G all = let rest = common_parts H G all.1 in ((all.0, rest.0), rest.1)
 
 module _ {J : Type 0} (K : Kind J) where
   pub front_accepted : (s : Plain J) (before H G : List (Command J)) → AllAccepted K s before (H ++ G) → AllAccepted K s before H
@@ -74,9 +70,9 @@ module _ {J : Type 0} (K : Kind J) where
     fewer : (n : ℕ) (xs : List (Note J)) → AreCounted (n + 0) xs → AreCounted n xs
     fewer n xs h = subst (λ k. AreCounted k xs) (omega arith) h
 
-    pub grouped : (s : Plain J) (notes : List (Note J)) (H : List (Command J)) → IsState s → IsAcceptable K s H → AreCommon H → records_in notes ≡ records_of K s H → AreCounted s.number notes → IsGrouped s notes H
-    grouped s [] H state ok common same counted = record { gs = []; frames = refl; all = sym (none_of s H same); small = tt }
-    grouped s (Took first records ∷ xs) H state ok common same counted =
+    pub grouped : (s : Plain J) (notes : List (Note J)) (H : List (Command J)) → IsState s → IsAcceptable K s H → records_in notes ≡ records_of K s H → AreCounted s.number notes → IsGrouped s notes H
+    grouped s [] H state ok same counted = record { gs = []; frames = refl; all = sym (none_of s H same); small = tt }
+    grouped s (Took first records ∷ xs) H state ok same counted =
         let n : ℕ = length records.items in
         let front : List (Command J) = take n H in
         let rest : List (Command J) = drop n H in
@@ -99,17 +95,16 @@ module _ {J : Type 0} (K : Kind J) where
         let accepted : IsAcceptable K s (front ++ rest) = subst (AllAccepted K s []) (sym parts) ok in
         let number : s.number + length (map plain records.items) ≡ (outcome K s front).number = (
         let at = number_is K s front in let mapped = length-map records.items plain in omega (arith, at, mapped, long)) in
-        let parted = common_parts front rest (subst AreCommon (sym parts) common) in
-        let r = grouped (outcome K s front) xs rest (prefix_is_state K L s state front rest accepted) (behind_there s front rest accepted) parted.1 there (subst (λ k. AreCounted k xs) number counted.1) in
+        let r = grouped (outcome K s front) xs rest (prefix_is_state K L s state front rest accepted) (behind_there s front rest accepted) there (subst (λ k. AreCounted k xs) number counted.1) in
         let small = counted.0 in record {
           gs = front ∷ r.gs;
           frames = λ i. batch_bytes K (record { first = small.0 i; records = here i }) ∷ r.frames i;
           all = ap (λ l. front ++ l) r.all ∙ parts;
-          small = (omega (arith, small.1, long), omega (arith, small.2, long), parted.0, r.small);
+          small = (omega (arith, small.1, long), omega (arith, small.2, long), batchable K s front (subst MayShare here small.3), r.small);
         }
-    grouped s (Accepted n c r ∷ xs) H state ok common same counted = skip s (Accepted n c r) xs H refl (grouped s xs H state ok common same (fewer s.number xs counted.1))
-    grouped s (Refused n c f ∷ xs) H state ok common same counted = skip s (Refused n c f) xs H refl (grouped s xs H state ok common same (fewer s.number xs counted.1))
-    grouped s (Receipt n d ∷ xs) H state ok common same counted = skip s (Receipt n d) xs H refl (grouped s xs H state ok common same (fewer s.number xs counted.1))
-    grouped s (Lost cause ∷ xs) H state ok common same counted = skip s (Lost cause) xs H refl (grouped s xs H state ok common same (fewer s.number xs counted.1))
-    grouped s (Marked n d ∷ xs) H state ok common same counted = skip s (Marked n d) xs H refl (grouped s xs H state ok common same (fewer s.number xs counted.1))
-    grouped s (Failed cause ∷ xs) H state ok common same counted = skip s (Failed cause) xs H refl (grouped s xs H state ok common same (fewer s.number xs counted.1))
+    grouped s (Accepted n c r ∷ xs) H state ok same counted = skip s (Accepted n c r) xs H refl (grouped s xs H state ok same (fewer s.number xs counted.1))
+    grouped s (Refused n c f ∷ xs) H state ok same counted = skip s (Refused n c f) xs H refl (grouped s xs H state ok same (fewer s.number xs counted.1))
+    grouped s (Receipt n d ∷ xs) H state ok same counted = skip s (Receipt n d) xs H refl (grouped s xs H state ok same (fewer s.number xs counted.1))
+    grouped s (Lost cause ∷ xs) H state ok same counted = skip s (Lost cause) xs H refl (grouped s xs H state ok same (fewer s.number xs counted.1))
+    grouped s (Marked n d ∷ xs) H state ok same counted = skip s (Marked n d) xs H refl (grouped s xs H state ok same (fewer s.number xs counted.1))
+    grouped s (Failed cause ∷ xs) H state ok same counted = skip s (Failed cause) xs H refl (grouped s xs H state ok same (fewer s.number xs counted.1))

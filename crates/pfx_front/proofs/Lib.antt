@@ -1,4 +1,5 @@
 mod Steps
+mod Appends
 mod Groups
 mod Ends
 mod Looking

@@ -24,7 +24,9 @@ use Rattle.pfx_store.specs.Marks.{AreKept, Covers}
 use Rattle.pfx_store.specs.declared.store.Mark.{Mark}
 use Rattle.pfx_book.specs.declared.note.Note.{Note}
 use Rattle.pfx_book.specs.declared.note.Note.TheVariants.{Took, Marked, Failed}
+use Rattle.pfx_book.specs.Batching.{MayShare}
 use Rattle.pfx_book.specs.Notes.{IsRested, Noted, records_in, taken_in}
+use Rattle.pfx_book.proofs.Batches.{fits_share}
 use Rattle.pfx_book.proofs.Notes.{noted_more, records_more, rested_marked}
 use Rattle.pfx_board.specs.Word.{records_of}
 use Rattle.pfx_board.proofs.Words.{records_more as records_published}
@@ -95,6 +97,14 @@ module _ {J : Type 0} where
   failed_marked : (cause : Cause) (n d : ℕ) → ◌≡◌ {A = Note J} (Failed cause) (Marked n d) → ⊥
   failed_marked cause n d e = false≢true (ap is_mark e)
 
+  -- the cause that a note tells
+  abbrev cause_of : Note J → Cause
+  cause_of (Failed cause) = cause
+  cause_of other = Memory
+
+  same_cause : (one two : Cause) → ◌≡◌ {A = Note J} (Failed one) (Failed two) → one ≡ two
+  same_cause one two e = ap cause_of e
+
   records_last : (xs : List (Note J)) (x : Note J) → records_in (xs ++ x ∷ []) ≡ records_in xs ++ taken_in x
   records_last xs x = records_more xs (x ∷ []) ∙ ap (λ l. records_in xs ++ l) (append-nil (taken_in x))
 
@@ -114,14 +124,14 @@ module _ {J : Type 0} where
     counted_more (n + length (taken_in y)) ys x h.1 (subst (λ k. IsNext k x) (let long = length-append (taken_in y) (records_in ys) in omega (arith, long)) next),
   )
 
-  pub batch_small : (workers real first : ℕ) (records : List (Record J)) → IsTrue (batch_fits workers real (batch_of first records)) → (0 < length records) × (length records ≤ 16)
+  pub batch_small : (workers real first : ℕ) (records : List (Record J)) → IsTrue (batch_fits workers real (batch_of first records)) → (0 < length records) × (length records ≤ 16) × MayShare (map plain records)
   batch_small workers real first records fits =
       let counts = (both (counts_fit workers first (length (map plain records))) (all_fit (form_of workers real (length (map plain records))) (map plain records)) fits).0 in
       let second = (both _ _ (both _ _ counts).1).0 in
       let some = ltb-true 0 (length (map plain records)) (both _ _ second).0 in
       let few = leb-true (length (map plain records)) 16 (both _ _ second).1 in
       let long = length-map records plain in
-      (omega (arith, some, long), omega (arith, few, long))
+      (omega (arith, some, long), omega (arith, few, long), fits_share workers real first (map plain records) fits)
 
   applied_then : (K : Kind J) (s : Plain J) (xs ys : List (Recorded J)) (t u : Plain J) → applied K s xs ≡ Some t → applied K t ys ≡ Some u → applied K s (xs ++ ys) ≡ Some u
   applied_then K s [] ys t u h k = subst (λ r. applied K r ys ≡ Some u) (sym (same_Some s t h)) k
@@ -198,8 +208,8 @@ module _ {J : Type 0} where
   }
 
   -- a batch was taken
-  module _ (K : Kind J) (start : Plain J) (failures clock : ℕ) (notes : List (Note J)) (batch : Batch J) (broken is : Bool) (s t : Plain J) (disk new : View) (r : Result Mark StoreFault)
-      (h : IsTaken K start failures clock notes batch broken s disk) (small : (0 < length batch.records.items) × (length batch.records.items ≤ 16)) where
+  module _ (K : Kind J) (start : Plain J) (failures clock : ℕ) (notes : List (Note J)) (batch : Batch J) (broken is : Bool) (s t : Plain J) (disk new : View)
+      (h : IsTaken K start failures clock notes batch broken s disk) (small : (0 < length batch.records.items) × (length batch.records.items ≤ 16) × MayShare (map plain batch.records.items)) where
     abbrev Last : Note J
     Last = Took batch.first batch.records
 
@@ -212,7 +222,7 @@ module _ {J : Type 0} where
     counted_here : AreCounted start.number notes
     counted_here =
         let next = (h.goes s h.step.state).2 in
-        subst (AreCounted start.number) (sym h.noted) (counted_more start.number h.before Last h.step.counted (omega (arith, next, number_before), small.0, small.1))
+        subst (AreCounted start.number) (sym h.noted) (counted_more start.number h.before Last h.step.counted (omega (arith, next, number_before), small.0, small.1, small.2))
 
     began_here : Noted (Marked start.number clock) notes
     began_here = subst (Noted (Marked start.number clock)) (sym h.noted) (noted_more (Marked start.number clock) h.before (Last ∷ []) h.step.began)
@@ -258,14 +268,14 @@ module _ {J : Type 0} where
       leads = published_leads batches shown leads;
     }
 
-    -- the device failed, so the batch isn't published
-    pub device_shown : (after : List (Note J)) (batches : List (Batch J)) → after ≡ notes ++ Failed Device ∷ [] → IsShownBefore notes batches batch → t ≡ s → IsShown K start after batches t
-    device_shown after batches more shown same =
+    -- the batch isn't appended, so it isn't published
+    pub missed_shown : (after : List (Note J)) (cause : Cause) (batches : List (Batch J)) → after ≡ notes ++ Failed cause ∷ [] → IsShownBefore notes batches batch → t ≡ s → IsShown K start after batches t
+    missed_shown after cause batches more shown same =
         let last = map plain batch.records.items in
         let before : records_of batches ≡ records_in h.before = append_cancel_right (records_of batches) (records_in h.before) last (shown ∙ records_are) in
         record {
           rest = last;
-          begins = shown ∙ sym (records_still notes after (Failed Device) more refl);
+          begins = shown ∙ sym (records_still notes after (Failed cause) more refl);
           leads = ap (applied K start) before ∙ h.step.state ∙ ap Some (sym same);
         }
 
@@ -342,32 +352,35 @@ module _ {J : Type 0} where
               (subst (λ l. AreKept K start (frames_of K h.before ++ batch_bytes K (batch_of batch.first batch.records.items) ∷ []) l new) (sym marks) held.1);
         }
 
-    -- the device failed in its append
-    pub batch_behind : (after : List (Note J)) (fault : StoreFault) → after ≡ notes ++ Failed Device ∷ [] → t ≡ s → HasFailed disk new → (IsHonest new → IsHonest disk)
+    -- the batch isn't known to be appended: the device failed, or memory was refused before
+    pub batch_behind : (after : List (Note J)) (cause : Cause) → after ≡ notes ++ Failed cause ∷ [] → t ≡ s → (cause ≡ Device → HasFailed disk new) → (cause ≡ Memory → is ≡ false) → (IsHonest new → IsHonest disk)
         → (IsHonest disk → (start : Plain J) (all : List (List ℕ)) (marks : List Mark) → Covers K start all marks broken s disk
-        → Covers K start (all ++ batch_bytes K (batch_of batch.first batch.records.items) ∷ []) marks is t new)
+        → AreKept K start (all ++ batch_bytes K (batch_of batch.first batch.records.items) ∷ []) marks new)
         → Behind K start failures clock after is t new
-    batch_behind after fault lost same failed honest appends = record {
+    batch_behind after cause lost same device memory honest appends = record {
       at = h.before;
-      rest = Last ∷ Failed Device ∷ [];
-      begins = sym (lost ∙ ap (λ l. l ++ Failed Device ∷ []) h.noted ∙ append_assoc h.before (Last ∷ []) (Failed Device ∷ []));
+      rest = Last ∷ Failed cause ∷ [];
+      begins = sym (lost ∙ ap (λ l. l ++ Failed cause ∷ []) h.noted ∙ append_assoc h.before (Last ∷ []) (Failed cause ∷ []));
       state = h.step.state ∙ ap Some (sym same);
-      counted = subst (AreCounted start.number) (sym lost) (counted_more start.number notes (Failed Device) counted_here tt);
-      low = λ n c is_noted. elim (noted_split (Marked n c) notes (Failed Device) (subst (Noted (Marked n c)) lost is_noted)) [
+      counted = subst (AreCounted start.number) (sym lost) (counted_more start.number notes (Failed cause) counted_here tt);
+      low = λ n c is_noted. elim (noted_split (Marked n c) notes (Failed cause) (subst (Noted (Marked n c)) lost is_noted)) [
         | inl before ↦ subst (λ (q : Plain J). n ≤ q.number) (sym same) (low_here n c before)
-        | inr last ↦ absurd (failed_marked Device n c last)
+        | inr last ↦ absurd (failed_marked cause n c last)
       ];
-      began = subst (Noted (Marked start.number clock)) (sym lost) (noted_more (Marked start.number clock) notes (Failed Device ∷ []) began_here);
-      device = λ is_noted. elim failed [ inl more ↦ inl (let since = h.step.since in omega (arith, since, more)) | inr spent ↦ inr spent ];
-      memory = λ is_noted. elim (noted_split (Failed Memory) notes (Failed Device) (subst (Noted (Failed Memory)) lost is_noted)) [
+      began = subst (Noted (Marked start.number clock)) (sym lost) (noted_more (Marked start.number clock) notes (Failed cause ∷ []) began_here);
+      device = λ is_noted. elim (noted_split (Failed Device) notes (Failed cause) (subst (Noted (Failed Device)) lost is_noted)) [
+        | inl before ↦ absurd (unfailed_here Device before)
+        | inr last ↦ elim (device (same_cause cause Device last)) [ inl more ↦ inl (let since = h.step.since in omega (arith, since, more)) | inr spent ↦ inr spent ]
+      ];
+      memory = λ is_noted. elim (noted_split (Failed Memory) notes (Failed cause) (subst (Noted (Failed Memory)) lost is_noted)) [
         | inl before ↦ absurd (unfailed_here Memory before)
-        | inr last ↦ absurd (device_memory last)
+        | inr last ↦ memory (same_cause cause Memory last)
       ];
       kept = λ here.
           let frames : frames_of K after ≡ frames_of K h.before ++ batch_bytes K (batch_of batch.first batch.records.items) ∷ [] =
-          ap (frames_of K) lost ∙ frames_more K notes (Failed Device) ∙ append-nil (frames_of K notes) ∙ frames_here in
-          let marks : marks_of after ≡ marks_of h.before = ap marks_of lost ∙ marks_more notes (Failed Device) ∙ marks_here in
-          let held = (appends (honest here) start (frames_of K h.before) (marks_of h.before) (h.step.covers (honest here))).marks in
+          ap (frames_of K) lost ∙ frames_more K notes (Failed cause) ∙ append-nil (frames_of K notes) ∙ frames_here in
+          let marks : marks_of after ≡ marks_of h.before = ap marks_of lost ∙ marks_more notes (Failed cause) ∙ marks_here in
+          let held = appends (honest here) start (frames_of K h.before) (marks_of h.before) (h.step.covers (honest here)) in
           subst (λ l. AreKept K start l (marks_of after) new) (sym frames)
           (subst (λ l. AreKept K start (frames_of K h.before ++ batch_bytes K (batch_of batch.first batch.records.items) ∷ []) l new) (sym marks) held);
     }

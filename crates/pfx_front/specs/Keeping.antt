@@ -1,5 +1,5 @@
 -- A store that keeps what the flusher's notes say.
-use Rattle.std.specs.Prelude.{◌≡◌, ◌⊎◌, ◌≤◌, ◌<◌, ℕ, ◌+◌, List, [], ◌∷◌, ◌++◌, length, Some, Bool, false, ⊤}
+use Rattle.std.specs.Prelude.{◌≡◌, ◌⊎◌, ◌≤◌, ◌<◌, ℕ, ◌+◌, List, [], ◌∷◌, ◌++◌, length, map, Some, Bool, false, ⊤}
 use Rattle.pfx_disk.specs.Disk.{View, IsHonest, IsSpent}
 use Rattle.pfx_redo.specs.Applying.{applied}
 use Rattle.pfx_fault.specs.declared.parts.Cause.{Cause}
@@ -7,10 +7,12 @@ use Rattle.pfx_fault.specs.declared.parts.Cause.TheVariants.{Device, Memory}
 use Rattle.pfx_jobs.specs.Kind.{Kind}
 use Rattle.pfx_machine.specs.Plain.{Plain}
 use Rattle.pfx_record.specs.Batches.{batch_bytes, batch_of}
+use Rattle.pfx_record.specs.Records.{plain}
 use Rattle.pfx_store.specs.Marks.{AreKept, Covers}
 use Rattle.pfx_store.specs.declared.store.Mark.{Mark}
 use Rattle.pfx_book.specs.declared.note.Note.{Note}
 use Rattle.pfx_book.specs.declared.note.Note.TheVariants.{Took, Marked, Failed}
+use Rattle.pfx_book.specs.Batching.{MayShare}
 use Rattle.pfx_book.specs.Notes.{IsRested, Noted, records_in, taken_in}
 
 module _ {J : Type 0} where
@@ -34,9 +36,9 @@ module _ {J : Type 0} where
   marks_of [] = []
   marks_of (x ∷ xs) = marks_of xs ++ mark_in x
 
-  -- a batch that is taken has the next numbers, 1 to 16 of them
+  -- a batch that is taken has the next numbers, 1 to 16 of them, and is of new weights alone or has none
   abbrev pub IsNext : ℕ → Note J → Type 0
-  IsNext n (Took first records) = (first ≡ n + 1) × (0 < length records.items) × (length records.items ≤ 16)
+  IsNext n (Took first records) = (first ≡ n + 1) × (0 < length records.items) × (length records.items ≤ 16) × MayShare (map plain records.items)
   IsNext n other = ⊤
 
   abbrev pub AreCounted : ℕ → List (Note J) → Type 0

@@ -1,6 +1,7 @@
 pub mod Keeping
 pub mod Showing
 pub mod Working
+pub mod Appending
 pub mod Calling
 pub mod Closing
 pub mod Starting

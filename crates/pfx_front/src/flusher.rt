@@ -10,6 +10,7 @@ ghost use Rattle.pfx_front.specs.Keeping.{InStep, Behind};
 ghost use Rattle.pfx_front.specs.Showing.{AreShown, IsShown, IsShownBefore};
 ghost use Rattle.pfx_front.specs.Working.{Gives, IsTaken};
 
+use crate::appending::append_taken;
 use crate::durable::Durable;
 use crate::gathering::{Pace, gathered};
 use crate::monitor::Monitor;
@@ -230,7 +231,7 @@ fn show<J: Job, B: Since<J>, D: Disk + Logged<B>, R: Wait + Drop, W: Wait>(
 }
 
 /// Appends a batch, publishes and marks it: the room for the next one. `None` if the store has failed, or an allocation fails
-/// for the board; then the book knows.
+/// for new weights or for the board; then the book knows.
 fn commit<J: Job, B: Since<J>, D: Disk + Logged<B>, R: Wait + Drop, W: Wait>(
     rt: &W,
     alloc: Global,
@@ -250,7 +251,7 @@ fn commit<J: Job, B: Since<J>, D: Disk + Logged<B>, R: Wait + Drop, W: Wait>(
     ensures behind { IfNone result (Behind J.kind B.start B.failures B.clock share.new store.new.file.broken store.new.state (D.view store.new.file.disk)) }
     ensures left { IfNone result (IsShown J.kind B.start share.new publisher.new.batches store.new.state) }
 {
-    match store.append(&batch) {
+    match append_taken(alloc, store, &batch) {
         Ok(mark) => match show(rt, alloc, monitor, share, store, publisher, &batch) {
             Some(durable) => {
                 mark_in(rt, monitor, share, durable, mark);
@@ -258,8 +259,8 @@ fn commit<J: Job, B: Since<J>, D: Disk + Logged<B>, R: Wait + Drop, W: Wait>(
             }
             None => None,
         },
-        Err(_fault) => {
-            fail_in(rt, monitor, share, Cause::Device);
+        Err(cause) => {
+            fail_in(rt, monitor, share, cause);
             None
         }
     }

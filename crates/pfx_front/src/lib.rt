@@ -9,6 +9,7 @@
 //! - `name`: whose front it is, its lists, and what it began with.
 //! - `faults`: why calls fail.
 //! - `monitor`: the book's lock, and what threads wait for.
+//! - `appending`: appends a batch, with what new weights take of memory.
 //! - `flusher`: takes batches, appends, publishes and marks them; between batches, and while nothing waits, it works on the checkpoint.
 //! - `gathering`: how long the flusher waits for those whom it has just woken.
 //! - `calls`: `Front` with `pass`, `call` and `settled`.
@@ -24,6 +25,7 @@
 //! lock is held during a call of the disk or a step of a job.
 #![tactic(auto)]
 
+mod appending;
 mod before;
 pub mod calls;
 pub mod closing;

@@ -3,7 +3,7 @@
 //! | Module | Tests |
 //! |---|---|
 //! | `stores` | the stores that the modules below begin with, and what clients ask |
-//! | `served` | a client's calls by no worker, one and two, a receipt, a pass that is out, and the store opened again |
+//! | `served` | a client's calls by no worker, one and two, new weights, a receipt, a pass that is out, and the store opened again |
 //! | `fronts`, `sessions` | how the modules below start a front and end it; the session of each of them |
 //! | `passes` | all passes that there are |
 //! | `sole` | a client that is the only one has a copy of its state, until there is a second client |

@@ -15,8 +15,9 @@ use pfx_front::name::Since;
 use pfx_front::start::Crew;
 use pfx_jobs::quantum::{Done, Quantum};
 use pfx_kinds::any::AnyJob;
-use pfx_machine::{Command, MachineFault};
+use pfx_machine::{Command, MachineFault, Reply};
 use pfx_store::Store;
+use pfx_weights::Weights;
 use std::alloc::Global;
 use std::sync::Wait;
 use std::thread::Threads;
@@ -49,6 +50,42 @@ where
     Some(accepted && refused && is_first_slot(&slot))
 }
 
+/// One worker, and for each of three tasks the weight 1/3.
+fn thirds(alloc: Global) -> Option<Command<AnyJob>> {
+    let mut items = Vec::new(alloc);
+    for _weight in 0..3 {
+        items.push((1, 3)).ok()?;
+    }
+    let weights = Weights::new(items);
+    Some(Command::Reweigh {
+        workers: 1,
+        weights,
+    })
+}
+
+/// Whether new weights are refused where a task is ahead, and come into force two slots later, where none is.
+fn is_reweighed<B: Since<AnyJob>, K: Desk<Quantum<AnyJob>, Done<AnyJob>> + Drop, R: Wait>(
+    rt: &R,
+    alloc: Global,
+    front: &Front<AnyJob, B, K>,
+    pass: &mut Pass<AnyJob, B>,
+) -> Option<bool>
+where
+    K::Seat: Drop,
+{
+    let early = front.call(rt, pass, thirds(alloc)?);
+    let second = front.call(rt, pass, Command::Slot);
+    let third = front.call(rt, pass, Command::Slot);
+    let level = front.call(rt, pass, thirds(alloc)?);
+    let early_is = CallFault::Refused(BookFault::Machine(MachineFault::NotLevel { task: 0 }));
+    let slots = is_number(&second, 4) && is_number(&third, 5);
+    let renewed = match &level {
+        Ok((6, Reply::Reweighed { slot })) => *slot == 3,
+        _ => false,
+    };
+    Some(is_refused(&early, early_is) && slots && renewed)
+}
+
 /// Whether a close without one of two passes says so, and the front goes on. What goes on, with all passes.
 fn is_kept_open<
     B: Since<AnyJob>,
@@ -75,14 +112,14 @@ where
     let mut first = first;
     let mut given = given;
     let slot = front.call(rt, &mut first, Command::Slot);
-    if fault != (CloseFault::PassOut { count: 1 }) || !is_number(&slot, 4) {
+    if fault != (CloseFault::PassOut { count: 1 }) || !is_number(&slot, 7) {
         return None;
     }
     given.passes.push(first).ok()?;
     Some(((front, crew), given))
 }
 
-/// Whether the closed front has these many commands, all in its store, also once it is opened again.
+/// Whether the closed front has these many commands, all in its store with its new set, also once it is opened again.
 fn has_kept<B: Since<AnyJob>, D: Disk + Drop>(
     alloc: Global,
     closed: Closed<AnyJob, B, D>,
@@ -93,7 +130,10 @@ fn has_kept<B: Since<AnyJob>, D: Disk + Drop>(
         return false;
     }
     match Store::<D, AnyJob>::open(alloc, store.into_disk()) {
-        Ok(again) => again.state().number() == number,
+        Ok(again) => {
+            let state = again.state();
+            state.number() == number && state.columns().workers() == 1 && state.from() == 3
+        }
         Err(_) => false,
     }
 }
@@ -114,9 +154,11 @@ where
     let answered = first_calls(rt, &front, &mut first)?;
     let reader = readers.get_mut(0)?;
     let settled = is_told_and_shown(rt, alloc, &front, &mut first, reader, 2);
+    let renewed = is_reweighed(rt, alloc, &front, &mut first)?;
     let ((front, crew), given) = is_kept_open(rt, alloc, (front, crew), readers, first, second)?;
     let closed = front.close(rt, crew, given).ok()?;
-    Some(answered && settled && have_looked(&closed.looked, 1) && has_kept(alloc, closed, 4))
+    let kept = have_looked(&closed.looked, 1) && has_kept(alloc, closed, 7);
+    Some(answered && settled && renewed && kept)
 }
 
 #[test]

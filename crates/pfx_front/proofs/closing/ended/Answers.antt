@@ -54,7 +54,7 @@ returns-clause-store g c =
       | else-is_none-via-else-is_none w ↦ inr (λ none. false≢true (sym (ap is_some (c.failure.ensures ∙ none)) ∙ w.if-is_none.ensures))
     ]) in
     stored K g.met.J.Job.laws start g.B.Charted.failures g.B.Charted.clock c.flushed.inside.share c.flushed.inside.store.file.broken c.flushed.inside.store.state (g.D.Disk.view c.flushed.inside.store.file.disk) c.flushed.invariant.0
-    r.session.accepted r.session.taken c.legal.ensures.start c.legal.ensures.accepted c.legal.ensures.common c.legal.ensures.taken
+    r.session.accepted r.session.taken c.legal.ensures.start c.legal.ensures.accepted c.legal.ensures.taken
     (c.settled.ensures.records ∙ ap (λ q. records_of K start (take q.session.taken q.session.accepted)) same)
     r refl (subst (λ q. Noted (Marked (start.number + q.session.marked) q.session.marked_at) c.flushed.inside.share) same c.settled.ensures.mark) over
     (subst (λ q. HasFailed q.failure c.flushed.inside.share) same c.settled.ensures.failed)
@@ -67,7 +67,7 @@ returns-clause-images g c = λ honest.
     let r = c.settled.new.self in
     let same = sym c.settled.ensures.same.0 in
     held K g.met.J.Job.laws start g.B.Charted.failures g.B.Charted.clock c.flushed.inside.share c.flushed.inside.store.file.broken c.flushed.inside.store.state (g.D.Disk.view c.flushed.inside.store.file.disk) c.flushed.invariant.0
-    r.session.accepted r.session.taken c.legal.ensures.start c.legal.ensures.accepted c.legal.ensures.common c.legal.ensures.taken
+    r.session.accepted r.session.taken c.legal.ensures.start c.legal.ensures.accepted c.legal.ensures.taken
     (c.settled.ensures.records ∙ ap (λ q. records_of K start (take q.session.taken q.session.accepted)) same)
     r refl (subst (λ q. AllBacked c.flushed.inside.share q.history) same c.settled.ensures.backed) honest
 
