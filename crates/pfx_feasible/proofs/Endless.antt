@@ -82,7 +82,7 @@ start_shape s h = record {
   length = length-map s.weights (λ w. 0);
 }
 
-start_shares : (s : FilledSet) → HadShares (start s)
+pub start_shares : (s : FilledSet) → HadShares (start s)
 start_shares s x l =
     let zero_of : ℕ × ℕ → ℕ = λ w. 0 in
     let none : get_or (map zero_of s.weights) x 0 ≡ 0 = get_or-map zero_of s.weights x (0, 0) 0 l in

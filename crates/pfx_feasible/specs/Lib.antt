@@ -1,3 +1,4 @@
 pub mod Commands
 pub mod Endless
+pub mod Lives
 pub mod Moves

@@ -1,4 +1,4 @@
-//! From the empty start PF's choice never fails.
+//! From the empty start PF's choice never fails, and over its whole life a task gets what it is due.
 //!
 //! A ledger is endless if for each number of slots there is a fair schedule of so many from it on. What holds of them:
 //!
@@ -6,6 +6,9 @@
 //! 2. PF's choice keeps a ledger endless, and at one nothing refuses a row but the last slot and memory.
 //! 3. From the start, behind every acceptable list of commands, a Slot is refused by the limits on numbers and slots alone.
 //! 4. Any ledger is endless exactly if PF's choice succeeds from it up to a slot that is a whole number of hyperperiods.
+//!
+//! A Reweigh needs every lag to be zero, which is so at each multiple of the hyperperiod (`laws::level_at_each_period`). So over
+//! its whole life, over all its weights, a task has got what it was due, to within one slot (`laws::lives`).
 //!
 //! That there are such schedules is a theorem of Baruah, Cohen, Plaxton and Varvel, "Proportionate Progress" (Algorithmica 15,
 //! 1996), there by a flow through a network. Here it is by moves: in a schedule in which every task is fair but not every
