@@ -23,6 +23,7 @@ kind of job, a goal and data. Fields that aren't used are empty.
   submit,TASK,KIND,GOAL,DATA    give the task a job of kind count, rule, scan or own; an empty goal is 0
   slot,,,N,                     run N slots, 1 to 1048576, up to the first refusal; 1 if N is empty
   withdraw,TASK,,,              take the task's job away
+  reweigh,,,M,E/P E/P ..        give the tasks new weights, in their order, and the store M workers
   settle,,,,                    wait until all that was accepted is kept
   status,,,,                    settle, and show the board (see pfx status --help)
   show,TASK,,,                  settle, and show what the task's job holds, or all if TASK is empty
@@ -36,11 +37,15 @@ characters without space, quote, comma and backslash. A slot of the task grants 
 allocation; an answer of another unit than the next one, or of one not granted yet, is refused as
 45 NotNext.
 
+New weights come into force where no task is ahead or behind, idle ones too: before the first slot, and
+behind it at each multiple of the set's hyperperiod (pfx check tells it), often earlier. Elsewhere they
+are refused as 35 NotLevel. Jobs stay, and the board counts from there on.
+
 Commands are numbered as they are accepted, and each prints a line: 1 submitted 0 (command 1, task 0),
-2 ran 0: 0 1 (command 2: in slot 0 ran tasks 0 and 1), 3 withdrawn 0. One that is refused gets no
-number, as in refused 32 TaskBusy task=0, and the script goes on. settle prints settled 3 and the end
-of the script closed 3, with the last number. A record of another form ends the run; what was done
-before it stands.
+2 ran 0: 0 1 (command 2: in slot 0 ran tasks 0 and 1), 3 withdrawn 0, 4 reweighed 3 (from slot 3 on). One
+that is refused gets no number, as in refused 32 TaskBusy task=0, and the script goes on. settle prints
+settled 3 and the end of the script closed 3, with the last number. A record of another form ends the
+run; what was done before it stands.
 
 A script is read a record at a time: each record's lines are printed, once what they tell is kept,
 before the next record is waited for. So another program can keep pfx run FILE - as a child, write a
@@ -59,6 +64,7 @@ With --json each line is an object instead, and a board is one:
   {\"did\":\"submitted\",\"number\":1,\"task\":0}
   {\"did\":\"ran\",\"number\":2,\"slot\":0,\"tasks\":[0,1]}
   {\"did\":\"withdrawn\",\"number\":3,\"task\":0}
+  {\"did\":\"reweighed\",\"number\":4,\"slot\":3}
   {\"refused\":{\"fields\":{\"task\":0},\"name\":\"TaskBusy\",\"number\":32}}
   {\"settled\":3}
   {\"closed\":3}";

@@ -52,6 +52,7 @@ fn form_of(verb: &str) -> &'static str {
         "settle" => "settle,,,,",
         "status" => "status,,,,",
         "show" => "show,TASK,,,",
+        "reweigh" => "reweigh,,,WORKERS,E/P E/P ..",
         _ => "",
     }
 }
@@ -90,6 +91,10 @@ fn is_task(text: &str) -> bool {
     }
 }
 
+fn has_workers(found: &Found<'_>) -> bool {
+    number_in(10, found.field(3).as_bytes()).is_some()
+}
+
 fn are_empty(found: &Found<'_>, task: bool, goal: bool) -> bool {
     (task || found.field(1).is_empty())
         && found.field(2).is_empty()
@@ -104,6 +109,12 @@ fn wrong_field(found: &Found<'_>) -> (Texts, usize) {
         "submit" => (texts::RECORD_GOAL, 3),
         "slot" if are_empty(found, false, true) => (texts::RECORD_COUNT, 3),
         "withdraw" | "show" if are_empty(found, true, false) => (texts::RECORD_TASK, 1),
+        "reweigh" if !found.field(1).is_empty() || !found.field(2).is_empty() => (
+            texts::FIELD_USED,
+            5,
+        ),
+        "reweigh" if !has_workers(found) => (texts::RECORD_WORKERS, 3),
+        "reweigh" => (texts::RECORD_WEIGHTS, 4),
         verb if form_of(verb).is_empty() => (texts::RECORD_VERB, 0),
         _ => (texts::FIELD_USED, 5),
     }

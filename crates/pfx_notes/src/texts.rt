@@ -259,7 +259,7 @@ pub(crate) const ELIGIBLE: Texts = Texts {
 
 /// What records begin with.
 const VERBS: &str =
-    "A record begins with submit, slot, withdraw, settle, status or show, and no header line stands above them.";
+    "A record begins with submit, slot, withdraw, settle, status, show or reweigh, and no header line stands above them.";
 
 /// How a record of this form is written.
 const FIELDS: &str = "Write it as {2} and leave fields that aren't used empty, with their commas.";
@@ -331,6 +331,16 @@ pub(crate) const RECORD_COUNT: Texts = Texts {
 pub(crate) const RECORD_GOAL: Texts = Texts {
     what: "{0}: record {1} has the goal `{2}`, and a goal is a number of 1 to 10 digits",
     change: "Write how many steps the job has; a scan has an empty goal.",
+};
+
+pub(crate) const RECORD_WORKERS: Texts = Texts {
+    what: "{0}: record {1} has the workers `{2}`, and workers are a number of 1 to 10 digits",
+    change: "Workers are the tasks that run at once: write a number from 1 to 64.",
+};
+
+pub(crate) const RECORD_WEIGHTS: Texts = Texts {
+    what: "{0}: record {1} has the weights `{2}`, and a weight is E/P, two numbers of 1 to 10 digits",
+    change: "Write one for each task in the order of the set, with single spaces between them, as 1/3 2/3.",
 };
 
 pub(crate) const RECORD_VERB: Texts = Texts {
@@ -508,7 +518,7 @@ pub(crate) const REFUSED_WORD: &str = "{0}: record {1} was refused: {2}, for `{4
 pub(crate) const SOME_REFUSED: &str = "{0}: a record was refused: {2}";
 
 /// What to do about a refusal, by the name that it has.
-pub(crate) const REFUSALS: [(&str, &str); 8] = [
+pub(crate) const REFUSALS: [(&str, &str); 15] = [
     (
         "NoSuchTask",
         "Tasks are numbered from 0 in the order of the set: pfx status has a line for each.",
@@ -520,6 +530,34 @@ pub(crate) const REFUSALS: [(&str, &str); 8] = [
     (
         "NoJob",
         "Take away or show only what is there: pfx status says job=open or job=done of a task that has one.",
+    ),
+    (
+        "NotLevel",
+        "Run slots until every lag is 0: pfx status has them, and at each multiple of the hyperperiod behind the last new weights all are.",
+    ),
+    (
+        "WrongCount",
+        "Give one weight for each task in the order of the set: pfx status has a line for each, idle ones last.",
+    ),
+    (
+        "BadWorkers",
+        "Workers are the tasks that run at once: write a number from 1 to 64.",
+    ),
+    (
+        "BadWeight",
+        "A weight E/P is between 0 and 1, so E is 1 to P - 1, and its numbers are at most 4294967295.",
+    ),
+    (
+        "HyperperiodTooLarge",
+        "The periods' least common multiple is at most 1048576: take periods that share factors, as 10, 20, 40.",
+    ),
+    (
+        "Overload",
+        "The weights sum to more than the workers: lower some of them, or name more workers.",
+    ),
+    (
+        "SegmentTooSmall",
+        "Name fewer workers, or make a new store of a set with a greater segment.",
     ),
     ("BadKind", "The kinds are count, rule, scan and own."),
     (

@@ -33,7 +33,8 @@ use Rattle.pfx_machine.proofs.Snoc.{outcome-snoc}
 use Rattle.pfx_fault.specs.declared.refusals.Fault.{Fault}
 use Rattle.pfx_fault.specs.declared.refusals.Fault.TheVariants as fault
 use Rattle.pfx_script.specs.Records.{Fields}
-use Rattle.pfx_script.specs.Verbs.{Said, submit, slot, withdraw, settle, status, show, verb_of}
+use Rattle.pfx_script.specs.Verbs.{Said, submit, slot, withdraw, settle, status, show, reweigh, verb_of}
+use Rattle.pfx_script.specs.Weights.{said_weights}
 use Rattle.pfx_kinds.specs.Units.{unit_of, last_by, is_behind, is_taken}
 use Rattle.pfx_program.specs.Grants.{last_at, is_next, last_of, AreGranted, FollowsAt, Follows, Anew, AllFollow, with_unit, units_of, KeepsAnswers, CountUp}
 use Rattle.pfx_program.specs.Jobs.{shown_jobs}
@@ -184,6 +185,7 @@ verb_each r (withdraw x) = step_each r (Withdraw x) (λ _. tt)
 verb_each r settle = tt
 verb_each r status = tt
 verb_each r (show x) = jobs_each r (shown_jobs r.form r.state.jobs x)
+verb_each r (reweigh workers text) = step_each r (Reweigh workers (said_weights text)) (λ _. tt)
 
 -- ---- a course
 

@@ -14,10 +14,11 @@ use Rattle.pfx_machine.specs.Outcome.{outcome}
 use Rattle.pfx_machine.specs.Runs.{answer}
 use Rattle.pfx_machine.specs.Board.{all_lines}
 use Rattle.pfx_machine.specs.declared.command.Command.{Command}
-use Rattle.pfx_machine.specs.declared.command.Command.TheVariants.{Submit, Slot, Withdraw}
+use Rattle.pfx_machine.specs.declared.command.Command.TheVariants.{Submit, Slot, Withdraw, Reweigh}
 use Rattle.pfx_machine.specs.declared.command.Reply.{Reply}
 use Rattle.pfx_machine.specs.declared.faults.MachineFault.{MachineFault}
-use Rattle.pfx_script.specs.Verbs.{Said, submit, slot, withdraw, settle, status, show, verb_of}
+use Rattle.pfx_script.specs.Verbs.{Said, submit, slot, withdraw, settle, status, show, reweigh, verb_of}
+use Rattle.pfx_script.specs.Weights.{said_weights}
 use Rattle.pfx_script.specs.Records.{Fields, script_records}
 use Rattle.pfx_fault.specs.declared.refusals.Fault.{Fault}
 use Rattle.pfx_fault.specs.declared.refusals.Fault.TheVariants as fault
@@ -119,6 +120,7 @@ verb_steps r (withdraw task) = command_step r (Withdraw task) ∷ []
 verb_steps r settle = shown (settled_line r.form r.state.number) ∷ []
 verb_steps r status = shown (board_of r.form r.state) ∷ []
 verb_steps r (show task) = jobs_step r.form (shown_jobs r.form r.state.jobs task) ∷ []
+verb_steps r (reweigh workers text) = command_step r (Reweigh workers (said_weights text)) ∷ []
 
 -- the steps of a script, and the place, counted from 1, of the record without form that ends them
 pub record Course : Type 0 where

@@ -5,7 +5,8 @@ use Rattle.std.specs.Str.{is_utf8, chars}
 use Rattle.csv.specs.Records.{field_at}
 use Rattle.csv.proofs.OnLiterals.{csv_on_literals}
 use Rattle.pfx_decimal.specs.Numerals.{number_in}
-use Rattle.pfx_script.specs.Verbs.{submit, slot, withdraw, settle, status, show, verb_of}
+use Rattle.pfx_script.specs.Verbs.{submit, slot, withdraw, settle, status, show, reweigh, verb_of}
+use Rattle.pfx_script.specs.Weights.{weight_in, weights_of_parts, weights_in, said_weights}
 use Rattle.pfx_script.specs.Quoting.{plain, quoted, script_text}
 use Rattle.pfx_script.specs.Records.{script_records}
 use Rattle.pfx_script.specs.Whole.{after, whole, whole_of}
@@ -58,6 +59,18 @@ pub shows_no_such_number : verb_of (codes "show" ∷ codes "65536" ∷ [] ∷ []
 unfolding verb_of number_in field_at is_utf8 chars encode_utf8
 shows_no_such_number = refl
 
+pub reweighs : verb_of (codes "reweigh" ∷ [] ∷ [] ∷ codes "2" ∷ codes "1/3 1/03" ∷ []) ≡ Some (reweigh 2 (codes "1/3 1/03"))
+unfolding verb_of number_in field_at is_utf8 chars encode_utf8 weight_in weights_of_parts
+reweighs = refl
+
+pub no_workers : verb_of (codes "reweigh" ∷ [] ∷ [] ∷ [] ∷ codes "1/3" ∷ []) ≡ None
+unfolding verb_of number_in field_at is_utf8 chars encode_utf8 weight_in weights_of_parts
+no_workers = refl
+
+pub two_spaces : verb_of (codes "reweigh" ∷ [] ∷ [] ∷ codes "2" ∷ codes "1/3  1/3" ∷ []) ≡ None
+unfolding verb_of number_in field_at is_utf8 chars encode_utf8 weight_in weights_of_parts
+two_spaces = refl
+
 pub four_fields : verb_of (codes "settle" ∷ [] ∷ [] ∷ [] ∷ []) ≡ None
 unfolding verb_of number_in field_at is_utf8 chars encode_utf8
 four_fields = refl
@@ -65,6 +78,33 @@ four_fields = refl
 pub a_field_too_many : verb_of (codes "settle" ∷ codes "0" ∷ [] ∷ [] ∷ [] ∷ []) ≡ None
 unfolding verb_of number_in field_at is_utf8 chars encode_utf8
 a_field_too_many = refl
+
+-- ---- weights
+
+-- a number that is too great counts as 0
+pub weights : weights_in (codes "1/3 4294967295/07 4294967296/3") ≡ Some ((1, 3) ∷ (4294967295, 7) ∷ (0, 3) ∷ [])
+unfolding number_in weight_in weights_of_parts
+weights = refl
+
+pub no_weights : weights_in [] ≡ None
+unfolding number_in weight_in weights_of_parts
+no_weights = refl
+
+pub ends_in_a_space : weights_in (codes "1/3 ") ≡ None
+unfolding number_in weight_in weights_of_parts
+ends_in_a_space = refl
+
+pub eleven_digits : weights_in (codes "1/00000000003") ≡ None
+unfolding number_in weight_in weights_of_parts
+eleven_digits = refl
+
+pub two_slashes : weights_in (codes "1/3/3") ≡ None
+unfolding number_in weight_in weights_of_parts
+two_slashes = refl
+
+pub says_none : said_weights (codes "1") ≡ []
+unfolding number_in weight_in weights_of_parts
+says_none = refl
 
 -- ---- what is whole
 

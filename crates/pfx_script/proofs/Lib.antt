@@ -1,4 +1,5 @@
 pub mod Texts
+pub mod WeightLemmas
 pub mod Passing
 pub mod Quotes
 pub mod NextRecords

@@ -1,3 +1,4 @@
+pub mod Weights
 pub mod Verbs
 pub mod Records
 pub mod Whole

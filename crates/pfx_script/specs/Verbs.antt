@@ -1,9 +1,10 @@
 -- What a record of a script asks for.
-use Rattle.std.specs.Prelude.{codes, ℕ, Bool, ◌==◌, ◌&&◌, nat_le, if◌then◌else◌, List, [], length, Option, Some, None, option_map, option_and_then, unwrap_or}
+use Rattle.std.specs.Prelude.{codes, ℕ, Bool, ◌==◌, ◌&&◌, nat_le, if◌then◌else◌, List, [], length, Option, Some, None, option_map, option_and_then, is_some, unwrap_or}
 use Rattle.std.specs.List.{list_all}
 use Rattle.std.specs.Str.{is_utf8, bytes_eq}
 use Rattle.csv.specs.Records.{field_at}
 use Rattle.pfx_decimal.specs.Numerals.{number_in}
+use Rattle.pfx_script.specs.Weights.{number_within, weights_in}
 use Rattle.pfx_script.specs.declared.verbs.Verb.{Verb}
 use Rattle.pfx_script.specs.declared.verbs.Verb.TheVariants as verb
 
@@ -15,6 +16,7 @@ pub data Said : Type 0 where
   settle : Said
   status : Said
   show : Option ℕ → Said
+  reweigh : ℕ → List ℕ → Said
 
 -- the verb that a value of the code is
 abbrev pub said_by : Verb → Said
@@ -24,6 +26,7 @@ said_by (verb.Withdraw task) = withdraw task
 said_by verb.Settle = settle
 said_by verb.Status = status
 said_by (verb.Show task) = show task
+said_by (verb.Reweigh workers weights) = reweigh workers weights.now
 
 -- the field at a place
 abbrev pub field : List (List ℕ) → ℕ → List ℕ
@@ -67,6 +70,11 @@ show_by task kind goal text =
     then (if is_empty task then Some (show None) else option_map (λ t. show (Some t)) (task_in task))
     else None
 
+-- new weights, and how many workers: 1 to 10 digits
+abbrev pub reweigh_by : List ℕ → List ℕ → List ℕ → List ℕ → Option Said
+reweigh_by task kind workers text =
+    if is_empty task && (is_empty kind && is_some (weights_in text)) then option_map (λ m. reweigh m text) (number_within workers) else None
+
 abbrev pub are_empty : List ℕ → List ℕ → List ℕ → List ℕ → Bool
 are_empty task kind goal text = is_empty task && (is_empty kind && (is_empty goal && is_empty text))
 
@@ -79,7 +87,8 @@ verb_by word task kind goal text =
     else (if bytes_eq word (codes "settle") && are_empty task kind goal text then Some settle
     else (if bytes_eq word (codes "status") && are_empty task kind goal text then Some status
     else (if bytes_eq word (codes "show") then show_by task kind goal text
-    else None)))))
+    else (if bytes_eq word (codes "reweigh") then reweigh_by task kind goal text
+    else None))))))
 
 -- the verb of a record: five fields, each of them text
 unfoldable pub verb_of : List (List ℕ) → Option Said

@@ -12,8 +12,10 @@ mod heard;
 pub mod laws;
 mod records;
 mod verbs;
+mod weights;
 mod whole;
 
 pub use records::Script;
 pub use verbs::{Verb, read_verb};
+pub use weights::said_weights;
 pub use whole::Whole;

@@ -2,9 +2,10 @@
 
 ghost use Rattle.std.specs.Prelude.{◌≡◌, option_map};
 ghost use Rattle.csv.specs.Records.{fields_of, AllText};
-ghost use Rattle.pfx_script.specs.Verbs.{field, are_empty, said_by, submit_by, slot_by, withdraw_by, show_by, verb_by, verb_of};
+ghost use Rattle.pfx_script.specs.Verbs.{field, are_empty, said_by, submit_by, slot_by, withdraw_by, show_by, reweigh_by, verb_by, verb_of};
 
 use crate::fields::{count_in, goal_in, task_in};
+use crate::weights::{number_within, says_weights};
 use csv::StringRecord;
 
 /// What a record asks for, with its fields. Tasks are numbered from 0.
@@ -33,6 +34,12 @@ pub enum Verb<'a> {
     /// Settle, and show what the task's job has computed, or all jobs if no task is named.
     Show {
         task: Option<u16>,
+    },
+    /// Give all tasks new weights, and the set so many workers.
+    Reweigh {
+        workers: u32,
+        /// What `said_weights` reads.
+        weights: &'a str,
     },
 }
 
@@ -82,6 +89,19 @@ fn show<'a>(task: &str, kind: &str, goal: &str, text: &str) -> Option<Verb<'a>>
     Some(Verb::Show { task: Some(task) })
 }
 
+fn reweigh<'a>(task: &str, kind: &str, workers: &str, text: &'a str) -> Option<Verb<'a>>
+    ensures { option_map said_by result ≡ reweigh_by task.now kind.now workers.now text.now }
+{
+    if !(task.is_empty() && kind.is_empty() && says_weights(text)) {
+        return None;
+    }
+    let workers = number_within(workers)?;
+    Some(Verb::Reweigh {
+        workers,
+        weights: text,
+    })
+}
+
 fn are_empty(task: &str, kind: &str, goal: &str, text: &str) -> bool
     ensures { result ≡ are_empty task.now kind.now goal.now text.now }
 {
@@ -98,6 +118,7 @@ fn verb_by<'a>(verb: &str, task: &str, kind: &'a str, goal: &str, text: &'a str)
         "settle" if are_empty(task, kind, goal, text) => Some(Verb::Settle),
         "status" if are_empty(task, kind, goal, text) => Some(Verb::Status),
         "show" => show(task, kind, goal, text),
+        "reweigh" => reweigh(task, kind, goal, text),
         _ => None,
     }
 }
@@ -113,7 +134,8 @@ fn field_text(row: &StringRecord, i: usize) -> &str
 
 /// What a record asks for; `None` if it has no form of a record: five fields, of which those that its verb doesn't
 /// use are empty. A task is 1 to 5 decimal digits, at most 65,535, or empty if all jobs are shown; a goal 1 to 10
-/// digits, or empty for 0; a count of slots is a goal of 1 to 1,048,576, or empty for 1.
+/// digits, or empty for 0; a count of slots is a goal of 1 to 1,048,576, or empty for 1. Of a `reweigh` the goal is the
+/// workers, 1 to 10 digits, and the data one weight e/p or more, 1 to 10 digits each, with single spaces between them.
 pub fn read_verb(row: &StringRecord) -> Option<Verb<'_>>
     requires { AllText (fields_of row.now) }
     ensures { option_map said_by result ≡ verb_of (fields_of row.now) }

@@ -10,6 +10,7 @@
 //! - `objects`: the same as JSON.
 //! - `program`: plans of whole set files.
 //! - `scripts`: scripts over a state in memory.
+//! - `reweighs`: those that give tasks new weights.
 //! - `shown`: what is printed of a new store, of a state as its board, and of its jobs.
 //! - `jobs`: scripts that show what jobs have computed.
 //! - `long`: long scripts and plans, a slow writer, and the reading of a store's set.
@@ -37,6 +38,8 @@ mod objects;
 mod program;
 #[cfg(test)]
 mod refused_sets;
+#[cfg(test)]
+mod reweighs;
 #[cfg(test)]
 mod script;
 #[cfg(test)]

@@ -140,6 +140,34 @@ fn says_how_jobs_are_shown(rt: HostRuntime) {
     assert!(rt; says_of(rt.alloc(), b"show,,,,\nshow,0,,1,\n", 2, lines));
 }
 
+#[test]
+fn says_how_new_weights_are_given(rt: HostRuntime) {
+    let lines = "  a.csv:1:1: record 1 has 1 field, `reweigh 2`, and a record has five
+  Write it as reweigh,,,WORKERS,E/P E/P .. and leave fields that aren't used empty, with their commas.\n";
+    assert!(rt; says_of(rt.alloc(), b"reweigh 2\n", 1, lines));
+    let lines = "  a.csv:1:1: record 1 has a field that its verb doesn't use
+  Write it as reweigh,,,WORKERS,E/P E/P .. with the fields between the commas empty.\n";
+    assert!(rt; says_of(rt.alloc(), b"reweigh,0,,2,1/3\n", 1, lines));
+    let lines =
+        "  a.csv:1:1: record 1 has the workers ``, and workers are a number of 1 to 10 digits
+  Workers are the tasks that run at once: write a number from 1 to 64.\n";
+    assert!(rt; says_of(rt.alloc(), b"reweigh,,,,1/3\n", 1, lines));
+    let lines =
+        "  a.csv:2:1: record 2 has the weights `1/3;1/3`, and a weight is E/P, two numbers of 1 to 10 digits
+  Write one for each task in the order of the set, with single spaces between them, as 1/3 2/3.\n";
+    let text = b"reweigh,,,2,1/3\nreweigh,,,2,1/3;1/3\n";
+    assert!(rt; says_of(rt.alloc(), text, 2, lines));
+}
+
+#[test]
+fn says_what_to_do_about_refused_weights(rt: HostRuntime) {
+    let text = b"slot,,,,\nreweigh,,,2,1/3\n";
+    let note = refused_note(rt.alloc(), "a.csv", text, 1, 0, b"35 NotLevel task=0", 1);
+    let lines = "  a.csv:2:1: record 2 was refused: 35 NotLevel task=0
+  Run slots until every lag is 0: pfx status has them, and at each multiple of the hyperperiod behind the last new weights all are.\n";
+    assert!(rt; tells(rt.alloc(), note, lines));
+}
+
 /// Whether this record of a script is said to be refused after so many answers, of which so many show jobs.
 fn tells_refused(alloc: Global, text: &[u8], answers: u64, shown: u64, place: u64) -> bool {
     let note = refused_note(alloc, "a.csv", text, answers, shown, b"33 NoJob task=2", 1);

@@ -58,6 +58,7 @@ submit,00001,\"a,b\",9999999999,\"say \"\"so\"\"\"
 slot,,,0001048576,
 show,,,,
 show,00007,,,
+reweigh,,,0002,1/2 4294967296/03
 status,,,,";
 
 /// Whether the script of all verbs is read.
@@ -84,6 +85,10 @@ fn reads_each_verb(alloc: Global) -> bool {
         Verb::Slot { count: 1_048_576 },
         Verb::Show { task: None },
         Verb::Show { task: Some(7) },
+        Verb::Reweigh {
+            workers: 2,
+            weights: "1/2 4294967296/03",
+        },
         Verb::Status,
     ];
     reads(alloc, EACH.as_bytes(), &verbs, Ok(()))
