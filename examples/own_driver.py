@@ -59,14 +59,16 @@ class Pfx:
     def look(self, tasks):
         """The slot, and of each task how many units are granted, how many recorded, and the last one's text."""
         self.ask("status,,,,\nshow,,,,\nsettle,,,,\n")
-        slot, granted, recorded, text = int(self.line().split()[3]), [0] * tasks, [0] * tasks, [""] * tasks
+        board, granted, recorded, text = self.line().split(), [0] * tasks, [0] * tasks, [""] * tasks
+        if len(board) > 5:
+            sys.exit(f"own_driver.py: the store's weights are new ones from slot {board[5]} on, and which units of these are done isn't known")
         while not (line := self.line()).startswith("settled "):
             task, what, *rest = line.split()
             if what.startswith("alloc=") and int(task) < tasks:
                 granted[int(task)] = int(what[6:])
             elif what == "own":
                 recorded[int(task)], text[int(task)] = int(rest[0][9:]), rest[1][5:]
-        return slot, granted, recorded, text
+        return int(board[3]), granted, recorded, text
 
 
 def work(command, ended, task, name, number, text):

@@ -296,6 +296,7 @@ def show_status(words):
 def show_store(given):
     """What a store has that no driver has now, by pfx itself, with the names beside it."""
     from .drive import find_program
+    from .store import refuse_new_weights
     found = []
     for word in ("status", "show"):
         done = subprocess.run([*find_program(), word, given.store, "--json"], stdout=subprocess.PIPE)
@@ -303,6 +304,7 @@ def show_store(given):
             return done.returncode
         found.append([json.loads(line) for line in done.stdout.splitlines()])
     board, jobs = found[0][0], {job["task"]: job for job in found[1]}
+    refuse_new_weights(board)
     book = ledger.Ledger([ledger.Task(place, *named) for place, named in enumerate(Place(given.store).named())])
     book.slot = board["slot"]
     for task in book.tasks:

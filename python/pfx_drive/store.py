@@ -44,6 +44,12 @@ def as_text(said):
     return "\n".join(lines)
 
 
+def refuse_new_weights(board):
+    """Behind new weights a unit's number no longer tells whether it was granted by these: nothing is driven there."""
+    if board.get("from"):
+        raise Refused(f"the store's weights are new ones from slot {board['from']} on, and which units of these are done isn't known", 4)
+
+
 class Store:
     """An open store. `read` gives what has been answered since: ("ran", row), ("recorded", place, number), ("notnext", place, number)."""
 
@@ -101,6 +107,8 @@ class Store:
         exactly so many real tasks."""
         got = self.talk(f"status,,,,\nshow,{count - 1},,,\nshow,{count},,,\nshow,,,,\nsettle,,,,\n")
         board, last, behind, jobs = got[0], got[1], got[2], got[3:]
+
+        refuse_new_weights(board)
 
         def is_idle(it):
             return it.get("refused", {}).get("number") == NO_SUCH_TASK
