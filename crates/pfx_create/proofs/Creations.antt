@@ -13,7 +13,7 @@ use Rattle.pfx_recovery.specs.Recovery.{on_ok, from_head, found, found_of, recov
 use Rattle.pfx_recovery.specs.Refusals.{NotAStore}
 use Rattle.pfx_recovery.proofs.NewFiles.{head_stands, made_new, new_store}
 use Rattle.pfx_recovery.proofs.Recovers.{finds, recovers}
-use Rattle.pfx_create.specs.Creating.{HasLengths, IsUnmade, Beginning, Creating, StaysClosed, number_one, unopened}
+use Rattle.pfx_create.specs.Creating.{HasLengths, IsUnmade, Beginning, Creating, StaysClosed, unopened}
 use Rattle.pfx_create.specs.Attempts.{Attempts, IsMadeOf, IsNoneOrMade, RefusesUnmade}
 use Rattle.pfx_create.proofs.NewBytes.{behind_first, long_unopened, some_layout}
 
@@ -47,9 +47,9 @@ pub was_empty : (xs : List ℕ) (n : ℕ) → n ≡ length xs → n ≡ 0 → xs
 was_empty xs n is none = nothing xs (sym is ∙ none)
 
 -- a new file begins with its header's open gate
-pub opens : (L : Layout) (head body : List ℕ) (segment : ℕ) → HasLengths L head body segment → get_or head 0 0 ≡ GATE_OPEN → get_or (new_file L head body number_one) 0 0 ≡ GATE_OPEN
-opens L [] body segment has gate = absurd (omega (arith, gate))
-opens L (b ∷ head) body segment has gate = head_stands L (b ∷ head) body number_one has.of_head has.of_body refl 0 (omega arith) ∙ gate
+pub opens : (L : Layout) (head body first : List ℕ) (segment : ℕ) → length first ≡ 8 → HasLengths L head body segment → get_or head 0 0 ≡ GATE_OPEN → get_or (new_file L head body first) 0 0 ≡ GATE_OPEN
+opens L [] body first segment eight has gate = absurd (omega (arith, gate))
+opens L (b ∷ head) body first segment eight has gate = head_stands L (b ∷ head) body first has.of_head has.of_body eight 0 (omega arith) ∙ gate
 
 same_creates : (file x y : List ℕ) → Same x y → Creating file x y
 same_creates file x y same none = inl (inl (omega (arith, ap length same, ap length none)))
@@ -61,9 +61,9 @@ pub begun : (file : List ℕ) (a a1 b1 : View) → a.clock ≤ a1.clock → Leav
 begun file a a1 b1 later looked first = leaves_then Same Beginning (Creating file) a a1 b1 later (same_creates file) (λ x y z same begins none. inl (begins (same ∙ none))) looked first
 
 -- what is made on an empty disk
-pub attempted : (head body : List ℕ) (segment : ℕ) → 9 < segment → (a b : View) → (IsHonest b → IsHonest a) → (IsHonest a → length a.contents ≡ 0)
-    → (IsHonest a → (L : Layout) → HasLengths L head body segment → Leaves (Creating (new_file L head body number_one)) a b) → Attempts head body segment a b
-attempted head body segment room a b back none leaves = record {
+pub attempted : (head body first : List ℕ) (segment : ℕ) → 9 < segment → (a b : View) → (IsHonest b → IsHonest a) → (IsHonest a → length a.contents ≡ 0)
+    → (IsHonest a → (L : Layout) → HasLengths L head body segment → Leaves (Creating (new_file L head body first)) a b) → Attempts head body first segment a b
+attempted head body first segment room a b back none leaves = record {
   honest = (λ honest. let some = some_layout head body segment room in (leaves honest some.0 some.1).honest, back);
   leaves = leaves;
   untouched = λ honest some. absurd (omega (arith, none honest, some));
@@ -106,7 +106,7 @@ gate_opened [] old new gate before is = absurd (omega (arith, gate))
 gate_opened (b ∷ file) old new gate before is = is ∙ ap (λ (l : List ℕ). take 0 l ++ (GATE_OPEN ∷ []) ++ drop 1 l) before ∙ ap (λ k. k ∷ file) (sym gate)
 
 -- what a codec says of the images
-module _ {H S : Type 0} (K : Codec H S) (h : H) (s : S) (head body : List ℕ) (segment : ℕ) (made : IsMadeOf K h s head body segment) where
+module _ {H S : Type 0} (K : Codec H S) (h : H) (s : S) (head body first : List ℕ) (segment : ℕ) (made : IsMadeOf K h s head body first segment) where
   pub lengths : HasLengths (K.layout h) head body segment
   lengths = record { of_head = made.parts.head_long; of_body = made.parts.body_long; of_segment = made.of_segment }
 
@@ -114,13 +114,13 @@ module _ {H S : Type 0} (K : Codec H S) (h : H) (s : S) (head body : List ℕ) (
   unfolding recovered found
   refused image none = ap (λ r. on_ok (on_ok r (λ k. from_head K k image)) (λ f. Ok f.state)) none
 
-  pub whole_is_found : found K (new_file (K.layout h) head body number_one) ≡ Ok (found_of h (new_parts s) s)
-  whole_is_found = finds K made.laws h (new_file (K.layout h) head body number_one) (new_parts s) s (new_store K h s _ (made_new K made.laws h s head body number_one made.parts))
+  pub whole_is_found : found K (new_file (K.layout h) head body first) ≡ Ok (found_of h (new_parts s) s)
+  whole_is_found = finds K made.laws h (new_file (K.layout h) head body first) (new_parts s) s (new_store K h s _ (made_new K made.laws h s head body first made.parts))
 
-  pub whole_is_recovered : (image : List ℕ) → image ≡ new_file (K.layout h) head body number_one → recovered K image ≡ Ok s
-  whole_is_recovered image is = ap (recovered K) is ∙ recovers K made.laws h (new_file (K.layout h) head body number_one) (new_parts s) s (new_store K h s _ (made_new K made.laws h s head body number_one made.parts))
+  pub whole_is_recovered : (image : List ℕ) → image ≡ new_file (K.layout h) head body first → recovered K image ≡ Ok s
+  whole_is_recovered image is = ap (recovered K) is ∙ recovers K made.laws h (new_file (K.layout h) head body first) (new_parts s) s (new_store K h s _ (made_new K made.laws h s head body first made.parts))
 
-  pub none_or_made : RefusesUnmade K → (a b : View) → IsHonest a → Leaves (Creating (new_file (K.layout h) head body number_one)) a b → IsNoneOrMade K s a b
+  pub none_or_made : RefusesUnmade K → (a b : View) → IsHonest a → Leaves (Creating (new_file (K.layout h) head body first)) a b → IsNoneOrMade K s a b
   none_or_made refuses a b honest leaves c le empty image is = ⊎_elim
       (λ before. inl (refused image (refuses image (inl (omega (arith, ap length (empty image before)))))))
       (λ d. ⊎_elim (λ unmade. inl (refused image (refuses image unmade))) (λ whole. inr (whole_is_recovered image whole)) (d.2 (empty d.0 (honest.counted c d.0 le d.1))))

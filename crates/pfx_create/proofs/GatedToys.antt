@@ -48,9 +48,9 @@ refuses (gate ∷ room ∷ bytes) (inr shut) = ap (λ b. cond b (okay room) (fau
 pub refuses_unmade : RefusesUnmade gated_toy
 refuses_unmade = refuses
 
-pub is_made : Laws toy → IsMadeOf gated_toy 32 (0 ∷ 0 ∷ []) (GATE_OPEN ∷ 32 ∷ []) (0 ∷ 0 ∷ []) 42
+pub is_made : Laws toy → IsMadeOf gated_toy 32 (0 ∷ 0 ∷ []) (GATE_OPEN ∷ 32 ∷ []) (0 ∷ 0 ∷ []) (1 ∷ 0 ∷ 0 ∷ 0 ∷ 0 ∷ 0 ∷ 0 ∷ 0 ∷ []) 42
 is_made laws = record {
   laws = gated_meets laws;
-  parts = record { header = refl; head_long = refl; state = refl; number = refl; body_long = refl; one = refl; first_long = refl };
+  parts = record { header = refl; head_long = refl; state = refl; body_long = refl; next = refl; first_long = refl };
   of_segment = refl;
 }

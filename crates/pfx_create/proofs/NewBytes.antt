@@ -6,10 +6,10 @@ use Rattle.pfx_disk.specs.Disk.{Written}
 use Rattle.pfx_recovery.specs.Layout.{Layout}
 use Rattle.pfx_recovery.specs.NewFile.{new_file}
 use Rattle.pfx_recovery.proofs.NewFiles.{long}
-use Rattle.pfx_create.specs.Creating.{HasLengths, len_of, number_one, unopened}
+use Rattle.pfx_create.specs.Creating.{HasLengths, len_of, unopened}
 
-pub long_file : (L : Layout) (head body : List ℕ) (segment : ℕ) → HasLengths L head body segment → length (new_file L head body number_one) ≡ len_of head body segment
-long_file L head body segment has = long L head body number_one has.of_head has.of_body refl ∙ same L (length head) (length body) segment has.of_head has.of_body has.of_segment
+pub long_file : (L : Layout) (head body first : List ℕ) (segment : ℕ) → length first ≡ 8 → HasLengths L head body segment → length (new_file L head body first) ≡ len_of head body segment
+long_file L head body first segment eight has = long L head body first has.of_head has.of_body eight ∙ same L (length head) (length body) segment has.of_head has.of_body has.of_segment
   where
     same : (L : Layout) (n m k : ℕ) → n ≡ L.head → m ≡ L.body → k ≡ L.segment → L.head + 2 * (1 + L.body) + 2 * L.segment ≡ n + 2 * (1 + m) + 2 * k
     same L n m k is_n is_m is_k = omega (arith, is_n, is_m, is_k)
@@ -63,27 +63,27 @@ piece_written file at n bytes old new behind inside many before are is =
     place m k inside many = omega (arith, inside, many)
 
 -- the piece's length, if the file is so long
-pub piece_long : (L : Layout) (head body : List ℕ) (segment at piece len k : ℕ) → HasLengths L head body segment → len ≡ len_of head body segment → k ≡ min piece (len - at)
-    → k ≡ min piece (length (new_file L head body number_one) - at)
-piece_long L head body segment at piece len k has is many = many ∙ ap (λ m. min piece (m - at)) (is ∙ sym (long_file L head body segment has))
+pub piece_long : (L : Layout) (head body first : List ℕ) (segment at piece len k : ℕ) → length first ≡ 8 → HasLengths L head body segment → len ≡ len_of head body segment → k ≡ min piece (len - at)
+    → k ≡ min piece (length (new_file L head body first) - at)
+piece_long L head body first segment at piece len k eight has is many = many ∙ ap (λ m. min piece (m - at)) (is ∙ sym (long_file L head body first segment eight has))
 
 -- there is a layout of these lengths
 pub some_layout : (head body : List ℕ) (segment : ℕ) → 9 < segment → (L : Layout) × HasLengths L head body segment
 some_layout head body segment room = (record { head = length head; body = length body; segment = segment; room = room }, record { of_head = refl; of_body = refl; of_segment = refl })
 
 -- so far the file is as long as it was written
-pub long_so_far : (L : Layout) (head body : List ℕ) (segment at : ℕ) (contents : List ℕ) → HasLengths L head body segment → at < len_of head body segment
-    → contents ≡ take at (unopened (new_file L head body number_one)) → length contents ≡ at
-long_so_far L head body segment at contents has inside is =
-    ap length is ∙ shorter (length (unopened (new_file L head body number_one))) at (length-take at (unopened (new_file L head body number_one))) (omega (arith, long_unopened (new_file L head body number_one) (omega (arith, long_file L head body segment has, inside)), long_file L head body segment has, inside))
+pub long_so_far : (L : Layout) (head body first : List ℕ) (segment at : ℕ) (contents : List ℕ) → length first ≡ 8 → HasLengths L head body segment → at < len_of head body segment
+    → contents ≡ take at (unopened (new_file L head body first)) → length contents ≡ at
+long_so_far L head body first segment at contents eight has inside is =
+    ap length is ∙ shorter (length (unopened (new_file L head body first))) at (length-take at (unopened (new_file L head body first))) (omega (arith, long_unopened (new_file L head body first) (omega (arith, long_file L head body first segment eight has, inside)), long_file L head body first segment eight has, inside))
   where
     shorter : (n at : ℕ) {m : ℕ} → m ≡ min at n → at ≤ n → m ≡ at
     shorter n at is below = omega (arith, is, below)
 
 -- the last piece ends the file
-pub whole_at_last : (L : Layout) (head body : List ℕ) (segment at : ℕ) → HasLengths L head body segment → len_of head body segment ≤ at
-    → take at (unopened (new_file L head body number_one)) ≡ unopened (new_file L head body number_one)
-whole_at_last L head body segment at has past = take_all at (unopened (new_file L head body number_one)) (omega (arith, long_unopened (new_file L head body number_one) (omega (arith, long_file L head body segment has)), long_file L head body segment has, past))
+pub whole_at_last : (L : Layout) (head body first : List ℕ) (segment at : ℕ) → length first ≡ 8 → HasLengths L head body segment → len_of head body segment ≤ at
+    → take at (unopened (new_file L head body first)) ≡ unopened (new_file L head body first)
+whole_at_last L head body first segment at eight has past = take_all at (unopened (new_file L head body first)) (omega (arith, long_unopened (new_file L head body first) (omega (arith, long_file L head body first segment eight has)), long_file L head body first segment eight has, past))
 
 -- where the next piece begins
 pub next_piece : (file contents : List ℕ) (i piece : ℕ) → contents ≡ take (1 + i * piece + piece) file → contents ≡ take (1 + (i + 1) * piece) file

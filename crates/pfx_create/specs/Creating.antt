@@ -4,34 +4,32 @@ use Rattle.pfx_disk.specs.declared.gates.TheConstants.{GATE_OPEN}
 use Rattle.pfx_disk.specs.Gates.{IsClosed}
 use Rattle.pfx_recovery.specs.Layout.{Layout, IsClosedAt}
 
--- the number 1 in eight bytes, the lowest first
-abbrev pub number_one : List ℕ
-number_one = 1 ∷ 0 ∷ 0 ∷ 0 ∷ 0 ∷ 0 ∷ 0 ∷ 0 ∷ []
-
 -- how long a file with this header, this body of a checkpoint area and segments of this length is
 abbrev pub len_of : List ℕ → List ℕ → ℕ → ℕ
 len_of head body segment = length head + 2 * (1 + length body) + 2 * segment
 
--- a segment has more than nine bytes, and the file fewer than 2^62
-pub record IsInLimits (head body : List ℕ) (segment : ℕ) : Type 0 where
+-- the first segment's number has eight bytes, a segment more than nine, and the file fewer than 2^62
+pub record IsInLimits (head body first : List ℕ) (segment : ℕ) : Type 0 where
+  pub number : length first ≡ 8
   pub room : 9 < segment
   pub short : len_of head body segment < 2 ^ 62
 
 -- a place behind the first byte of such a file
-pub record IsBehindFirst (head body : List ℕ) (segment at : ℕ) : Type 0 where
-  pub limits : IsInLimits head body segment
+pub record IsBehindFirst (head body first : List ℕ) (segment at : ℕ) : Type 0 where
+  pub limits : IsInLimits head body first segment
   pub behind : 0 < at
   pub inside : at < len_of head body segment
 
--- a part of a new file of fewer than 2^62 bytes, with this end
-pub record IsPartTo (head body : List ℕ) (segment end : ℕ) : Type 0 where
+-- a part of a new file of fewer than 2^62 bytes, with this end; the first segment's number has eight
+pub record IsPartTo (head body first : List ℕ) (segment end : ℕ) : Type 0 where
+  pub number : length first ≡ 8
   pub short : len_of head body segment < 2 ^ 62
   pub inside : end ≤ len_of head body segment
 
--- A new file can be made with this header, this body of its first checkpoint area and such segments: they are in the limits, and the header begins
--- with its open gate.
-pub record CanBeMade (head body : List ℕ) (segment : ℕ) : Type 0 where
-  pub limits : IsInLimits head body segment
+-- A new file can be made with this header, this body of its first checkpoint area, this number of its first segment and such segments: they are
+-- in the limits, and the header begins with its open gate.
+pub record CanBeMade (head body first : List ℕ) (segment : ℕ) : Type 0 where
+  pub limits : IsInLimits head body first segment
   pub gate : slice_index head 0 ≡ GATE_OPEN
 
 -- the layout has these lengths

@@ -37,32 +37,33 @@ pub fn create_file<D: Disk, H, S>(
     disk: D,
     head: &[u8],
     body: &[u8],
+    first: &[u8],
     segment: usize,
 ) -> Result<StoreFile<D>, (CreateFault, D)>
-    requires { CanBeMade head.now body.now segment }
+    requires { CanBeMade head.now body.now first.now segment }
     ensures call { let calls = 6 + pieces (len_of head.now body.now segment - 1) in MatchResult result
         (λ file. IsCall calls ⊥ (D.view disk) (D.view file.disk) result)
         (λ e. IsCall calls (e.0 ≡ CreateFault.Device) (D.view disk) (D.view e.1) result) }
     ensures not_empty { IfErr result (λ e. e.0 ≡ CreateFault.NotEmpty → WasNotEmpty (D.view disk) (D.view e.1)) }
 
     // The new file, whole and durable, and its store.
-    ensures made { IsHonest (D.view disk) → IfOk result (λ file. IsMade head.now body.now segment (D.view disk) (D.view file.disk)) }
+    ensures made { IsHonest (D.view disk) → IfOk result (λ file. IsMade head.now body.now first.now segment (D.view disk) (D.view file.disk)) }
     ensures places { IfOk result (λ file. (file.broken ≡ false) × AreNew (length head.now) (length body.now) segment file.places) }
-    ensures holds { (K : Codec H S) → (h : H) → (s : S) → IsMadeOf K h s head.now body.now segment
+    ensures holds { (K : Codec H S) → (h : H) → (s : S) → IsMadeOf K h s head.now body.now first.now segment
         → IsHonest (D.view disk) → IfOk result (λ file. (spelling : List ℕ)
         → Holds K h file.places (new_parts s) s spelling (D.view file.disk)) }
 
     // At every moment of the call, whatever it answers.
     ensures attempts { MatchResult result
-        (λ file. Attempts head.now body.now segment (D.view disk) (D.view file.disk))
-        (λ e. Attempts head.now body.now segment (D.view disk) (D.view e.1)) }
-    ensures recovers { (K : Codec H S) → (h : H) → (s : S) → IsMadeOf K h s head.now body.now segment
+        (λ file. Attempts head.now body.now first.now segment (D.view disk) (D.view file.disk))
+        (λ e. Attempts head.now body.now first.now segment (D.view disk) (D.view e.1)) }
+    ensures recovers { (K : Codec H S) → (h : H) → (s : S) → IsMadeOf K h s head.now body.now first.now segment
         → RefusesUnmade K → IsHonest (D.view disk) → MatchResult result
         (λ file. IsNoneOrMade K s (D.view disk) (D.view file.disk))
         (λ e. IsNoneOrMade K s (D.view disk) (D.view e.1)) }
 {
     let mut disk = disk;
-    match create::<D, H, S>(&mut disk, head, body, segment) {
+    match create::<D, H, S>(&mut disk, head, body, first, segment) {
         Ok(()) => {
             let sizes = Sizes {
                 head: head.len(),

@@ -5,7 +5,8 @@
 //! and synced. A stop at any moment leaves no store's file yet, which is a byte at most or a closed first gate, or the new
 //! file, whole. A byte alone may be an open gate: a stop within the very first write may leave any byte.
 //!
-//! No memory is taken: each byte of the file is worked out from the header, the first checkpoint area's body and the lengths.
+//! No memory is taken: each byte of the file is worked out from the header, the first checkpoint area's body, the first segment's
+//! number and the lengths.
 #![tactic(auto)]
 
 mod bytes;

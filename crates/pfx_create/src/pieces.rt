@@ -13,16 +13,17 @@ fn write_piece<D: Disk>(
     disk: &mut D,
     head: &[u8],
     body: &[u8],
+    first: &[u8],
     segment: usize,
     at: usize,
 ) -> Result<(), DeviceFailed>
-    requires { IsNextPiece head.now body.now segment at (D.view disk.old) }
-    ensures { WritesPiece head.now body.now segment at (D.view disk.old) (D.view disk.new) result }
+    requires { IsNextPiece head.now body.now first.now segment at (D.view disk.old) }
+    ensures { WritesPiece head.now body.now first.now segment at (D.view disk.old) (D.view disk.new) result }
 {
     let mut bytes = [0; PIECE];
     let n = PIECE.min(file_len(head, body, segment) - at);
     let piece = &mut bytes[..n];
-    fill(head, body, segment, at, piece);
+    fill(head, body, first, segment, at, piece);
     disk.write_at(at, piece)
 }
 
@@ -31,15 +32,16 @@ fn write_pieces<D: Disk>(
     disk: &mut D,
     head: &[u8],
     body: &[u8],
+    first: &[u8],
     segment: usize,
 ) -> Result<(), DeviceFailed>
-    requires { CanBeWritten head.now body.now segment (0 ∷ []) (D.view disk.old) }
-    ensures { WritesUnopened (pieces (len_of head.now body.now segment - 1)) StaysClosed head.now body.now segment
+    requires { CanBeWritten head.now body.now first.now segment (0 ∷ []) (D.view disk.old) }
+    ensures { WritesUnopened (pieces (len_of head.now body.now segment - 1)) StaysClosed head.now body.now first.now segment
         (D.view disk.old) (D.view disk.new) result }
 {
     let count = (file_len(head, body, segment) - 1).div_ceil(PIECE);
     for i in 0..count {
-        write_piece(disk, head, body, segment, 1 + i * PIECE)?;
+        write_piece(disk, head, body, first, segment, 1 + i * PIECE)?;
     }
     Ok(())
 }
@@ -50,13 +52,14 @@ pub fn write_unopened<D: Disk>(
     disk: &mut D,
     head: &[u8],
     body: &[u8],
+    first: &[u8],
     segment: usize,
 ) -> Result<(), DeviceFailed>
-    requires { CanBeWritten head.now body.now segment [] (D.view disk.old) }
-    ensures { WritesUnopened (2 + pieces (len_of head.now body.now segment - 1)) Beginning head.now body.now segment
+    requires { CanBeWritten head.now body.now first.now segment [] (D.view disk.old) }
+    ensures { WritesUnopened (2 + pieces (len_of head.now body.now segment - 1)) Beginning head.now body.now first.now segment
         (D.view disk.old) (D.view disk.new) result }
 {
     disk.write_at(0, &[0])?;
     disk.sync()?;
-    write_pieces(disk, head, body, segment)
+    write_pieces(disk, head, body, first, segment)
 }

@@ -18,6 +18,9 @@ const HEAD: [u8; 41] = [
 /// Number 0 at slot 0, and no allocations and no job of any task.
 const BODY: [u8; 427] = [0; 427];
 
+/// The number 1, the lowest byte first.
+const FIRST: [u8; 8] = [1, 0, 0, 0, 0, 0, 0, 0];
+
 const SEGMENT: usize = 8192;
 
 const LEN: usize = 17_281;
@@ -30,32 +33,37 @@ fn empty_disk(alloc: Global) -> Option<MemoryDisk> {
 }
 
 fn create_here<D: Disk>(disk: &mut D) -> Result<(), CreateFault> {
-    create::<D, u8, Vec<u8>>(disk, &HEAD, &BODY, SEGMENT)
+    create::<D, u8, Vec<u8>>(disk, &HEAD, &BODY, &FIRST, SEGMENT)
 }
 
 fn file_here<D: Disk>(disk: D) -> Result<StoreFile<D>, (CreateFault, D)> {
-    create_file::<D, u8, Vec<u8>>(disk, &HEAD, &BODY, SEGMENT)
+    create_file::<D, u8, Vec<u8>>(disk, &HEAD, &BODY, &FIRST, SEGMENT)
 }
 
-/// The byte of the new file at a place.
-fn byte_of_new_file(i: usize) -> u8 {
+/// The byte at a place of the new file whose first segment begins with this number.
+fn byte_of_new_file(first: &[u8; 8], i: usize) -> u8 {
     match i {
         0..41 => HEAD[i],
         41 | 897 => 0xC3,
-        898 => 1,
+        898..906 => first[i - 898],
         _ => 0,
     }
 }
 
-/// Whether these are the bytes of the new file.
-fn is_whole(bytes: &[u8]) -> bool {
+/// Whether these are the bytes of the new file whose first segment begins with this number.
+fn begins_with(bytes: &[u8], first: &[u8; 8]) -> bool {
     let mut same = bytes.len() == LEN;
     for (i, byte) in bytes.iter().enumerate() {
-        if *byte != byte_of_new_file(i) {
+        if *byte != byte_of_new_file(first, i) {
             same = false;
         }
     }
     same
+}
+
+/// Whether these are the bytes of the new file.
+fn is_whole(bytes: &[u8]) -> bool {
+    begins_with(bytes, &FIRST)
 }
 
 /// Whether these bytes are no store's file yet.
@@ -89,6 +97,25 @@ fn a_new_file_takes_ten_writes_and_syncs(rt: HostRuntime) {
     check(&rt, (LEN - 1).div_ceil(PIECE) == 5, "pieces");
     check(&rt, holds_file(alloc, &mut disk, true), "the bytes");
     a_new_file_can_be_made();
+}
+
+/// Whether a new file can be made whose first segment begins with this number.
+fn begins(alloc: Global, first: &[u8; 8]) -> bool {
+    let Some(mut disk) = empty_disk(alloc) else {
+        return false;
+    };
+    if create::<_, u8, Vec<u8>>(&mut disk, &HEAD, &BODY, first, SEGMENT).is_err() {
+        return false;
+    }
+    match held(alloc, &mut disk) {
+        Some(bytes) => begins_with(&bytes, first),
+        None => false,
+    }
+}
+
+#[test]
+fn the_first_segment_begins_with_the_given_number(rt: HostRuntime) {
+    check(&rt, begins(rt.alloc(), &[2, 3, 4, 5, 6, 7, 8, 9]), "begins");
 }
 
 fn byte_is_left_alone(alloc: Global, disk: &mut MemoryDisk) -> bool {

@@ -1,6 +1,6 @@
 use Rattle.std.proofs.Common.{rules, ◌≤◌, ◌<◌, ◌+◌, ◌*◌, ◌∙◌, arith}
 use Rattle.pfx_recovery.specs.NewFile.{new_file}
-use Rattle.pfx_create.specs.Creating.{len_of, number_one, unopened}
+use Rattle.pfx_create.specs.Creating.{len_of, unopened}
 use Rattle.pfx_store_file.specs.declared.checkpoint.TheConstants.{PIECE}
 use Rattle.pfx_create.proofs.NewBytes.{some_layout, long_so_far, whole_at_last, next_piece}
 use Rattle.pfx_create.proofs.Creations.{stays_then}
@@ -13,7 +13,7 @@ write_piece-requires g c = record {
       let inv = c.loop-i.invariant in
       let some = some_layout c.args.head.now c.args.body.now c.args.segment c.requires.limits.room in
       let inside : 1 + c.loop-i.i * 4096 < len_of c.args.head.now c.args.body.now c.args.segment = search rules in
-      long_so_far some.0 c.args.head.now c.args.body.now c.args.segment (1 + c.loop-i.i * 4096) (g.D.Disk.view c.loop-i.disk).contents some.1 inside (inv.written (inv.honest now) some.0 some.1);
+      long_so_far some.0 c.args.head.now c.args.body.now c.args.first.now c.args.segment (1 + c.loop-i.i * 4096) (g.D.Disk.view c.loop-i.disk).contents c.requires.limits.number some.1 inside (inv.written (inv.honest now) some.0 some.1);
 }
 
 pub returns-in_err-write_piece : goal.returns-in_err-write_piece
@@ -39,7 +39,7 @@ loop-i-preserved g c =
       failures = search rules;
       honest = search rules;
       leaves = λ honest. let so_far = inv.leaves honest in stays_then (view c.args.disk.now) (view c.loop-i.disk) (view c.write_piece.new.disk) (omega (arith, inv.clock)) so_far (c.write_piece.ensures.leaves so_far.honest);
-      written = λ honest L has. next_piece (unopened (new_file L c.args.head.now c.args.body.now number_one)) (view c.write_piece.new.disk).contents c.loop-i.i PIECE
+      written = λ honest L has. next_piece (unopened (new_file L c.args.head.now c.args.body.now c.args.first.now)) (view c.write_piece.new.disk).contents c.loop-i.i PIECE
           (c.in_ok-write_piece.ensures.written (inv.leaves honest).honest L has (inv.written honest L has));
     }
 
@@ -53,5 +53,5 @@ returns g c = record {
   leaves = search rules;
   written = λ honest L has.
       let past : len_of c.args.head.now c.args.body.now c.args.segment ≤ 1 + c.loop-i.i * 4096 = search rules in
-      c.loop-i.invariant.written honest L has ∙ whole_at_last L c.args.head.now c.args.body.now c.args.segment (1 + c.loop-i.i * 4096) has past;
+      c.loop-i.invariant.written honest L has ∙ whole_at_last L c.args.head.now c.args.body.now c.args.first.now c.args.segment (1 + c.loop-i.i * 4096) c.requires.limits.number has past;
 }

@@ -2,7 +2,7 @@ use Rattle.std.proofs.Common.{◌≡◌, ◌+◌, ◌*◌, take}
 use Rattle.pfx_disk.specs.Disk.{IsHonest, Leaves}
 use Rattle.pfx_recovery.specs.Layout.{Layout}
 use Rattle.pfx_recovery.specs.NewFile.{new_file}
-use Rattle.pfx_create.specs.Creating.{HasLengths, StaysClosed, number_one, unopened}
+use Rattle.pfx_create.specs.Creating.{HasLengths, StaysClosed, unopened}
 use Rattle.pfx_store_file.specs.declared.checkpoint.TheConstants.{PIECE}
 use Rattle.pfx_create.proofs.pieces.write_pieces.Given as goal
 
@@ -15,5 +15,5 @@ invariant-loop-i g l =
       failures : now.failures ≡ old.failures;
       honest : IsHonest now → IsHonest old;
       leaves : IsHonest old → Leaves StaysClosed old now;
-      written : IsHonest old → (L : Layout) → HasLengths L l.head l.body l.segment → now.contents ≡ take (1 + l.i * PIECE) (unopened (new_file L l.head l.body number_one));
+      written : IsHonest old → (L : Layout) → HasLengths L l.head l.body l.segment → now.contents ≡ take (1 + l.i * PIECE) (unopened (new_file L l.head l.body l.first));
     }
