@@ -1,7 +1,8 @@
 -- A new store.
 use Rattle.std.specs.Prelude.{◌≡◌, ℕ, ◌+◌, ◌*◌, ◌-◌, ◌<◌, ◌^◌, List, [], length, take, nat_le, ◌&&◌, slice_index, false, Ok, Err, refl}
 use Rattle.std.specs.Str.{bytes_eq}
-use Rattle.std.proofs.Common.{sym, ◌∙◌, ap, append-nil, arith, inl, inr}
+use Rattle.byteorder.specs.Endian.{little_number}
+use Rattle.std.proofs.Common.{sym, ◌∙◌, ap, append-nil, arith, inl, inr, subst}
 use Rattle.std.proofs.Math.Nat.{max-eq_right}
 use Rattle.std.proofs.lemmas.Bool.{leb-true, false_from_ne_true, true≢false}
 use Rattle.pfx_checkpoint.specs.Whole.{whole_bytes, whole_len}
@@ -15,7 +16,7 @@ use Rattle.pfx_header.proofs.Meanings.{accepted_filled, closed_no_store}
 use Rattle.pfx_header.proofs.Stages.{no_store}
 use Rattle.pfx_header.proofs.Written.{header_long, written_read}
 use Rattle.pfx_jobs.specs.Kind.{Kind, Laws}
-use Rattle.pfx_machine.specs.Plain.{Plain, IsState, empty}
+use Rattle.pfx_machine.specs.Plain.{Plain, IsState}
 use Rattle.pfx_recovery.specs.Layout.{file_len}
 use Rattle.pfx_recovery.specs.NewFile.{new_parts}
 use Rattle.pfx_recovery.specs.Recovery.{found, from_head, on_ok, recovered}
@@ -23,33 +24,34 @@ use Rattle.pfx_recovery.specs.Refusals.{NotAStore}
 use Rattle.pfx_store_file.specs.Holding.{Holds}
 use Rattle.pfx_store_file.specs.Tending.{pieces}
 use Rattle.pfx_store_file.specs.declared.places.Places.{Places}
-use Rattle.pfx_store.specs.Making.{making_calls}
+use Rattle.pfx_store.specs.Making.{IsBeforeAnyCall, IsSizeFault, header_of, making_calls}
 use Rattle.pfx_store.specs.Standing.{Stands}
+use Rattle.pfx_store.specs.Working.{IsUnmade}
+use Rattle.pfx_store.specs.declared.making.InitFault.{InitFault}
 use Rattle.pfx_store.proofs.Areas.{spelled_read, spelled_long}
 
 -- a segment of a header has the room that a layout asks for
 pub segment_same : (h : Header) → IsHeader h → (layout h).segment ≡ h.segment
 segment_same h is = max-eq_right {n = 10} {m = h.segment} (let least = is.segment.0 in omega (arith, least))
 
--- the empty state is of the header
-pub empty_is_of : {J : Type 0} (h : Header) → IsHeader h → IsOf {J = J} h (empty h.set h.segment)
-empty_is_of h is = record { real = refl; segment = refl; room = is.segment.0 }
+-- a state is of its header
+pub begun_is_of : {J : Type 0} (s : Plain J) → IsHeader (header_of s) → IsOf (header_of s) s
+begun_is_of s is = record { real = refl; segment = refl; room = is.segment.0 }
 
--- these are the parts of a new file of the set, at its empty state
-pub made_of : {J : Type 0} (K : Kind J) (L : Laws K) (h : Header) (head body : List ℕ) (segment : ℕ) → IsHeader h → IsState (empty {J = J} h.set h.segment) → head ≡ header_bytes this_version h → body ≡ whole_bytes K (empty h.set h.segment) → segment ≡ h.segment →
-    IsMadeOf (format K) h (empty h.set h.segment) head body segment
-made_of K L h head body segment is state head_is body_is same = record {
+-- these are the parts of a new file at a state, with its header
+pub made_of : {J : Type 0} (K : Kind J) (L : Laws K) (s : Plain J) (head body first : List ℕ) (segment : ℕ) → IsHeader (header_of s) → IsState s → head ≡ header_bytes this_version (header_of s) → body ≡ whole_bytes K s
+    → length first ≡ 8 → little_number 8 first ≡ s.number + 1 → segment ≡ s.segment → IsMadeOf (format K) (header_of s) s head body first segment
+made_of K L s head body first segment is state head_is body_is long next same = record {
   laws = format_laws K L;
   parts = record {
-    header = ap (read_header this_version) (head_is ∙ sym (append-nil (header_bytes this_version h))) ∙ written_read this_version h [] is;
-    head_long = ap length head_is ∙ header_long this_version h is;
-    state = spelled_read K L h (empty h.set h.segment) body state (empty_is_of h is) body_is;
-    number = refl;
-    body_long = ap length body_is ∙ spelled_long K L (empty h.set h.segment) state;
-    one = refl;
-    first_long = refl;
+    header = ap (read_header this_version) (head_is ∙ sym (append-nil (header_bytes this_version (header_of s)))) ∙ written_read this_version (header_of s) [] is;
+    head_long = ap length head_is ∙ header_long this_version (header_of s) is;
+    state = spelled_read K L (header_of s) s body state (begun_is_of s is) body_is;
+    body_long = ap length body_is ∙ spelled_long K L s state;
+    next = next;
+    first_long = long;
   };
-  of_segment = same ∙ sym (segment_same h is);
+  of_segment = same ∙ sym (segment_same (header_of s) is);
 }
 
 -- what is no store's file yet is refused as none
@@ -98,6 +100,23 @@ pub made_calls : (h : Header) (head body segment : ℕ) → IsHeader h → head 
 made_calls h head body segment is head_is body_is segment_is =
     let long : head + 2 * (1 + body) + 2 * segment ≡ file_len (layout h) = (let same = segment_same h is in omega (arith, head_is, body_is, segment_is, same)) in
     ap (λ (n : ℕ). 6 + pieces (n - 1)) long
+
+-- and told of its parts as they lie
+pub told_made : (old now m k : ℕ) → m ≡ k → now ≡ old + (6 + pieces (m - 1)) → now ≡ old + 6 + pieces (k - 1)
+told_made old now m k same is = is ∙ (ap (λ (x : ℕ). old + (6 + pieces (x - 1))) same ∙ joined old (pieces (k - 1)))
+  where
+    joined : (a b : ℕ) → a + (6 + b) ≡ a + 6 + b
+    joined a b = omega arith
+
+-- a fault that comes before the disk is asked anything
+pub refused_first : {D : Type 0} (view : D → View) (m segment : ℕ) (disk : D) (e : InitFault) → IsSizeFault m segment e → IsBeforeAnyCall e → IsUnmade view m segment disk (e, disk)
+refused_first view m segment disk e size before = record {
+  size = size;
+  device = λ is. absurd (subst IsBeforeAnyCall is before);
+  not_empty = λ honest is. absurd (subst IsBeforeAnyCall is before);
+  one_call = λ is. absurd (subst IsBeforeAnyCall is before);
+  unasked = λ b. refl;
+}
 
 -- a disk that nothing is done with
 pub left_alone : (disk : View) → IsHonest disk → Leaves Same disk disk

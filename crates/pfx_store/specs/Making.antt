@@ -2,9 +2,9 @@
 use Rattle.std.specs.Prelude.{◌≡◌, ◌<◌, ◌≤◌, ◌+◌, ◌-◌, ℕ, List, ⊤}
 use Rattle.pfx_checkpoint.specs.Whole.{whole_bytes}
 use Rattle.pfx_format.specs.Format.{layout}
-use Rattle.pfx_header.specs.Headers.{IsHeader, IsSegmentSize, header_bytes, least_segment, longest_segment, this_version}
+use Rattle.pfx_header.specs.Headers.{Header, IsHeader, IsSegmentSize, header_bytes, least_segment, longest_segment, this_version}
 use Rattle.pfx_jobs.specs.Kind.{Kind}
-use Rattle.pfx_machine.specs.Plain.{Plain, empty}
+use Rattle.pfx_machine.specs.Plain.{Plain}
 use Rattle.pfx_record.specs.Batches.{batch_most}
 use Rattle.pfx_recovery.specs.Layout.{file_len}
 use Rattle.pfx_store_file.specs.Tending.{pieces}
@@ -32,11 +32,18 @@ IsBeforeAnyCall NotEmpty = ⊥
 IsBeforeAnyCall Device = ⊥
 IsBeforeAnyCall NoMemory = ⊤
 
--- All that a store is made of is there: a header within the limits and its bytes, the empty state and its bytes, and room for a frame.
-pub record IsPrepared {J : Type 0} (K : Kind J) (set : FilledSet) (segment : ℕ) (state : Plain J) (head_bytes spelled_bytes : List ℕ) (capacity : ℕ)
-    : Type 0 where
-  pub header : IsHeader (record { set = set; segment = segment })
-  pub head : head_bytes ≡ header_bytes this_version (record { set = set; segment = segment })
-  pub spelled : spelled_bytes ≡ whole_bytes K (empty set segment)
-  pub room : batch_most set.workers set.real + 1 ≤ capacity
-  pub empty : state ≡ empty set segment
+-- the header of a store that begins at a state: its set, and its length of segments
+abbrev pub header_of : {J : Type 0} → Plain J → Header
+header_of s = record { set = s.ledger.set; segment = s.segment }
+
+-- a store can begin at the state, whose set is this one, in segments within the limits
+pub record CanBegin {J : Type 0} (set : FilledSet) (s : Plain J) : Type 0 where
+  pub same : s.ledger.set ≡ set
+  pub size : IsSegmentSize s.ledger.set.workers s.segment
+
+-- All that a store is made of is there: a header within the limits and its bytes, the bytes of the state, and room for a frame.
+pub record IsPrepared {J : Type 0} (K : Kind J) (s : Plain J) (head_bytes spelled_bytes : List ℕ) (capacity : ℕ) : Type 0 where
+  pub header : IsHeader (header_of s)
+  pub head : head_bytes ≡ header_bytes this_version (header_of s)
+  pub spelled : spelled_bytes ≡ whole_bytes K s
+  pub room : batch_most s.ledger.set.workers s.ledger.set.real + 1 ≤ capacity

@@ -163,27 +163,31 @@ pub record IsMaking {D J : Type 0} (view : D → View) (calls : ℕ) (disk : D) 
   pub takes : MatchResult result (λ store. Takes calls (view disk) (view store.file.disk) result) (λ e. Takes calls (view disk) (view e.1) result)
   pub only : IsHonest (view disk) → IfOk result (λ store. Only (view store.file.disk).contents (view store.file.disk))
 
--- the new store of a set, with segments of this length, within the limits; it isn't broken, and no checkpoint is in progress
-pub record IsNew {D J : Type 0} (set : FilledSet) (segment : ℕ) (store : PlainStore D J) : Type 0 where
-  pub size : IsSegmentSize set.workers segment
-  pub segment_len : store.file.places.sizes.segment ≡ segment
-  pub state : store.state ≡ empty set segment
+-- the new store of a state, with segments of its length, within the limits; it isn't broken, and no checkpoint is in progress
+pub record IsBegun {D J : Type 0} (s : Plain J) (store : PlainStore D J) : Type 0 where
+  pub size : IsSegmentSize s.ledger.set.workers s.segment
+  pub segment_len : store.file.places.sizes.segment ≡ s.segment
+  pub state : store.state ≡ s
   pub whole : store.file.broken ≡ false
   pub none_left : steps_left store.file.places ≡ 0
 
--- What comes of making a store of a set, with segments of this length: what each fault means; it is made on an empty disk alone, and one
--- that holds bytes is left as it was; how many calls it takes; the new store, which stands for its state; and that each image since the disk
--- was empty is no store's, or the empty state's.
-pub record MakesStore {D J : Type 0} (view : D → View) (K : Kind J) (set : FilledSet) (segment : ℕ) (disk : D)
-    (result : Result (PlainStore D J) (InitFault × D)) : Type 0 where
-  pub unmade : IfErr result (λ e. IsUnmade view set.workers segment disk e)
+-- the new store of a set at its empty state
+abbrev pub IsNew : {D J : Type 0} → FilledSet → ℕ → PlainStore D J → Type 0
+IsNew set segment store = IsBegun (empty set segment) store
+
+-- What comes of making a store that begins at a state: what each fault means; it is made on an empty disk alone, and one that holds bytes
+-- is left as it was; how many calls it takes; the new store, which stands for the state; and that each image since the disk was empty is no
+-- store's, or the state's.
+pub record MakesStore {D J : Type 0} (view : D → View) (K : Kind J) (s : Plain J) (disk : D) (result : Result (PlainStore D J) (InitFault × D))
+    : Type 0 where
+  pub unmade : IfErr result (λ e. IsUnmade view s.ledger.set.workers s.segment disk e)
   pub vacant : IsHonest (view disk) → MatchResult result (λ _. (view disk).contents ≡ [])
       (λ e. 0 < length (view disk).contents → Leaves Same (view disk) (view e.1))
-  pub calls : IsMaking view (making_calls set segment) disk result
-  pub made : IfOk result (λ store. IsNew set segment store)
+  pub calls : IsMaking view (making_calls s.ledger.set s.segment) disk result
+  pub made : IfOk result (λ store. IsBegun s store)
   pub stands : IsHonest (view disk) → IfOk result (λ store. Stands K store.file.places store.state store.spelled (view store.file.disk))
   pub recovers : IsHonest (view disk) → MatchResult result
-      (λ store. IsNoneOrMade (format K) (empty set segment) (view disk) (view store.file.disk)) (λ e. IsNoneOrMade (format K) (empty set segment) (view disk) (view e.1))
+      (λ store. IsNoneOrMade (format K) s (view disk) (view store.file.disk)) (λ e. IsNoneOrMade (format K) s (view disk) (view e.1))
 
 -- From now on each image is recovered to the state: a mark stands for it.
 pub record IsDurable {J : Type 0} (K : Kind J) (broken : Bool) (s : Plain J) (disk : View) : Type 0 where

@@ -7,13 +7,14 @@ ghost use Rattle.pfx_format.specs.Format.{format};
 ghost use Rattle.pfx_header.specs.Headers.{IsSegmentSize, header_bytes, this_version};
 ghost use Rattle.pfx_machine.specs.Plain.{empty};
 ghost use Rattle.pfx_store.specs.Stores.{as_store};
-ghost use Rattle.pfx_store.specs.Working.{IsDurable, IsMaking, IsNew, IsUnmade, MakesStore};
-ghost use Rattle.pfx_store.specs.Making.{IsPrepared, making_calls};
+ghost use Rattle.pfx_store.specs.Working.{IsBegun, IsDurable, IsMaking, IsNew, IsUnmade, MakesStore};
+ghost use Rattle.pfx_store.specs.Making.{CanBegin, IsBeforeAnyCall, IsPrepared, IsSizeFault, header_of, making_calls};
 
 use crate::format::FileHeader;
 use crate::journal::Journal;
 use crate::opening::longest_frame;
 use crate::standing::Store;
+use crate::store::start_behind;
 use pfx_checkpoint::{freeze_whole, whole_len};
 use pfx_create::{CreateFault, create_file};
 use pfx_disk::Disk;
@@ -44,12 +45,27 @@ pub enum InitFault {
     NoMemory,
 }
 
-// The bytes of the header.
-fn head_of(alloc: Global, set: &TaskSet, segment: u32) -> Result<Vec<u8>, AllocError>
-    ensures { IfOk result (λ head. head.items ≡ header_bytes this_version (record { set = set.now; segment = segment })) }
+// Tests the length of a segment for a set.
+fn check_size(set: &TaskSet, segment: u32) -> Result<(), InitFault>
+    ensures { MatchResult result (λ _. IsSegmentSize set.now.workers segment)
+        (λ fault. IsSizeFault set.now.workers segment fault × IsBeforeAnyCall fault) }
+{
+    match check_segment(set, segment) {
+        Ok(()) => Ok(()),
+        Err(SegmentSizeFault::SegmentTooSmall { least }) => {
+            Err(InitFault::SegmentTooSmall { least })
+        }
+        Err(SegmentSizeFault::SegmentTooLarge) => Err(InitFault::SegmentTooLarge),
+    }
+}
+
+// The bytes of the header of a store that begins at a state of the set.
+fn head_of<J: Job>(alloc: Global, set: &TaskSet, state: &State<J>) -> Result<Vec<u8>, AllocError>
+    requires { state.now.ledger.set ≡ set.now }
+    ensures { IfOk result (λ head. head.items ≡ header_bytes this_version (header_of state.now)) }
 {
     let mut head = vec![in alloc; 0; header_len(set)]?;
-    write_header(set, segment, &mut head);
+    write_header(set, state.segment(), &mut head);
     Ok(head)
 }
 
@@ -66,18 +82,18 @@ fn frozen<J: Job>(alloc: Global, state: &State<J>) -> Result<Vec<u8>, AllocError
 // Makes the file, if all that it takes is there.
 fn placed<D: Disk, J: Job>(
     disk: D,
-    set: &TaskSet,
     state: State<J>,
     head: &[u8],
     spelled: Vec<u8>,
     frame: Vec<u8>,
-    segment: u32,
 ) -> Result<Journal<D, J>, (InitFault, D)>
-    requires { IsPrepared J.kind set.now segment state head.now spelled.items (vec_capacity frame) }
-    ensures { MakesStore D.view J.kind set.now segment disk (as_store result) }
+    requires { IsPrepared J.kind state head.now spelled.items (vec_capacity frame) }
+    ensures { MakesStore D.view J.kind state disk (as_store result) }
 {
-    let _number = state.number();
-    match create_file::<D, FileHeader, State<J>>(disk, head, &spelled, segment as usize) {
+    let segment = state.segment() as usize;
+    let start = start_behind(state.number());
+    let first = &start[..8];
+    match create_file::<D, FileHeader, State<J>>(disk, head, &spelled, first, segment) {
         Ok(file) => Ok(Journal {
             file,
             state,
@@ -89,32 +105,46 @@ fn placed<D: Disk, J: Job>(
     }
 }
 
-// Makes the journal of a set at its empty state.
+// Makes the journal that begins at a state of the set.
 fn made<D: Disk, J: Job>(
+    alloc: Global,
+    disk: D,
+    set: &TaskSet,
+    state: State<J>,
+) -> Result<Journal<D, J>, (InitFault, D)>
+    requires { CanBegin set.now state }
+    ensures { MakesStore D.view J.kind state disk (as_store result) }
+{
+    let _number = state.number();
+    let Ok(head) = head_of(alloc, set, &state) else {
+        return Err((InitFault::NoMemory, disk));
+    };
+    let Ok(spelled) = frozen(alloc, &state) else {
+        return Err((InitFault::NoMemory, disk));
+    };
+    let _total = state.columns().total();
+    let real = state.columns().real() as u32;
+    let longest = longest_frame(state.columns().workers(), real);
+    let Ok(frame) = Vec::with_capacity(alloc, longest) else {
+        return Err((InitFault::NoMemory, disk));
+    };
+    placed(disk, state, &head, spelled, frame)
+}
+
+// Makes the journal of a set at its empty state.
+fn made_empty<D: Disk, J: Job>(
     alloc: Global,
     disk: D,
     set: &TaskSet,
     segment: u32,
 ) -> Result<Journal<D, J>, (InitFault, D)>
     requires { IsSegmentSize set.now.workers segment }
-    ensures { MakesStore D.view J.kind set.now segment disk (as_store result) }
+    ensures { MakesStore D.view J.kind (empty set.now segment) disk (as_store result) }
 {
-    set.is_of_its_tasks();
-    let _total = set.total();
     let Ok(state) = State::new(alloc, set, segment) else {
         return Err((InitFault::NoMemory, disk));
     };
-    let Ok(head) = head_of(alloc, set, segment) else {
-        return Err((InitFault::NoMemory, disk));
-    };
-    let Ok(spelled) = frozen(alloc, &state) else {
-        return Err((InitFault::NoMemory, disk));
-    };
-    let longest = longest_frame(set.workers(), set.real() as u32);
-    let Ok(frame) = Vec::with_capacity(alloc, longest) else {
-        return Err((InitFault::NoMemory, disk));
-    };
-    placed(disk, set, state, &head, spelled, frame, segment)
+    made(alloc, disk, set, state)
 }
 
 impl<D: Disk, J: Job> Store<D, J> {
@@ -149,15 +179,52 @@ impl<D: Disk, J: Job> Store<D, J> {
             (λ store. IsNoneOrMade (format J.kind) (empty set.now segment) (D.view disk) (D.view store.file.disk))
             (λ e. IsNoneOrMade (format J.kind) (empty set.now segment) (D.view disk) (D.view e.1)) }
     {
-        match check_segment(set, segment) {
-            Ok(()) => match made(alloc, disk, set, segment) {
+        match check_size(set, segment) {
+            Err(fault) => Err((fault, disk)),
+            Ok(()) => match made_empty(alloc, disk, set, segment) {
                 Ok(journal) => Ok(Store { journal }),
                 Err(refused) => Err(refused),
             },
-            Err(SegmentSizeFault::SegmentTooSmall { least }) => {
-                Err((InitFault::SegmentTooSmall { least }, disk))
-            }
-            Err(SegmentSizeFault::SegmentTooLarge) => Err((InitFault::SegmentTooLarge, disk)),
+        }
+    }
+
+    /// Makes the store that begins at a state, on an empty disk: a store of the state's set, with segments of as many bytes as the
+    /// state says, whose first command gets the number after the state's. With a fault the disk comes back.
+    ///
+    /// The faults come in the order that `init` has. A state with the last number, 2^48 - 1, makes a store that takes no command.
+    pub fn begin(
+        alloc: Global,
+        disk: D,
+        set: &TaskSet,
+        state: State<J>,
+    ) -> Result<Store<D, J>, (InitFault, D)>
+        requires { state.ledger.set ≡ set.now }
+        ensures unmade { IfErr result (λ e. IsUnmade D.view state.ledger.set.workers state.segment disk e) }
+
+        // It makes a store on an empty disk alone, and leaves one that holds bytes as it was.
+        ensures vacant { IsHonest (D.view disk) → MatchResult result (λ _. (D.view disk).contents ≡ [])
+            (λ e. 0 < length (D.view disk).contents → Leaves Same (D.view disk) (D.view e.1)) }
+
+        // Six calls, and one for each 4,096 bytes behind the first.
+        ensures calls { IsMaking D.view (making_calls state.ledger.set state.segment) disk result }
+        ensures made { IfOk result (λ store. IsBegun state store) }
+
+        // From the return on each image is recovered to the state.
+        ensures durable { IsHonest (D.view disk) → IfOk result (λ store.
+            IsDurable J.kind store.file.broken store.state (D.view store.file.disk)) }
+
+        // If the disk was empty since some moment, each image since then is no store's, or the state's: at every moment of
+        // the call, whatever it answers.
+        ensures recovers { IsHonest (D.view disk) → MatchResult result
+            (λ store. IsNoneOrMade (format J.kind) state (D.view disk) (D.view store.file.disk))
+            (λ e. IsNoneOrMade (format J.kind) state (D.view disk) (D.view e.1)) }
+    {
+        match check_size(set, state.segment()) {
+            Err(fault) => Err((fault, disk)),
+            Ok(()) => match made(alloc, disk, set, state) {
+                Ok(journal) => Ok(Store { journal }),
+                Err(refused) => Err(refused),
+            },
         }
     }
 }
