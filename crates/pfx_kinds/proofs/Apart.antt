@@ -3,6 +3,7 @@ use Rattle.std.specs.Prelude.{◌≡◌, ◌≢◌, ℕ, ◌++◌, replicate, sl
 use Rattle.std.proofs.Common.{arith, sym, ◌∙◌}
 use Rattle.std.proofs.lemmas.List.{get_or-append_right}
 use Rattle.std.proofs.lemmas.Option.{none-some}
+use Rattle.byteorder.specs.Endian.{little_bytes}
 use Rattle.pfx_kinds.specs.Counts.{count_bytes}
 use Rattle.pfx_kinds.specs.CountKind.{count_kind}
 use Rattle.pfx_kinds.specs.Laws.{AnswersStandApart}
@@ -40,7 +41,7 @@ scan_last s =
 
 own_last : (s : own_type.Own) → slice_index (own_kind.spelling s) 127 ≡ 4
 unfolding own_bytes
-own_last s = get_or-append_right s.text own_end 106 113 0 ((own_parts s.answered s.text_length s.text s.fits).long) (omega arith)
+own_last s = get_or-append_right s.text (little_bytes 5 s.since ++ own_end) 106 113 0 ((own_parts s.answered s.since s.text_length s.text s.fits).long) (omega arith)
 
 -- the first byte
 count_first : (s : count_type.Count) → slice_index (count_kind.spelling s) 0 ≡ 1
@@ -66,4 +67,4 @@ pub apart : AnswersStandApart
 apart s (Count t) none = (differ _ _ 4 1 (own_first s) (count_first t) (λ h. absurd (omega (arith, h))), differ _ _ 4 0 (own_last s) (count_last t) (λ h. absurd (omega (arith, h))))
 apart s (Rule t) none = (differ _ _ 4 2 (own_first s) (rule_first t) (λ h. absurd (omega (arith, h))), differ _ _ 4 0 (own_last s) (rule_last t) (λ h. absurd (omega (arith, h))))
 apart s (Scan t) none = (differ _ _ 4 3 (own_first s) (scan_first t) (λ h. absurd (omega (arith, h))), differ _ _ 4 0 (own_last s) (scan_last t) (λ h. absurd (omega (arith, h))))
-apart s (own t) none = absurd (none-some t.answered (sym none))
+apart s (own t) none = absurd (none-some (record { since = t.since; number = t.answered }) (sym none))

@@ -17,17 +17,19 @@ pub const MOST_ANSWER: usize = 106;
 /// What another program answered last of a task's units, which it does itself: the unit's number and a text. It takes no steps, so it is
 /// no `Job` by itself: no call of `step` could meet its contract.
 ///
-/// Its type keeps the number below 2^40, the length in range, and that the answer is of bytes 0x21 to 0x7E other than a quote, a
+/// Its type keeps the number and the slot below 2^40, the length in range, and that the answer is of bytes 0x21 to 0x7E other than a quote, a
 /// comma and a backslash.
 #[derive(Debug, Drop)]
 pub struct Own {
     /// The number of the unit that was answered last, 0 for none.
     pub answered: u64,
+    /// The slot from which on the weights are in force that its units are counted in, below 2^40.
+    pub since: u64,
     /// The length of the answer in bytes, 0 to 106.
     pub text_length: u8,
     /// The answer, followed by zeros.
     pub text: [u8; MOST_ANSWER],
-    ghost fits: { IsTrue (own_fits answered text_length text) },
+    ghost fits: { IsTrue (own_fits answered since text_length text) },
 }
 
 /// Whether all bytes are 0.
@@ -49,10 +51,11 @@ fn are_visible(bytes: &[u8]) -> bool
 }
 
 /// Whether these are the fields of an Own.
-fn is_own(answered: u64, text_length: u8, text: &[u8; MOST_ANSWER]) -> bool
-    ensures { result ≡ own_fits answered text_length text.now }
+fn is_own(answered: u64, since: u64, text_length: u8, text: &[u8; MOST_ANSWER]) -> bool
+    ensures { result ≡ own_fits answered since text_length text.now }
 {
     answered < 1 << 40
+        && since < 1 << 40
         && text_length <= MOST_ANSWER as u8
         && are_zeros(&text[text_length as usize..])
         && are_visible(&text[..text_length as usize])
@@ -76,7 +79,7 @@ fn padded<const N: usize>(bytes: &[u8]) -> [u8; N]
 }
 
 impl Own {
-    ghost use Rattle.pfx_kinds.specs.OwnKind.{answer_of, own_coding, own_kind};
+    ghost use Rattle.pfx_kinds.specs.OwnKind.{answer_of, own_coding, own_from, own_kind};
 
     /// The answer of a unit.
     fn new(answered: u64, text: &[u8]) -> Own
@@ -86,13 +89,15 @@ impl Own {
     {
         Own {
             answered,
+            since: 0,
             text_length: text.len() as u8,
             text: padded(text),
         }
     }
 
     /// The answer that the goal and the data give: the goal is the unit's number, below 2^40, and the data are at most 106 bytes 0x21
-    /// to 0x7E without quote, comma and backslash. Another goal is `BadGoal`, whatever the data, and other data are `BadData`.
+    /// to 0x7E without quote, comma and backslash. The unit is counted from slot 0 on. Another goal is `BadGoal`, whatever the data, and
+    /// other data are `BadData`.
     pub fn start(goal: u64, text: &[u8]) -> Result<Own, StartFault>
         ensures { MatchResult result (λ s. own_start goal text.now ≡ Ok (own_coding.fields s)) (λ fault. own_start goal text.now ≡ Err fault) }
     {
@@ -103,6 +108,14 @@ impl Own {
             return Err(StartFault::BadData);
         }
         Ok(Own::new(goal, text))
+    }
+
+    /// Counts the unit in the weights that are in force from this slot on.
+    pub fn count_from(&mut self, since: u64)
+        requires { since < 1099511627776 }
+        ensures { self.new ≡ own_from since self.old }
+    {
+        self.since = since;
     }
 
     /// The answer.
@@ -118,6 +131,7 @@ impl Own {
     {
         Own {
             answered: self.answered,
+            since: self.since,
             text_length: self.text_length,
             text: self.text,
         }
@@ -132,6 +146,7 @@ impl Own {
         bytes[127] = OWN;
         LittleEndian::write_u64(&mut bytes[5..13], self.answered);
         bytes[13] = self.text_length;
+        LittleEndian::write_uint(&mut bytes[120..125], self.since, 5);
         bytes[14..120].copy_from_slice(&self.text);
     }
 
@@ -140,13 +155,15 @@ impl Own {
         ensures { MatchResult result (λ s. own_kind.decoded bytes.now ≡ Some s) (λ _. own_kind.decoded bytes.now ≡ None) }
     {
         let answered = LittleEndian::read_u64(&bytes[5..]);
+        let since = LittleEndian::read_uint(&bytes[120..], 5);
         let mut text = [0; MOST_ANSWER];
         text.copy_from_slice(&bytes[14..120]);
-        if !is_own(answered, bytes[13], &text) {
+        if !is_own(answered, since, bytes[13], &text) {
             return Err(JobFault::BadState);
         }
         let read = Own {
             answered,
+            since,
             text_length: bytes[13],
             text,
         };

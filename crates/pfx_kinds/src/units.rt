@@ -1,16 +1,26 @@
 //! Which jobs are the answers of units that other programs do.
 
-ghost use Rattle.std.specs.Prelude.{◌≡◌, ℕ, Option};
+ghost use Rattle.std.specs.Prelude.{◌≡◌, Option};
+ghost use Rattle.pfx_kinds.specs.declared.units.Unit.{Unit as Answered};
 
 use crate::any::AnyJob;
+
+/// A unit of a task, which other programs do.
+#[derive(Clone, Copy, Debug, PartialEq, Eq)]
+pub struct Unit {
+    /// The slot from which on the weights are in force that it is counted in.
+    pub since: u64,
+    /// Its number: the first unit that its task was given by these weights is 1.
+    pub number: u64,
+}
 
 /// A job that may be the answer of a unit.
 pub trait Units {
     /// The unit that a job is the answer of, or none if it is no answer.
-    ghost unit: { Self → Option ℕ };
+    ghost unit: { Self → Option Answered };
 
-    /// The number of the unit that this is the answer of, or `None` if it is no answer.
-    fn unit_answered(&self) -> Option<u64>
+    /// The unit that this is the answer of, or `None` if it is no answer.
+    fn unit_answered(&self) -> Option<Unit>
         ensures { result ≡ unit self.now };
 }
 
@@ -19,10 +29,13 @@ impl Units for AnyJob {
 
     ghost unit = { unit_of };
 
-    fn unit_answered(&self) -> Option<u64> {
+    fn unit_answered(&self) -> Option<Unit> {
         match self {
             AnyJob::Count(_) | AnyJob::Rule(_) | AnyJob::Scan(_) => None,
-            AnyJob::Own(job) => Some(job.answered),
+            AnyJob::Own(job) => Some(Unit {
+                since: job.since,
+                number: job.answered,
+            }),
         }
     }
 }

@@ -366,7 +366,8 @@ fn is_encoding(bytes: &[u8; 128]) -> bool {
                 && answered < 1 << 40
                 && length <= 106
                 && bytes[14..14 + length].iter().all(|byte| is_visible(*byte))
-                && bytes[14 + length..127].iter().all(|byte| *byte == 0)
+                && bytes[14 + length..120].iter().all(|byte| *byte == 0)
+                && bytes[125..127].iter().all(|byte| *byte == 0)
                 && bytes[127] == 4
         }
         _ => false,
