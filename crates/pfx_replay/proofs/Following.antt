@@ -3,6 +3,7 @@ use Rattle.std.specs.Prelude.{◌≡◌, ◌+◌, if◌then◌else◌, Bool, tru
 use Rattle.std.proofs.Common.{zero, suc, get_or, drop, sym, ◌∙◌, ap, ap₂, subst, arith}
 use Rattle.std.proofs.lemmas.Option.{none-some}
 use Rattle.pfx_jobs.specs.Kind.{Kind, Laws}
+use Rattle.pfx_kinds.specs.declared.units.Unit.{Unit}
 use Rattle.pfx_machine.specs.Outcome.{outcome}
 use Rattle.pfx_machine.specs.Plain as machine
 use Rattle.pfx_machine.specs.Refusals.{refusal}
@@ -25,7 +26,7 @@ use Rattle.pfx_replay.specs.declared.judged.Judged.TheVariants.{Agrees, Differs}
 use Rattle.pfx_replay.specs.declared.verdict.Difference.{Difference}
 use Rattle.pfx_replay.proofs.Sessions as sessions
 
-module _ {J : Type 0} (K : Kind J) (L : Laws K) (unit : J → Option ℕ) where
+module _ {J : Type 0} (K : Kind J) (L : Laws K) (unit : J → Option Unit) where
   -- what is known of one record at a state
   module _ (s : machine.Plain J) (one : Recorded J) (is_accepted : refusal K s (command_of one) ≡ None) (is_recorded : one ≡ record_of K s (command_of one)) (follows : is_next unit s one ≡ true) where
     abbrev next : machine.Plain J
@@ -88,7 +89,7 @@ module _ {J : Type 0} (K : Kind J) (L : Laws K) (unit : J → Option ℕ) where
   }
 
 -- the number after records
-pub follow_number : {J : Type 0} (K : Kind J) (L : Laws K) (unit : J → Option ℕ) (s : machine.Plain J) (records : List (Recorded J)) → IsState s → Follow K unit s records → (outcome K s (commands_of records)).number ≡ s.number + length records
+pub follow_number : {J : Type 0} (K : Kind J) (L : Laws K) (unit : J → Option Unit) (s : machine.Plain J) (records : List (Recorded J)) → IsState s → Follow K unit s records → (outcome K s (commands_of records)).number ≡ s.number + length records
 follow_number K L unit s records state h =
     let t = outcome K s (commands_of records) in
     let run : applied K s records ≡ Some t = ap (applied K s) h.recorded ∙ records_outcome K L s (commands_of records) state h.acceptable in

@@ -6,6 +6,7 @@ use Rattle.pfx_format.specs.Areas.{read_area}
 use Rattle.pfx_format.specs.Format.{format, layout}
 use Rattle.pfx_header.specs.Headers.{Header}
 use Rattle.pfx_jobs.specs.Kind.{Kind, Laws}
+use Rattle.pfx_kinds.specs.declared.units.Unit.{Unit}
 use Rattle.pfx_machine.specs.Plain.{Plain}
 use Rattle.pfx_record.specs.Records.{Recorded}
 use Rattle.pfx_recovery.specs.Layout.{segment_at, area_at}
@@ -56,15 +57,15 @@ module _ {J : Type 0} (K : Kind J) (L : Laws K) (h : Header) where
         frames_applied K L p.base t (p.before ++ p.frames) (replays_joined K L p.base p.middle t p.before p.frames lead is.state)
 
     -- what is answered of these records
-    abbrev pub Answered : (J → Option ℕ) → Plain J → List (Recorded J) → Plain J → List (Recorded J) → Option Verdict → Type 0
+    abbrev pub Answered : (J → Option Unit) → Plain J → List (Recorded J) → Plain J → List (Recorded J) → Option Verdict → Type 0
     Answered unit start before base behind found =
         MatchOption found ((x y : Plain J) → applied K start before ≡ Some x → applied K base behind ≡ Some y → ⊥) (λ v. IsVerdict K unit (record { start = start; before = before; checkpoint = base; behind = behind }) v)
 
-    pub answered_as : (unit : J → Option ℕ) (found : Option Verdict) (a b : Plain J) (before again : List (Recorded J)) (base : Plain J) (behind : List (Recorded J)) → a ≡ b → before ≡ again → Answered unit a before base behind found → Answered unit b again base behind found
+    pub answered_as : (unit : J → Option Unit) (found : Option Verdict) (a b : Plain J) (before again : List (Recorded J)) (base : Plain J) (behind : List (Recorded J)) → a ≡ b → before ≡ again → Answered unit a before base behind found → Answered unit b again base behind found
     answered_as unit found a b before again base behind same also given = subst (λ s. Answered unit s again base behind found) same (subst (λ l. Answered unit a l base behind found) also given)
 
     -- the verdict where no way leads from the other checkpoint
-    pub verdict_none : (unit : J → Option ℕ) (found : Option Verdict) (base : Plain J) (behind : List (Recorded J)) → base ≡ p.base → behind ≡ records_behind K p.base (p.before ++ p.frames) → IsWayIf (format K) h p image None
+    pub verdict_none : (unit : J → Option Unit) (found : Option Verdict) (base : Plain J) (behind : List (Recorded J)) → base ≡ p.base → behind ≡ records_behind K p.base (p.before ++ p.frames) → IsWayIf (format K) h p image None
         → MatchOption found ((x y : Plain J) → applied K base [] ≡ Some x → applied K base behind ≡ Some y → ⊥) (λ v. IsVerdict K unit (record { start = base; before = []; checkpoint = base; behind = behind }) v)
         → MatchOption found ⊥ (λ v. (way : Option (Plain J × List (List ℕ))) × IsWayIf (format K) h p image way × IsVerdict K unit (history K p way) v)
     verdict_none unit found base behind base_same behind_same way given =
@@ -78,7 +79,7 @@ module _ {J : Type 0} (K : Kind J) (L : Laws K) (h : Header) where
         ))
 
     -- the verdict where a way does
-    pub verdict_some : (unit : J → Option ℕ) (found : Option Verdict) (start base : Plain J) (frames : List (List ℕ)) (before behind : List (Recorded J)) → base ≡ p.base → before ≡ records_behind K start frames
+    pub verdict_some : (unit : J → Option Unit) (found : Option Verdict) (start base : Plain J) (frames : List (List ℕ)) (before behind : List (Recorded J)) → base ≡ p.base → before ≡ records_behind K start frames
         → behind ≡ records_behind K p.base (p.before ++ p.frames) → IsWay (format K) h p image start frames
         → MatchOption found ((x y : Plain J) → applied K start before ≡ Some x → applied K base behind ≡ Some y → ⊥) (λ v. IsVerdict K unit (record { start = start; before = before; checkpoint = base; behind = behind }) v)
         → MatchOption found ⊥ (λ v. (way : Option (Plain J × List (List ℕ))) × IsWayIf (format K) h p image way × IsVerdict K unit (history K p way) v)

@@ -1,6 +1,7 @@
 -- What was found of records after a state.
 use Rattle.std.specs.Prelude.{◌≡◌, ℕ, ◌+◌, true, List, [], ◌∷◌, Option, None}
 use Rattle.pfx_jobs.specs.Kind.{Kind}
+use Rattle.pfx_kinds.specs.declared.units.Unit.{Unit}
 use Rattle.pfx_machine.specs.Outcome.{outcome}
 use Rattle.pfx_machine.specs.Plain.{Plain}
 use Rattle.pfx_machine.specs.Refusals.{refusal}
@@ -12,7 +13,7 @@ use Rattle.pfx_replay.specs.Verdicts.{IsFirst, IsWrong}
 use Rattle.pfx_replay.specs.declared.judged.Judged.{Judged}
 use Rattle.pfx_replay.specs.declared.judged.Judged.TheVariants.{Agrees, Differs}
 
-module _ {J : Type 0} (K : Kind J) (unit : J → Option ℕ) where
+module _ {J : Type 0} (K : Kind J) (unit : J → Option Unit) where
   -- of one record: it is that of its command, which is accepted, an answer of the next unit if it is one, and this is the outcome; or it is wrong
   abbrev pub GivesOne : Plain J → Recorded J → Judged J → Type 0
   GivesOne s one (Agrees t) = (refusal K s (command_of one) ≡ None) × (one ≡ record_of K s (command_of one)) × (is_next unit s one ≡ true) × (plain_of t ≡ outcome K s (command_of one ∷ []))

@@ -5,6 +5,7 @@ use Rattle.pfx_format.specs.Format.{format}
 use Rattle.pfx_format.specs.Frames.{state_after}
 use Rattle.pfx_header.specs.Headers.{Header}
 use Rattle.pfx_jobs.specs.Kind.{Kind}
+use Rattle.pfx_kinds.specs.declared.units.Unit.{Unit}
 use Rattle.pfx_machine.specs.Plain.{Plain}
 use Rattle.pfx_record.specs.Batches.{PlainBatch}
 use Rattle.pfx_record.specs.Records.{Recorded}
@@ -56,7 +57,7 @@ module _ {J : Type 0} (K : Kind J) where
   history p None = record { start = p.base; before = []; checkpoint = p.base; behind = records_behind p.base (p.before ++ p.frames) }
   history p (Some w) = record { start = w.0; before = records_behind w.0 w.1; checkpoint = p.base; behind = records_behind p.base (p.before ++ p.frames) }
 
-module _ {J : Type 0} (K : Kind J) (unit : J → Option ℕ) where
+module _ {J : Type 0} (K : Kind J) (unit : J → Option Unit) where
   -- a state is recovered from the image, and this is the verdict on what the file records
   pub record IsReplayed (image : List ℕ) (read : Result (Found Header (Plain J)) Refusal) (verdict : Verdict) : Type 0 where
     pub found : Found Header (Plain J)

@@ -1,6 +1,7 @@
 -- What a plain reading of a store's records finds.
 use Rattle.std.specs.Prelude.{◌≡◌, ◌≢◌, ◌⊎◌, ℕ, ◌+◌, false, List, ◌∷◌, ◌++◌, length, Option, Ok}
 use Rattle.pfx_jobs.specs.Kind.{Kind}
+use Rattle.pfx_kinds.specs.declared.units.Unit.{Unit}
 use Rattle.pfx_machine.specs.Plain.{Plain}
 use Rattle.pfx_machine.specs.Choosing.{row_in}
 use Rattle.pfx_machine.specs.Outcome.{outcome}
@@ -22,7 +23,7 @@ pub record History (J : Type 0) : Type 0 where
   pub checkpoint : Plain J
   pub behind : List (Recorded J)
 
-module _ {J : Type 0} (K : Kind J) (unit : J → Option ℕ) where
+module _ {J : Type 0} (K : Kind J) (unit : J → Option Unit) where
   -- A record of a slot, at a state: its row isn't PF's, or none is; its row is PF's, and a state of a job is none after
   -- the row's quanta. A record of an answer: its unit isn't the next one that its task was given.
   abbrev pub IsWrong : Difference → Plain J → Recorded J → Type 0

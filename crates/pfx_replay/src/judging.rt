@@ -4,7 +4,7 @@ ghost use Rattle.pfx_machine.specs.Choosing.{row_in};
 ghost use Rattle.pfx_machine.specs.Outcome.{outcome};
 ghost use Rattle.pfx_machine.specs.Plain.{Plain};
 ghost use Rattle.pfx_machine.specs.Refusals.{refusal};
-ghost use Rattle.pfx_kinds.specs.Units.{is_behind, is_taken, last_by};
+ghost use Rattle.pfx_kinds.specs.Units.{count_in, is_behind, is_taken, last_by};
 ghost use Rattle.pfx_record.specs.Records.{plain, ran, submitted, tasks_of};
 ghost use Rattle.pfx_redo.specs.Applying.{applied, is_right};
 ghost use Rattle.pfx_redo.specs.Recording.{place_of, state_after_step};
@@ -16,7 +16,7 @@ use crate::jobs::PlainState;
 use crate::judged::Judged;
 use crate::verdict::Difference;
 use pfx_jobs::job::{Job, are_same};
-use pfx_kinds::units::Units;
+use pfx_kinds::units::{Unit, Units};
 use pfx_record::{Place, Record};
 use std::alloc::{AllocError, Global};
 
@@ -124,32 +124,44 @@ fn granted(allocations: &[u64], task: u16) -> u64
     }
 }
 
+// How many units were answered by then, counted in the weights that are in force from a slot on.
+fn count_in(from: u64, last: Unit) -> u64
+    ensures { result ≡ count_in from last }
+{
+    if last.since == from { last.number } else { 0 }
+}
+
 // Whether a unit is the one behind the last that was answered at a task's place.
-fn is_behind<J: Units>(place: &Option<J>, unit: u64) -> bool
-    ensures { result ≡ is_behind (last_by J.unit place.now) unit }
+fn is_behind<J: Units>(from: u64, place: &Option<J>, number: u64) -> bool
+    ensures { result ≡ is_behind from (last_by J.unit place.now) number }
 {
     match place {
         None => true,
         Some(job) => match job.unit_answered() {
             None => true,
-            Some(last) => last < unit && unit - last == 1,
+            Some(last) => {
+                let count = count_in(from, last);
+                count < number && number - count == 1
+            }
         },
     }
 }
 
 // Whether a unit's answer is taken for a task.
-fn is_taken<J: Units>(state: &PlainState<J>, task: u16, unit: u64) -> bool
-    ensures { result ≡ is_taken J.unit (slice_get state.now.jobs.items task) (slice_index_or state.now.ledger.allocations.items task 0) (Some unit) }
+fn is_taken<J: Units>(state: &PlainState<J>, task: u16, unit: Unit) -> bool
+    ensures { result ≡ is_taken J.unit state.now.from (slice_get state.now.jobs.items task) (slice_index_or state.now.ledger.allocations.items task 0) (Some unit) }
 {
     match state.jobs.get(usize::from(task)) {
         None => true,
         Some(place) => {
-            unit <= granted(&state.ledger.allocations, task) && is_behind(place, unit)
+            unit.since == state.from
+                && unit.number <= granted(&state.ledger.allocations, task)
+                && is_behind(state.from, place, unit.number)
         }
     }
 }
 
-// Whether a job that is given to a task is no answer, or that of the next unit that the task was given.
+// Whether a job that is given to a task is no answer, or that of the next unit that the task was given by the weights in force.
 fn is_next<J: Job + Units>(state: &PlainState<J>, task: u16, job: &J) -> bool
     ensures { result ≡ is_next J.unit (plain_of state.now) (submitted task job.now) }
 {

@@ -12,7 +12,7 @@ use pfx_recover::{OpenFault, Refusal};
 use pfx_replay::{Difference, Verdict, replay};
 use pfx_store::Store;
 use pfx_store_file::Tended;
-use pfx_weights::TaskSet;
+use pfx_weights::{TaskSet, Weights};
 use std::alloc::Global;
 
 /// A disk with these bytes, and room for the file and for so many calls.
@@ -75,6 +75,39 @@ fn answered(alloc: Global, units: &[u64]) -> Option<Vec<u8>> {
     engine.execute(alloc, Command::Slot).ok()?;
     for unit in units {
         engine.execute(alloc, answer(*unit)?).ok()?;
+    }
+    file_of(alloc, engine.into_store())
+}
+
+/// The answer of a unit of task 0, counted in the weights that are in force from this slot on.
+fn answer_since(since: u32, unit: u64) -> Option<Command<AnyJob>> {
+    let mut job = AnyJob::start("own", unit, b"s=500;ck=9f2c").ok()?;
+    if let AnyJob::Own(own) = &mut job {
+        own.count_from(u64::from(since));
+    }
+    Some(Command::Submit { task: 0, job })
+}
+
+/// The same weights and workers anew.
+fn same_weights(alloc: Global) -> Option<Command<AnyJob>> {
+    let weights = Vec::from_slice(alloc, &[(2, 3), (2, 3), (2, 3)]).ok()?;
+    Some(Command::Reweigh {
+        workers: 2,
+        weights: Weights::new(weights),
+    })
+}
+
+/// The file after three slots, the answers of the two units of task 0, new weights from slot 3 on, a slot that task 0 gets, and these
+/// answers.
+fn answered_anew(alloc: Global, units: &[(u32, u64)]) -> Option<Vec<u8>> {
+    let mut engine = behind_slots(alloc, 3)?;
+    engine.execute(alloc, answer(1)?).ok()?;
+    engine.execute(alloc, answer(2)?).ok()?;
+    engine.execute(alloc, same_weights(alloc)?).ok()?;
+    engine.execute(alloc, Command::Slot).ok()?;
+    for (since, unit) in units {
+        let command = answer_since(*since, *unit)?;
+        engine.execute(alloc, command).ok()?;
     }
     file_of(alloc, engine.into_store())
 }
@@ -156,6 +189,30 @@ fn answers_have_to_be_of_the_next_unit(rt: HostRuntime) {
     let rows: [(&[u64], u64); 4] = [(&[0], 3), (&[2], 3), (&[1, 1], 4), (&[1, 2, 3], 4)];
     for (at, (units, number)) in rows.iter().enumerate() {
         let found = verdict_of(alloc, answered(alloc, units));
+        let holds = found == differs(*number, Difference::Answer);
+        check_at(&rt, holds, "row", at);
+    }
+}
+
+// Behind new weights the first unit is the next one, and it has to say from which slot on it counts.
+#[test]
+fn answers_count_in_the_weights_in_force(rt: HostRuntime) {
+    let alloc = rt.alloc();
+    let none = verdict_of(alloc, answered_anew(alloc, &[]));
+    check(&rt, none == agrees(7), "new weights");
+    let one = verdict_of(alloc, answered_anew(alloc, &[(3, 1)]));
+    check(&rt, one == agrees(8), "an answer");
+    let rows: [(&[(u32, u64)], u64); 7] = [
+        (&[(3, 3)], 8),
+        (&[(0, 3)], 8),
+        (&[(0, 1)], 8),
+        (&[(2, 1)], 8),
+        (&[(4, 1)], 8),
+        (&[(3, 1), (3, 1)], 9),
+        (&[(3, 1), (3, 2)], 9),
+    ];
+    for (at, (units, number)) in rows.iter().enumerate() {
+        let found = verdict_of(alloc, answered_anew(alloc, units));
         let holds = found == differs(*number, Difference::Answer);
         check_at(&rt, holds, "row", at);
     }
