@@ -32,7 +32,7 @@ use Rattle.pfx_program.specs.declared.groups.Joining.{Joining}
 use Rattle.pfx_program.specs.declared.groups.Joining.TheVariants as joining
 use Rattle.pfx_program.specs.Answers.{reply_line}
 use Rattle.pfx_program.specs.Faults.{fault_of_machine}
-use Rattle.pfx_program.specs.Grants.{is_next, granted}
+use Rattle.pfx_program.specs.Grants.{counted, counted_at, is_next, granted}
 use Rattle.pfx_program.specs.Groups.{Avoid, Gathers, IsGiven, IsJoining, Joins, ToldFail, behind_group, group_steps, run_at, told_count, told_line, told_text, touches}
 use Rattle.pfx_program.specs.Promises.{Promise, Laws, IsEngineFault, IsSame}
 use Rattle.pfx_program.specs.Running.{run_of, Carried, Halts, LineFails, Stopped}
@@ -226,32 +226,46 @@ pub changes_append : (H : List (Command AnyJob)) (c : Command AnyJob) → AreCha
 changes_append [] c h one = (one, tt)
 changes_append (d ∷ H) c (first, more) one = (first, changes_append H c more one)
 
-next_by : (s : Plain AnyJob) (x y : ℕ) (job : AnyJob) (h : Happening AnyJob) → ((o : Option AnyJob) → job_step any_kind x h o ≡ o) → granted (state_step any_kind s h) x ≡ granted s x
-    → is_next (state_step any_kind s h) x job ≡ is_next s x job
-next_by s x y job h stays allocs =
-    let place : slice_get (state_step any_kind s h).jobs x ≡ slice_get s.jobs x = get_step any_kind h 0 x x s.jobs (omega arith) ∙ same (slice_get s.jobs x) in
-    ap (λ (o : Option (Option AnyJob)). is_taken unit_of o (granted (state_step any_kind s h) x) (unit_of job)) place
-    ∙ ap (λ (n : ℕ). is_taken unit_of (slice_get s.jobs x) n (unit_of job)) allocs
+-- a task has in a state what it has in another, and its weight is in force since the same slot
+record Alike (s t : Plain AnyJob) (x : ℕ) : Type 0 where
+  place : slice_get t.jobs x ≡ slice_get s.jobs x
+  from : t.from ≡ s.from
+  allocs : granted t x ≡ granted s x
+
+alike_next : (s t : Plain AnyJob) (x : ℕ) (job : AnyJob) → Alike s t x → is_next t x job ≡ is_next s x job
+alike_next s t x job h =
+    ap (λ (o : Option (Option AnyJob)). is_taken unit_of t.from o (granted t x) (unit_of job)) h.place
+    ∙ ap (λ (n : ℕ). is_taken unit_of n (slice_get s.jobs x) (granted t x) (unit_of job)) h.from
+    ∙ ap (λ (n : ℕ). is_taken unit_of s.from (slice_get s.jobs x) n (unit_of job)) h.allocs
+
+alike_counted : (s t : Plain AnyJob) (x : ℕ) (job : AnyJob) → Alike s t x → counted t x job ≡ counted s x job
+alike_counted s t x job h =
+    ap (λ (o : Option (Option AnyJob)). counted_at o t.from job) h.place ∙ ap (λ (n : ℕ). counted_at (slice_get s.jobs x) n job) h.from
+
+alike_by : (s : Plain AnyJob) (x : ℕ) (h : Happening AnyJob) → ((o : Option AnyJob) → job_step any_kind x h o ≡ o) → slice_get (state_step any_kind s h).jobs x ≡ slice_get s.jobs x
+alike_by s x h stays = get_step any_kind h 0 x x s.jobs (omega arith) ∙ same (slice_get s.jobs x)
   where
     same : (place : Option (Option AnyJob)) → option_map (job_step any_kind x h) place ≡ place
     same None = refl
     same (Some o) = ap Some (stays o)
 
 -- a command of another task
-next_step : (s : Plain AnyJob) (x : ℕ) (job : AnyJob) (c : Command AnyJob) → touches x c ≡ false → is_next (state_step any_kind s (happening_in s c)) x job ≡ is_next s x job
-next_step s x job (Submit y other) apart = next_by s x y job (given y other) (λ o. ap (λ (b : Bool). if b then Some other else o) apart) refl
-next_step s x job (Withdraw y) apart = next_by s x y job (taken y) (λ o. ap (λ (b : Bool). if b then None else o) apart) refl
-next_step s x job Slot apart = absurd cc
-next_step s x job (Reweigh workers weights) apart = absurd cc
+alike_step : (s : Plain AnyJob) (x : ℕ) (c : Command AnyJob) → touches x c ≡ false → Alike s (state_step any_kind s (happening_in s c)) x
+alike_step s x (Submit y other) apart = record { place = alike_by s x (given y other) (λ o. ap (λ (b : Bool). if b then Some other else o) apart); from = refl; allocs = refl }
+alike_step s x (Withdraw y) apart = record { place = alike_by s x (taken y) (λ o. ap (λ (b : Bool). if b then None else o) apart); from = refl; allocs = refl }
+alike_step s x Slot apart = absurd cc
+alike_step s x (Reweigh workers weights) apart = absurd cc
 
 one_outcome : (s : Plain AnyJob) (c : Command AnyJob) → outcome any_kind s (c ∷ []) ≡ state_step any_kind s (happening_in s c)
 one_outcome s c = outcome-snoc any_kind any_laws s [] c ∙ ap (λ (t : Plain AnyJob). state_step any_kind t (happening_in t c)) (outcome-none any_kind s)
 
-next_apart : (s : Plain AnyJob) (x : ℕ) (job : AnyJob) (H : List (Command AnyJob)) → Avoid x H → is_next (outcome any_kind s H) x job ≡ is_next s x job
-next_apart s x job [] apart = ap (λ (t : Plain AnyJob). is_next t x job) (outcome-none any_kind s)
-next_apart s x job (c ∷ H) (one, more) =
-    ap (λ (t : Plain AnyJob). is_next t x job) (sym (outcome-outcome any_kind any_laws s (c ∷ []) H)) ∙ next_apart (outcome any_kind s (c ∷ [])) x job H more
-    ∙ ap (λ (t : Plain AnyJob). is_next t x job) (one_outcome s c) ∙ next_step s x job c one
+apart_alike : (s : Plain AnyJob) (x : ℕ) (H : List (Command AnyJob)) → Avoid x H → Alike s (outcome any_kind s H) x
+apart_alike s x [] apart = subst (λ (t : Plain AnyJob). Alike s t x) (sym (outcome-none any_kind s)) (record { place = refl; from = refl; allocs = refl })
+apart_alike s x (c ∷ H) (one, more) =
+    let first : Alike s (outcome any_kind s (c ∷ [])) x = subst (λ (t : Plain AnyJob). Alike s t x) (sym (one_outcome s c)) (alike_step s x c one) in
+    let rest = apart_alike (outcome any_kind s (c ∷ [])) x H more in
+    subst (λ (t : Plain AnyJob). Alike s t x) (outcome-outcome any_kind any_laws s (c ∷ []) H)
+    (record { place = rest.place ∙ first.place; from = rest.from ∙ first.from; allocs = rest.allocs ∙ first.allocs })
 
 -- the commands of a group's steps are of its tasks
 step_avoids : (x : ℕ) (r : Run) (c : Command AnyJob) (H : List (Command AnyJob)) → touches x c ≡ false → Avoid x H → Avoid x (with_command (command_step r c).command H)
@@ -272,15 +286,16 @@ group_avoids x r (c ∷ H) (one, more) =
     subst (λ (l : List Step). Avoid x (commands_of l)) (sym (group_one r c H)) (step_avoids x r c (commands_of (group_steps next H)) one (group_avoids x next H more))
 
 pub joins_submit : (s : Plain AnyJob) (group : List (Command AnyJob)) (x : ℕ) (kind : List ℕ) (goal : ℕ) (text : List ℕ) (job : AnyJob) (row : Fields) → Avoid x group → verb_of row ≡ Some (submit x kind goal text)
-    → job_by (any_start kind goal text) ≡ Ok job → is_next s x job ≡ true → Joins s group (Submit x job) row
+    → job_by (any_start kind goal text) ≡ Ok job → is_next s x (counted s x job) ≡ true → Joins s group (Submit x (counted s x job)) row
 joins_submit s group x kind goal text job row apart means is next = (
   submit x kind goal text,
   means,
   λ form accepted.
       let r : Run = run_at form s accepted in
       let last : Run = behind_group r group in
-      let still : is_next last.state x job ≡ true = next_apart s x job (commands_of (group_steps r group)) (group_avoids x r group apart) ∙ next in
-      ap (λ (y : Step). y ∷ []) (given_step form last.state last.state last.accepted x (job_by (any_start kind goal text)) job is refl still),
+      let alike : Alike s last.state x = apart_alike s x (commands_of (group_steps r group)) (group_avoids x r group apart) in
+      let still : is_next last.state x (counted s x job) ≡ true = alike_next s last.state x (counted s x job) alike ∙ next in
+      ap (λ (y : Step). y ∷ []) (given_step form last.state last.state last.accepted x (job_by (any_start kind goal text)) job (counted s x job) is refl (sym (alike_counted s last.state x job alike)) still),
 )
 
 pub joins_withdraw : (s : Plain AnyJob) (group : List (Command AnyJob)) (x : ℕ) (row : Fields) → verb_of row ≡ Some (withdraw x) → Joins s group (Withdraw x) row

@@ -15,7 +15,7 @@ use Rattle.pfx_program.specs.declared.groups.Joining.{Joining}
 use Rattle.pfx_program.specs.declared.groups.Joining.TheVariants as joining
 use Rattle.pfx_program.specs.Answers.{reply_line, refused_line}
 use Rattle.pfx_program.specs.Faults.{fault_of_machine}
-use Rattle.pfx_program.specs.Grants.{is_next}
+use Rattle.pfx_program.specs.Grants.{counted, is_next}
 use Rattle.pfx_program.specs.Promises.{IsEngineFault}
 use Rattle.pfx_program.specs.Running.{LineFails}
 use Rattle.pfx_program.specs.Script.{Run, Step, after, command_step, commands_of, course_from, moved, verb_steps}
@@ -76,9 +76,9 @@ abbrev pub Joins : Plain AnyJob → List (Command AnyJob) → Command AnyJob →
 Joins s group c row = (verb : Said) × (verb_of row ≡ Some verb)
     × ((form : Form) → (accepted : ℕ) → verb_steps (behind_group (run_at form s accepted) group) verb ≡ command_step (behind_group (run_at form s accepted) group) c ∷ [])
 
--- the machine may be asked to give a task this job
+-- the machine may be asked to give a task this job, which counts in the weights in force if it is an answer
 abbrev pub IsGiven : (Plain AnyJob → Fault → Type 0) → Plain AnyJob → ℕ → AnyJob → Joining → Type 0
-IsGiven faults s x job (joining.Joins c) = (c ≡ Submit x job) × (is_next s x job ≡ true)
+IsGiven faults s x job (joining.Joins c) = (c ≡ Submit x (counted s x job)) × (is_next s x (counted s x job) ≡ true)
 IsGiven faults s x job joining.Apart = ⊤
 IsGiven faults s x job (joining.Failed f) = IsEngineFault faults s f
 

@@ -57,9 +57,13 @@ abbrev pub scan_object : ℕ → scan_type.Scan → Data
 scan_object x s = object (number_at (codes "found") s.found (text_at (codes "job") (codes "scan")
     (number_at (codes "left") s.left (text_at (codes "of") (needle_of s) (number_at (codes "task") x no_members)))))
 
+-- the slot of the weights that an answer's unit is counted in, unless these are the first ones
+abbrev pub since_at : ℕ → Members → Members
+since_at since rest = if since == 0 then rest else number_at (codes "since") since rest
+
 abbrev pub own_object : ℕ → own_type.Own → Data
 own_object x s = object (number_at (codes "answered") s.answered (text_at (codes "job") (codes "own")
-    (number_at (codes "task") x (text_at (codes "text") (answer_of s) no_members))))
+    (since_at s.since (number_at (codes "task") x (text_at (codes "text") (answer_of s) no_members)))))
 
 abbrev pub job_object : ℕ → AnyJob → Data
 job_object x (Count c) = count_object x c

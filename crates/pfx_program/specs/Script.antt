@@ -24,7 +24,7 @@ use Rattle.pfx_fault.specs.declared.refusals.Fault.{Fault}
 use Rattle.pfx_fault.specs.declared.refusals.Fault.TheVariants as fault
 use Rattle.pfx_program.specs.declared.form.Form.{Form}
 use Rattle.pfx_program.specs.Answers.{reply_line, refused_line, settled_line, closed_line, board_shown}
-use Rattle.pfx_program.specs.Grants.{is_next}
+use Rattle.pfx_program.specs.Grants.{counted, is_next}
 use Rattle.pfx_program.specs.Jobs.{shown_jobs}
 use Rattle.pfx_program.specs.Faults.{fault_of_start, fault_of_machine}
 
@@ -98,10 +98,13 @@ abbrev pub job_by : Result AnyFields StartFault → Result AnyJob StartFault
 job_by (Ok f) = or_bad_data (job_of f)
 job_by (Err f) = Err f
 
--- a job of a kind, a goal and a text, for a task; an answer only if it is of the next unit that the task was given, at the state after all
--- accepted commands
+-- a job of a kind, a goal and a text, for a task; an answer counts in the weights in force, and only if it is of the next unit that the task was
+-- given, at the state after all accepted commands
+abbrev pub submitted_if : Bool → Run → ℕ → AnyJob → Step
+submitted_if next r task job = if next then command_step r (Submit task job) else refused r.form (fault.NotNext task)
+
 abbrev pub submitted : Run → ℕ → Result AnyJob StartFault → Step
-submitted r task (Ok job) = if is_next r.state task job then command_step r (Submit task job) else refused r.form (fault.NotNext task)
+submitted r task (Ok job) = submitted_if (is_next r.state task (counted r.state task job)) r task (counted r.state task job)
 submitted r task (Err f) = refused r.form (fault_of_start f)
 
 -- the board of a state

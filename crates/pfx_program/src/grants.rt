@@ -1,15 +1,17 @@
 //! What a task may be given: which jobs there are, and which answers of its units are taken.
 
-ghost use Rattle.std.specs.Prelude.{◌≡◌, ◌+◌, IfOk, IfErr, OnOk};
+ghost use Rattle.std.specs.Prelude.{◌≡◌, ◌==◌, if◌then◌else◌, IfOk, IfErr, OnOk};
 ghost use Rattle.pfx_kinds.specs.Starts.{any_start};
 ghost use Rattle.pfx_kinds.specs.Units.{unit_of, is_behind, last_by};
-ghost use Rattle.pfx_program.specs.Grants.{is_next, is_taken_at};
+ghost use Rattle.pfx_program.specs.Grants.{counted, counted_by, is_next, is_taken_by};
 ghost use Rattle.pfx_program.specs.Promises.{IsSame, IsEngineFault};
 ghost use Rattle.pfx_program.specs.Script.{job_by};
 
-use crate::engine::{Engine, Place};
+use crate::engine::Engine;
+use crate::place::Place;
 use pfx_fault::Fault;
 use pfx_kinds::any::AnyJob;
+use pfx_kinds::own::Own;
 use pfx_kinds::start::StartFault;
 use std::alloc::Global;
 
@@ -20,43 +22,64 @@ pub(crate) fn started(kind: &str, goal: u64, text: &str) -> Result<AnyJob, Start
     AnyJob::start(kind, goal, text.as_bytes())
 }
 
+// How many units were answered by then, counted in the weights that are in force from a slot on.
+fn count_in(from: u64, last: &Own) -> u64
+    ensures { result ≡ if last.now.since == from then last.now.answered else 0 }
+{
+    if last.since == from { last.answered } else { 0 }
+}
+
 // Whether a unit is the one behind the last that was answered.
-fn is_behind(place: &Option<AnyJob>, unit: u64) -> bool
-    ensures { result ≡ is_behind (last_by unit_of place.now) unit }
+fn is_behind(from: u64, place: &Option<AnyJob>, unit: u64) -> bool
+    ensures { result ≡ is_behind from (last_by unit_of place.now) unit }
 {
     match place {
-        Some(AnyJob::Own(last)) => last.answered < unit && unit - last.answered == 1,
+        Some(AnyJob::Own(last)) => {
+            let count = count_in(from, last);
+            count < unit && unit - count == 1
+        }
         _ => true,
     }
 }
 
 // Whether a unit's answer is taken, by what its task has.
 fn is_taken(place: &Option<Place>, unit: u64) -> bool
-    ensures { result ≡ is_taken_at place.now unit }
+    ensures { result ≡ is_taken_by place.now unit }
 {
     match place {
         None => true,
-        Some(place) => unit <= place.allocation && is_behind(&place.job, unit),
+        Some(place) => { unit <= place.allocation && is_behind(place.from, &place.job, unit) }
     }
 }
 
-// Whether the machine may be asked to give a task this job: an answer, only if it is of the next unit that the task was given.
+// Counts an answer in the weights in force, by what its task has.
+fn count(place: &Option<Place>, job: &mut AnyJob)
+    ensures { job.new ≡ counted_by place.now job.old }
+{
+    if let (Some(place), AnyJob::Own(answer)) = (place, job) {
+        answer.count_from(place.from);
+    }
+}
+
+// Whether the machine may be asked to give a task this job: an answer, only if it is of the next unit that the task was given. The
+// answer counts in the weights in force then.
 pub(crate) fn is_next<E: Engine>(
     alloc: Global,
     task: u16,
-    job: &AnyJob,
+    job: &mut AnyJob,
     engine: &mut E,
 ) -> Result<bool, Fault>
-    ensures next { IfOk result (λ next. next ≡ is_next (E.promise.state engine.old) task job.now) }
+    ensures next { IfOk result (λ next. next ≡ is_next (E.promise.state engine.old) task job.new) }
+    ensures counted { OnOk result (job.new ≡ counted (E.promise.state engine.old) task job.old) }
     ensures settled { OnOk result (E.promise.settled engine.old → E.promise.settled engine.new) }
     ensures same { IsSame E.promise engine.old engine.new }
     ensures fails { IfErr result (IsEngineFault E.promise.faults (E.promise.state engine.old)) }
 {
-    match job {
-        AnyJob::Own(answer) => {
-            let place = engine.place(alloc, task)?;
-            Ok(is_taken(&place, answer.answered))
-        }
-        _ => Ok(true),
-    }
+    let unit = match job {
+        AnyJob::Own(answer) => answer.answered,
+        _ => return Ok(true),
+    };
+    let place = engine.place(alloc, task)?;
+    count(&place, job);
+    Ok(is_taken(&place, unit))
 }

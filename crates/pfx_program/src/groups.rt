@@ -82,12 +82,12 @@ fn has_task(group: &[Command<AnyJob>], task: u16) -> bool
 }
 
 // Whether a job for a task joins a group; an answer, only if it is of the next unit that the task was given.
-fn joining_job<E: Engine>(alloc: Global, task: u16, job: AnyJob, engine: &mut E) -> Joining
+fn joining_job<E: Engine>(alloc: Global, task: u16, mut job: AnyJob, engine: &mut E) -> Joining
     ensures joins { IsGiven E.promise.faults (E.promise.state engine.old) task job result }
     ensures settled { HasNotFailed result → E.promise.settled engine.old → E.promise.settled engine.new }
     ensures same { IsSame E.promise engine.old engine.new }
 {
-    match is_next(alloc, task, &job, engine) {
+    match is_next(alloc, task, &mut job, engine) {
         Ok(true) => Joining::Joins(Command::Submit { task, job }),
         Ok(false) => Joining::Apart,
         Err(fault) => Joining::Failed(fault),

@@ -128,7 +128,10 @@ fn own_object(alloc: Global, task: usize, job: &Own) -> Result<Value, AllocError
     let Ok(answer) = str::from_utf8(job.answer()) else {
         return Err(AllocError);
     };
-    json!(in alloc; {"task": task, "job": "own", "answered": job.answered, "text": answer})
+    if job.since == 0 {
+        return json!(in alloc; {"task": task, "job": "own", "answered": job.answered, "text": answer});
+    }
+    json!(in alloc; {"task": task, "job": "own", "answered": job.answered, "since": job.since, "text": answer})
 }
 
 fn job_object(alloc: Global, task: usize, job: &AnyJob) -> Result<Value, AllocError>

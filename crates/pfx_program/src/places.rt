@@ -3,7 +3,7 @@
 ghost use Rattle.std.specs.Prelude.{◌≡◌};
 ghost use Rattle.pfx_program.specs.Promises.{IsPlace};
 
-use crate::engine::Place;
+use crate::place::Place;
 use pfx_jobs::job::Job;
 use pfx_kinds::any::AnyJob;
 use pfx_machine::State;
@@ -17,8 +17,8 @@ fn copied(job: &Option<AnyJob>) -> Option<AnyJob>
     }
 }
 
-/// What a task of a state has: how many slots it got, and a copy of its job; `None` if the state has no real task of this number. It takes
-/// no memory.
+/// What a task of a state has: since when its weights are in force, how many slots it got since then, and a copy of its job; `None` if the
+/// state has no real task of this number. It takes no memory.
 pub fn place_of(state: &State<AnyJob>, task: u16) -> Option<Place>
     ensures { IsPlace state.now task result }
 {
@@ -27,6 +27,7 @@ pub fn place_of(state: &State<AnyJob>, task: u16) -> Option<Place>
     match state.jobs().get(task) {
         None => None,
         Some(job) => Some(Place {
+            from: state.from(),
             allocation: state.columns().alloc(task),
             job: copied(job),
         }),

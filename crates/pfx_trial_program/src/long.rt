@@ -134,6 +134,7 @@ fn plans_five_thousand(alloc: Global) -> bool {
         Form::Text,
         &mut written,
         5000,
+        false,
     );
     end.is_ok() && written.as_slice() == want.as_slice()
 }

@@ -3,8 +3,8 @@
 use pfx_explain::{Note, entry_named, put_entry};
 use pfx_fault::Fault;
 use pfx_notes::{
-    Named, Stands, input_note, output_note, passed_over_note, record_note, refused_note,
-    script_note, set_note, store_note,
+    Named, Stands, Trouble, input_note, output_note, passed_over_note, record_note, refused_note,
+    script_note, set_note, store_note, trouble_note,
 };
 use std::alloc::{AllocError, Global};
 
@@ -224,6 +224,30 @@ fn tells_no_place_where_two_records_may_be_refused(rt: HostRuntime) {
     let lines = "  a.csv: a record was refused: 33 NoJob task=2
   Take away or show only what is there: pfx status says job=open or job=done of a task that has one.\n";
     assert!(rt; tells(rt.alloc(), note, lines));
+}
+
+#[test]
+fn says_what_to_do_with_another_version(rt: HostRuntime) {
+    let rows = [
+        (
+            1,
+            "  store a.pfx: it is of version 1, and this program reads version 2
+  pfx migrate OLD NEW makes a store of this version from it.\n",
+        ),
+        (
+            5,
+            "  store a.pfx: it is of version 5, and this program reads version 2
+  Use the program that made it. Nothing is changed in it.\n",
+        ),
+    ];
+    for (version, lines) in rows {
+        let note = store_note(rt.alloc(), "a.pfx", None, Fault::WrongVersion { version });
+        assert!(rt; says(rt.alloc(), note, lines), "{version}");
+    }
+    let note = trouble_note(rt.alloc(), "a.pfx", Trouble::Current);
+    let lines = "  store a.pfx: it is of version 2, as this program's stores are
+  Use it as it is: only a store of version 1 has to be migrated.\n";
+    assert!(rt; says(rt.alloc(), note, lines));
 }
 
 #[test]

@@ -5,8 +5,8 @@ use crate::torn::Torn;
 use pfx_fault::Fault;
 use pfx_program::{Form, run_plan};
 use std::alloc::Global;
-use std::io;
 use std::io::{ErrorKind, Write};
+use std::{io, str};
 
 const THIRDS: &str = "workers = 2
 task = [{name = \"a\", e = 2, p = 3}, {name = \"b\", e = 2, p = 3}, {name = \"c\", e = 2, p = 3}]
@@ -60,6 +60,7 @@ fn plans(
         Form::Text,
         &mut written,
         slots,
+        false,
     );
     got == end && written.as_slice() == want.as_bytes()
 }
@@ -68,7 +69,15 @@ fn plans(
 fn plans_objects(alloc: Global, set: &str, slots: u64, want: &str) -> bool {
     let mut written = Vec::new(alloc);
     let mut input = set.as_bytes();
-    let end = run_plan(alloc, &mut input, None, Form::Json, &mut written, slots);
+    let end = run_plan(
+        alloc,
+        &mut input,
+        None,
+        Form::Json,
+        &mut written,
+        slots,
+        false,
+    );
     end.is_ok() && written.as_slice() == want.as_bytes()
 }
 
@@ -132,6 +141,129 @@ fn goes_on_from_a_ledger(rt: HostRuntime) {
             plans(rt.alloc(), set, Some(at), slots, want, Ok(())),
             "{at}"
         );
+    }
+}
+
+/// What a plan that says which ledger it leaves writes, if no slot lacks a row.
+fn left(
+    alloc: Global,
+    form: Form,
+    set: &str,
+    at: Option<&str>,
+    slots: u64,
+) -> Result<Vec<u8>, Fault> {
+    let mut written = Vec::new(alloc);
+    run_plan(
+        alloc,
+        &mut set.as_bytes(),
+        at,
+        form,
+        &mut written,
+        slots,
+        true,
+    )?;
+    Ok(written)
+}
+
+/// Whether such a plan writes just this.
+fn leaves(alloc: Global, set: &str, at: Option<&str>, slots: u64, want: &str) -> bool {
+    match left(alloc, Form::Text, set, at, slots) {
+        Ok(written) => written.as_slice() == want.as_bytes(),
+        Err(_) => false,
+    }
+}
+
+#[test]
+fn says_which_ledger_it_leaves(rt: HostRuntime) {
+    let last = "1099511627774:549755813887,549755813887,549755813887,549755813887";
+    let rows = [
+        (THIRDS, None, 2, "0,a,b\n1,a,c\n2:2,1,1\n"),
+        (THIRDS, None, 0, "0:0,0,0\n"),
+        (THIRDS, Some("2:2,1,1"), 0, "2:2,1,1\n"),
+        (
+            HALF_AND_THIRD,
+            Some("0000000000006:03,2,1"),
+            1,
+            "6,x\n7:4,2,1\n",
+        ),
+        (HALF_ON_TWO, None, 1, "0,x,*0\n1:1,1,0,0\n"),
+        (
+            HALF_ON_TWO,
+            Some(last),
+            1,
+            "1099511627774,x,*0\n1099511627775:549755813888,549755813888,549755813887,549755813887\n",
+        ),
+    ];
+    for (set, at, slots, want) in rows {
+        assert!(rt; leaves(rt.alloc(), set, at, slots, want), "{want}");
+    }
+}
+
+/// Whether a plan that ends early says only why.
+fn leaves_none(alloc: Global) -> bool {
+    let mut written = Vec::new(alloc);
+    let end = run_plan(
+        alloc,
+        &mut QUARTERS_AND_EIGHTHS.as_bytes(),
+        Some("2:0,0,0,1,1"),
+        Form::Text,
+        &mut written,
+        6,
+        true,
+    );
+    end == Err(Fault::TooManyUrgent { urgent: 2, m: 1 }) && written.as_slice() == "2,a\n".as_bytes()
+}
+
+/// Whether such a plan writes these objects.
+fn leaves_object(alloc: Global, want: &str) -> bool {
+    match left(alloc, Form::Json, THIRDS, Some("2:2,1,1"), 1) {
+        Ok(written) => written.as_slice() == want.as_bytes(),
+        Err(_) => false,
+    }
+}
+
+#[test]
+fn leaves_a_ledger_as_an_object_or_none(rt: HostRuntime) {
+    let want = "{\"run\":[\"b\",\"c\"],\"slot\":2}\n{\"ledger\":\"3:2,2,2\"}\n";
+    assert!(rt; leaves_object(rt.alloc(), want), "an object");
+    assert!(rt; leaves_none(rt.alloc()), "none");
+}
+
+/// Where the last line of a text begins.
+fn last_line(text: &str) -> Option<(&str, &str)> {
+    let body = text.strip_suffix("\n")?;
+    match body.rsplit_once('\n') {
+        Some((_, line)) => Some((&text[..body.len() - line.len()], line)),
+        None => Some(("", body)),
+    }
+}
+
+/// Whether a plan in two parts, of these slots each, has the lines of the whole plan.
+fn goes_on_where_it_ended(alloc: Global, set: &str, first: u64, second: u64) -> Option<bool> {
+    let one = left(alloc, Form::Text, set, None, first).ok()?;
+    let (front, line) = last_line(str::from_utf8(one.as_slice()).ok()?)?;
+    let two = left(alloc, Form::Text, set, Some(line), second).ok()?;
+    let whole = left(alloc, Form::Text, set, None, first.checked_add(second)?).ok()?;
+    let mut parts = String::from_str(alloc, front).ok()?;
+    parts.push_str(str::from_utf8(two.as_slice()).ok()?).ok()?;
+    Some(parts.as_bytes() == whole.as_slice())
+}
+
+#[test]
+fn goes_on_in_parts(rt: HostRuntime) {
+    for set in [
+        THIRDS,
+        HALF_AND_THIRD,
+        HALF_ON_TWO,
+        TWO_PERIODS,
+        FOUR_ON_THREE,
+    ] {
+        for (first, second) in [(0, 3), (1, 1), (3, 4), (7, 20), (29, 31)] {
+            assert!(rt;
+                goes_on_where_it_ended(rt.alloc(), set, first, second) == Some(true),
+                "{first} and {second} slots of {set}"
+            );
+        }
     }
 }
 
@@ -218,7 +350,7 @@ fn reads_no_part(alloc: Global) -> bool {
         left: THIRDS.as_bytes(),
     };
     let mut written = Vec::new(alloc);
-    let end = run_plan(alloc, &mut input, None, Form::Text, &mut written, 4);
+    let end = run_plan(alloc, &mut input, None, Form::Text, &mut written, 4, false);
     end == Err(Fault::InputFailed) && written.is_empty()
 }
 
@@ -268,6 +400,7 @@ fn writes_the_beginning(alloc: Global) -> bool {
         Form::Text,
         &mut output,
         4,
+        false,
     );
     end == Err(Fault::OutputFailed) && output.held == *b"0,a,b\n1,"
 }

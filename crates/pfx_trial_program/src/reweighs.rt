@@ -105,6 +105,97 @@ fn new_weights_are_refused_in_order(rt: HostRuntime) {
     assert!(rt; prints(rt.alloc(), Form::Text, REFUSED, REFUSED_LINES));
 }
 
+// What is recorded stays until the first unit of the new weights is answered.
+const ANSWERS: &str = "slot,,,3,
+submit,0,own,1,a
+submit,0,own,2,b
+submit,1,own,1,c
+reweigh,,,2,2/3 2/3 2/3
+submit,0,own,3,late
+submit,0,own,1,early
+show,,,,
+slot,,,1,
+submit,0,own,3,late
+submit,0,own,2,ahead
+submit,0,own,1,d
+submit,0,own,1,twice
+submit,2,own,0,start
+show,,,,
+slot,,,1,
+submit,0,own,2,e
+withdraw,0,,,
+submit,0,own,3,ahead
+submit,0,own,1,again
+show,0,,,
+";
+
+const ANSWERED: &str = "1 ran 0: 0 1
+2 ran 1: 0 2
+3 ran 2: 1 2
+4 submitted 0
+5 submitted 0
+6 submitted 1
+7 reweighed 3
+refused 45 NotNext task=0
+refused 45 NotNext task=0
+0 own answered=2 text=b
+1 own answered=1 text=c
+8 ran 3: 0 1
+refused 45 NotNext task=0
+refused 45 NotNext task=0
+9 submitted 0
+refused 45 NotNext task=0
+10 submitted 2
+0 own answered=1 text=d since=3
+1 own answered=1 text=c
+2 own answered=0 text=start since=3
+11 ran 4: 0 2
+12 submitted 0
+13 withdrawn 0
+refused 45 NotNext task=0
+14 submitted 0
+0 own answered=1 text=again since=3
+closed 14
+";
+
+#[test]
+fn answers_count_in_the_weights_in_force(rt: HostRuntime) {
+    assert!(rt; prints(rt.alloc(), Form::Text, ANSWERS, ANSWERED));
+}
+
+const TWICE: &str = "reweigh,,,2,2/3 2/3 2/3
+submit,1,own,0,a
+slot,,,3,
+submit,0,own,1,b
+reweigh,,,2,2/3 2/3 2/3
+reweigh,,,2,2/3 2/3 2/3
+slot,,,1,
+submit,0,own,2,c
+submit,0,own,1,d
+show,,,,
+";
+
+const TWICE_OBJECTS: &str = "{\"did\":\"reweighed\",\"number\":1,\"slot\":0}
+{\"did\":\"submitted\",\"number\":2,\"task\":1}
+{\"did\":\"ran\",\"number\":3,\"slot\":0,\"tasks\":[0,1]}
+{\"did\":\"ran\",\"number\":4,\"slot\":1,\"tasks\":[0,2]}
+{\"did\":\"ran\",\"number\":5,\"slot\":2,\"tasks\":[1,2]}
+{\"did\":\"submitted\",\"number\":6,\"task\":0}
+{\"did\":\"reweighed\",\"number\":7,\"slot\":3}
+{\"did\":\"reweighed\",\"number\":8,\"slot\":3}
+{\"did\":\"ran\",\"number\":9,\"slot\":3,\"tasks\":[0,1]}
+{\"refused\":{\"fields\":{\"task\":0},\"name\":\"NotNext\",\"number\":45}}
+{\"did\":\"submitted\",\"number\":10,\"task\":0}
+{\"answered\":1,\"job\":\"own\",\"since\":3,\"task\":0,\"text\":\"d\"}
+{\"answered\":0,\"job\":\"own\",\"task\":1,\"text\":\"a\"}
+{\"closed\":10}
+";
+
+#[test]
+fn weights_of_slot_0_are_the_first_ones(rt: HostRuntime) {
+    assert!(rt; prints(rt.alloc(), Form::Json, TWICE, TWICE_OBJECTS));
+}
+
 /// Whether a task that is idle is named where it isn't level, and the weights are in force two slots later.
 fn waits_for_the_idle(alloc: Global) -> bool {
     let Some(mut state) = begun(alloc, 2, &[(2, 4)]) else {

@@ -59,12 +59,13 @@ fn each_is_answered(rt: &impl Abort, alloc: Global, status: i32, rows: &str) {
     }
 }
 
-const PLANS: &str = r#"pfx|plan|a.toml|4 => Plan { set: "a.toml", slots: 4, at: None, json: false }
-/usr/bin/pfx|plan|sets/b c.toml|0 => Plan { set: "sets/b c.toml", slots: 0, at: None, json: false }
-|plan||1048576 => Plan { set: "", slots: 1048576, at: None, json: false }
-pfx|plan|+7|+7 => Plan { set: "+7", slots: 7, at: None, json: false }
-pfx|plan|--|-a|007 => Plan { set: "-a", slots: 7, at: None, json: false }
-pfx|plan|plan|--|3 => Plan { set: "plan", slots: 3, at: None, json: false }"#;
+const PLANS: &str =
+    r#"pfx|plan|a.toml|4 => Plan { set: "a.toml", slots: 4, at: None, ledger: false, json: false }
+/usr/bin/pfx|plan|sets/b c.toml|0 => Plan { set: "sets/b c.toml", slots: 0, at: None, ledger: false, json: false }
+|plan||1048576 => Plan { set: "", slots: 1048576, at: None, ledger: false, json: false }
+pfx|plan|+7|+7 => Plan { set: "+7", slots: 7, at: None, ledger: false, json: false }
+pfx|plan|--|-a|007 => Plan { set: "-a", slots: 7, at: None, ledger: false, json: false }
+pfx|plan|plan|--|3 => Plan { set: "plan", slots: 3, at: None, ledger: false, json: false }"#;
 
 #[test]
 fn reads_a_plan(rt: HostRuntime) {
@@ -73,26 +74,42 @@ fn reads_a_plan(rt: HostRuntime) {
 
 // The ledger's text comes as it is, lawful or not.
 const LEDGERS: &str =
-    r#"pfx|plan|a.toml|4|--at|2:2,1,1 => Plan { set: "a.toml", slots: 4, at: Some("2:2,1,1"), json: false }
-pfx|plan|a.toml|--at=2:2,1,1|4 => Plan { set: "a.toml", slots: 4, at: Some("2:2,1,1"), json: false }
-pfx|plan|--at|=x|--|a.toml|4 => Plan { set: "a.toml", slots: 4, at: Some("=x"), json: false }
-pfx|plan|--at=|a.toml|4 => Plan { set: "a.toml", slots: 4, at: Some(""), json: false }
-pfx|plan|--at=-1:|a.toml|4 => Plan { set: "a.toml", slots: 4, at: Some("-1:"), json: false }"#;
+    r#"pfx|plan|a.toml|4|--at|2:2,1,1 => Plan { set: "a.toml", slots: 4, at: Some("2:2,1,1"), ledger: false, json: false }
+pfx|plan|a.toml|--at=2:2,1,1|4 => Plan { set: "a.toml", slots: 4, at: Some("2:2,1,1"), ledger: false, json: false }
+pfx|plan|--at|=x|--|a.toml|4 => Plan { set: "a.toml", slots: 4, at: Some("=x"), ledger: false, json: false }
+pfx|plan|--at=|a.toml|4 => Plan { set: "a.toml", slots: 4, at: Some(""), ledger: false, json: false }
+pfx|plan|--at=-1:|a.toml|4 => Plan { set: "a.toml", slots: 4, at: Some("-1:"), ledger: false, json: false }
+pfx|plan|a.toml|4|--ledger => Plan { set: "a.toml", slots: 4, at: None, ledger: true, json: false }
+pfx|plan|--ledger|a.toml|4|--at=2:2,1,1 => Plan { set: "a.toml", slots: 4, at: Some("2:2,1,1"), ledger: true, json: false }
+pfx|init|a.toml|a.pfx|--at|2:2,1,1 => Init { set: "a.toml", file: "a.pfx", at: Some("2:2,1,1"), json: false }
+pfx|init|--at=|--json|a.toml|a.pfx => Init { set: "a.toml", file: "a.pfx", at: Some(""), json: true }"#;
 
 #[test]
 fn passes_a_ledger_on(rt: HostRuntime) {
     each_asks(&rt, rt.alloc(), LEDGERS);
 }
 
-const STORES: &str = r#"pfx|init|a.toml|a.pfx => Init { set: "a.toml", file: "a.pfx", json: false }
-pfx|init||b c => Init { set: "", file: "b c", json: false }
-pfx|init|init|help => Init { set: "init", file: "help", json: false }
-pfx|init|--|-a|-b => Init { set: "-a", file: "-b", json: false }
-pfx|init|--json|a.toml|a.pfx => Init { set: "a.toml", file: "a.pfx", json: true }"#;
+const STORES: &str =
+    r#"pfx|init|a.toml|a.pfx => Init { set: "a.toml", file: "a.pfx", at: None, json: false }
+pfx|init||b c => Init { set: "", file: "b c", at: None, json: false }
+pfx|init|init|help => Init { set: "init", file: "help", at: None, json: false }
+pfx|init|--|-a|-b => Init { set: "-a", file: "-b", at: None, json: false }
+pfx|init|--json|a.toml|a.pfx => Init { set: "a.toml", file: "a.pfx", at: None, json: true }"#;
 
 #[test]
 fn reads_a_new_store(rt: HostRuntime) {
     each_asks(&rt, rt.alloc(), STORES);
+}
+
+const MIGRATIONS: &str =
+    r#"pfx|migrate|a.pfx|b.pfx => Migrate { old: "a.pfx", new: "b.pfx", json: false }
+pfx|migrate|migrate| => Migrate { old: "migrate", new: "", json: false }
+pfx|migrate|--|-a|-b => Migrate { old: "-a", new: "-b", json: false }
+pfx|migrate|a.pfx|--json|b.pfx => Migrate { old: "a.pfx", new: "b.pfx", json: true }"#;
+
+#[test]
+fn reads_a_migration(rt: HostRuntime) {
+    each_asks(&rt, rt.alloc(), MIGRATIONS);
 }
 
 const RUNS: &str =
@@ -119,7 +136,8 @@ fn reads_a_strict_run(rt: HostRuntime) {
 }
 
 const OBJECTS: &str =
-    r#"pfx|plan|--json|a.toml|4|--at=0:0 => Plan { set: "a.toml", slots: 4, at: Some("0:0"), json: true }
+    r#"pfx|plan|--json|a.toml|4|--at=0:0 => Plan { set: "a.toml", slots: 4, at: Some("0:0"), ledger: false, json: true }
+pfx|plan|--json|a.toml|4|--ledger => Plan { set: "a.toml", slots: 4, at: None, ledger: true, json: true }
 pfx|run|a.pfx|--json|--strict|a.csv => Run { file: "a.pfx", script: "a.csv", workers: None, batch: None, strict: true, json: true }
 pfx|status|a.pfx|--json => Status { file: "a.pfx", json: true }
 pfx|show|--json|a.pfx => Show { file: "a.pfx", task: None, json: true }
@@ -179,8 +197,8 @@ fn reads_a_check(rt: HostRuntime) {
 }
 
 const COMMANDS: &str =
-    "pfx => [subcommands: plan, init, run, status, replay, show, draw, check, explain, help]
- => [subcommands: plan, init, run, status, replay, show, draw, check, explain, help]
+    "pfx => [subcommands: plan, init, run, status, replay, show, draw, check, explain, migrate, help]
+ => [subcommands: plan, init, run, status, replay, show, draw, check, explain, migrate, help]
 pfx|paln|a.toml|4 => a similar subcommand exists: 'plan'";
 
 #[test]
@@ -203,7 +221,9 @@ fn wants_a_set_and_slots(rt: HostRuntime) {
 
 const TWO_LEDGERS: &str =
     "pfx|plan|a.toml|4|--at => a value is required for '--at <T:A,A,..>' but none was supplied
-pfx|plan|a.toml|4|--at|0:0|--at|0:0 => the argument '--at <T:A,A,..>' cannot be used multiple times";
+pfx|plan|a.toml|4|--at|0:0|--at|0:0 => the argument '--at <T:A,A,..>' cannot be used multiple times
+pfx|init|a.toml|a.pfx|--at => a value is required for '--at <T:A,A,..>' but none was supplied
+pfx|plan|a.toml|4|--ledger=0:0 => unexpected value '0:0' for '--ledger' found";
 
 #[test]
 fn takes_one_ledger(rt: HostRuntime) {
@@ -213,6 +233,8 @@ fn takes_one_ledger(rt: HostRuntime) {
 const FEW_FOR_A_STORE: &str = "pfx|init => <SET>~  <FILE>~
 pfx|init|a.toml => <FILE>~~Usage: pfx init <SET> <FILE>
 pfx|init|a.toml|a.pfx|b.pfx => unexpected argument 'b.pfx' found
+pfx|migrate|a.pfx => <NEW>~~Usage: pfx migrate <OLD> <NEW>
+pfx|migrate|a.pfx|b.pfx|c.pfx => unexpected argument 'c.pfx' found
 pfx|run => <FILE>~  <SCRIPT>~
 pfx|run|a.pfx => <SCRIPT>~~Usage: pfx run <FILE> <SCRIPT>
 pfx|status => <FILE>~~Usage: pfx status <FILE>
@@ -259,6 +281,11 @@ fn answers_with_help_and_version(rt: HostRuntime) {
 
 const PAGES: &str = r#"pfx|init|--help => Usage: pfx init [OPTIONS] <SET> <FILE>~
 pfx|init|--help =>   created m=2 real=3 idle=0 hyper=3 size=2100163~
+pfx|init|-h =>       --at <T:A,A,..>  Begin at slot T
+pfx|plan|-h =>       --ledger         Print one more line
+pfx|migrate|--help => Usage: pfx migrate [OPTIONS] <OLD> <NEW>~
+pfx|migrate|--help =>   migrated 4~
+pfx|migrate|--help =>   pfx migrate old.pfx new.pfx 
 pfx|init|--help =>   pfx init examples/thirds.toml thirds.pfx 
 pfx|run|--help => Usage: pfx run [OPTIONS] <FILE> <SCRIPT>~
 pfx|run|--help => 0 to 64; as many as the set has if it isn't given~
