@@ -6,7 +6,7 @@ use Rattle.clap.specs.Faults.{fault_of}
 use Rattle.clap.specs.declared.error.kind.ErrorKind.TheVariants as kind
 use Rattle.clap.proofs.OnLiterals.{clap_on_literals}
 use Rattle.pfx_args.specs.Commands.{pfx_app}
-use Rattle.pfx_args.specs.Requests.{plan, init, run, status, replay, show, asked}
+use Rattle.pfx_args.specs.Requests.{plan, init, migrate, run, status, replay, show, asked}
 
 -- `pfx` and these words
 abbrev pfx : List Text → List Text
@@ -15,7 +15,7 @@ pfx words = codes "pfx" ∷ words
 abbrev first_four : List Text
 first_four = pfx (codes "plan" ∷ codes "a.toml" ∷ codes "4" ∷ [])
 
-pub asks_for_a_plan : asked first_four ≡ Some (plan (codes "a.toml") 4 None false)
+pub asks_for_a_plan : asked first_four ≡ Some (plan (codes "a.toml") 4 None false false)
 unfolding clap_on_literals asked
 asks_for_a_plan = refl
 
@@ -23,7 +23,7 @@ pub takes_a_plan : takes pfx_app first_four ≡ true
 unfolding clap_on_literals
 takes_a_plan = refl
 
-pub asks_for_most_slots : asked (pfx (codes "plan" ∷ codes "--" ∷ codes "-a" ∷ codes "1048576" ∷ [])) ≡ Some (plan (codes "-a") 1048576 None false)
+pub asks_for_most_slots : asked (pfx (codes "plan" ∷ codes "--" ∷ codes "-a" ∷ codes "1048576" ∷ [])) ≡ Some (plan (codes "-a") 1048576 None false false)
 unfolding clap_on_literals asked
 asks_for_most_slots = refl
 
@@ -33,7 +33,7 @@ asks_for_most_slots = refl
 abbrev from_two : List Text
 from_two = pfx (codes "plan" ∷ codes "a.toml" ∷ codes "4" ∷ codes "--at" ∷ codes "2:2,1,1" ∷ [])
 
-pub asks_for_a_ledger : asked from_two ≡ Some (plan (codes "a.toml") 4 (Some (codes "2:2,1,1")) false)
+pub asks_for_a_ledger : asked from_two ≡ Some (plan (codes "a.toml") 4 (Some (codes "2:2,1,1")) false false)
 unfolding clap_on_literals asked
 asks_for_a_ledger = refl
 
@@ -42,7 +42,7 @@ unfolding clap_on_literals
 takes_a_ledger = refl
 
 -- its text is passed on as it is, of any form
-pub passes_any_text : asked (pfx (codes "plan" ∷ codes "--at=,:x" ∷ codes "a.toml" ∷ codes "4" ∷ [])) ≡ Some (plan (codes "a.toml") 4 (Some (codes ",:x")) false)
+pub passes_any_text : asked (pfx (codes "plan" ∷ codes "--at=,:x" ∷ codes "a.toml" ∷ codes "4" ∷ [])) ≡ Some (plan (codes "a.toml") 4 (Some (codes ",:x")) false false)
 unfolding clap_on_literals asked
 passes_any_text = refl
 
@@ -54,18 +54,42 @@ pub two_ledgers : fault_of pfx_app (pfx (codes "plan" ∷ codes "a.toml" ∷ cod
 unfolding clap_on_literals
 two_ledgers = refl
 
+-- and with the ledger that it leaves, as JSON too
+pub asks_for_what_it_leaves : asked (pfx (codes "plan" ∷ codes "--ledger" ∷ codes "a.toml" ∷ codes "4" ∷ codes "--json" ∷ codes "--at=2:2,1,1" ∷ [])) ≡ Some (plan (codes "a.toml") 4 (Some (codes "2:2,1,1")) true true)
+unfolding clap_on_literals asked
+asks_for_what_it_leaves = refl
+
+pub no_value_of_a_flag : fault_of pfx_app (pfx (codes "plan" ∷ codes "a.toml" ∷ codes "4" ∷ codes "--ledger=2:2,1,1" ∷ [])) ≡ kind.TooManyValues ∷ []
+unfolding clap_on_literals
+no_value_of_a_flag = refl
+
 -- ---- stores
 
 abbrev new_store : List Text
 new_store = pfx (codes "init" ∷ codes "a.toml" ∷ codes "a.pfx" ∷ [])
 
-pub asks_for_a_store : asked new_store ≡ Some (init (codes "a.toml") (codes "a.pfx") false)
+pub asks_for_a_store : asked new_store ≡ Some (init (codes "a.toml") (codes "a.pfx") None false)
 unfolding clap_on_literals asked
 asks_for_a_store = refl
 
 pub takes_a_store : takes pfx_app new_store ≡ true
 unfolding clap_on_literals
 takes_a_store = refl
+
+pub asks_for_a_store_at : asked (pfx (codes "init" ∷ codes "--at=2:2,1,1" ∷ codes "a.toml" ∷ codes "a.pfx" ∷ [])) ≡ Some (init (codes "a.toml") (codes "a.pfx") (Some (codes "2:2,1,1")) false)
+unfolding clap_on_literals asked
+asks_for_a_store_at = refl
+
+abbrev migrate_store : List Text
+migrate_store = pfx (codes "migrate" ∷ codes "a.pfx" ∷ codes "b.pfx" ∷ [])
+
+pub asks_for_a_store_of_this_version : asked migrate_store ≡ Some (migrate (codes "a.pfx") (codes "b.pfx") false)
+unfolding clap_on_literals asked
+asks_for_a_store_of_this_version = refl
+
+pub takes_a_store_of_this_version : takes pfx_app migrate_store ≡ true
+unfolding clap_on_literals
+takes_a_store_of_this_version = refl
 
 abbrev run_script : List Text
 run_script = pfx (codes "run" ∷ codes "a.pfx" ∷ codes "a.csv" ∷ [])
@@ -181,6 +205,10 @@ version_of_plan = refl
 pub no_file_to_make : fault_of pfx_app (pfx (codes "init" ∷ codes "a.toml" ∷ [])) ≡ kind.MissingRequiredArgument ∷ []
 unfolding clap_on_literals
 no_file_to_make = refl
+
+pub no_file_to_migrate_to : fault_of pfx_app (pfx (codes "migrate" ∷ codes "a.pfx" ∷ [])) ≡ kind.MissingRequiredArgument ∷ []
+unfolding clap_on_literals
+no_file_to_migrate_to = refl
 
 pub no_script : fault_of pfx_app (pfx (codes "run" ∷ codes "a.pfx" ∷ [])) ≡ kind.MissingRequiredArgument ∷ []
 unfolding clap_on_literals

@@ -15,3 +15,6 @@ pub mod PlainReplay
 pub mod PlainDraw
 pub mod PlainCheck
 pub mod PlainExplain
+pub mod PlainLedger
+pub mod PlainInitAt
+pub mod PlainMigrate

@@ -1,5 +1,5 @@
 -- The words `init SET FILE`, of any set and file that don't begin with a hyphen.
-use Rattle.std.proofs.Common.{◌≡◌, Bool, codes, refl, [], ◌∷◌, Some, true, false, ◌∙◌, ap, ap₂, ◌&&◌}
+use Rattle.std.proofs.Common.{◌≡◌, Bool, codes, refl, [], ◌∷◌, Some, None, true, false, ◌∙◌, ap, ap₂, ◌&&◌}
 use Rattle.std.specs.Str.Parse.{starts_with_minus}
 use Rattle.clap.specs.Walk.{Text, Walk, value, walk_from, nothing_held, rows_after, finished}
 use Rattle.clap.specs.Simple.{Shape}
@@ -26,11 +26,11 @@ asked_steps : (program set file : Text) → asked (program ∷ codes "init" ∷ 
 unfolding clap_on_literals asked
 asked_steps program set file = refl
 
-asked_held : (set file : Text) → asked_in (Some (codes "init", finished init_built.rules (after_both set file).held)) ≡ Some (init set file false)
+asked_held : (set file : Text) → asked_in (Some (codes "init", finished init_built.rules (after_both set file).held)) ≡ Some (init set file None false)
 unfolding clap_on_literals
 asked_held set file = refl
 
-pub plain_init_asked : (program set file : Text) → starts_with_minus set ≡ false → starts_with_minus file ≡ false → asked (program ∷ codes "init" ∷ set ∷ file ∷ []) ≡ Some (init set file false)
+pub plain_init_asked : (program set file : Text) → starts_with_minus set ≡ false → starts_with_minus file ≡ false → asked (program ∷ codes "init" ∷ set ∷ file ∷ []) ≡ Some (init set file None false)
 plain_init_asked program set file e f =
     asked_steps program set file ∙ ap (λ (w : Walk). asked_in (Some (codes "init", finished init_built.rules w.held))) (init_walk set file e f) ∙ asked_held set file
 
@@ -60,7 +60,7 @@ plain_init_taken program set file e f =
 dash_walk : (file : Text) → starts_with_minus file ≡ false → on_from init_built (walk_from nothing_held) (dash ∷ file ∷ []) ≡ after_both dash file
 dash_walk file f = dash_on init_built nothing_held 1 (file ∷ []) ∙ plain_on init_built (after_set dash).held 2 file [] f
 
-pub dash_init_asked : (program file : Text) → starts_with_minus file ≡ false → asked (program ∷ codes "init" ∷ dash ∷ file ∷ []) ≡ Some (init dash file false)
+pub dash_init_asked : (program file : Text) → starts_with_minus file ≡ false → asked (program ∷ codes "init" ∷ dash ∷ file ∷ []) ≡ Some (init dash file None false)
 dash_init_asked program file f =
     asked_steps program dash file ∙ ap (λ (w : Walk). asked_in (Some (codes "init", finished init_built.rules w.held))) (dash_walk file f) ∙ asked_held dash file
 

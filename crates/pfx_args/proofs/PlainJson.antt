@@ -37,20 +37,20 @@ plan_asked_steps : (program set slots : Text) → asked (program ∷ codes "plan
 unfolding clap_on_literals asked
 plan_asked_steps program set slots = refl
 
-plan_asked_held : (set slots : Text) → asked_in (Some (codes "plan", finished plan_built.rules (plan_all set slots).held)) ≡ plan_of (Some set) (number_of (without_minus slots)) None true
+plan_asked_held : (set slots : Text) → asked_in (Some (codes "plan", finished plan_built.rules (plan_all set slots).held)) ≡ plan_of (Some set) (number_of (without_minus slots)) None false true
 unfolding clap_on_literals
 plan_asked_held set slots = refl
 
 plan_asked : (program set : Text) (d : ℕ) (ds : Text) → starts_with_minus set ≡ false → (d == 45) ≡ false
-    → asked (program ∷ codes "plan" ∷ set ∷ (d ∷ ds) ∷ flag) ≡ plan_of (Some set) (number_of (d ∷ ds)) None true
+    → asked (program ∷ codes "plan" ∷ set ∷ (d ∷ ds) ∷ flag) ≡ plan_of (Some set) (number_of (d ∷ ds)) None false true
 plan_asked program set d ds e f =
     plan_asked_steps program set (d ∷ ds) ∙ ap (λ (w : Walk). asked_in (Some (codes "plan", finished plan_built.rules w.held))) (plan_walk set (d ∷ ds) e f)
-    ∙ (plan_asked_held set (d ∷ ds) ∙ ap (λ (t : Text). plan_of (Some set) (number_of t) None true) (plain_minus d ds f))
+    ∙ (plan_asked_held set (d ∷ ds) ∙ ap (λ (t : Text). plan_of (Some set) (number_of t) None false true) (plain_minus d ds f))
 
 pub json_plan_asked : (program set slots : Text) → starts_with_minus set ≡ false → IsSlots slots
-    → asked (program ∷ codes "plan" ∷ set ∷ slots ∷ codes "--json" ∷ []) ≡ Some (plan set (digits_value 10 slots) None true)
+    → asked (program ∷ codes "plan" ∷ set ∷ slots ∷ codes "--json" ∷ []) ≡ Some (plan set (digits_value 10 slots) None false true)
 json_plan_asked program set [] e h = absurd (omega (arith, h.0.0))
-json_plan_asked program set (d ∷ ds) e h = plan_asked program set d ds e (no_sign d ds h.0).0 ∙ ap (λ n. plan_of (Some set) n None true) (number_written 1048576 d ds h.0 h.1 (omega arith))
+json_plan_asked program set (d ∷ ds) e h = plan_asked program set d ds e (no_sign d ds h.0).0 ∙ ap (λ n. plan_of (Some set) n None false true) (number_written 1048576 d ds h.0 h.1 (omega arith))
 
 plan_walk_passes : (set slots : Text) → starts_with_minus set ≡ false → starts_with_minus slots ≡ false
     → walk_passes plan_built [] (walk_from nothing_held) (set ∷ slots ∷ flag)

@@ -1,5 +1,5 @@
 -- The words `init SET FILE --json`, `replay FILE --json`, `check SET --json` and `explain FAULT --json`, of words that don't begin with a hyphen.
-use Rattle.std.proofs.Common.{◌≡◌, Bool, codes, refl, [], ◌∷◌, Some, true, false, ◌∙◌, ap, ap₂, ◌&&◌, List}
+use Rattle.std.proofs.Common.{◌≡◌, Bool, codes, refl, [], ◌∷◌, Some, None, true, false, ◌∙◌, ap, ap₂, ◌&&◌, List}
 use Rattle.std.specs.Str.Parse.{starts_with_minus}
 use Rattle.clap.specs.Walk.{Text, Walk, value, walked, walk_from, nothing_held, rows_after, finished}
 use Rattle.clap.specs.Takes.{takes, walk_passes, level_passes, step_passes}
@@ -32,12 +32,12 @@ init_asked_steps : (program set file : Text) → asked (program ∷ codes "init"
 unfolding clap_on_literals asked
 init_asked_steps program set file = refl
 
-init_asked_held : (set file : Text) → asked_in (Some (codes "init", finished init_built.rules (init_all set file).held)) ≡ Some (init set file true)
+init_asked_held : (set file : Text) → asked_in (Some (codes "init", finished init_built.rules (init_all set file).held)) ≡ Some (init set file None true)
 unfolding clap_on_literals
 init_asked_held set file = refl
 
 pub json_init_asked : (program set file : Text) → starts_with_minus set ≡ false → starts_with_minus file ≡ false
-    → asked (program ∷ codes "init" ∷ set ∷ file ∷ codes "--json" ∷ []) ≡ Some (init set file true)
+    → asked (program ∷ codes "init" ∷ set ∷ file ∷ codes "--json" ∷ []) ≡ Some (init set file None true)
 json_init_asked program set file e f =
     init_asked_steps program set file ∙ ap (λ (w : Walk). asked_in (Some (codes "init", finished init_built.rules w.held))) (init_walk set file e f) ∙ init_asked_held set file
 

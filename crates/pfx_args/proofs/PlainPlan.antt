@@ -4,13 +4,14 @@ use Rattle.std.specs.Prelude.{◌==◌}
 use Rattle.std.specs.Str.Parse.{digits_value, starts_with_minus}
 use Rattle.clap.specs.Walk.{Text, Walk, value, walk_from, nothing_held, rows_after, finished}
 use Rattle.clap.specs.Simple.{Shape}
+use Rattle.clap.specs.Lexer.{without_minus}
 use Rattle.clap.specs.Takes.{takes, walk_passes, level_passes, step_passes}
 use Rattle.clap.specs.ValueTests.{is_signed_in}
 use Rattle.clap.proofs.OnLiterals.{clap_on_literals}
 use Rattle.pfx_args.specs.Commands.{pfx_app}
 use Rattle.pfx_args.specs.Requests.{IsSlots, plan, plan_of, number_of, asked, asked_in}
 use Rattle.pfx_args.proofs.Numbers.{no_sign, number_written, number_passes}
-use Rattle.pfx_args.proofs.Plain.{sub_built, with_word, on_from, plain_on, plain_passes, dash, dash_on, dash_passes, ends_well, and_true}
+use Rattle.pfx_args.proofs.Plain.{sub_built, with_word, on_from, plain_on, plain_passes, dash, dash_on, dash_passes, ends_well, plain_minus, and_true}
 
 abbrev pub plan_built : Shape
 plan_built = sub_built 0
@@ -29,13 +30,17 @@ asked_steps : (program set slots : Text) → asked (program ∷ codes "plan" ∷
 unfolding clap_on_literals asked
 asked_steps program set slots = refl
 
-asked_held : (set : Text) (d : ℕ) (ds : Text) → (d == 45) ≡ false → asked_in (Some (codes "plan", finished plan_built.rules (after_both set (d ∷ ds)).held)) ≡ plan_of (Some set) (number_of (d ∷ ds)) None false
+asked_held : (set slots : Text) → asked_in (Some (codes "plan", finished plan_built.rules (after_both set slots).held)) ≡ plan_of (Some set) (number_of (without_minus slots)) None false false
 unfolding clap_on_literals
-asked_held set d ds f = rw f refl
+asked_held set slots = refl
 
-asked_plain : (program set : Text) (d : ℕ) (ds : Text) → starts_with_minus set ≡ false → (d == 45) ≡ false → asked (program ∷ codes "plan" ∷ set ∷ (d ∷ ds) ∷ []) ≡ plan_of (Some set) (number_of (d ∷ ds)) None false
+-- the getter reads the number as it was written
+number_held : (set : Text) (d : ℕ) (ds : Text) → (d == 45) ≡ false → asked_in (Some (codes "plan", finished plan_built.rules (after_both set (d ∷ ds)).held)) ≡ plan_of (Some set) (number_of (d ∷ ds)) None false false
+number_held set d ds f = asked_held set (d ∷ ds) ∙ ap (λ (t : Text). plan_of (Some set) (number_of t) None false false) (plain_minus d ds f)
+
+asked_plain : (program set : Text) (d : ℕ) (ds : Text) → starts_with_minus set ≡ false → (d == 45) ≡ false → asked (program ∷ codes "plan" ∷ set ∷ (d ∷ ds) ∷ []) ≡ plan_of (Some set) (number_of (d ∷ ds)) None false false
 asked_plain program set d ds e f =
-    asked_steps program set (d ∷ ds) ∙ ap (λ (w : Walk). asked_in (Some (codes "plan", finished plan_built.rules w.held))) (plan_walk set (d ∷ ds) e f) ∙ asked_held set d ds f
+    asked_steps program set (d ∷ ds) ∙ ap (λ (w : Walk). asked_in (Some (codes "plan", finished plan_built.rules w.held))) (plan_walk set (d ∷ ds) e f) ∙ number_held set d ds f
 
 -- both words pass, where the set does
 plan_walk_passes : (set slots : Text) → starts_with_minus set ≡ false → starts_with_minus slots ≡ false
@@ -63,18 +68,18 @@ pub plain_plan_taken : (program set slots : Text) → starts_with_minus set ≡ 
 plain_plan_taken program set [] e h = absurd (omega (arith, h.0.0))
 plain_plan_taken program set (d ∷ ds) e h = takes_plain program set (d ∷ ds) e (no_sign d ds h.0).0 (number_passes 0 1048576 d ds h.0 (omega arith) h.1 (omega arith))
 
-pub plain_plan_asked : (program set slots : Text) → starts_with_minus set ≡ false → IsSlots slots → asked (program ∷ codes "plan" ∷ set ∷ slots ∷ []) ≡ Some (plan set (digits_value 10 slots) None false)
+pub plain_plan_asked : (program set slots : Text) → starts_with_minus set ≡ false → IsSlots slots → asked (program ∷ codes "plan" ∷ set ∷ slots ∷ []) ≡ Some (plan set (digits_value 10 slots) None false false)
 plain_plan_asked program set [] e h = absurd (omega (arith, h.0.0))
-plain_plan_asked program set (d ∷ ds) e h = asked_plain program set d ds e (no_sign d ds h.0).0 ∙ ap (λ n. plan_of (Some set) n None false) (number_written 1048576 d ds h.0 h.1 (omega arith))
+plain_plan_asked program set (d ∷ ds) e h = asked_plain program set d ds e (no_sign d ds h.0).0 ∙ ap (λ n. plan_of (Some set) n None false false) (number_written 1048576 d ds h.0 h.1 (omega arith))
 
 -- ---- with the set on standard input
 
 dash_walk : (slots : Text) → starts_with_minus slots ≡ false → on_from plan_built (walk_from nothing_held) (dash ∷ slots ∷ []) ≡ after_both dash slots
 dash_walk slots f = dash_on plan_built nothing_held 1 (slots ∷ []) ∙ plain_on plan_built (after_set dash).held 2 slots [] f
 
-asked_dash : (program : Text) (d : ℕ) (ds : Text) → (d == 45) ≡ false → asked (program ∷ codes "plan" ∷ dash ∷ (d ∷ ds) ∷ []) ≡ plan_of (Some dash) (number_of (d ∷ ds)) None false
+asked_dash : (program : Text) (d : ℕ) (ds : Text) → (d == 45) ≡ false → asked (program ∷ codes "plan" ∷ dash ∷ (d ∷ ds) ∷ []) ≡ plan_of (Some dash) (number_of (d ∷ ds)) None false false
 asked_dash program d ds f =
-    asked_steps program dash (d ∷ ds) ∙ ap (λ (w : Walk). asked_in (Some (codes "plan", finished plan_built.rules w.held))) (dash_walk (d ∷ ds) f) ∙ asked_held dash d ds f
+    asked_steps program dash (d ∷ ds) ∙ ap (λ (w : Walk). asked_in (Some (codes "plan", finished plan_built.rules w.held))) (dash_walk (d ∷ ds) f) ∙ number_held dash d ds f
 
 dash_walk_passes : (slots : Text) → starts_with_minus slots ≡ false
     → walk_passes plan_built [] (walk_from nothing_held) (dash ∷ slots ∷ []) ≡ (step_passes plan_built 1 nothing_held value && (step_passes plan_built 2 (after_set dash).held value && true))
@@ -91,6 +96,6 @@ pub dash_plan_taken : (program slots : Text) → IsSlots slots → takes pfx_app
 dash_plan_taken program [] h = absurd (omega (arith, h.0.0))
 dash_plan_taken program (d ∷ ds) h = takes_dash program (d ∷ ds) (no_sign d ds h.0).0 (number_passes 0 1048576 d ds h.0 (omega arith) h.1 (omega arith))
 
-pub dash_plan_asked : (program slots : Text) → IsSlots slots → asked (program ∷ codes "plan" ∷ dash ∷ slots ∷ []) ≡ Some (plan dash (digits_value 10 slots) None false)
+pub dash_plan_asked : (program slots : Text) → IsSlots slots → asked (program ∷ codes "plan" ∷ dash ∷ slots ∷ []) ≡ Some (plan dash (digits_value 10 slots) None false false)
 dash_plan_asked program [] h = absurd (omega (arith, h.0.0))
-dash_plan_asked program (d ∷ ds) h = asked_dash program d ds (no_sign d ds h.0).0 ∙ ap (λ n. plan_of (Some dash) n None false) (number_written 1048576 d ds h.0 h.1 (omega arith))
+dash_plan_asked program (d ∷ ds) h = asked_dash program d ds (no_sign d ds h.0).0 ∙ ap (λ n. plan_of (Some dash) n None false false) (number_written 1048576 d ds h.0 h.1 (omega arith))

@@ -32,17 +32,29 @@ plan_words = with_rule (with_rule (new_app (codes "plan")) (required (codes "SET
 abbrev pub plan_from : App
 plan_from = with_rule plan_words at_ledger
 
+-- whether the ledger behind the last slot is printed too: `--ledger`, which has no value
+abbrev pub with_ledger : Rule
+with_ledger = record (new_rule (codes "ledger")) { long = Some (codes "ledger"); action = Some SetTrue }
+
+-- and `--ledger`
+abbrev pub plan_going_on : App
+plan_going_on = with_rule plan_from with_ledger
+
 -- and `--json`
 abbrev pub plan_app : App
-plan_app = with_rule plan_from as_json
+plan_app = with_rule plan_going_on as_json
 
 -- `init SET FILE`
 abbrev pub init_words : App
 init_words = with_rule (with_rule (new_app (codes "init")) (required (codes "SET"))) (required (codes "FILE"))
 
+-- and `--at LEDGER`, which may be left out
+abbrev pub init_from : App
+init_from = with_rule init_words at_ledger
+
 -- and `--json`
 abbrev pub init_app : App
-init_app = with_rule init_words as_json
+init_app = with_rule init_from as_json
 
 -- a number of workers: 0 to 64, as the value of `--workers`
 abbrev pub workers : Rule
@@ -136,6 +148,14 @@ explain_words = with_rule (new_app (codes "explain")) (required (codes "FAULT"))
 abbrev pub explain_app : App
 explain_app = with_rule explain_words as_json
 
+-- `migrate OLD NEW`
+abbrev pub migrate_words : App
+migrate_words = with_rule (with_rule (new_app (codes "migrate")) (required (codes "OLD"))) (required (codes "NEW"))
+
+-- and `--json`
+abbrev pub migrate_app : App
+migrate_app = with_rule migrate_words as_json
+
 -- `pfx`: one of its subcommands has to follow, and each of them tells the version too
 abbrev pub bare_app : App
 bare_app = on_top (λ s. record s { subcommand_required = true; has_version = true; propagate_version = true }) (new_app (codes "pfx"))
@@ -146,11 +166,13 @@ pfx_app =
     with_subcommand
     (with_subcommand
     (with_subcommand
+    (with_subcommand
     (with_subcommand (with_subcommand (with_subcommand
     (with_subcommand (with_subcommand (with_subcommand bare_app plan_app.top) init_app.top) run_app.top) status_app.top) replay_app.top) show_app.top)
     draw_app.top)
     check_app.top)
-    explain_app.top
+    explain_app.top)
+    migrate_app.top
 
 -- the command is this one, with no global argument
 abbrev pub IsCommand : Command → App → Type 0

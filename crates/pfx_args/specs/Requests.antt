@@ -12,8 +12,8 @@ use Rattle.pfx_args.specs.declared.request.Request.TheVariants as request
 
 -- a request, with its texts; the last of those that can be printed as JSON says whether they are
 pub data Asked : Type 0 where
-  plan : Text → ℕ → Option Text → Bool → Asked
-  init : Text → Text → Bool → Asked
+  plan : Text → ℕ → Option Text → Bool → Bool → Asked
+  init : Text → Text → Option Text → Bool → Asked
   run : Text → Text → Option ℕ → Option ℕ → Bool → Bool → Asked
   status : Text → Bool → Asked
   replay : Text → Bool → Asked
@@ -21,11 +21,12 @@ pub data Asked : Type 0 where
   draw : Text → ℕ → Option Text → Asked
   check : Text → Bool → Asked
   explain : Text → Bool → Asked
+  migrate : Text → Text → Bool → Asked
 
 -- the request that a value of the code is
 abbrev pub asked_by : Request → Asked
-asked_by (request.Plan set slots at json) = plan set.now slots (option_map (λ s. s.now) at) json
-asked_by (request.Init set file json) = init set.now file.now json
+asked_by (request.Plan set slots at ledger json) = plan set.now slots (option_map (λ s. s.now) at) ledger json
+asked_by (request.Init set file at json) = init set.now file.now (option_map (λ s. s.now) at) json
 asked_by (request.Run file script workers batch strict json) = run file.now script.now workers batch strict json
 asked_by (request.Status file json) = status file.now json
 asked_by (request.Replay file json) = replay file.now json
@@ -33,6 +34,7 @@ asked_by (request.Show file task json) = show file.now task json
 asked_by (request.Draw set slots at) = draw set.now slots (option_map (λ s. s.now) at)
 asked_by (request.Check set json) = check set.now json
 asked_by (request.Explain fault json) = explain fault.now json
+asked_by (request.Migrate old new json) = migrate old.now new.now json
 
 -- one digit or more, of a number of 32 bits
 abbrev pub is_number : Text → Bool
@@ -57,24 +59,27 @@ is_yes (Some text) = bytes_eq text (codes "true")
 abbrev pub flag_at : Text → List Row → Bool
 flag_at id rows = is_yes (text_at id rows)
 
--- a plan, if both its words are there, with the ledger to begin with, if there is one, and whether it is printed as JSON
-abbrev pub plan_of : Option Text → Option ℕ → Option Text → Bool → Option Asked
-plan_of (Some set) (Some slots) at json = Some (plan set slots at json)
-plan_of (Some set) None at json = None
-plan_of None slots at json = None
+-- a plan, if both its words are there, with the ledger to begin with, if there is one, whether the ledger that it leaves is
+-- printed too, and whether it is printed as JSON
+abbrev pub plan_of : Option Text → Option ℕ → Option Text → Bool → Bool → Option Asked
+plan_of (Some set) (Some slots) at ledger json = Some (plan set slots at ledger json)
+plan_of (Some set) None at ledger json = None
+plan_of None slots at ledger json = None
 
 -- the plan that is asked for by what was found
 abbrev pub plan_in : List Row → Option Asked
-plan_in rows = plan_of (text_at (codes "SET") rows) (number_at (codes "SLOTS") rows) (text_at (codes "at") rows) (flag_at (codes "json") rows)
+plan_in rows =
+    plan_of (text_at (codes "SET") rows) (number_at (codes "SLOTS") rows) (text_at (codes "at") rows) (flag_at (codes "ledger") rows)
+    (flag_at (codes "json") rows)
 
--- a new store, if both its words are there, and whether it is told as JSON
-abbrev pub init_of : Option Text → Option Text → Bool → Option Asked
-init_of (Some set) (Some file) json = Some (init set file json)
-init_of (Some set) None json = None
-init_of None file json = None
+-- a new store, if both its words are there, with the ledger to begin with, if there is one, and whether it is told as JSON
+abbrev pub init_of : Option Text → Option Text → Option Text → Bool → Option Asked
+init_of (Some set) (Some file) at json = Some (init set file at json)
+init_of (Some set) None at json = None
+init_of None file at json = None
 
 abbrev pub init_in : List Row → Option Asked
-init_in rows = init_of (text_at (codes "SET") rows) (text_at (codes "FILE") rows) (flag_at (codes "json") rows)
+init_in rows = init_of (text_at (codes "SET") rows) (text_at (codes "FILE") rows) (text_at (codes "at") rows) (flag_at (codes "json") rows)
 
 -- a run, if both its words are there, with the number of workers and that of slots kept at once, if there are any, whether it
 -- ends at its first refused record, and whether its lines are JSON
@@ -138,6 +143,15 @@ explain_of None json = None
 abbrev pub explain_in : List Row → Option Asked
 explain_in rows = explain_of (text_at (codes "FAULT") rows) (flag_at (codes "json") rows)
 
+-- a store of this version, if both its words are there, and whether it is told as JSON
+abbrev pub migrate_of : Option Text → Option Text → Bool → Option Asked
+migrate_of (Some old) (Some new) json = Some (migrate old new json)
+migrate_of (Some old) None json = None
+migrate_of None new json = None
+
+abbrev pub migrate_in : List Row → Option Asked
+migrate_in rows = migrate_of (text_at (codes "OLD") rows) (text_at (codes "NEW") rows) (flag_at (codes "json") rows)
+
 -- what the subcommand of this name asks for, by what was found for its arguments
 abbrev pub asked_of : Text → List Row → Option Asked
 asked_of name rows =
@@ -150,7 +164,8 @@ asked_of name rows =
     else (if bytes_eq name (codes "draw") then draw_in rows
     else (if bytes_eq name (codes "check") then check_in rows
     else (if bytes_eq name (codes "explain") then explain_in rows
-    else None))))))))
+    else (if bytes_eq name (codes "migrate") then migrate_in rows
+    else None)))))))))
 
 abbrev pub asked_in : Option (Text × List Row) → Option Asked
 asked_in None = None

@@ -1,4 +1,4 @@
-//! `pfx init SET FILE --json`.
+//! `pfx init SET FILE --at LEDGER --json`.
 
 ghost use Rattle.std.specs.Prelude.{◌≡◌, IfOk, option_map};
 ghost use Rattle.clap.specs.Matches.{found_of};
@@ -8,6 +8,7 @@ ghost use Rattle.pfx_args.specs.Requests.{asked_by, init_in};
 
 use crate::Request;
 use crate::arguments::{flag_under, json_flag, required_word, subcommand, text_under};
+use crate::plan::at_option;
 use clap::{ArgMatches, Command};
 use std::alloc::{AllocError, Global};
 
@@ -25,14 +26,18 @@ For examples/thirds.toml it is
 
   created m=2 real=3 idle=0 hyper=3 size=2100163
 
+With --at T:A,A,.. the store begins from a ledger, as a plan does: its first slot is T, and the tasks got
+A, A and so on of the slots before it, idle tasks too.
+
 With --json it is an object instead, and a refusal is one too:
 
   {\"created\":{\"hyper\":3,\"idle\":0,\"m\":2,\"real\":3,\"size\":2100163}}";
 
 const EXAMPLE: &str = "Example:
-  pfx init examples/thirds.toml thirds.pfx    a store for three tasks of weight 2/3";
+  pfx init examples/thirds.toml thirds.pfx                 a store for three tasks of weight 2/3
+  pfx init examples/thirds.toml later.pfx --at 2:2,1,1     and one whose first slot is 2";
 
-// The command without its flag.
+// The command without its options.
 fn bare_init<'a>(alloc: Global) -> Result<Command<'a>, AllocError>
     ensures { IfOk result (λ c. IsCommand c init_words) }
 {
@@ -45,7 +50,9 @@ fn bare_init<'a>(alloc: Global) -> Result<Command<'a>, AllocError>
 pub(crate) fn init_command<'a>(alloc: Global) -> Result<Command<'a>, AllocError>
     ensures { IfOk result (λ c. IsCommand c init_app) }
 {
-    bare_init(alloc)?.arg(json_flag(alloc))
+    bare_init(alloc)?
+        .arg(at_option(alloc))?
+        .arg(json_flag(alloc))
 }
 
 pub(crate) fn init_request<'a>(matches: &ArgMatches<'a>) -> Option<Request<'a>>
@@ -53,6 +60,12 @@ pub(crate) fn init_request<'a>(matches: &ArgMatches<'a>) -> Option<Request<'a>>
 {
     let set = text_under(matches, "SET")?;
     let file = text_under(matches, "FILE")?;
+    let at = text_under(matches, "at");
     let json = flag_under(matches, "json");
-    Some(Request::Init { set, file, json })
+    Some(Request::Init {
+        set,
+        file,
+        at,
+        json,
+    })
 }

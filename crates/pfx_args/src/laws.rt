@@ -4,7 +4,7 @@ ghost use Rattle.std.specs.Prelude.{◌≡◌, ◌∷◌, [], Some, None, true, 
 ghost use Rattle.std.specs.Str.Parse.{digits_value, starts_with_minus};
 ghost use Rattle.clap.specs.Takes.{takes};
 ghost use Rattle.pfx_args.specs.Commands.{pfx_app};
-ghost use Rattle.pfx_args.specs.Requests.{IsBatch, IsDrawnSlots, IsSlots, IsTask, IsWorkers, asked, check, draw, explain, show, plan, init, run, status};
+ghost use Rattle.pfx_args.specs.Requests.{IsBatch, IsDrawnSlots, IsSlots, IsTask, IsWorkers, asked, check, draw, explain, show, plan, init, migrate, run, status};
 ghost use Rattle.pfx_args.specs.Requests.{replay};
 
 /// `pfx plan SET SLOTS`: for any `set` that doesn't begin with a hyphen, and any `slots` of digits that write 0 to
@@ -14,7 +14,7 @@ pub fn plain_plan(program: &str, set: &str, slots: &str)
     requires slots { IsSlots slots.now }
     ensures taken { takes pfx_app (program.now ∷ codes "plan" ∷ set.now ∷ slots.now ∷ []) ≡ true }
     ensures asked { asked (program.now ∷ codes "plan" ∷ set.now ∷ slots.now ∷ [])
-        ≡ Some (plan set.now (digits_value 10 slots.now) None false) }
+        ≡ Some (plan set.now (digits_value 10 slots.now) None false false) }
 {}
 
 /// `pfx init SET FILE`: for any `set` and `file` that don't begin with a hyphen, the command takes these words, and they
@@ -23,7 +23,7 @@ pub fn plain_init(program: &str, set: &str, file: &str)
     requires set { starts_with_minus set.now ≡ false }
     requires file { starts_with_minus file.now ≡ false }
     ensures taken { takes pfx_app (program.now ∷ codes "init" ∷ set.now ∷ file.now ∷ []) ≡ true }
-    ensures asked { asked (program.now ∷ codes "init" ∷ set.now ∷ file.now ∷ []) ≡ Some (init set.now file.now false) }
+    ensures asked { asked (program.now ∷ codes "init" ∷ set.now ∷ file.now ∷ []) ≡ Some (init set.now file.now None false) }
 {}
 
 /// `pfx run FILE SCRIPT`: for any `file` and `script` that don't begin with a hyphen, the command takes these words, and
@@ -73,14 +73,14 @@ pub fn standard_plan(program: &str, slots: &str)
     requires slots { IsSlots slots.now }
     ensures taken { takes pfx_app (program.now ∷ codes "plan" ∷ codes "-" ∷ slots.now ∷ []) ≡ true }
     ensures asked { asked (program.now ∷ codes "plan" ∷ codes "-" ∷ slots.now ∷ [])
-        ≡ Some (plan (codes "-") (digits_value 10 slots.now) None false) }
+        ≡ Some (plan (codes "-") (digits_value 10 slots.now) None false false) }
 {}
 
 /// `pfx init - FILE`: the same of a new store's set.
 pub fn standard_init(program: &str, file: &str)
     requires file { starts_with_minus file.now ≡ false }
     ensures taken { takes pfx_app (program.now ∷ codes "init" ∷ codes "-" ∷ file.now ∷ []) ≡ true }
-    ensures asked { asked (program.now ∷ codes "init" ∷ codes "-" ∷ file.now ∷ []) ≡ Some (init (codes "-") file.now false) }
+    ensures asked { asked (program.now ∷ codes "init" ∷ codes "-" ∷ file.now ∷ []) ≡ Some (init (codes "-") file.now None false) }
 {}
 
 /// `pfx run FILE -`: a hyphen alone is taken as a script too, which is standard input.
@@ -164,7 +164,7 @@ pub fn plain_json_plan(program: &str, set: &str, slots: &str)
     requires slots { IsSlots slots.now }
     ensures taken { takes pfx_app (program.now ∷ codes "plan" ∷ set.now ∷ slots.now ∷ codes "--json" ∷ []) ≡ true }
     ensures asked { asked (program.now ∷ codes "plan" ∷ set.now ∷ slots.now ∷ codes "--json" ∷ [])
-        ≡ Some (plan set.now (digits_value 10 slots.now) None true) }
+        ≡ Some (plan set.now (digits_value 10 slots.now) None false true) }
 {}
 
 /// `pfx run FILE SCRIPT --json`: the same of a run.
@@ -203,7 +203,7 @@ pub fn plain_json_init(program: &str, set: &str, file: &str)
     requires set { starts_with_minus set.now ≡ false }
     requires file { starts_with_minus file.now ≡ false }
     ensures taken { takes pfx_app (program.now ∷ codes "init" ∷ set.now ∷ file.now ∷ codes "--json" ∷ []) ≡ true }
-    ensures asked { asked (program.now ∷ codes "init" ∷ set.now ∷ file.now ∷ codes "--json" ∷ []) ≡ Some (init set.now file.now true) }
+    ensures asked { asked (program.now ∷ codes "init" ∷ set.now ∷ file.now ∷ codes "--json" ∷ []) ≡ Some (init set.now file.now None true) }
 {}
 
 /// `pfx replay FILE --json`: the same of a replay.
@@ -225,4 +225,42 @@ pub fn plain_json_explain(program: &str, fault: &str)
     requires fault { starts_with_minus fault.now ≡ false }
     ensures taken { takes pfx_app (program.now ∷ codes "explain" ∷ fault.now ∷ codes "--json" ∷ []) ≡ true }
     ensures asked { asked (program.now ∷ codes "explain" ∷ fault.now ∷ codes "--json" ∷ []) ≡ Some (explain fault.now true) }
+{}
+
+/// `pfx plan SET SLOTS --ledger`: the same words as of `pfx plan SET SLOTS` with the flag ask for that plan and the ledger that it
+/// leaves.
+pub fn plain_ledger(program: &str, set: &str, slots: &str)
+    requires set { starts_with_minus set.now ≡ false }
+    requires slots { IsSlots slots.now }
+    ensures taken { takes pfx_app (program.now ∷ codes "plan" ∷ set.now ∷ slots.now ∷ codes "--ledger" ∷ []) ≡ true }
+    ensures asked { asked (program.now ∷ codes "plan" ∷ set.now ∷ slots.now ∷ codes "--ledger" ∷ [])
+        ≡ Some (plan set.now (digits_value 10 slots.now) None true false) }
+{}
+
+/// `pfx init SET FILE --at LEDGER`: the same words as of `pfx init SET FILE` with any `at` that doesn't begin with a hyphen ask for a
+/// new store that begins from that ledger.
+pub fn plain_init_at(program: &str, set: &str, file: &str, at: &str)
+    requires set { starts_with_minus set.now ≡ false }
+    requires file { starts_with_minus file.now ≡ false }
+    requires at { starts_with_minus at.now ≡ false }
+    ensures taken { takes pfx_app (program.now ∷ codes "init" ∷ set.now ∷ file.now ∷ codes "--at" ∷ at.now ∷ []) ≡ true }
+    ensures asked { asked (program.now ∷ codes "init" ∷ set.now ∷ file.now ∷ codes "--at" ∷ at.now ∷ [])
+        ≡ Some (init set.now file.now (Some at.now) false) }
+{}
+
+/// `pfx migrate OLD NEW`: for any `old` and `new` that don't begin with a hyphen, the command takes these words, and they ask for
+/// a store in the one file of that in the other.
+pub fn plain_migrate(program: &str, old: &str, new: &str)
+    requires old { starts_with_minus old.now ≡ false }
+    requires new { starts_with_minus new.now ≡ false }
+    ensures taken { takes pfx_app (program.now ∷ codes "migrate" ∷ old.now ∷ new.now ∷ []) ≡ true }
+    ensures asked { asked (program.now ∷ codes "migrate" ∷ old.now ∷ new.now ∷ []) ≡ Some (migrate old.now new.now false) }
+{}
+
+/// `pfx migrate OLD NEW --json`: the same words with the flag ask for that store, told as JSON.
+pub fn plain_json_migrate(program: &str, old: &str, new: &str)
+    requires old { starts_with_minus old.now ≡ false }
+    requires new { starts_with_minus new.now ≡ false }
+    ensures taken { takes pfx_app (program.now ∷ codes "migrate" ∷ old.now ∷ new.now ∷ codes "--json" ∷ []) ≡ true }
+    ensures asked { asked (program.now ∷ codes "migrate" ∷ old.now ∷ new.now ∷ codes "--json" ∷ []) ≡ Some (migrate old.now new.now true) }
 {}

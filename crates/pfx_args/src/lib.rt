@@ -13,6 +13,7 @@ mod draw;
 mod explain;
 mod init;
 pub mod laws;
+mod migrate;
 mod plan;
 mod program;
 mod replay;

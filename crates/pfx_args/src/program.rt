@@ -15,6 +15,7 @@ use crate::check::{check_command, check_request};
 use crate::draw::{draw_command, draw_request};
 use crate::explain::{explain_command, explain_request};
 use crate::init::{init_command, init_request};
+use crate::migrate::{migrate_command, migrate_request};
 use crate::plan::{plan_command, plan_request};
 use crate::replay::{replay_command, replay_request};
 use crate::run::{run_command, run_request};
@@ -41,7 +42,8 @@ const EXAMPLE: &str = "Example:
   pfx show thirds.pfx                           what its jobs have computed
   pfx draw examples/thirds.toml 12              twelve slots of them as a picture
   pfx check examples/thirds.toml                what these tasks ask for, or all that is wrong with them
-  pfx explain BadWeight                         what this fault means";
+  pfx explain BadWeight                         what this fault means
+  pfx migrate old.pfx new.pfx                   a store of this version from one of version 1";
 
 fn bare_command<'a>(alloc: Global) -> Command<'a>
     ensures { IsCommand result bare_app }
@@ -67,7 +69,8 @@ fn pfx_command<'a>(alloc: Global) -> Result<Command<'a>, AllocError>
         .subcommand(show_command(alloc)?)?
         .subcommand(draw_command(alloc)?)?
         .subcommand(check_command(alloc)?)?
-        .subcommand(explain_command(alloc)?)
+        .subcommand(explain_command(alloc)?)?
+        .subcommand(migrate_command(alloc)?)
 }
 
 fn request_in<'a>(matches: &ArgMatches<'a>) -> Option<Request<'a>>
@@ -84,6 +87,7 @@ fn request_in<'a>(matches: &ArgMatches<'a>) -> Option<Request<'a>>
         "draw" => draw_request(inner),
         "check" => check_request(inner),
         "explain" => explain_request(inner),
+        "migrate" => migrate_request(inner),
         _ => None,
     }
 }

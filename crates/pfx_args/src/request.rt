@@ -11,6 +11,8 @@ pub enum Request<'a> {
         slots: u32,
         /// The ledger to begin with, as `T:A,A,..`; without one the plan begins at slot 0.
         at: Option<&'a str>,
+        /// Whether one more line says which ledger the last row leaves.
+        ledger: bool,
         /// Whether each line is an object of JSON.
         json: bool,
     },
@@ -20,6 +22,8 @@ pub enum Request<'a> {
         set: &'a str,
         /// The path of the store's file.
         file: &'a str,
+        /// The ledger to begin with, as `T:A,A,..`; without one the store begins at slot 0.
+        at: Option<&'a str>,
         /// Whether the line is an object of JSON.
         json: bool,
     },
@@ -84,6 +88,15 @@ pub enum Request<'a> {
         /// The fault's number or its name.
         fault: &'a str,
         /// Whether it is said by an object of JSON.
+        json: bool,
+    },
+    /// Make a store of this version from one of version 1.
+    Migrate {
+        /// The path of the file of the store of version 1, which is only read.
+        old: &'a str,
+        /// The path of the new store's file.
+        new: &'a str,
+        /// Whether the line is an object of JSON.
         json: bool,
     },
 }

@@ -222,7 +222,7 @@ In a run it is a line of the output, and the run goes on.",
     Entry {
         fault: Fault::NotNext { task: 0 },
         text: "The answer isn't of the next unit of this task: its number is the last answered one plus 1, and at most the
-slots that the task got.
+slots that the task got. Behind new weights both are counted from 0 again.
 
     submit,0,own,8,chunk/8     # unit 8 was answered before, or unit 7 wasn't, or the task got 7 slots
 
@@ -264,7 +264,9 @@ Open it again by a new run.",
         fault: Fault::WrongVersion { version: 5 },
         text: "The store is of another version than 2, the one that this program reads. Nothing is changed.
 
-Use the program that made it.",
+    pfx migrate old.pfx new.pfx     # for a store of version 1
+
+Make a store of this version from one of version 1; of another version, use the program that made it.",
     },
     Entry {
         fault: Fault::NotEmpty,

@@ -96,6 +96,8 @@ pub enum Trouble<'a> {
     Dash,
     /// A run has it open.
     Held,
+    /// It is to be migrated, and is of this version.
+    Current,
     /// The disk has failed, as the system says.
     Device(&'a str),
     /// There is no thread to work on it.
@@ -115,6 +117,7 @@ fn texts_of(trouble: Trouble<'_>) -> Texts {
         Trouble::Unmade(_, true) => texts::UNMADE_LEFT,
         Trouble::Dash => texts::DASH,
         Trouble::Held => texts::HELD,
+        Trouble::Current => texts::NO_MIGRATION,
         Trouble::Device(_) => texts::DEVICE,
         Trouble::Threads => texts::THREADS,
     }
@@ -170,7 +173,12 @@ fn said_of<'a>(path: &'a str, script: Option<&'a str>, fault: Fault) -> Option<S
             say(texts, &[file, Word::Number(at), part])
         }
         Fault::WrongVersion { version } => {
-            say(texts::VERSION, &[file, Word::Number(u64::from(version))])
+            let texts = if version == 1 {
+                texts::VERSION_ONE
+            } else {
+                texts::VERSION
+            };
+            say(texts, &[file, Word::Number(u64::from(version))])
         }
         Fault::NotEmpty => say(texts::NOT_EMPTY, &[file]),
         Fault::Busy => say(texts::BUSY, &[file]),

@@ -485,6 +485,16 @@ pub(crate) const VERSION: Texts = Texts {
     change: "Use the program that made it. Nothing is changed in it.",
 };
 
+pub(crate) const VERSION_ONE: Texts = Texts {
+    what: "store {0}: it is of version {1}, and this program reads version 2",
+    change: "pfx migrate OLD NEW makes a store of this version from it.",
+};
+
+pub(crate) const NO_MIGRATION: Texts = Texts {
+    what: "store {2}: it is of version 2, as this program's stores are",
+    change: "Use it as it is: only a store of version 1 has to be migrated.",
+};
+
 pub(crate) const NOT_EMPTY: Texts = Texts {
     what: "store {0}: the file isn't empty",
     change: "Name another file; or delete this one, if nothing in it is wanted.",

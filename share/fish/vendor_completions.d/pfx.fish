@@ -36,10 +36,13 @@ complete -c pfx -n __fish_use_subcommand -a show -d 'Show what the jobs of a sto
 complete -c pfx -n __fish_use_subcommand -a draw -d 'Draw the first slots of a plan as a picture'
 complete -c pfx -n __fish_use_subcommand -a check -d 'Say what a task set asks for, or all that is wrong with it'
 complete -c pfx -n __fish_use_subcommand -a explain -d 'Say what a fault means'
+complete -c pfx -n __fish_use_subcommand -a migrate -d 'Make a store of this version from one of version 1'
 complete -c pfx -n __fish_use_subcommand -a help -d 'Print this message or the help of the given subcommand(s)'
 
 complete -c pfx -n '__fish_seen_subcommand_from plan' -l at -x -d 'Begin with a ledger, T:A,A,..'
+complete -c pfx -n '__fish_seen_subcommand_from plan' -l ledger -d 'Print one more line: the ledger behind the last slot'
 complete -c pfx -n '__fish_seen_subcommand_from plan' -l json -d 'Print an object of JSON a line'
+complete -c pfx -n '__fish_seen_subcommand_from init' -l at -x -d 'Begin with a ledger, T:A,A,..'
 complete -c pfx -n '__fish_seen_subcommand_from init' -l json -d 'Print an object of JSON a line'
 complete -c pfx -n '__fish_seen_subcommand_from run' -l workers -x -d 'How many workers run the jobs, 0 to 64'
 complete -c pfx -n '__fish_seen_subcommand_from run' -l batch -x -d 'How many slots of a record are kept at once, 1 to 16'
@@ -51,6 +54,7 @@ complete -c pfx -n '__fish_seen_subcommand_from show' -l json -d 'Print an objec
 complete -c pfx -n '__fish_seen_subcommand_from draw' -l at -x -d 'Begin with a ledger, T:A,A,..'
 complete -c pfx -n '__fish_seen_subcommand_from check' -l json -d 'Print an object of JSON a line'
 complete -c pfx -n '__fish_seen_subcommand_from explain' -l json -d 'Print an object of JSON a line'
+complete -c pfx -n '__fish_seen_subcommand_from migrate' -l json -d 'Print an object of JSON a line'
 
 complete -c pfx -k -n '__pfx_at plan 1' -a '(__fish_complete_suffix .toml)'
 complete -c pfx -k -n '__pfx_at init 1' -a '(__fish_complete_suffix .toml)'
@@ -63,4 +67,6 @@ complete -c pfx -n '__pfx_at show 1' -F
 complete -c pfx -k -n '__pfx_at draw 1' -a '(__fish_complete_suffix .toml)'
 complete -c pfx -k -n '__pfx_at check 1' -a '(__fish_complete_suffix .toml)'
 complete -c pfx -n '__pfx_at explain 1'
-complete -c pfx -n '__pfx_at help 1' -a 'plan init run status replay show draw check explain help'
+complete -c pfx -n '__pfx_at migrate 1' -F
+complete -c pfx -n '__pfx_at migrate 2' -F
+complete -c pfx -n '__pfx_at help 1' -a 'plan init run status replay show draw check explain migrate help'

@@ -11,4 +11,5 @@ returns c =
     let six = with_one_more _ _ _ _ _ five c.in_ok-show_command.ensures c.in_ok-subcommand-6.ensures in
     let seven = with_one_more _ _ _ _ _ six c.in_ok-draw_command.ensures c.in_ok-subcommand-7.ensures in
     let eight = with_one_more _ _ _ _ _ seven c.in_ok-check_command.ensures c.in_ok-subcommand-8.ensures in
-    with_last _ _ _ _ _ eight c.in_ok-explain_command.ensures c.subcommand-9.ensures
+    let nine = with_one_more _ _ _ _ _ eight c.in_ok-explain_command.ensures c.in_ok-subcommand-9.ensures in
+    with_last _ _ _ _ _ nine c.in_ok-migrate_command.ensures c.subcommand-10.ensures
