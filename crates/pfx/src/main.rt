@@ -15,6 +15,7 @@ mod check;
 mod draw;
 mod explain;
 mod files;
+mod migrate;
 mod notes;
 mod plan;
 mod progress;
@@ -29,6 +30,7 @@ use crate::check::{check, refused_by_all};
 use crate::draw::draw;
 use crate::explain::explain;
 use crate::files::taken_streams;
+use crate::migrate::migrate_store;
 use crate::plan::plan;
 use crate::replay::replay;
 use crate::run::run;
@@ -126,8 +128,14 @@ fn carried_out<R: Threads + Wait + Clock + Copy + Drop + Send + Sync + 'static>(
 ) -> Result<u8, Fault> {
     let form = form_of(&request);
     match request {
-        Request::Plan { set, slots, at, .. } => plan(rt, alloc, set, at, slots, form, traces)?,
-        Request::Init { set, file, .. } => init(rt, alloc, set, file, form, traces)?,
+        Request::Plan {
+            set,
+            slots,
+            at,
+            ledger,
+            ..
+        } => plan(rt, alloc, set, at, slots, ledger, form, traces)?,
+        Request::Init { set, file, at, .. } => init(rt, alloc, set, file, at, form, traces)?,
         Request::Run {
             file,
             script,
@@ -163,6 +171,7 @@ fn carried_out<R: Threads + Wait + Clock + Copy + Drop + Send + Sync + 'static>(
                 return Ok(unexplained(rt, alloc, fault));
             }
         }
+        Request::Migrate { old, new, .. } => migrate_store(rt, alloc, old, new, form, traces)?,
     }
     Ok(0)
 }

@@ -197,9 +197,8 @@ fn unmade_note(
         return trouble_note(alloc, path, Trouble::Unmade(why, unmade.is_left));
     };
     match error.kind() {
-        ErrorKind::StorageFull | ErrorKind::QuotaExceeded if !unmade.is_left => {
-            trouble_note(alloc, path, Trouble::NoSpace(unmade.needed))
-        }
+        ErrorKind::StorageFull | ErrorKind::QuotaExceeded if !unmade.is_left && unmade.needed > 0 =>
+            { trouble_note(alloc, path, Trouble::NoSpace(unmade.needed)) }
         _ => {
             let why = words_of(alloc, error)?;
             trouble_note(alloc, path, Trouble::Unmade(why.as_str(), unmade.is_left))
@@ -280,6 +279,10 @@ fn input_failed(
         }
         Request::Status { file, .. } | Request::Replay { file, .. } | Request::Show { file, .. } =>
             { store_word_note(rt, alloc, file) }
+        Request::Migrate { old, new, .. } => {
+            let note = store_word_note(rt, alloc, old)?;
+            first_of(note, made_note(rt, alloc, new, traces.unopened))
+        }
         Request::Explain { .. } => Ok(None),
     }
 }
@@ -334,7 +337,7 @@ fn run_note(
 fn stands_of(request: &Request<'_>) -> Stands {
     match request {
         Request::Run { .. } => Stands::Run,
-        Request::Init { .. } => Stands::NewStore,
+        Request::Init { .. } | Request::Migrate { .. } => Stands::NewStore,
         _ => Stands::Nothing,
     }
 }
@@ -365,7 +368,7 @@ pub(crate) fn note_of(
             set_note(alloc, set, text, *at, fault)
         }
         Request::Check { set, .. } => set_note(alloc, set, text, None, fault),
-        Request::Init { set, file, .. } => match set_note(alloc, set, text, None, fault)? {
+        Request::Init { set, file, at, .. } => match set_note(alloc, set, text, *at, fault)? {
             Some(note) => Ok(Some(note)),
             None => match traces.unmade {
                 Some(unmade) if fault == Fault::Device => unmade_note(alloc, file, unmade, said),
@@ -382,6 +385,14 @@ pub(crate) fn note_of(
                     _ => store_note(alloc, file, None, fault),
                 }
             }
+        Request::Migrate { old, new, .. } => match (fault, traces.unmade) {
+            (Fault::NotEmpty, _) => store_note(alloc, new, None, fault),
+            (Fault::Busy, _) => trouble_note(alloc, old, Trouble::Held),
+            (Fault::WrongVersion { version: 2 }, _) => trouble_note(alloc, old, Trouble::Current),
+            (Fault::Device, Some(unmade)) => unmade_note(alloc, new, unmade, said),
+            (Fault::Device, None) => device_note(rt, alloc, old, ANY_CALL, said),
+            _ => store_note(alloc, old, None, fault),
+        },
         Request::Explain { .. } => Ok(None),
     }
 }

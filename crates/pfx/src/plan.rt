@@ -1,4 +1,4 @@
-//! `pfx plan SET SLOTS --at LEDGER --json`.
+//! `pfx plan SET SLOTS --at LEDGER --ledger --json`.
 
 use crate::files::{fault_of, input};
 use crate::progress::Told;
@@ -8,13 +8,14 @@ use pfx_program::{Form, run_plan};
 use std::alloc::Global;
 use std::io::{BufWriter, Write};
 
-/// Prints the plan. The traces have the set's text, as far as it was read.
+/// Prints the plan, and the ledger that it leaves if that is asked for. The traces have the set's text, as far as it was read.
 pub(crate) fn plan(
     rt: &HostRuntime,
     alloc: Global,
     set: &str,
     at: Option<&str>,
     slots: u32,
+    leaving: bool,
     form: Form,
     traces: &mut Traces,
 ) -> Result<(), Fault> {
@@ -23,7 +24,15 @@ pub(crate) fn plan(
         return Err(Fault::NoMemory);
     };
     let mut output = Told::new(rt, alloc, output, "slots", Some(slots));
-    let planned = run_plan(alloc, &mut input, at, form, &mut output, u64::from(slots));
+    let planned = run_plan(
+        alloc,
+        &mut input,
+        at,
+        form,
+        &mut output,
+        u64::from(slots),
+        leaving,
+    );
     let flushed = output.flush();
     output.clear();
     planned?;

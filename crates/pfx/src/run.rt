@@ -1,6 +1,6 @@
 //! `pfx run FILE SCRIPT`.
 
-ghost use Rattle.std.specs.Prelude.{◌≡◌, ◌<◌};
+ghost use Rattle.std.specs.Prelude.{◌≡◌, ◌<◌, unwrap_or};
 ghost use Rattle.pfx_disk.specs.File.{file_view};
 ghost use Rattle.pfx_front.specs.Starting.{Begins};
 ghost use Rattle.pfx_kinds.specs.AnyKind.{any_kind};
@@ -19,7 +19,7 @@ use pfx_front_engine::engine::WINDOW;
 use pfx_front_engine::scripts::run_served;
 use pfx_jobs::quantum::{Done, Quantum};
 use pfx_kinds::any::AnyJob;
-use pfx_program::Form;
+use pfx_program::{Form, level_slot};
 use pfx_script::{Script, Whole};
 use pfx_store::Store;
 use std::alloc::Global;
@@ -63,6 +63,7 @@ fn run_alone<N: Charted>(
     );
     output.clear();
     traces.keep_said(ran.store.disk());
+    traces.level.set(Some(level_slot(ran.store.state())));
     ran.result
 }
 
@@ -101,10 +102,19 @@ fn run_by<N: Charted, R: Threads + Wait + Clock + Copy + Drop + Send + Sync + 's
     );
     output.clear();
     traces.keep_said(served.store.disk());
+    traces.level.set(Some(level_slot(served.store.state())));
     served.result
 }
 
-/// Runs a script on the store of a file by so many workers, as many as its set has if none are said, or for 0 by one thread. Up
+// By how many workers a store is run: those that are said, or else as many as the weights in force have, which need not be those of
+// the header.
+fn workers_of(said: Option<u32>, store: &Store<FileDisk, AnyJob>) -> u32
+    ensures { result ≡ unwrap_or said store.now.state.ledger.set.workers }
+{
+    said.unwrap_or(store.state().columns().workers())
+}
+
+/// Runs a script on the store of a file by so many workers, as many as its weights have if none are said, or for 0 by one thread. Up
 /// to `window` slots of a record are kept at once; if that isn't said, it is 1, or 64 with workers. Records that stand ready together
 /// are kept at once too, up to 16. Lines are printed as they come.
 pub(crate) fn run<R: Threads + Wait + Clock + Copy + Drop + Send + Sync + 'static>(
@@ -123,7 +133,7 @@ pub(crate) fn run<R: Threads + Wait + Clock + Copy + Drop + Send + Sync + 'stati
         Whole::new(script_of(input(rt, script)?, &traces.seen)),
     );
     let store = opened(alloc, disk(rt, file)?, traces)?;
-    let workers = workers.unwrap_or(store.state().columns().workers());
+    let workers = workers_of(workers, &store);
     if workers == 0 {
         let window = window.unwrap_or(1).max(1);
         run_alone::<Brand>(

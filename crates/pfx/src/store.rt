@@ -1,13 +1,14 @@
-//! `pfx init SET FILE`, `pfx status FILE`, `pfx show FILE TASK`.
+//! `pfx init SET FILE --at LEDGER`, `pfx status FILE`, `pfx show FILE TASK`.
 
-ghost use Rattle.std.specs.Prelude.{ℕ, List, IfOk};
+ghost use Rattle.std.specs.Prelude.{◌≡◌, ℕ, List, IfOk};
 ghost use Rattle.pfx_disk.specs.File.{file_view};
 ghost use Rattle.pfx_front.specs.Starting.{Begins};
+ghost use Rattle.pfx_header.specs.Headers.{IsSegmentSize};
 ghost use Rattle.pfx_kinds.specs.AnyKind.{any_kind};
 ghost use Rattle.pfx_store.specs.Noting.{IsHeldBy};
 
 use crate::files::{fault_of, input, new_disk, shared_disk, sync_directory};
-use crate::traces::{Traces, Unmade, output_of, set_source};
+use crate::traces::{SetRead, Traces, Unmade, output_of, set_source};
 use pfx_check::store_len;
 use pfx_disk::FileDisk;
 use pfx_engine::DurableEngine;
@@ -15,14 +16,21 @@ use pfx_engine::faults::{init_fault, open_fault, size_fault};
 use pfx_fault::Fault;
 use pfx_header::check_segment;
 use pfx_kinds::any::AnyJob;
-use pfx_program::{Form, created_line, read_task_set, run_show, run_status};
+use pfx_machine::State;
+use pfx_program::{Form, created_line, first_state, read_task_set, run_show, run_status};
 use pfx_store::Store;
+use pfx_weights::TaskSet;
 use std::alloc::Global;
 use std::fs;
 use std::io::{BufWriter, Write};
 
-// Takes away the file in which no store could be made, if it is new.
-fn taken_away(rt: &HostRuntime, file: &str, is_new: bool, needed: u64) -> Option<Unmade> {
+/// Takes away the file in which no store could be made, if it is new.
+pub(crate) fn taken_away(
+    rt: &HostRuntime,
+    file: &str,
+    is_new: bool,
+    needed: u64,
+) -> Option<Unmade> {
     if !is_new {
         return None;
     }
@@ -30,25 +38,42 @@ fn taken_away(rt: &HostRuntime, file: &str, is_new: bool, needed: u64) -> Option
     Some(Unmade { needed, is_left })
 }
 
-/// Makes a store of a set in a file, which is made if it is missing, and prints its line. The set's refusals and the
-/// segment's come before the file is touched. The file's directory is synced before the line is printed. A new file is taken away if no
-/// store is made in it.
+// The set of a file, and the state that a store of it begins with: at slot 0, or with the ledger that is given.
+fn begun(
+    rt: &HostRuntime,
+    alloc: Global,
+    set: &str,
+    at: Option<&str>,
+    read: &mut SetRead,
+) -> Result<(TaskSet, State<AnyJob>), Fault>
+    ensures set { IfOk result (λ begun. begun.1.ledger.set ≡ begun.0) }
+    ensures size { IfOk result (λ begun. IsSegmentSize begun.0.workers begun.1.segment) }
+{
+    let mut input = set_source(input(rt, set)?, read);
+    let (set, segment) = read_task_set(alloc, &mut input)?;
+    if let Err(fault) = check_segment(&set, segment) {
+        return Err(size_fault(fault));
+    }
+    let state = first_state(alloc, &set, segment, at)?;
+    Ok((set, state))
+}
+
+/// Makes a store of a set in a file, which is made if it is missing, and prints its line. The store begins at slot 0, or with the
+/// ledger that is given. The refusals of the set, of its segments and of the ledger come before the file is touched. The file's directory is
+/// synced before the line is printed. A new file is taken away if no store is made in it.
 pub(crate) fn init(
     rt: &HostRuntime,
     alloc: Global,
     set: &str,
     file: &str,
+    at: Option<&str>,
     form: Form,
     traces: &mut Traces,
 ) -> Result<(), Fault> {
-    let mut input = set_source(input(rt, set)?, &mut traces.set);
-    let (set, segment) = read_task_set(alloc, &mut input)?;
-    if let Err(fault) = check_segment(&set, segment) {
-        return Err(size_fault(fault));
-    }
-    let needed = store_len(&set, segment);
+    let (set, state) = begun(rt, alloc, set, at, &mut traces.set)?;
+    let needed = store_len(&set, state.segment());
     let (disk, is_new) = new_disk(rt, file, &mut traces.unopened)?;
-    let store = match Store::<FileDisk, AnyJob>::init(alloc, disk, &set, segment) {
+    let store = match Store::<FileDisk, AnyJob>::begin(alloc, disk, &set, state) {
         Ok(store) => store,
         Err((fault, disk)) => {
             traces.device.set(disk.said());

@@ -11,6 +11,7 @@ use pfx_objects::{also_line, error_line, warning_line};
 use pfx_program::Form;
 use std::alloc::{AllocError, Global};
 use std::io::{ErrorKind, Write};
+use std::str::from_utf8;
 
 /// What is said where there is no memory to say it in.
 const NO_MEMORY: &[u8] =
@@ -30,7 +31,8 @@ pub(crate) fn form_of(request: &Request<'_>) -> Form {
         | Request::Replay { json, .. }
         | Request::Show { json, .. }
         | Request::Check { json, .. }
-        | Request::Explain { json, .. } => *json,
+        | Request::Explain { json, .. }
+        | Request::Migrate { json, .. } => *json,
         Request::Draw { .. } => false,
     };
     if json { Form::Json } else { Form::Text }
@@ -180,8 +182,29 @@ fn warn_of(rt: &HostRuntime, alloc: Global, form: Form, words: &'static str, not
     }
 }
 
-// Says that records were refused: the first of them, and how many.
-fn warn_refused(rt: &HostRuntime, alloc: Global, form: Form, script: &str, seen: &Seen) {
+// The note of a refusal for a lag, with the next slot at which no task is ahead or behind.
+fn with_level(alloc: Global, note: Note, slot: u64) -> Note {
+    let mut note = note;
+    let more = match &note.more {
+        Some(more) => format!(in alloc; "The next of these is slot {slot}. {more}"),
+        None => format!(in alloc; "The next of these is slot {slot}."),
+    };
+    if let Ok(more) = more {
+        note.more = Some(more);
+    }
+    note
+}
+
+// Says that records were refused: the first of them, and how many. `level` is the next slot, behind the script, at which no task is ahead
+// or behind.
+fn warn_refused(
+    rt: &HostRuntime,
+    alloc: Global,
+    form: Form,
+    script: &str,
+    seen: &Seen,
+    level: Option<u64>,
+) {
     let Some(text) = text_of(rt, script) else {
         return;
     };
@@ -195,9 +218,16 @@ fn warn_refused(rt: &HostRuntime, alloc: Global, form: Form, script: &str, seen:
         refusal,
         seen.refused,
     );
-    if let Ok(note) = note {
-        warn_of(rt, alloc, form, "a record was refused", note);
-    }
+    let Ok(note) = note else {
+        return;
+    };
+    let note = match level {
+        Some(slot) if from_utf8(refusal).unwrap_or("").contains("NotLevel") => {
+            with_level(alloc, note, slot)
+        }
+        _ => note,
+    };
+    warn_of(rt, alloc, form, "a record was refused", note);
 }
 
 /// Warns of what a command that went well has passed over: keys of a set, refused records of a script.
@@ -216,7 +246,8 @@ pub(crate) fn warn(rt: &HostRuntime, alloc: Global, request: &Request<'_>, trace
         Request::Run { script, .. } => {
             let seen = traces.seen.get();
             if seen.refused > 0 {
-                warn_refused(rt, alloc, form, script, &seen);
+                let level = traces.level.get();
+                warn_refused(rt, alloc, form, script, &seen, level);
             }
         }
         _ => {}

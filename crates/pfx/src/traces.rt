@@ -124,7 +124,7 @@ impl Seen {
 /// A store that wasn't made, whose file was new.
 #[derive(Clone, Copy)]
 pub(crate) struct Unmade {
-    /// How many bytes it needs.
+    /// How many bytes it needs; 0 if that isn't known.
     pub(crate) needed: u64,
     /// Whether the file couldn't be taken away.
     pub(crate) is_left: bool,
@@ -152,6 +152,8 @@ pub(crate) struct Traces {
     pub(crate) device: Cell<Option<Error>>,
     /// What was seen of its output.
     pub(crate) seen: Cell<Seen>,
+    /// The next slot, by the store at the end, at which no task is ahead or behind.
+    pub(crate) level: Cell<Option<u64>>,
 }
 
 impl Traces {
@@ -165,6 +167,7 @@ impl Traces {
             unopened: None,
             device: Cell::new(None),
             seen: Cell::new(Seen::new()),
+            level: Cell::new(None),
         }
     }
 
