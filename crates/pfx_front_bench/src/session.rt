@@ -26,7 +26,7 @@ use pfx_kinds::any::AnyJob;
 use pfx_machine::{Board, Command, JobStatus, MachineFault, Reply};
 use pfx_recover::OpenFault;
 use pfx_store::{InitFault, Store};
-use pfx_weights::TaskSet;
+use pfx_weights::{TaskSet, Weights};
 use std::alloc::Global;
 use std::io::Print;
 use std::marker::Brand;
@@ -34,8 +34,11 @@ use std::sync::Wait;
 use std::thread::Threads;
 use std::time::Clock;
 
-/// How many commands are asked: a Submit a task, and twelve Slots.
-const COMMANDS: u64 = 15;
+/// How many commands are asked: a Submit a task, and fifteen Slots with a Reweigh among them.
+const COMMANDS: u64 = 19;
+
+/// The number of the Reweigh: six Slots stand before it.
+const REWEIGH: u64 = 10;
 
 /// How many workers the front has.
 const WORKERS: u32 = 2;
@@ -59,6 +62,9 @@ fn say_reply<R: Print>(rt: &R, number: u64, reply: &Reply) {
         Reply::Ran { slot, row } => {
             let (first, second, third) = (row.holds(0), row.holds(1), row.holds(2));
             let _said = println!(rt; "call {number} ran {slot} {first} {second} {third}");
+        }
+        Reply::Reweighed { slot } => {
+            let _said = println!(rt; "call {number} reweighed {slot}");
         }
         Reply::Withdrawn { .. } => say(rt, "call", "other"),
     }
@@ -152,10 +158,22 @@ fn open<R: Print>(rt: &R, alloc: Global, disk: FileDisk) -> Option<Store<FileDis
     None
 }
 
-/// The command of this number.
-fn command(number: u64) -> Option<Command<AnyJob>> {
+/// The same weights anew, for as many workers.
+fn reweigh(alloc: Global) -> Option<Command<AnyJob>> {
+    let weights = Weights::new(Vec::from_slice(alloc, &[(2, 3), (2, 3), (2, 3)]).ok()?);
+    Some(Command::Reweigh {
+        workers: 2,
+        weights,
+    })
+}
+
+/// The command of this number, if there is memory for it.
+fn command(alloc: Global, number: u64) -> Option<Command<AnyJob>> {
     if number == 0 {
         return None;
+    }
+    if number == REWEIGH {
+        return reweigh(alloc);
     }
     match u16::try_from(number - 1) {
         Ok(task) if task < TASKS => submit(task),
@@ -166,6 +184,7 @@ fn command(number: u64) -> Option<Command<AnyJob>> {
 /// Calls the command of this number. Whether it was answered.
 fn ask<B: Since<AnyJob>, K: Desk<Quantum<AnyJob>, Done<AnyJob>> + Drop, R: Wait + Print>(
     rt: &R,
+    alloc: Global,
     front: &Front<AnyJob, B, K>,
     pass: &mut Pass<AnyJob, B>,
     number: u64,
@@ -175,8 +194,9 @@ where
 {
     let before = pass.greatest();
     for _try in 0..2 {
-        let Some(command) = command(number) else {
-            return false;
+        let Some(command) = command(alloc, number) else {
+            say(rt, "call", "90");
+            continue;
         };
         match front.call(rt, pass, command) {
             Ok((number, reply)) => {
@@ -196,6 +216,7 @@ where
 /// Calls all commands, those with odd numbers by the first pass. Whether all were answered.
 fn ask_all<B: Since<AnyJob>, K: Desk<Quantum<AnyJob>, Done<AnyJob>> + Drop, R: Wait + Print>(
     rt: &R,
+    alloc: Global,
     front: &Front<AnyJob, B, K>,
     first: &mut Pass<AnyJob, B>,
     second: &mut Pass<AnyJob, B>,
@@ -205,9 +226,9 @@ where
 {
     for number in 1..COMMANDS + 1 {
         let is_answered = if number % 2 == 1 {
-            ask(rt, front, first, number)
+            ask(rt, alloc, front, first, number)
         } else {
-            ask(rt, front, second, number)
+            ask(rt, alloc, front, second, number)
         };
         if !is_answered {
             return false;
@@ -277,7 +298,7 @@ fn visit<B: Since<AnyJob>, K: Desk<Quantum<AnyJob>, Done<AnyJob>> + Drop, R: Wai
 where
     K::Seat: Drop,
 {
-    if !ask_all(rt, front, first, second) {
+    if !ask_all(rt, alloc, front, first, second) {
         return;
     }
     if let Some(reader) = readers.get_mut(0) {

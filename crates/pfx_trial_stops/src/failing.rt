@@ -33,7 +33,7 @@ fn carried_out(
     engine: &mut DurableEngine<FaultDisk<MemoryDisk>>,
 ) -> Option<(u64, Option<CallFault>)> {
     for number in 1..COMMANDS + 1 {
-        match engine.execute(alloc, command(number)?) {
+        match engine.execute(alloc, command(alloc, number)?) {
             Ok(_) => {}
             Err(fault) => return Some((number - 1, Some(fault))),
         }

@@ -6,10 +6,10 @@ use pfx_kinds::any::AnyJob;
 use pfx_kit::places::FIRST_SEGMENT;
 use pfx_machine::{Command, State};
 use pfx_replay::{PlainLedger, PlainState, plain_state};
-use pfx_weights::TaskSet;
+use pfx_weights::{TaskSet, Weights};
 use std::alloc::Global;
 
-/// How many commands the run has: two Submits and sixty Slots.
+/// How many commands the run has: two Submits, three Reweighs and 57 Slots.
 pub const COMMANDS: u64 = 62;
 
 /// The least length of a segment of two workers, so that the run turns twice.
@@ -37,10 +37,20 @@ pub fn thirds(alloc: Global) -> Option<TaskSet> {
     TaskSet::new(alloc, 2, &[(2, 3), (2, 3), (2, 3)]).ok()
 }
 
-/// The run's command of this number: jobs of a thousand steps for tasks 0 and 1, and then Slots.
-pub fn command(number: u64) -> Option<Command<AnyJob>> {
+/// New weights for all three tasks, e/p each.
+fn reweigh(alloc: Global, workers: u32, e: u32, p: u32) -> Option<Command<AnyJob>> {
+    let weights = Weights::new(Vec::from_slice(alloc, &[(e, p), (e, p), (e, p)]).ok()?);
+    Some(Command::Reweigh { workers, weights })
+}
+
+/// The run's command of this number: jobs of a thousand steps for tasks 0 and 1, and then Slots, between them new weights where no
+/// task is ahead or behind: for one worker, for two with an idle task, and the first ones again.
+pub fn command(alloc: Global, number: u64) -> Option<Command<AnyJob>> {
     match number {
         0 => None,
+        9 => reweigh(alloc, 1, 1, 3),
+        16 => reweigh(alloc, 2, 1, 2),
+        29 => reweigh(alloc, 2, 2, 3),
         1..=2 => {
             let job = AnyJob::start("count", 1000, b"").ok()?;
             Some(Command::Submit {
@@ -70,7 +80,7 @@ pub fn folds(alloc: Global) -> Option<Vec<Fold>> {
         let behind_slot = plain_state(alloc, &start, &commands).ok()??;
         folds.push(Fold { state, behind_slot }).ok()?;
         commands.pop()?;
-        commands.push(command(number)?).ok()?;
+        commands.push(command(alloc, number)?).ok()?;
     }
     Some(folds)
 }
@@ -104,11 +114,13 @@ fn is_job(job: Option<&AnyJob>, other: Option<&AnyJob>) -> bool {
     }
 }
 
-/// Whether a state has these numbers, these allocations and lags, and these states of jobs.
+/// Whether a state has these numbers, these weights, allocations and lags, and these states of jobs.
 pub fn is_state(state: &State<AnyJob>, fold: &PlainState<AnyJob>) -> bool {
     let ledger = state.columns();
     let total = ledger.total();
     if state.number() != fold.number
+        || state.from() != fold.from
+        || ledger.workers() != fold.ledger.workers
         || ledger.slot() != fold.ledger.slot
         || fold.ledger.allocations.len() != total
         || state.jobs().len() != fold.jobs.len()
@@ -116,7 +128,8 @@ pub fn is_state(state: &State<AnyJob>, fold: &PlainState<AnyJob>) -> bool {
         return false;
     }
     for task in 0..total {
-        if fold.ledger.allocations.get(task) != Some(&ledger.alloc(task))
+        if fold.ledger.weights.get(task) != Some(&ledger.weight(task))
+            || fold.ledger.allocations.get(task) != Some(&ledger.alloc(task))
             || is_lag(&fold.ledger, task, ledger.lag(task)) != Some(true)
         {
             return false;

@@ -98,6 +98,7 @@ where
 /// Asks the command of this number, and waits for its receipt at once if the client is to.
 fn ask<B: Since<AnyJob>, K: Desk<Quantum<AnyJob>, Done<AnyJob>> + Drop, R: Wait>(
     rt: &R,
+    alloc: Global,
     front: &Front<AnyJob, B, K>,
     visit: &mut Visit<B>,
     number: u64,
@@ -106,7 +107,7 @@ fn ask<B: Since<AnyJob>, K: Desk<Quantum<AnyJob>, Done<AnyJob>> + Drop, R: Wait>
 where
     K::Seat: Drop,
 {
-    let Some(command) = command(number) else {
+    let Some(command) = command(alloc, number) else {
         visit.stays = false;
         return;
     };
@@ -135,6 +136,7 @@ fn visitor<B: Since<AnyJob>>(alloc: Global, pass: Pass<AnyJob, B>) -> Visit<B> {
 /// clients wait for their receipts then.
 fn ask_all<B: Since<AnyJob>, K: Desk<Quantum<AnyJob>, Done<AnyJob>> + Drop, R: Wait>(
     rt: &R,
+    alloc: Global,
     front: &Front<AnyJob, B, K>,
     one: &mut Visit<B>,
     two: &mut Visit<B>,
@@ -146,9 +148,9 @@ where
     let waits = gate.is_none();
     for number in 1..COMMANDS + 1 {
         if number % 2 == 1 {
-            ask(rt, front, one, number, waits);
+            ask(rt, alloc, front, one, number, waits);
         } else {
-            ask(rt, front, two, number, waits);
+            ask(rt, alloc, front, two, number, waits);
         }
     }
     let Some(gate) = gate else {
@@ -239,7 +241,7 @@ where
     let served = started.ok()?;
     let mut one = visitor(alloc, served.0.pass(&rt)?);
     let mut two = visitor(alloc, served.0.pass(&rt)?);
-    ask_all(&rt, &served.0, &mut one, &mut two, gate);
+    ask_all(&rt, alloc, &served.0, &mut one, &mut two, gate);
     end(&rt, alloc, served, one, two)
 }
 

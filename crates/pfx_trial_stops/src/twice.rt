@@ -14,7 +14,7 @@ fn run_on_disk(alloc: Global) -> Option<(MemoryDisk, Vec<u64>)> {
     let mut engine = DurableEngine::new(alloc, store).ok()?;
     let mut marks = Vec::new(alloc);
     for number in 1..COMMANDS + 1 {
-        let (mark, _reply) = engine.execute(alloc, command(number)?).ok()?;
+        let (mark, _reply) = engine.execute(alloc, command(alloc, number)?).ok()?;
         marks.push(mark.clock).ok()?;
     }
     Some((engine.into_store().into_disk(), marks))
