@@ -60,27 +60,29 @@ class Pfx:
         """The slot, and of each task how many units are granted, how many recorded, and the last one's text."""
         self.ask("status,,,,\nshow,,,,\nsettle,,,,\n")
         board, granted, recorded, text = self.line().split(), [0] * tasks, [0] * tasks, [""] * tasks
-        if len(board) > 5:
-            sys.exit(f"own_driver.py: the store's weights are new ones from slot {board[5]} on, and which units of these are done isn't known")
+        start = int(board[5]) if len(board) > 5 else 0      # the slot from which on the weights are in force, and all counts
         while not (line := self.line()).startswith("settled "):
             task, what, *rest = line.split()
             if what.startswith("alloc=") and int(task) < tasks:
                 granted[int(task)] = int(what[6:])
             elif what == "own":
-                recorded[int(task)], text[int(task)] = int(rest[0][9:]), rest[1][5:]
-        return int(board[3]), granted, recorded, text
+                text[int(task)] = rest[1][5:]
+                if start == (int(rest[2][6:]) if len(rest) > 2 else 0):
+                    recorded[int(task)] = int(rest[0][9:])
+        return int(board[3]), start, granted, recorded, text
 
 
-def work(command, ended, task, name, number, text):
+def work(command, ended, task, name, first, number, text):
     """One unit, in a thread of its own. Its last line is the answer."""
-    done = subprocess.run([*command, name, str(number), text], stdout=subprocess.PIPE, text=True)
+    done = subprocess.run([*command, name, f"{first}{number}", text], stdout=subprocess.PIPE, text=True)
     ended.put((task, number, done.returncode, (done.stdout.splitlines() or [text])[-1]))
 
 
 def drive(pfx, names, seats, slots, command, running, ended):
     """The rule at every moment, a start too: unit K of a task is owed while recorded < K <= granted. They are done in order."""
     tasks = range(len(names))
-    slot, granted, recorded, text = pfx.look(len(names))
+    slot, start, granted, recorded, text = pfx.look(len(names))
+    first = f"{start}." if start else ""                    # new weights number the units from 1 again
     while slot < slots or any(recorded[task] < granted[task] for task in tasks):
         while slot < slots and all(granted[task] - recorded[task] < OWE for task in tasks):
             for task in filter(lambda task: task in tasks, pfx.slot()):
@@ -89,7 +91,7 @@ def drive(pfx, names, seats, slots, command, running, ended):
         for task in sorted(tasks, key=lambda task: recorded[task] - granted[task]):
             if task not in running and recorded[task] < granted[task] and len(running) < seats:
                 running.add(task)
-                unit = (command, ended, task, names[task], recorded[task] + 1, text[task])
+                unit = (command, ended, task, names[task], first, recorded[task] + 1, text[task])
                 threading.Thread(target=work, args=unit, daemon=True).start()
         task, number, status, answer = ended.get()
         running.discard(task)

@@ -70,7 +70,10 @@ class Core:
     def start(self, store, look):
         """A store was opened, the first or after its pfx has ended: what it has is what holds. Units under way go on."""
         is_first, self.store, self.slots_asked = self.store is None, store, 0
-        self.book.number, self.book.slot, rows, jobs, _ = look
+        self.book.number, self.book.slot, start, rows, jobs, _ = look
+        if not is_first and start != self.book.start:
+            raise Mismatch(f"another program has given the store new weights, at slot {start}: start pfx-drive again, with their set")
+        self.book.start = start
         for task, (alloc, _, _) in zip(self.book.tasks, rows):
             task.granted = alloc
             job = jobs.get(task.place)
@@ -173,7 +176,7 @@ class Core:
             return
         for ending in (".out", ".err"):
             try:
-                os.unlink(self.output(task.name, number - self.options.keep) + ending)
+                os.unlink(self.output(task.name, self.book.key(number - self.options.keep)) + ending)
             except OSError:
                 pass
 
@@ -205,8 +208,8 @@ class Core:
 
     def begin(self, task, now):
         number = task.recorded + 1
-        command = self.options.of(task.name, "command")
-        unit = Unit(task.place, task.name, number, task.text, task.tries + task.waits + 1, command, self.output(task.name, number))
+        command, key = self.options.of(task.name, "command"), self.book.key(number)
+        unit = Unit(task.place, task.name, number, task.text, task.tries + task.waits + 1, command, self.output(task.name, key), key)
         unit.begun, unit.timeout = now, self.options.of(task.name, "timeout")
         if unit.timeout and not self.engine.keeps_time:
             unit.deadline = now + unit.timeout
@@ -377,22 +380,25 @@ class Drive:
                 raise
 
     def compare(self, store, look):
-        """Refuses a store of other tasks than the set's. Only behind a slot do the lags tell each weight, so the first one is asked for."""
+        """Refuses a store of other tasks than the set's. Only behind a slot do the lags tell each weight, so the first one with these weights
+        is asked for."""
+        self.place.check_weights(look[2])
         self.compare_look(look)
-        if look[1] == 0:
+        if look[1] == look[2]:
             store.slots(1)
             while store.asked:
                 store.read()
             look = store.look(len(self.tasks))
             self.compare_look(look)
+        self.place.keep_weights(self.tasks, look[2])
         return store, look
 
     def compare_look(self, look):
-        _, slot, rows, jobs, fits = look
+        _, slot, start, rows, jobs, fits = look
         if not fits:
             raise Mismatch(f"the set has {len(self.tasks)} tasks, and {self.path} another number of them")
         for task, (alloc, lag, period) in zip(self.tasks, rows):
-            if period != task.p or task.e * slot != lag + task.p * alloc:
+            if period != task.p or task.e * (slot - start) != lag + task.p * alloc:
                 raise Mismatch(f"task {task.place}, {task.name}, has the weight {task.e}/{task.p} in the set, and another one in {self.path}")
 
     def make_engine(self):

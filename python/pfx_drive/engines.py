@@ -18,25 +18,25 @@ End = collections.namedtuple("End", "unit status text why", defaults=("", ""))
 
 
 class Unit:
-    """One try at unit `number` of a task. `seat` is a word of the engine's for people."""
+    """One try at unit `number` of a task, whose name is `key`. `seat` is a word of the engine's for people."""
 
     __slots__ = ("place", "task", "number", "text", "attempt", "command", "begun", "deadline", "timeout", "is_late", "is_stopped", "is_over", "seat",
-                 "output")
+                 "output", "key")
 
-    def __init__(self, place, task, number, text, attempt, command, output):
+    def __init__(self, place, task, number, text, attempt, command, output, key=None):
         self.place, self.task, self.number, self.text, self.attempt = place, task, number, text, attempt
-        self.command, self.output = command, output
+        self.command, self.output, self.key = command, output, key or str(number)
         self.begun = self.deadline = self.timeout = None
         self.is_late = self.is_stopped = self.is_over = False
         self.seat = ""
 
     def words(self):
-        """The program and its words. A line for the shell has task, number and text as $1, $2 and $3."""
-        told = [self.task, str(self.number), self.text]
+        """The program and its words. A line for the shell has task, unit and text as $1, $2 and $3."""
+        told = [self.task, self.key, self.text]
         return ["/bin/sh", "-c", self.command, "pfx-drive", *told] if isinstance(self.command, str) else [*self.command, *told]
 
     def environment(self):
-        return {"PFX_TASK": self.task, "PFX_NUMBER": str(self.number), "PFX_TEXT": self.text, "PFX_TRY": str(self.attempt)}
+        return {"PFX_TASK": self.task, "PFX_NUMBER": self.key, "PFX_TEXT": self.text, "PFX_TRY": str(self.attempt)}
 
 
 class Engine:

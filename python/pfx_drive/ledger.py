@@ -1,6 +1,6 @@
 """What is granted and what is answered, and the rule that says when to ask for a slot. It knows no clock and no file.
 
-Unit K of a task is *owed* while recorded < K <= granted. At every moment, stops included: with w the weight of a task that has work,
+Unit K of a task is *owed* while recorded < K <= granted. New weights begin both at 0 again. At every moment, stops included: with w the weight of a task that has work,
 t the slots granted and d its units recorded, w*t - 1 - O < d < w*t + 1, because a slot is asked for only while each such task owes
 fewer than O units, and pfx grants each task less than one slot from its share. A task that has ended, is parked, or has said that it has
 nothing to do now has no work: its places pass. Where it has work again, those that are too many are recorded with the text as it is."""
@@ -60,9 +60,9 @@ class Task:
         """The slot by whose end the next unit should have run."""
         return (self.recorded + 1) * self.p / self.e
 
-    def lag(self, slot):
-        """What the task is due at a slot less what it was granted, in parts of its period."""
-        return self.e * slot - self.p * self.granted
+    def lag(self, slots):
+        """What the task is due of so many slots less what it was granted, in parts of its period."""
+        return self.e * slots - self.p * self.granted
 
     def is_ready(self, now):
         return self.recorded < self.granted and self.unit is None and self.answer is None and self.not_before <= now and self.has_work
@@ -90,6 +90,7 @@ class Ledger:
     def __init__(self, tasks, owe=4, last_slot=None):
         self.tasks, self.owe, self.last_slot = tasks, owe, last_slot
         self.slot = self.number = 0
+        self.start = 0              # the slot from which on the weights are in force
 
     def grant(self, row):
         """A slot was granted to these places, those of idle tasks among them."""
@@ -98,11 +99,20 @@ class Ledger:
             if place < len(self.tasks):
                 self.tasks[place].granted += 1
 
+    @property
+    def slots_here(self):
+        """How many slots were granted with these weights."""
+        return self.slot - self.start
+
+    def key(self, number):
+        """The name of a task's unit: its number, and before it the slot at which the weights came into force, where they are new ones."""
+        return f"{self.start}.{number}" if self.start else str(number)
+
     def slots_to_ask(self):
         """How many slots the rule allows to be asked for together: before each of them no task with work may owe O units.
 
         A task gets at most one place a slot, and never a whole one more than its share, so before the n-th of them it has
-        at most min(granted + n - 1, ceil(w * (slot + n - 1))) places."""
+        at most min(granted + n - 1, ceil(w * (slot + n - 1))) places, where slots count from where the weights came into force."""
         most = MOST if self.last_slot is None else min(MOST, self.last_slot - self.slot)
         any_work = False
         for task in self.tasks:
@@ -112,7 +122,7 @@ class Ledger:
             spare = self.owe - 1 - task.owed
             if spare < 0:
                 return 0
-            by_share = task.p * (task.recorded + self.owe - 1) // task.e - self.slot
+            by_share = task.p * (task.recorded + self.owe - 1) // task.e - self.slots_here
             most = min(most, max(spare, by_share) + 1)
         return most if any_work else 0
 

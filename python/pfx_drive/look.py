@@ -46,7 +46,8 @@ def snapshot(drive):
 
 def task_told(task, book, now):
     return {"name": task.name, "e": task.e, "p": task.p, "granted": task.granted, "recorded": task.recorded,
-            "owed": task.owed if task.has_work else 0, "passed": 0 if task.has_work else task.owed, "lag": task.lag(book.slot), "state": task.state(now), "text": task.text, "failures": task.failures,
+            "owed": task.owed if task.has_work else 0, "passed": 0 if task.has_work else task.owed, "lag": task.lag(book.slots_here),
+            "state": task.state(now), "text": task.text, "failures": task.failures,
             "last_failure": task.last_failure, "answered": task.answered_here, "seconds": round(task.seconds, 3),
             "next_try": round(max(0.0, task.not_before - now), 3)}
 
@@ -296,17 +297,17 @@ def show_status(words):
 def show_store(given):
     """What a store has that no driver has now, by pfx itself, with the names beside it."""
     from .drive import find_program
-    from .store import refuse_new_weights
+    from .store import jobs_by_place, start_of
     found = []
     for word in ("status", "show"):
         done = subprocess.run([*find_program(), word, given.store, "--json"], stdout=subprocess.PIPE)
         if done.returncode:
             return done.returncode
         found.append([json.loads(line) for line in done.stdout.splitlines()])
-    board, jobs = found[0][0], {job["task"]: job for job in found[1]}
-    refuse_new_weights(board)
+    board = found[0][0]
+    jobs = jobs_by_place(board, found[1])
     book = ledger.Ledger([ledger.Task(place, *named) for place, named in enumerate(Place(given.store).named())])
-    book.slot = board["slot"]
+    book.slot, book.start = board["slot"], start_of(board)
     for task in book.tasks:
         job = jobs.get(task.place)
         task.granted, task.kind = board["tasks"][task.place]["alloc"], job and job["job"]

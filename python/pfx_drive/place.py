@@ -66,6 +66,7 @@ class Place:
         self.path = os.path.abspath(store) + ".drive"
         self.driver = self.units = None
         self.id = ""
+        self.start, self.differs = 0, None      # the slot from which on the weights of the names are in force; what the set has otherwise
         self.folders = set()
 
     def file(self, name):
@@ -97,24 +98,43 @@ class Place:
         return [(name, *map(int, weight.split("/"))) for name, weight in lines]
 
     def check_names(self, tasks):
-        """Compares names and shares with those of the first start, or keeps them. Refuses by the first task that differs."""
+        """Compares names with those of the first start, or keeps them with the weights. Refuses by the first task that differs. Other weights
+        are refused once the store tells that it wasn't given new ones."""
         try:
             with open(self.file("names"), encoding="utf-8") as it:
                 head, *lines = it.read().splitlines()
         except FileNotFoundError:
             self.id = os.urandom(16).hex()
-            text = "".join(f"{task.name} {task.e}/{task.p}\n" for task in tasks)
-            write_whole(self.file("names"), f"pfx-drive 1 {self.id}\n{text}")
+            self.write_names(tasks)
             return
         words = head.split()
-        if words[:2] != ["pfx-drive", "1"] or len(words) != 3:
+        if words[:2] != ["pfx-drive", "1"] or len(words) not in (3, 4):
             raise Mismatch(f"{self.file('names')} isn't a file of this pfx-drive: {head}")
-        self.id = words[2]
+        self.id, self.start = words[2], int(words[3]) if len(words) > 3 else 0
         for place in range(max(len(tasks), len(lines))):
             here = f"{tasks[place].name} {tasks[place].e}/{tasks[place].p}" if place < len(tasks) else "none"
             there = lines[place] if place < len(lines) else "none"
-            if here != there:
-                raise Mismatch(f"task {place} of the set is {here}, and that of {self.store} is {there} by {self.file('names')}")
+            why = f"task {place} of the set is {here}, and that of {self.store} is {there} by {self.file('names')}"
+            if place >= min(len(tasks), len(lines)) or tasks[place].name != there.split()[0]:
+                raise Mismatch(why)
+            if here != there and not self.differs:
+                self.differs = why
+
+    def write_names(self, tasks):
+        since = f" {self.start}" if self.start else ""
+        weights = "".join(f"{task.name} {task.e}/{task.p}\n" for task in tasks)
+        write_whole(self.file("names"), f"pfx-drive 1 {self.id}{since}\n{weights}")
+
+    def check_weights(self, start):
+        """Refuses a set of other weights than those of the first start, unless the store was given new ones since."""
+        if self.differs and start == self.start:
+            raise Mismatch(self.differs)
+
+    def keep_weights(self, tasks, start):
+        """Keeps the weights that the store was given at a slot, once they are known to be the set's."""
+        if start != self.start:
+            self.start, self.differs = start, None
+            self.write_names(tasks)
 
     def mark(self):
         return f"{MARK}={self.id}".encode()

@@ -83,7 +83,7 @@ class Slurm(Engine):
 
     def begin(self, unit):
         text = hashlib.sha256(unit.text.encode()).hexdigest()[:6]
-        name = f"{self.prefix}{unit.task}-{unit.number}-{text}"
+        name = f"{self.prefix}{unit.task}-{unit.key}-{text}"
         unit.seat = "slurm"
         if unit.task in self.kept:      # the answer before this unit's is recorded by now
             os.unlink(self.kept.pop(unit.task))

@@ -44,10 +44,17 @@ def as_text(said):
     return "\n".join(lines)
 
 
-def refuse_new_weights(board):
-    """Behind new weights a unit's number no longer tells whether it was granted by these: nothing is driven there."""
-    if board.get("from"):
-        raise Refused(f"the store's weights are new ones from slot {board['from']} on, and which units of these are done isn't known", 4)
+def start_of(board):
+    """The slot from which on the weights are in force: there the granted and the recorded units of each task begin at 0 again."""
+    return board.get("from", 0)
+
+
+def jobs_by_place(board, jobs):
+    """The jobs by their places. Of an answer that was recorded before the weights came into force the text stands, and no unit is recorded."""
+    for job in jobs:
+        if job["job"] == "own" and job.get("since", 0) != start_of(board):
+            job["answered"] = 0
+    return {job["task"]: job for job in jobs}
 
 
 class Store:
@@ -103,17 +110,16 @@ class Store:
         return got[:-1]
 
     def look(self, count):
-        """The board: the number, the slot and of each task (alloc, lag, period); the jobs by place; and whether the store has
-        exactly so many real tasks."""
+        """The board: the number, the slot, the one from which on the weights are in force, and of each task (alloc, lag, period); the
+        jobs by place; and whether the store has exactly so many real tasks."""
         got = self.talk(f"status,,,,\nshow,{count - 1},,,\nshow,{count},,,\nshow,,,,\nsettle,,,,\n")
         board, last, behind, jobs = got[0], got[1], got[2], got[3:]
-
-        refuse_new_weights(board)
 
         def is_idle(it):
             return it.get("refused", {}).get("number") == NO_SUCH_TASK
         rows = [(it["alloc"], it["lag"], it["period"]) for it in board["tasks"]]
-        return board["number"], board["slot"], rows, {it["task"]: it for it in jobs}, is_idle(behind) and not is_idle(last)
+        fits = is_idle(behind) and not is_idle(last)
+        return board["number"], board["slot"], start_of(board), rows, jobs_by_place(board, jobs), fits
 
     def ask(self, text, answers):
         """Writes a record and notes which answers it has, or does so once others are answered."""
