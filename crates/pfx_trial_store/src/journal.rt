@@ -419,7 +419,7 @@ fn a_checkpoint_is_its_bytes(rt: HostRuntime) {
 
 /// The number of the last command where a stop so many calls into a disk's life leaves a store, all that isn't synced
 /// having met this fate; or that it is no store.
-fn left(
+pub fn left(
     alloc: Global,
     disk: &MemoryDisk,
     calls: usize,

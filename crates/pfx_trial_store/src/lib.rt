@@ -3,6 +3,7 @@
 //! | Module | Tests |
 //! |---|---|
 //! | `batches` | batches of slots, for the tests of stores |
+//! | `beginnings` | `pfx_store`: stores that begin at a state of their own, stopped while they are made, and on disks that fail |
 //! | `client` | a worked client of `pfx_store`: each mark is kept through ten calls, proved |
 //! | `epochs` | `pfx_store`: files with frames of new weights, stopped after each call, and once more |
 //! | `journal` | `pfx_store`: the file of a new store, frames in it, and files and disks that are refused |
@@ -19,6 +20,8 @@
 #![tactic(auto)]
 
 pub mod batches;
+#[cfg(test)]
+mod beginnings;
 #[cfg(test)]
 mod check;
 pub mod client;
