@@ -1,0 +1,4 @@
+pub mod Acts
+pub mod Faults
+pub mod Holding
+pub mod Logs
