@@ -1,3 +1,11 @@
 pub mod Chains
+pub mod Fronts
+pub mod Handed
 pub mod Hashes
+pub mod Joined
+pub mod Looks
+pub mod More
+pub mod Next
+pub mod Puts
+pub mod Spelled
 pub mod Strings

@@ -22,7 +22,7 @@ heads_of a b x y is = (ap (λ l. get_or l 0 0) is, ap (drop 1) is)
 pub one_number : (n a b : ℕ) → a < 256 ^ n → b < 256 ^ n → little_bytes n a ≡ little_bytes n b → a ≡ b
 one_number n a b small small_b is = sym (little_number-reads_back n a [] small) ∙ ap (λ l. little_number n (l ++ [])) is ∙ little_number-reads_back n b [] small_b
 
-long_number : (n a b : ℕ) → length (little_bytes n a) ≡ length (little_bytes n b)
+pub long_number : (n a b : ℕ) → length (little_bytes n a) ≡ length (little_bytes n b)
 long_number n a b = length-bytes_low_first 0 n a ∙ sym (length-bytes_low_first 0 n b)
 
 pub is_sized : (n : ℕ) (b : Block) → IsBlock n b → IsSized b

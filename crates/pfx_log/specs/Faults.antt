@@ -1,7 +1,6 @@
 -- Why a log isn't read.
-use Rattle.std.specs.Prelude.{◌≡◌, ◌≢◌, ◌≤◌, ◌<◌, ◌⊎◌, ℕ, ◌+◌, ◌^◌, ⊤, List, [], ◌∷◌, ◌++◌, length, take, drop, slice_index, Result, IsErrOf, ◌↔◌}
+use Rattle.std.specs.Prelude.{◌≡◌, ◌≢◌, ◌≤◌, ◌<◌, ◌⊎◌, ℕ, ◌+◌, ◌^◌, ⊤, List, [], ◌∷◌, ◌++◌, length, take, drop, slice_index}
 use Rattle.byteorder.specs.Endian.{little_bytes, little_number}
-use Rattle.pfx_disk.specs.Disk.{View, HasFailed, IsHonest, Leaves, Same}
 use Rattle.pfx_disk.specs.declared.gates.TheConstants.{GATE_OPEN}
 use Rattle.pfx_log.specs.Holding.{Begins}
 use Rattle.pfx_log.specs.Logs.{Block, Log, block_text, head_of, last_head, last_number, mark, this_version}
@@ -11,15 +10,6 @@ use Rattle.pfx_log.specs.declared.faults.LogFault.{LogFault}
 use Rattle.pfx_log.specs.declared.faults.LogFault.TheVariants.{NoMemory, Device, NotALog, WrongVersion, Damaged, TooLong}
 use Rattle.pfx_log.specs.declared.place.LogPlace.{LogPlace}
 use Rattle.pfx_log.specs.declared.place.TheConstants.{MOST}
-
--- At most so many calls of a disk, which leave all that it holds; a fault of the device means that the disk failed, and an honest disk is
--- one before as after.
-pub record Reads {T : Type 0} (old new : View) (result : Result T LogFault) : Type 0 where
-  pub leaves : IsHonest old → Leaves Same old new
-  pub device : IsErrOf result Device → HasFailed old new
-  pub later : old.clock ≤ new.clock
-  pub no_fewer : old.failures ≤ new.failures
-  pub honest : IsHonest old ↔ IsHonest new
 
 -- how long the bytes say that the state is
 abbrev pub state_len : List ℕ → ℕ

@@ -63,6 +63,13 @@ last_number log = number_behind (number_of log.state) log.blocks
 abbrev pub with_block : Log → Block → Log
 with_block log block = record log { blocks = log.blocks ++ block ∷ [] }
 
+-- a log that has no block yet
+abbrev pub new_log : ℕ → List ℕ → List ℕ → Log
+new_log version state before = record { version = version; state = state; before = before; blocks = [] }
+
+abbrev pub block_of : ℕ → ℕ → List ℕ → Block
+block_of first last frames = record { first = first; last = last; frames = frames }
+
 -- Bytes.
 
 -- an open gate and the letters PFXAUDIT

@@ -1,0 +1,103 @@
+// Heads, and the bytes that they are of.
+ghost use Rattle.std.specs.Prelude.{◌≡◌, ◌≤◌, ◌++◌, ◌∷◌, [], length, IfOk};
+ghost use Rattle.byteorder.specs.Endian.{little_bytes};
+ghost use Rattle.pfx_log.specs.Logs.{AreBytes, block_of, block_text, first_head, head_of, header_text, new_log, this_version};
+
+use crate::place::MOST;
+use byteorder::{ByteOrder, LittleEndian};
+use sha2::{Digest, Sha256};
+use std::alloc::{AllocError, Global};
+
+/// The gate of a header, open, and the letters PFXAUDIT.
+pub const MARK: [u8; 9] = [0xC3, 0x50, 0x46, 0x58, 0x41, 0x55, 0x44, 0x49, 0x54];
+
+/// The version of logs.
+pub const VERSION: u8 = 1;
+
+/// The front of a block: how many bytes its frames have, and its numbers.
+pub fn block_front(len: u64, first: u64, last: u64) -> [u8; 24]
+    ensures { result ≡ little_bytes 8 len ++ (little_bytes 8 first ++ little_bytes 8 last) }
+{
+    let mut front = [0; 24];
+    LittleEndian::write_u64(&mut front, len);
+    LittleEndian::write_u64(&mut front[8..], first);
+    LittleEndian::write_u64(&mut front[16..], last);
+    front
+}
+
+/// The head of a block behind this head. Frames are bytes.
+pub fn head_of(head: &[u8], first: u64, last: u64, frames: &[u8]) -> [u8; 32]
+    ensures value { result ≡ head_of head.now (block_of first last frames.now) }
+    ensures bytes { AreBytes frames.now }
+{
+    let front = block_front(frames.len() as u64, first, last);
+    let mut hasher = Sha256::new();
+    hasher.update(head);
+    hasher.update(&front[..]);
+    hasher.update(frames);
+    hasher.finalize()
+}
+
+/// The front of a header behind its gate: the letters, the two versions, and how many bytes the state has.
+pub fn header_front(version: u8, len: u32) -> [u8; 14]
+    ensures { result ≡ (0x50 ∷ 0x46 ∷ 0x58 ∷ 0x41 ∷ 0x55 ∷ 0x44 ∷ 0x49 ∷ 0x54 ∷ this_version ∷ version ∷ []) ++ little_bytes 4 len }
+{
+    let mut front = [
+        0x50, 0x46, 0x58, 0x41, 0x55, 0x44, 0x49, 0x54, VERSION, version, 0, 0, 0, 0,
+    ];
+    LittleEndian::write_u32(&mut front[10..], len);
+    front
+}
+
+/// The head of a log that has no block.
+pub fn first_head(version: u8, state: &[u8], before: &[u8]) -> [u8; 32]
+    requires { length state.now ≤ MOST }
+    ensures { result ≡ first_head (new_log version state.now before.now) }
+{
+    let front = header_front(version, state.len() as u32);
+    let mut hasher = Sha256::new();
+    hasher.update(&front[..]);
+    hasher.update(state);
+    hasher.update(before);
+    hasher.finalize()
+}
+
+/// A header's bytes behind its gate, and the next gate, closed.
+pub fn header_and_gate(
+    alloc: Global,
+    version: u8,
+    state: &[u8],
+    before: &[u8],
+) -> Result<Vec<u8>, AllocError>
+    requires { length state.now ≤ MOST }
+    ensures { IfOk result (λ bytes. bytes.items ≡ header_text (new_log version state.now before.now) ++ 0 ∷ []) }
+{
+    let front = header_front(version, state.len() as u32);
+    let mut bytes = Vec::with_capacity(alloc, 47 + state.len())?;
+    bytes.extend_from_slice(&front)?;
+    bytes.extend_from_slice(state)?;
+    bytes.extend_from_slice(before)?;
+    bytes.push(0)?;
+    Ok(bytes)
+}
+
+/// A block's bytes behind its gate, its head, and the next gate, closed.
+pub fn block_and_gate(
+    alloc: Global,
+    first: u64,
+    last: u64,
+    frames: &[u8],
+    head: &[u8],
+) -> Result<Vec<u8>, AllocError>
+    requires most { length frames.now ≤ MOST }
+    requires long { length head.now ≡ 32 }
+    ensures { IfOk result (λ bytes. bytes.items ≡ (block_text (block_of first last frames.now) ++ head.now) ++ 0 ∷ []) }
+{
+    let front = block_front(frames.len() as u64, first, last);
+    let mut bytes = Vec::with_capacity(alloc, 57 + frames.len())?;
+    bytes.extend_from_slice(&front)?;
+    bytes.extend_from_slice(frames)?;
+    bytes.extend_from_slice(head)?;
+    bytes.push(0)?;
+    Ok(bytes)
+}
