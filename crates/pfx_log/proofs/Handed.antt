@@ -38,7 +38,8 @@ module _ (a b : View) (e : LogFault) (looks : Looks a b) (device : e ≡ Device 
   block_handed place (Err x) same = subst (λ (y : LogFault). ReadsHeld {T = Option (LogBlock × LogPlace)} a b (Err y) (BlockAnswer place (Err y))) (sym same)
       (record { looks = looks; device = device; exact = λ bytes kept log begins. of_block e log place.at (drop place.at bytes) (is bytes kept) })
 
-  pub header_handed : (result : Result (LogHeader × LogPlace) LogFault) → IsErrAnd result (λ x. x ≡ e) → ReadsHeld a b result (HeaderAnswer result)
-  header_handed (Ok x) same = absurd same
-  header_handed (Err x) same = subst (λ (y : LogFault). ReadsHeld {T = LogHeader × LogPlace} a b (Err y) (HeaderAnswer (Err y))) (sym same)
-      (record { looks = looks; device = device; exact = λ bytes kept. of_header e bytes (is bytes kept) })
+pub header_handed : (a b : View) (e : LogFault) → Looks a b → (e ≡ Device → HasFailed a b) → ((bytes : List ℕ) → Keeps bytes a → IsHeaderFault e bytes)
+    → (result : Result (LogHeader × LogPlace) LogFault) → IsErrAnd result (λ x. x ≡ e) → ReadsHeld a b result (HeaderAnswer result)
+header_handed a b e looks device is (Ok x) same = absurd same
+header_handed a b e looks device is (Err x) same = subst (λ (y : LogFault). ReadsHeld {T = LogHeader × LogPlace} a b (Err y) (HeaderAnswer (Err y))) (sym same)
+    (record { looks = looks; device = device; exact = λ bytes kept. is bytes kept })

@@ -2,6 +2,7 @@ pub mod Chains
 pub mod Fronts
 pub mod Handed
 pub mod Hashes
+pub mod Headers
 pub mod Joined
 pub mod Looks
 pub mod More

@@ -131,3 +131,6 @@ module _ (front body : List ℕ) where
         whole = written_gate front b2.contents b3.contents shut.gate (body ++ 0 ∷ drop n shut.rest) is last ∙ sym (append_assoc front (GATE_OPEN ∷ body) (0 ∷ drop n shut.rest));
         shut = λ opened. omega (arith, opened);
       }
+
+  pub stands_after : (x y : List ℕ) → Same x y → IsShutBehind (front ++ (GATE_OPEN ∷ body)) x → IsShutBehind (front ++ (GATE_OPEN ∷ body)) y
+  stands_after x y same shut = subst (IsShutBehind (front ++ (GATE_OPEN ∷ body))) (sym same) shut

@@ -49,10 +49,11 @@ pub fn header_front(version: u8, len: u32) -> [u8; 14]
     front
 }
 
-/// The head of a log that has no block.
+/// The head of a log that has no block. A state and a head are bytes.
 pub fn first_head(version: u8, state: &[u8], before: &[u8]) -> [u8; 32]
     requires { length state.now ≤ MOST }
-    ensures { result ≡ first_head (new_log version state.now before.now) }
+    ensures value { result ≡ first_head (new_log version state.now before.now) }
+    ensures bytes { AreBytes state.now × AreBytes before.now }
 {
     let front = header_front(version, state.len() as u32);
     let mut hasher = Sha256::new();

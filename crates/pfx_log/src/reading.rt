@@ -1,5 +1,6 @@
 // Reading a log, part by part.
-ghost use Rattle.std.specs.Prelude.{◌≡◌, ◌≤◌, ◌<◌, ◌+◌, List, ℕ, length, take, IfOk, IfSome};
+ghost use Rattle.std.specs.Prelude.{◌≡◌, ◌≤◌, ◌<◌, ◌+◌, List, ℕ, length, take, IfErr, IfOk, IfSome};
+ghost use Rattle.pfx_log.specs.Faults.{IsOfMachine};
 ghost use Rattle.pfx_log.specs.Reading.{BlockAnswer, FrontAnswer, HasLen, HeaderAnswer, HeaderFrontAnswer, IsNext, ReadsHeld};
 
 use crate::faults::{Damage, LogFault};
@@ -106,6 +107,7 @@ fn front_of(front: &[u8], len: usize) -> Result<(u8, usize), LogFault>
     requires long { length front.now ≡ 15 }
     requires inside { 15 ≤ len }
     ensures fits { IfOk result (λ x. (8 ≤ x.1) × (x.1 ≤ MOST) × (47 + x.1 ≤ len)) }
+    ensures own { IfErr result (λ e. IsOfMachine e → ⊥) }
     ensures front { (bytes : List ℕ) → front.now ≡ take 15 bytes → length bytes ≡ len → HeaderFrontAnswer result bytes }
 {
     if !front.starts_with(&MARK) {
