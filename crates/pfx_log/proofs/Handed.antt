@@ -3,8 +3,9 @@ use Rattle.std.proofs.Common.{◌≡◌, ℕ, List, drop, sym, subst, Result, Ok
 use Rattle.std.specs.Prelude.{IsErrAnd, IsErrOf, Option}
 use Rattle.pfx_disk.specs.Disk.{View, HasFailed}
 use Rattle.pfx_log.specs.Faults.{IsBlockFault, IsHeaderFault, IsFault, IsOfMachine}
+use Rattle.pfx_log.specs.Holding.{Begins}
 use Rattle.pfx_log.specs.Logs.{Log}
-use Rattle.pfx_log.specs.Reading.{BlockAnswer, FrontAnswer, HeaderAnswer, Keeps, Looks, ReadsHeld}
+use Rattle.pfx_log.specs.Reading.{BlockAnswer, EndAnswer, FrontAnswer, HeaderAnswer, Keeps, Looks, ReadsHeld}
 use Rattle.pfx_log.specs.declared.faults.LogFault.{LogFault}
 use Rattle.pfx_log.specs.declared.faults.LogFault.TheVariants.{NoMemory, Device, NotALog, WrongVersion, Damaged, TooLong}
 use Rattle.pfx_log.specs.declared.place.LogBlock.{LogBlock}
@@ -43,3 +44,16 @@ pub header_handed : (a b : View) (e : LogFault) → Looks a b → (e ≡ Device 
 header_handed a b e looks device is (Ok x) same = absurd same
 header_handed a b e looks device is (Err x) same = subst (λ (y : LogFault). ReadsHeld {T = LogHeader × LogPlace} a b (Err y) (HeaderAnswer (Err y))) (sym same)
     (record { looks = looks; device = device; exact = λ bytes kept. is bytes kept })
+
+pub walk_handed : (first : LogPlace) (a b : View) (e : LogFault) → Looks a b → (e ≡ Device → HasFailed a b)
+    → ((bytes : List ℕ) → Keeps bytes a → (log : Log) → Begins log first bytes → IsFault e bytes)
+    → (result : Result LogPlace LogFault) → IsErrAnd result (λ x. x ≡ e) → ReadsHeld a b result (λ bytes. (log : Log) → Begins log first bytes → EndAnswer result bytes)
+walk_handed first a b e looks device is (Ok x) same = absurd same
+walk_handed first a b e looks device is (Err x) same = subst (λ (y : LogFault). ReadsHeld {T = LogPlace} a b (Err y) (λ bytes. (log : Log) → Begins log first bytes → EndAnswer (Err y) bytes)) (sym same)
+    (record { looks = looks; device = device; exact = is })
+
+pub end_handed : (a b : View) (e : LogFault) → Looks a b → (e ≡ Device → HasFailed a b) → ((bytes : List ℕ) → Keeps bytes a → IsFault e bytes)
+    → (result : Result LogPlace LogFault) → IsErrAnd result (λ x. x ≡ e) → ReadsHeld a b result (EndAnswer result)
+end_handed a b e looks device is (Ok x) same = absurd same
+end_handed a b e looks device is (Err x) same = subst (λ (y : LogFault). ReadsHeld {T = LogPlace} a b (Err y) (EndAnswer (Err y))) (sym same)
+    (record { looks = looks; device = device; exact = is })

@@ -1,4 +1,5 @@
 pub mod Chains
+pub mod Creations
 pub mod Fronts
 pub mod Handed
 pub mod Hashes
@@ -8,5 +9,6 @@ pub mod Looks
 pub mod More
 pub mod Next
 pub mod Puts
+pub mod Refusals
 pub mod Spelled
 pub mod Strings

@@ -1,5 +1,7 @@
 // Why a log isn't made, read or written.
 ghost use Rattle.std.specs.Prelude.{◌≡◌};
+ghost use Rattle.pfx_log.specs.declared.faults.AppendFault.TheVariants.{Device as DeviceIs, NoMemory as NoMemoryIs};
+ghost use Rattle.pfx_log.specs.declared.faults.CreateFault.TheVariants.{Device as NoDevice, NoMemory as NoRoom};
 ghost use Rattle.pfx_log.specs.declared.faults.LogFault.TheVariants.{NoMemory, Device};
 
 use pfx_disk::DeviceFailed;
@@ -67,5 +69,74 @@ impl<T: Drop> From<AllocFailed<T>> for LogFault {
 
     fn from(_: AllocFailed<T>) -> Self {
         LogFault::NoMemory
+    }
+}
+
+/// Why a log isn't made.
+#[derive(Clone, Copy, Debug, PartialEq, Eq, Error)]
+pub enum CreateFault {
+    /// An allocation failed. No call of the disk was made.
+    #[error("out of memory")]
+    NoMemory,
+    /// The disk failed. Any part of the log may have been written.
+    #[error("the disk failed")]
+    Device,
+    /// The disk holds bytes already. Nothing was written.
+    #[error("the disk isn't empty")]
+    NotEmpty,
+}
+
+impl From<DeviceFailed> for CreateFault {
+    ghost from_gives = { λ _ e. e ≡ NoDevice };
+
+    fn from(_: DeviceFailed) -> Self {
+        CreateFault::Device
+    }
+}
+
+impl From<AllocError> for CreateFault {
+    ghost from_gives = { λ _ e. e ≡ NoRoom };
+
+    fn from(_: AllocError) -> Self {
+        CreateFault::NoMemory
+    }
+}
+
+/// Why a block isn't appended.
+#[derive(Clone, Copy, Debug, PartialEq, Eq, Error)]
+pub enum AppendFault {
+    /// An allocation failed. No call of the disk was made.
+    #[error("out of memory")]
+    NoMemory,
+    /// The disk failed. Any part of the block may have been written, and the log is broken.
+    #[error("the disk failed")]
+    Device,
+    /// The disk failed in an earlier call. The log has to be opened again.
+    #[error("the disk failed before; the log has to be opened again")]
+    Broken,
+    /// The first number isn't the next one, or the last one is below it. Nothing was done.
+    #[error("the block doesn't begin with the next number")]
+    Gap,
+    /// The frames have more than 16,777,216 bytes. Nothing was done.
+    #[error("the block's frames are too long")]
+    TooLong,
+    /// The log has 2^62 bytes or more. Nothing was done.
+    #[error("the log is full")]
+    Full,
+}
+
+impl From<DeviceFailed> for AppendFault {
+    ghost from_gives = { λ _ e. e ≡ DeviceIs };
+
+    fn from(_: DeviceFailed) -> Self {
+        AppendFault::Device
+    }
+}
+
+impl From<AllocError> for AppendFault {
+    ghost from_gives = { λ _ e. e ≡ NoMemoryIs };
+
+    fn from(_: AllocError) -> Self {
+        AppendFault::NoMemory
     }
 }

@@ -4,6 +4,7 @@
 pub const MOST: usize = 16_777_216;
 
 /// What a log begins with.
+#[derive(Drop)]
 pub struct LogHeader {
     /// The version of the store's file that the state and the frames are of.
     pub version: u8,
@@ -14,6 +15,7 @@ pub struct LogHeader {
 }
 
 /// A block.
+#[derive(Drop)]
 pub struct LogBlock {
     /// The number of its first command.
     pub first: u64,
