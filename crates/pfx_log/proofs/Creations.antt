@@ -1,12 +1,13 @@
 -- The steps in which a new log is made.
-use Rattle.std.proofs.Common.{◌≡◌, ◌⊎◌, inl, inr, ⊎_elim, ℕ, ◌+◌, ◌≤◌, ◌<◌, List, [], ◌∷◌, ◌++◌, length, take, drop, refl, sym, ◌∙◌, ap, subst, arith}
+use Rattle.std.proofs.Common.{◌≡◌, ◌⊎◌, inl, inr, ⊎_elim, ℕ, ◌+◌, ◌≤◌, ◌<◌, List, [], ◌∷◌, ◌++◌, length, take, drop, refl, sym, ◌∙◌, ap, subst, arith, append-nil}
 use Rattle.std.proofs.lemmas.List.{nil_from_length}
-use Rattle.pfx_disk.specs.Disk.{View, IsHonest, Leaves, Same, Torn, Written, Only}
+use Rattle.pfx_disk.specs.Disk.{View, HasFailed, IsHonest, Leaves, Same, Torn, Written, Only}
 use Rattle.pfx_disk.specs.declared.gates.TheConstants.{GATE_OPEN}
 use Rattle.pfx_disk.proofs.Steps.{leaves_as, leaves_then, leaves_from_synced}
 use Rattle.pfx_log.specs.Acts.{Begins, Creates, Opens}
 use Rattle.pfx_log.specs.Holding.{Holds, IsShutBehind, IsUnmade}
-use Rattle.pfx_log.specs.Logs.{IsLog, Log, header_text, log_bytes}
+use Rattle.pfx_log.specs.Logs.{AreBytes, IsLog, Log, header_text, log_bytes, new_log}
+use Rattle.pfx_log.specs.declared.place.TheConstants.{MOST}
 use Rattle.pfx_log.proofs.Chains.{log_split}
 
 same_begins : (x y : List ℕ) → Same x y → Begins x y
@@ -47,3 +48,16 @@ module _ (l : Log) (is : IsLog l) (bytes : log_bytes l ≡ GATE_OPEN ∷ header_
 
   pub begins_creates : (a b : View) → Leaves Begins a b → Leaves (Creates l) a b
   begins_creates a b first = leaves_as Begins (Creates l) a b (λ x y step none. inl (step none)) first
+
+pub new_bytes : (version : ℕ) (state before : List ℕ) → log_bytes (new_log version state before) ≡ GATE_OPEN ∷ header_text (new_log version state before)
+unfolding log_bytes
+new_bytes version state before = append-nil (GATE_OPEN ∷ header_text (new_log version state before))
+
+pub new_is_log : (version : ℕ) (state before : List ℕ) → version < 256 → 8 ≤ length state → length state ≤ MOST → length before ≡ 32 → AreBytes state → AreBytes before → IsLog (new_log version state before)
+new_is_log version state before small some most long is_state is_before = record {
+  header = record { version = small; some = some; most = most; long = long; state = is_state; before = is_before };
+  blocks = tt;
+}
+
+pub failed_then : (a b c : View) → a.failures ≤ b.failures → HasFailed b c → HasFailed a c
+failed_then a b c more failed = ⊎_elim (λ rise. inl (omega (arith, more, rise))) (λ spent. inr spent) failed

@@ -11,6 +11,7 @@ use Rattle.pfx_log.specs.declared.faults.LogFault.TheVariants.{NoMemory, Device,
 use Rattle.pfx_log.specs.declared.place.LogBlock.{LogBlock}
 use Rattle.pfx_log.specs.declared.place.LogHeader.{LogHeader}
 use Rattle.pfx_log.specs.declared.place.LogPlace.{LogPlace}
+use Rattle.pfx_log.proofs.Looks.{failed_after, keeps_after, looks_then}
 
 pub of_block : (e : LogFault) (log : Log) (p : ℕ) (rest : List ℕ) → IsOfMachine e → IsBlockFault e log p rest
 of_block NoMemory log p rest is = tt
@@ -57,3 +58,16 @@ pub end_handed : (a b : View) (e : LogFault) → Looks a b → (e ≡ Device →
 end_handed a b e looks device is (Ok x) same = absurd same
 end_handed a b e looks device is (Err x) same = subst (λ (y : LogFault). ReadsHeld {T = LogPlace} a b (Err y) (EndAnswer (Err y))) (sym same)
     (record { looks = looks; device = device; exact = is })
+
+pub found_then : (a b d : View) (first : LogPlace) (result : Result LogPlace LogFault) → Looks a b → ((bytes : List ℕ) → Keeps bytes a → (log : Log) × Begins log first bytes)
+    → ReadsHeld b d result (λ bytes. (log : Log) → Begins log first bytes → EndAnswer result bytes) → ReadsHeld a d result (EndAnswer result)
+found_then a b d first (Ok place) looks begins reads = record {
+  looks = looks_then a b d looks reads.looks;
+  device = tt;
+  exact = λ bytes kept. let l = begins bytes kept in reads.exact bytes (keeps_after bytes a b looks kept) l.0 l.1;
+}
+found_then a b d first (Err e) looks begins reads = record {
+  looks = looks_then a b d looks reads.looks;
+  device = λ is. failed_after a b d looks (reads.device is);
+  exact = λ bytes kept. let l = begins bytes kept in reads.exact bytes (keeps_after bytes a b looks kept) l.0 l.1;
+}

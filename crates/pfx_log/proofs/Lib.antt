@@ -1,3 +1,4 @@
+pub mod Appendings
 pub mod Chains
 pub mod Creations
 pub mod Fronts

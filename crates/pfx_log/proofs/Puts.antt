@@ -89,6 +89,9 @@ written_behind front bytes x y gate rest whole written =
     more : length front + 1 + length bytes ≡ length front + suc (length bytes)
     more = omega arith
 
+pub long_written : (at : ℕ) (bytes x y : List ℕ) → at ≤ length x → Written at bytes x y → at + length bytes ≤ length y
+long_written at bytes x y inside written = omega (arith, inside, ap length written, length-append (take at x ++ bytes) (drop (at + length bytes) x), length-append (take at x) bytes, length-take at x)
+
 -- all of a write of a gate
 pub written_gate : (front x y : List ℕ) (gate : ℕ) (rest : List ℕ) → x ≡ front ++ gate ∷ rest → Written (length front) (GATE_OPEN ∷ []) x y → y ≡ front ++ GATE_OPEN ∷ rest
 written_gate front x y gate rest whole written =

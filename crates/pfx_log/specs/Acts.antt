@@ -1,5 +1,5 @@
 -- What the calls that write a log do.
-use Rattle.std.specs.Prelude.{◌≡◌, ◌⊎◌, ◌↔◌, ◌<◌, ℕ, List, [], ◌∷◌, ◌++◌, length, Result, OnOk}
+use Rattle.std.specs.Prelude.{◌≡◌, ◌⊎◌, ◌↔◌, ◌<◌, ℕ, ◌+◌, List, [], ◌∷◌, ◌++◌, length, Result, OnOk}
 use Rattle.pfx_disk.specs.Disk.{View, IsHonest, Leaves, Only, Same}
 use Rattle.pfx_disk.specs.declared.gates.TheConstants.{GATE_OPEN}
 use Rattle.pfx_segment.specs.Segment.{Takes}
@@ -18,6 +18,7 @@ pub record Puts {T E : Type 0} (gate : ℕ) (bytes : List ℕ) (old new : View) 
   pub stands : IsHonest old → (front body : List ℕ) → length front ≡ gate → bytes ≡ body ++ 0 ∷ [] → IsShutBehind front old.contents
       → OnOk result (IsShutBehind (front ++ (GATE_OPEN ∷ body)) new.contents)
   pub durable : IsHonest old → OnOk result (Only new.contents new)
+  pub long : IsHonest old → OnOk result (gate + length bytes < length new.contents)
 
 -- an image that held the log holds it, or the log with the block
 abbrev pub Grows : Log → Block → List ℕ → List ℕ → Type 0

@@ -41,13 +41,14 @@ fn write_new<D: Disk>(
     ensures fault { IfErr result (IsCreateFault (D.view disk.old) (D.view disk.new)) }
     ensures place { IfOk result (MakesPlace (new_log version state.now before.now) (D.view disk.old) (D.view disk.new)) }
 {
+    let head = first_head(version, state, &before[..]);
     let bytes = header_and_gate(alloc, version, state, &before[..])?;
     begin(disk)?;
     put_behind(disk, 0, &bytes)?;
     Ok(LogPlace {
         at: bytes.len(),
         last: LittleEndian::read_u64(state),
-        head: first_head(version, state, &before[..]),
+        head,
     })
 }
 

@@ -2,7 +2,7 @@ use Rattle.std.proofs.Common.{rules, ◌≡◌, ◌≤◌, ◌+◌, ◌∷◌, [
 use Rattle.pfx_disk.specs.Disk.{View, IsHonest, Leaves, Torn, Written}
 use Rattle.pfx_disk.specs.declared.gates.TheConstants.{GATE_OPEN}
 use Rattle.pfx_log.specs.Acts.{Opens}
-use Rattle.pfx_log.proofs.Puts.{behind_written, gate_opened, stands, stands_after, then_synced}
+use Rattle.pfx_log.proofs.Puts.{behind_written, gate_opened, long_written, stands, stands_after, then_synced}
 use Rattle.pfx_log.proofs.putting.put_behind.Goals as goal
 
 -- the write behind the gate, as one of the bytes of this front
@@ -22,6 +22,7 @@ returns-in_err-write_at-clause-puts g c =
       leaves = λ honest front body long split. behind_written front body a b1 b1 honest (length (body ++ 0 ∷ [])) (torn_as a b1 c.args.gate c.args.bytes.now front body long split (c.write_at.ensures.leaves honest));
       stands = search rules;
       durable = search rules;
+      long = search rules;
     }
 
 pub returns-in_err-sync-clause-puts : goal.returns-in_err-sync-clause-puts
@@ -37,6 +38,7 @@ returns-in_err-sync-clause-puts g c =
           (behind_written front body a b1 b1 honest (length (body ++ 0 ∷ [])) (torn_as a b1 c.args.gate c.args.bytes.now front body long split l1)) (c.sync.ensures.leaves l1.honest);
       stands = search rules;
       durable = search rules;
+      long = search rules;
     }
 
 pub returns-in_err-write_at-2-clause-puts : goal.returns-in_err-write_at-2-clause-puts
@@ -55,6 +57,7 @@ returns-in_err-write_at-2-clause-puts g c =
           (written_as a b1 c.args.gate c.args.bytes.now front body long split (c.in_ok-write_at.ensures.written honest)) l2 (c.in_ok-sync.ensures.durable l1.honest) l3;
       stands = search rules;
       durable = search rules;
+      long = search rules;
     }
 
 pub returns-in_err-sync-2-clause-puts : goal.returns-in_err-sync-2-clause-puts
@@ -76,6 +79,7 @@ returns-in_err-sync-2-clause-puts g c =
           (c.sync-2.ensures.leaves l3.honest);
       stands = search rules;
       durable = search rules;
+      long = search rules;
     }
 
 pub returns-clause-puts : goal.returns-clause-puts
@@ -108,4 +112,13 @@ returns-clause-puts g c =
           let l3 = c.write_at-2.ensures.leaves l2.honest in
           let l4 = c.sync-2.ensures.leaves l3.honest in
           λ image is. c.in_ok-sync-2.ensures.durable l3.honest image is ∙ sym l4.contents;
+      long = λ honest.
+          let l1 = c.write_at.ensures.leaves honest in
+          let l2 = c.sync.ensures.leaves l1.honest in
+          let l3 = c.write_at-2.ensures.leaves l2.honest in
+          let l4 = c.sync-2.ensures.leaves l3.honest in
+          let inside = c.requires.inside honest in
+          let first = long_written (c.args.gate + 1) c.args.bytes.now a.contents b1.contents (omega (arith, inside)) (c.in_ok-write_at.ensures.written honest) in
+          let no_shorter = l3.contents.no_shorter in
+          omega (arith, first, no_shorter, ap length l2.contents, ap length l4.contents);
     }
