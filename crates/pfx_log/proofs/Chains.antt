@@ -79,7 +79,7 @@ goes_on (a ∷ us) (b ∷ vs) h m r gate s ia ib shut is =
     let one = one_block a b _ _ (is_sized m a ia.0) (is_sized m b ib.0) tails in
     let heads = fronts (head_of h a) (head_of h b) _ _ (sha256_long (h ++ block_text a) ∙ sym (sha256_long (h ++ block_text b))) one.1 in
     let on = goes_on us vs (head_of h a) a.last r gate s ia.1 (subst (λ (c : Block). AreBlocks c.last vs) (sym one.0) ib.1) shut
-        (heads.1 ∙ ap (λ (c : Block). blocks_bytes (head_of h c) vs ++ gate ∷ s) (sym one.0)) in
+    (heads.1 ∙ ap (λ (c : Block). blocks_bytes (head_of h c) vs ++ gate ∷ s) (sym one.0)) in
     record { more = on.more; all = λ i. sym one.0 i ∷ on.all i; are = on.are; rest = on.rest }
 
 -- the header's bytes, and what stands behind them
@@ -106,7 +106,7 @@ is_more a b r gate s ia ib shut is =
     let same : b ≡ c = λ i. record { version = sym h.version i; state = sym h.state i; before = sym h.before i; blocks = b.blocks } in
     let heads : first_head b ≡ first_head a = ap first_head same ∙ text_alone c a refl refl refl in
     let on = goes_on a.blocks b.blocks (first_head a) (number_of a.state) r gate s ia.blocks (subst (λ (l : List ℕ). AreBlocks (number_of l) b.blocks) (sym h.state) ib.blocks) shut
-        (h.rest ∙ ap (λ k. blocks_bytes k b.blocks ++ gate ∷ s) heads) in
+    (h.rest ∙ ap (λ k. blocks_bytes k b.blocks ++ gate ∷ s) heads) in
     record { more = on.more; all = same ∙ ap (λ vs. record { version = a.version; state = a.state; before = a.before; blocks = vs }) on.all; are = on.are; rest = on.rest }
 
 pub one_held : (image : List ℕ) (a b : Log) → Holds image a → Holds image b → a ≡ b

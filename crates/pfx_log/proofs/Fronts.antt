@@ -51,8 +51,12 @@ module _ (xs : List ℕ) (p : ℕ) (inside : p < length xs) (gate : get_or xs p 
 
     pub too_long : (place : LogPlace) (log : Log) → p ≡ place.at → n < 2 ^ 64 → MOST < n → IsBlockFault (TooLong p) log place.at (drop p xs)
     too_long place log is small most = (
-      is, n, little_bytes 8 first ++ (little_bytes 8 last ++ drop (p + 25) xs), small,
-      gate_behind ∙ ap (λ l. GATE_OPEN ∷ l) (front_behind ∙ regroup (drop (p + 25) xs)), most,
+      is,
+      n,
+      little_bytes 8 first ++ (little_bytes 8 last ++ drop (p + 25) xs),
+      small,
+      gate_behind ∙ ap (λ l. GATE_OPEN ∷ l) (front_behind ∙ regroup (drop (p + 25) xs)),
+      most,
     )
 
     -- an open gate before fewer bytes than the block has

@@ -9,6 +9,7 @@ pub mod Joined
 pub mod Looks
 pub mod More
 pub mod Next
+pub mod Openings
 pub mod Puts
 pub mod Refusals
 pub mod Spelled

@@ -47,7 +47,13 @@ module _ (xs : List ℕ) (log : Log) (place : LogPlace) (begins : Begins log pla
 
   pub other_head : head ≢ head_of place.head (block_of first last frames) → IsBlockFault (Damaged place.at Head) log place.at (drop place.at xs)
   other_head differ = (
-    refl, block_of first last frames, head, drop (place.at + 57 + n) xs, sized, behind, head_long,
+    refl,
+    block_of first last frames,
+    head,
+    drop (place.at + 57 + n) xs,
+    sized,
+    behind,
+    head_long,
     λ same. differ (same ∙ ap (λ h. head_of h (block_of first last frames)) (sym begins.end.head)),
   )
 

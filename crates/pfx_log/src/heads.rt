@@ -55,9 +55,9 @@ pub fn first_head(version: u8, state: &[u8], before: &[u8]) -> [u8; 32]
     ensures value { result ≡ first_head (new_log version state.now before.now) }
     ensures bytes { AreBytes state.now × AreBytes before.now }
 {
-    let front = header_front(version, state.len() as u32);
+    let letters = header_front(version, state.len() as u32);
     let mut hasher = Sha256::new();
-    hasher.update(&front[..]);
+    hasher.update(&letters[..]);
     hasher.update(state);
     hasher.update(before);
     hasher.finalize()

@@ -99,7 +99,14 @@ pub fn read_block<D: Disk>(
         last,
         head,
     };
-    Ok(Some((LogBlock { first, last, frames }, next)))
+    Ok(Some((
+        LogBlock {
+            first,
+            last,
+            frames,
+        },
+        next,
+    )))
 }
 
 // The version and how many bytes the state has, by the first bytes of a log of so many.

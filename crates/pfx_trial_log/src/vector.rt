@@ -98,7 +98,7 @@ pub fn ends_behind(at: usize, last: u64, blocks: usize) -> bool {
 }
 
 /// Behind how many blocks the log ends that the disk holds, as it is opened.
-pub fn blocks_of<D: Disk>(alloc: Global, disk: D) -> Option<usize> {
+pub fn blocks_of<D: Disk + Drop>(alloc: Global, disk: D) -> Option<usize> {
     let file = LogFile::open(alloc, disk).ok()?;
     for blocks in 0..4 {
         if ends_behind(file.place.at, file.place.last, blocks) {

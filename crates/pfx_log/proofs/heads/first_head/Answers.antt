@@ -7,7 +7,7 @@ use Rattle.pfx_log.proofs.heads.first_head.Goals as goal
 
 pub returns-clause-value : goal.returns-clause-value
 returns-clause-value c =
-    let front = c.header_front-front.result in
+    let front = c.header_front-letters.result in
     let state = c.args.state.now in
     let before = c.args.before.now in
     let is : front ≡ (0x50 ∷ 0x46 ∷ 0x58 ∷ 0x41 ∷ 0x55 ∷ 0x44 ∷ 0x49 ∷ 0x54 ∷ 1 ∷ c.args.version ∷ []) ++ little_bytes 4 (length state) = search rules in

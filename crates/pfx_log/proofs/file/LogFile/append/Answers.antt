@@ -48,7 +48,7 @@ returns-clause-appends g c log is_open =
     let before = is_open.images (view old.disk).contents is_open.honest.here in
     let leaves = c.put_behind.ensures.puts.leaves is_open.honest (log_bytes log) text (sym is_open.end.at) split in
     let held : Holds (view c.put_behind.new.disk).contents (with_block log b) = held_more log b block (view c.put_behind.new.disk).contents before.is_log
-        (c.in_ok-put_behind.ensures.puts.stands is_open.honest (log_bytes log) text (sym is_open.end.at) split before.stands) in
+    (c.in_ok-put_behind.ensures.puts.stands is_open.honest (log_bytes log) text (sym is_open.end.at) split before.stands) in
     let only = c.in_ok-put_behind.ensures.puts.durable is_open.honest in
     let len : c.len.result ≡ length c.in_ok-bytes.bytes.items = search rules in
     let long = put_long b c.head_of-head.result old.place.head c.in_ok-bytes.bytes.items c.head_of-head.ensures.value c.in_ok-bytes.ensures in
