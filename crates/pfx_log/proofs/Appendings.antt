@@ -1,11 +1,11 @@
 -- A block appended to an open log.
-use Rattle.std.proofs.Common.{◌≡◌, ◌⊎◌, inl, inr, ⊎_elim, ℕ, ◌+◌, ◌≤◌, ◌<◌, ◌^◌, List, [], ◌∷◌, ◌++◌, length, refl, sym, ◌∙◌, ap, subst, arith, length-append}
-use Rattle.pfx_disk.specs.Disk.{View, IsHonest, Leaves, Only}
+use Rattle.std.proofs.Common.{◌≡◌, inl, inr, ⊎_elim, ℕ, ◌+◌, List, [], ◌∷◌, ◌++◌, length, sym, ◌∙◌, ap, subst, arith, length-append}
+use Rattle.pfx_disk.specs.Disk.{View, IsHonest, Leaves}
 use Rattle.pfx_disk.specs.declared.gates.TheConstants.{GATE_OPEN}
 use Rattle.pfx_disk.proofs.Steps.{leaves_as, leaves_none}
 use Rattle.pfx_log.specs.Acts.{Grows, Opens}
 use Rattle.pfx_log.specs.Holding.{Holds, IsEnd, IsShutBehind}
-use Rattle.pfx_log.specs.Logs.{AreBytes, Block, IsBlock, IsLog, Log, block_bytes, block_text, head_of, last_head, last_number, log_bytes, with_block}
+use Rattle.pfx_log.specs.Logs.{Block, IsBlock, IsLog, Log, block_text, head_of, last_head, last_number, log_bytes, with_block}
 use Rattle.pfx_log.specs.declared.place.LogPlace.{LogPlace}
 use Rattle.pfx_log.proofs.Fronts.{block_long}
 use Rattle.pfx_log.proofs.Hashes.{sha256_long}

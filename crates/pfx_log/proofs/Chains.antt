@@ -1,10 +1,10 @@
 -- The chain of heads, and the blocks that an image fixes.
-use Rattle.std.proofs.Common.{◌≡◌, ◌≢◌, ◌⊎◌, inl, inr, ⊎_elim, ℕ, zero, suc, ◌+◌, ◌≤◌, ◌<◌, List, [], ◌∷◌, ◌++◌, length, get_or, take, drop, refl, sym, ◌∙◌, ap, subst, arith, append_assoc, append-nil, length-append}
+use Rattle.std.proofs.Common.{◌≡◌, ◌≢◌, ◌⊎◌, inl, inr, ⊎_elim, ℕ, List, [], ◌∷◌, ◌++◌, length, refl, sym, ◌∙◌, ap, subst, arith, append_assoc, append-nil, length-append}
 use Rattle.pfx_disk.specs.declared.gates.TheConstants.{GATE_OPEN}
 use Rattle.sha2.specs.Sha256.{sha256}
-use Rattle.pfx_log.specs.Logs.{AreBytes, AreBlocks, Block, IsBlock, IsHeader, IsLog, Log, block_bytes, block_text, blocks_bytes, first_head, head_behind, head_of, header_text, last_head, last_number, log_bytes, number_behind, number_of}
-use Rattle.pfx_log.specs.Holding.{Collision, Holds, IsShutBehind, IsUnmade}
-use Rattle.pfx_log.proofs.Strings.{AreOne, bytes_append, bytes_cons, fronts, heads_of, is_sized, one_block, one_header, same_or_not}
+use Rattle.pfx_log.specs.Logs.{AreBytes, AreBlocks, Block, IsBlock, IsHeader, IsLog, Log, block_text, blocks_bytes, first_head, head_behind, head_of, header_text, last_head, last_number, log_bytes, number_behind, number_of}
+use Rattle.pfx_log.specs.Holding.{Collision, Holds, IsUnmade}
+use Rattle.pfx_log.proofs.Strings.{bytes_append, bytes_cons, fronts, heads_of, is_sized, one_block, one_header, same_or_not}
 use Rattle.pfx_log.proofs.Hashes.{little_are_bytes, sha256_are_bytes, sha256_long}
 use Rattle.byteorder.specs.Endian.{little_bytes}
 

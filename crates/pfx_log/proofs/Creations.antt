@@ -1,5 +1,5 @@
 -- The steps in which a new log is made.
-use Rattle.std.proofs.Common.{◌≡◌, ◌⊎◌, inl, inr, ⊎_elim, ℕ, ◌+◌, ◌≤◌, ◌<◌, List, [], ◌∷◌, ◌++◌, length, take, drop, refl, sym, ◌∙◌, ap, subst, arith, append-nil}
+use Rattle.std.proofs.Common.{◌≡◌, inl, inr, ⊎_elim, ℕ, ◌≤◌, ◌<◌, List, [], ◌∷◌, ◌++◌, length, take, drop, sym, ◌∙◌, ap, subst, arith, append-nil}
 use Rattle.std.proofs.lemmas.List.{nil_from_length}
 use Rattle.pfx_disk.specs.Disk.{View, HasFailed, IsHonest, Leaves, Same, Torn, Written, Only}
 use Rattle.pfx_disk.specs.declared.gates.TheConstants.{GATE_OPEN}
@@ -8,7 +8,6 @@ use Rattle.pfx_log.specs.Acts.{Begins, Creates, Opens}
 use Rattle.pfx_log.specs.Holding.{Holds, IsShutBehind, IsUnmade}
 use Rattle.pfx_log.specs.Logs.{AreBytes, IsLog, Log, header_text, log_bytes, new_log}
 use Rattle.pfx_log.specs.declared.place.TheConstants.{MOST}
-use Rattle.pfx_log.proofs.Chains.{log_split}
 
 same_begins : (x y : List ℕ) → Same x y → Begins x y
 same_begins x y same none = inl (omega (arith, ap length same, ap length none))

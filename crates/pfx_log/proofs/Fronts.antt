@@ -1,14 +1,12 @@
 -- What stands behind a place, by its parts.
-use Rattle.std.proofs.Common.{◌≡◌, ◌≢◌, ◌⊎◌, inl, inr, ℕ, ◌+◌, ◌-◌, ◌^◌, ◌≤◌, ◌<◌, List, [], ◌∷◌, ◌++◌, length, get_or, take, drop, refl, sym, ◌∙◌, ap, subst, arith, append_assoc, length-append, length-take, length-drop}
-use Rattle.std.proofs.lemmas.List.{take-append-drop, drop-drop, drop_all, drop_more}
+use Rattle.std.proofs.Common.{◌≡◌, ◌≢◌, ◌⊎◌, ℕ, ◌+◌, ◌-◌, ◌^◌, ◌≤◌, ◌<◌, List, ◌∷◌, ◌++◌, length, get_or, take, drop, refl, sym, ◌∙◌, ap, subst, arith, append_assoc, length-append, length-take, length-drop}
+use Rattle.std.proofs.lemmas.List.{take-append-drop, drop-drop, drop_more}
 use Rattle.byteorder.specs.Endian.{little_bytes}
 use Rattle.byteorder.specs.Numbers.{length-bytes_low_first}
 use Rattle.pfx_disk.specs.declared.gates.TheConstants.{GATE_OPEN}
 use Rattle.pfx_log.specs.Faults.{IsBlockFault, IsOpenOrNone, IsSized}
-use Rattle.pfx_log.specs.Holding.{Begins}
-use Rattle.pfx_log.specs.Logs.{Block, Log, block_of, block_text, head_of, last_head, last_number}
-use Rattle.pfx_log.specs.Reading.{IsFront}
-use Rattle.pfx_log.specs.declared.faults.Damage.TheVariants.{Block as BlockIs, Number, Head}
+use Rattle.pfx_log.specs.Logs.{Block, Log, block_of, block_text, last_number}
+use Rattle.pfx_log.specs.declared.faults.Damage.TheVariants.{Block as BlockIs, Number}
 use Rattle.pfx_log.specs.declared.faults.LogFault.TheVariants.{Damaged, TooLong}
 use Rattle.pfx_log.specs.declared.place.LogPlace.{LogPlace}
 use Rattle.pfx_log.specs.declared.place.TheConstants.{MOST}

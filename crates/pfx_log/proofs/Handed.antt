@@ -1,6 +1,6 @@
 -- Faults of the machine, handed on.
 use Rattle.std.proofs.Common.{◌≡◌, ℕ, List, drop, sym, subst, Result, Ok, Err}
-use Rattle.std.specs.Prelude.{IsErrAnd, IsErrOf, Option}
+use Rattle.std.specs.Prelude.{IsErrAnd, Option}
 use Rattle.pfx_disk.specs.Disk.{View, HasFailed}
 use Rattle.pfx_log.specs.Faults.{IsBlockFault, IsHeaderFault, IsFault, IsOfMachine}
 use Rattle.pfx_log.specs.Holding.{Begins}

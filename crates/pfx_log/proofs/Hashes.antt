@@ -1,9 +1,7 @@
 -- What a SHA-256 is: 32 bytes.
-use Rattle.std.specs.Prelude.{All}
 use Rattle.std.specs.Int.{byte_at, bytes_high_first, bytes_low_first, to_be_bytes, w32}
-use Rattle.std.proofs.Common.{◌≡◌, ◌<◌, ℕ, zero, suc, ◌+◌, ◌*◌, List, [], ◌∷◌, ◌++◌, length, refl, ◌∙◌, arith, length-append}
+use Rattle.std.proofs.Common.{◌≡◌, ◌<◌, ℕ, zero, suc, ◌*◌, List, length, refl, ◌∙◌, arith, length-append}
 use Rattle.byteorder.specs.Endian.{little_bytes}
-use Rattle.byteorder.specs.Numbers.{length-bytes_high_first}
 use Rattle.sha2.specs.Sha256.{digest_bytes, final_hash, initial_hash_256, sha256}
 use Rattle.pfx_log.specs.Logs.{AreBytes}
 use Rattle.pfx_log.proofs.Strings.{bytes_append, bytes_cons}

@@ -1,12 +1,12 @@
 -- The header that bytes begin with.
-use Rattle.std.proofs.Common.{◌≡◌, ℕ, ◌+◌, ◌≤◌, ◌<◌, List, [], ◌∷◌, ◌++◌, length, get_or, take, drop, refl, sym, ◌∙◌, ap, arith, append_assoc, append-nil, length-append, length-take, length-drop}
+use Rattle.std.proofs.Common.{◌≡◌, ℕ, ◌+◌, ◌<◌, List, [], ◌∷◌, ◌++◌, length, get_or, take, drop, sym, ◌∙◌, ap, arith, append_assoc, append-nil, length-append, length-take, length-drop}
 use Rattle.std.proofs.lemmas.List.{take-append-drop, take_all, drop-drop, drop_more}
 use Rattle.std.proofs.lemmas.List.Elements.{All-drop}
 use Rattle.byteorder.specs.Endian.{little_bytes, little_number}
 use Rattle.byteorder.specs.Numbers.{length-bytes_low_first}
 use Rattle.pfx_disk.specs.declared.gates.TheConstants.{GATE_OPEN}
 use Rattle.pfx_log.specs.Holding.{Begins}
-use Rattle.pfx_log.specs.Logs.{AreBytes, Log, first_head, header_text, log_bytes, mark, new_log}
+use Rattle.pfx_log.specs.Logs.{AreBytes, Log, first_head, log_bytes, mark, new_log}
 use Rattle.pfx_log.specs.Reading.{IsHeaderFront}
 use Rattle.pfx_log.specs.declared.place.LogPlace.{LogPlace}
 use Rattle.pfx_log.proofs.Chains.{log_split}

@@ -1,5 +1,5 @@
 -- Bytes that were written one piece behind the other.
-use Rattle.std.proofs.Common.{◌≡◌, ℕ, List, [], ◌∷◌, ◌++◌, length, refl, sym, ◌∙◌, ap, append_assoc}
+use Rattle.std.proofs.Common.{◌≡◌, ℕ, List, [], ◌∷◌, ◌++◌, length, ◌∙◌, ap, append_assoc}
 use Rattle.byteorder.specs.Endian.{little_bytes}
 use Rattle.pfx_log.specs.Logs.{block_of, block_text, header_text, new_log}
 

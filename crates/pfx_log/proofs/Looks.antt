@@ -1,6 +1,5 @@
 -- How runs of calls that only read go on.
-use Rattle.std.proofs.Common.{◌≡◌, inl, inr, ⊎_elim, ℕ, ◌+◌, ◌≤◌, ◌<◌, List, length, get_or, take, drop, ◌∙◌, ap, sym, subst, arith, Result, Ok, Err}
-use Rattle.std.specs.Prelude.{IsErrAnd}
+use Rattle.std.proofs.Common.{◌≡◌, inl, inr, ⊎_elim, ℕ, ◌<◌, List, length, get_or, take, drop, ◌∙◌, ap, arith, Result}
 use Rattle.std.proofs.Math.Seq.{drop-cons}
 use Rattle.pfx_disk.specs.Disk.{View, IsHonest, Leaves, Same, HasFailed, Ticks}
 use Rattle.pfx_disk.specs.declared.device.DeviceFailed.{DeviceFailed}

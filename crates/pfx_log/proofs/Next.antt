@@ -1,18 +1,16 @@
 -- The block that stands behind a log.
-use Rattle.std.proofs.Common.{◌≡◌, ◌≢◌, ℕ, ◌+◌, ◌^◌, ◌≤◌, ◌<◌, List, [], ◌∷◌, ◌++◌, length, get_or, take, drop, refl, sym, ◌∙◌, ap, subst, arith, append_assoc, length-take, length-drop}
+use Rattle.std.proofs.Common.{◌≡◌, ◌≢◌, ℕ, ◌+◌, ◌^◌, ◌≤◌, ◌<◌, List, ◌∷◌, ◌++◌, length, get_or, take, drop, refl, sym, ◌∙◌, ap, subst, arith, append_assoc, length-take, length-drop}
 use Rattle.std.proofs.lemmas.List.{take-append-drop, drop-drop, drop_more}
-use Rattle.byteorder.specs.Endian.{little_bytes}
 use Rattle.pfx_disk.specs.declared.gates.TheConstants.{GATE_OPEN}
 use Rattle.pfx_log.specs.Faults.{IsBlockFault, IsSized}
 use Rattle.pfx_log.specs.Holding.{Begins, Holds}
-use Rattle.pfx_log.specs.Logs.{AreBytes, Block, IsBlock, Log, block_bytes, block_of, block_text, head_of, last_head, last_number, log_bytes, with_block}
+use Rattle.pfx_log.specs.Logs.{AreBytes, IsBlock, Log, block_bytes, block_of, block_text, head_of, last_head, last_number, log_bytes, with_block}
 use Rattle.pfx_log.specs.Reading.{IsFront}
 use Rattle.pfx_log.specs.declared.faults.Damage.TheVariants.{Head}
 use Rattle.pfx_log.specs.declared.faults.LogFault.TheVariants.{Damaged}
 use Rattle.pfx_log.specs.declared.place.LogPlace.{LogPlace}
 use Rattle.pfx_log.specs.declared.place.TheConstants.{MOST}
-use Rattle.pfx_log.proofs.Fronts.{block_behind, frames_long, gate_behind, sized_block}
-use Rattle.pfx_log.proofs.Hashes.{sha256_long}
+use Rattle.pfx_log.proofs.Fronts.{block_behind, frames_long, sized_block}
 use Rattle.pfx_log.proofs.More.{is_log_more, last_head_more, last_number_more, log_more, log_more_long}
 
 -- a closed gate behind it

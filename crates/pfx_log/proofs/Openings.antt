@@ -1,5 +1,5 @@
 -- Where the gate behind a log stands.
-use Rattle.std.proofs.Common.{◌≡◌, ◌<◌, ◌+◌, ◌∷◌, ℕ, List, length, ap, arith, length-append}
+use Rattle.std.proofs.Common.{◌<◌, ◌∷◌, ℕ, List, length, ap, arith, length-append}
 use Rattle.pfx_log.specs.Holding.{Holds, IsEnd}
 use Rattle.pfx_log.specs.Logs.{Log, log_bytes}
 use Rattle.pfx_log.specs.declared.place.LogPlace.{LogPlace}

@@ -1,15 +1,14 @@
 -- What is refused holds no log.
-use Rattle.std.proofs.Common.{◌≡◌, ◌≢◌, ◌⊎◌, inl, inr, ⊎_elim, ℕ, ◌+◌, ◌≤◌, ◌<◌, ◌^◌, List, [], ◌∷◌, ◌++◌, length, get_or, take, drop, refl, sym, ◌∙◌, ap, subst, arith, append_assoc, length-append}
+use Rattle.std.proofs.Common.{◌≡◌, ◌≢◌, ⊎_elim, ℕ, ◌+◌, ◌≤◌, List, [], ◌∷◌, ◌++◌, length, get_or, take, drop, refl, sym, ◌∙◌, ap, subst, arith, length-append}
 use Rattle.byteorder.specs.Endian.{little_bytes, little_number}
 use Rattle.byteorder.specs.Numbers.{length-bytes_low_first, little_number-reads_back}
 use Rattle.pfx_disk.specs.declared.gates.TheConstants.{GATE_OPEN}
-use Rattle.pfx_log.specs.Faults.{IsBlockFault, IsFault, IsHeaderFault, IsOfMachine, IsOpenOrNone, state_len}
-use Rattle.pfx_log.specs.Holding.{Begins, Holds}
-use Rattle.pfx_log.specs.Logs.{AreBlocks, Block, IsBlock, Log, block_text, blocks_bytes, first_head, head_of, header_text, last_head, last_number, log_bytes, mark}
+use Rattle.pfx_log.specs.Faults.{IsBlockFault, IsFault, IsHeaderFault, IsOfMachine, state_len}
+use Rattle.pfx_log.specs.Holding.{Holds}
+use Rattle.pfx_log.specs.Logs.{AreBlocks, Block, IsBlock, Log, block_text, blocks_bytes, first_head, head_of, last_head, last_number, mark}
 use Rattle.pfx_log.specs.declared.faults.Damage.TheVariants.{Header, Block as BlockIs, Number, Head}
 use Rattle.pfx_log.specs.declared.faults.LogFault.{LogFault}
 use Rattle.pfx_log.specs.declared.faults.LogFault.TheVariants.{NoMemory, Device, NotALog, WrongVersion, Damaged, TooLong}
-use Rattle.pfx_log.specs.declared.place.LogPlace.{LogPlace}
 use Rattle.pfx_log.proofs.Chains.{is_more, log_split, regrouped}
 use Rattle.pfx_log.proofs.Hashes.{sha256_long}
 use Rattle.pfx_log.proofs.Strings.{block_split, fronts, header_split, heads_of, is_sized, long_number, one_block, one_number}

@@ -4,7 +4,6 @@ use Rattle.byteorder.specs.Endian.{little_bytes, little_number}
 use Rattle.pfx_disk.specs.declared.gates.TheConstants.{GATE_OPEN}
 use Rattle.pfx_log.specs.Holding.{Begins}
 use Rattle.pfx_log.specs.Logs.{Block, Log, block_text, head_of, last_head, last_number, mark, this_version}
-use Rattle.pfx_log.specs.declared.faults.Damage.{Damage}
 use Rattle.pfx_log.specs.declared.faults.Damage.TheVariants.{Header, Block as BlockIs, Number, Head}
 use Rattle.pfx_log.specs.declared.faults.LogFault.{LogFault}
 use Rattle.pfx_log.specs.declared.faults.LogFault.TheVariants.{NoMemory, Device, NotALog, WrongVersion, Damaged, TooLong}

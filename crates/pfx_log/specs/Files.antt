@@ -1,5 +1,5 @@
 -- A log on its disk, and what the calls that write it do.
-use Rattle.std.specs.Prelude.{◌≡◌, ◌≢◌, ◌⊎◌, ◌↔◌, ℕ, ◌+◌, ◌≤◌, ◌<◌, ◌^◌, List, length, Bool, true, false, Result, IsOk, OnOk, IfErr}
+use Rattle.std.specs.Prelude.{◌≡◌, ◌≢◌, ◌⊎◌, ◌↔◌, ℕ, ◌+◌, ◌≤◌, ◌<◌, ◌^◌, List, length, true, false, Result, OnOk, IfErr}
 use Rattle.pfx_disk.specs.Disk.{View, HasFailed, IsHonest, Leaves, Same}
 use Rattle.pfx_disk.specs.declared.device.Disk.{Ghosts}
 use Rattle.pfx_segment.specs.Segment.{Takes}

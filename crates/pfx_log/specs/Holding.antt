@@ -1,7 +1,7 @@
 -- The log that an image holds.
 use Rattle.std.specs.Prelude.{◌≡◌, ◌≢◌, ◌≤◌, ◌⊎◌, ℕ, List, [], ◌∷◌, ◌++◌, length, drop}
 use Rattle.pfx_disk.specs.declared.gates.TheConstants.{GATE_OPEN}
-use Rattle.pfx_log.specs.Logs.{AreBytes, Block, IsLog, Log, last_head, last_number, log_bytes, with_block}
+use Rattle.pfx_log.specs.Logs.{AreBytes, IsLog, Log, last_head, last_number, log_bytes}
 use Rattle.pfx_log.specs.declared.place.LogPlace.{LogPlace}
 use Rattle.sha2.specs.Sha256.{sha256}
 

@@ -1,5 +1,5 @@
 -- What reading a log does to a disk, and what it answers.
-use Rattle.std.specs.Prelude.{◌≡◌, ◌≢◌, ℕ, ◌+◌, ◌≤◌, ◌<◌, List, [], ◌∷◌, ◌++◌, length, take, drop, slice_index, Vec, Option, Some, None, Result, Ok, Err, IfErr}
+use Rattle.std.specs.Prelude.{◌≡◌, ◌≢◌, ℕ, ◌+◌, ◌≤◌, ◌<◌, List, [], ◌∷◌, ◌++◌, length, take, drop, slice_index, Option, Some, None, Result, Ok, Err, IfErr}
 use Rattle.byteorder.specs.Endian.{little_bytes}
 use Rattle.pfx_disk.specs.Disk.{View, HasFailed, IsHonest, Leaves, Same}
 use Rattle.pfx_disk.specs.declared.gates.TheConstants.{GATE_OPEN}

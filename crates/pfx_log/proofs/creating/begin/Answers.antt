@@ -1,4 +1,4 @@
-use Rattle.std.proofs.Common.{rules, ◌≡◌, ◌≤◌, ◌<◌, ◌∷◌, [], length, ◌+◌, ◌∙◌, ap, sym, arith}
+use Rattle.std.proofs.Common.{rules, ◌∙◌, sym, arith}
 use Rattle.pfx_log.proofs.Creations.{begins_synced, first_written, gate_alone, looked_at, was_empty}
 use Rattle.pfx_log.proofs.creating.begin.Goals as goal
 

@@ -1,5 +1,5 @@
-use Rattle.std.proofs.Common.{rules, ◌≡◌, ◌≤◌, ◌<◌, ◌+◌, ◌∷◌, [], ◌++◌, List, ℕ, length, refl, sym, ap, subst, arith, ◌∙◌, length-append}
-use Rattle.pfx_log.specs.Logs.{IsLog, header_text, log_bytes, new_log, number_of}
+use Rattle.std.proofs.Common.{rules, ◌≡◌, ◌<◌, ◌∷◌, [], length, refl, ap, arith, ◌∙◌, length-append}
+use Rattle.pfx_log.specs.Logs.{IsLog, header_text, new_log}
 use Rattle.pfx_log.proofs.Creations.{begins_creates, gate_shut, is_held, new_bytes, new_is_log, put_behind_gate}
 use Rattle.pfx_log.proofs.creating.write_new.Goals as goal
 

@@ -1,4 +1,3 @@
-use Rattle.std.proofs.Common.{◌≡◌, ◌∙◌, sym, ap, length, subst}
 use Rattle.pfx_log.specs.Logs.{new_log}
 use Rattle.pfx_log.proofs.Handed.{found_then}
 use Rattle.pfx_log.proofs.Looks.{keeps_after, looks_of, looks_then}

@@ -1,8 +1,5 @@
-use Rattle.std.proofs.Common.{rules, ◌≡◌, ◌≤◌, List, ℕ, inr, refl}
-use Rattle.std.specs.Prelude.{IsErrAnd}
-use Rattle.pfx_log.specs.Holding.{Begins}
-use Rattle.pfx_log.specs.Logs.{Log, block_of, with_block}
-use Rattle.pfx_log.specs.Reading.{EndAnswer, Keeps, ReadsHeld}
+use Rattle.std.proofs.Common.{rules, inr}
+use Rattle.pfx_log.specs.Logs.{block_of, with_block}
 use Rattle.pfx_log.proofs.Handed.{walk_handed}
 use Rattle.pfx_log.proofs.Looks.{failed_after, keeps_after, looks_then}
 use Rattle.pfx_log.proofs.opening.find_end.Goals as goal

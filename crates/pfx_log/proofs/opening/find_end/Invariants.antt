@@ -1,4 +1,4 @@
-use Rattle.std.proofs.Common.{◌≡◌, ◌≤◌, ◌-◌, ℕ, List}
+use Rattle.std.proofs.Common.{◌≤◌, ◌-◌, ℕ, List}
 use Rattle.pfx_log.specs.Holding.{Begins}
 use Rattle.pfx_log.specs.Logs.{Log}
 use Rattle.pfx_log.specs.Reading.{Keeps, Looks}

@@ -1,5 +1,5 @@
-use Rattle.std.proofs.Common.{rules, ◌≡◌, ◌≤◌, ◌+◌, ◌∷◌, [], ◌++◌, List, ℕ, length, refl, sym, ap, subst, arith, ◌∙◌}
-use Rattle.pfx_disk.specs.Disk.{View, IsHonest, Leaves, Torn, Written}
+use Rattle.std.proofs.Common.{rules, ◌≡◌, ◌+◌, ◌∷◌, [], ◌++◌, List, ℕ, length, sym, ap, subst, arith, ◌∙◌}
+use Rattle.pfx_disk.specs.Disk.{View, Leaves, Torn, Written}
 use Rattle.pfx_disk.specs.declared.gates.TheConstants.{GATE_OPEN}
 use Rattle.pfx_log.specs.Acts.{Opens}
 use Rattle.pfx_log.proofs.Puts.{behind_written, gate_opened, long_written, stands, stands_after, then_synced}

@@ -1,4 +1,4 @@
-use Rattle.std.proofs.Common.{rules, ◌≡◌, ◌≤◌, ◌+◌, List, ℕ, length, get_or, take, drop, ◌∙◌, sym, arith}
+use Rattle.std.proofs.Common.{rules, ◌≡◌, get_or, take, drop, ◌∙◌, sym, arith}
 use Rattle.byteorder.specs.Endian.{little_number}
 use Rattle.pfx_log.specs.Logs.{mark}
 use Rattle.pfx_log.proofs.Headers.{front_is}

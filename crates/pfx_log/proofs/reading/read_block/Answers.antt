@@ -1,4 +1,4 @@
-use Rattle.std.proofs.Common.{rules, ◌≡◌, ◌≢◌, ◌≤◌, ◌<◌, ◌+◌, ◌^◌, length, get_or, ℕ, List, take, drop, refl, sym, ap, subst, arith, ◌∙◌}
+use Rattle.std.proofs.Common.{rules, ◌≡◌, ◌≢◌, ◌≤◌, ◌<◌, ◌+◌, ◌^◌, length, take, drop, refl, sym, ap, subst, arith, ◌∙◌}
 use Rattle.pfx_log.specs.Logs.{AreBytes, block_of, head_of}
 use Rattle.pfx_log.proofs.Handed.{block_handed}
 use Rattle.pfx_log.proofs.Looks.{failed_after, keeps_after, looks_then}

@@ -1,6 +1,5 @@
-use Rattle.std.proofs.Common.{rules, ◌≡◌, ◌≢◌, ◌⊎◌, inl, inr, ◌≤◌, ◌<◌, ◌+◌, ◌-◌, ◌^◌, length, get_or, ℕ, List, [], ◌∷◌, ◌++◌, take, drop, refl, sym, ap, subst, arith, ◌∙◌}
+use Rattle.std.proofs.Common.{rules, ◌≡◌, ◌≢◌, ◌⊎◌, inl, inr, ◌≤◌, ◌<◌, ◌+◌, ◌-◌, ◌^◌, length, get_or, refl, sym, ap, arith, ◌∙◌}
 use Rattle.std.specs.Prelude.{IsTrue}
-use Rattle.byteorder.specs.Endian.{little_bytes}
 use Rattle.pfx_disk.specs.declared.gates.TheConstants.{GATE_OPEN}
 use Rattle.pfx_log.specs.Logs.{last_number}
 use Rattle.pfx_log.proofs.Fronts.{cut_off, cut_short, other_number, too_long}

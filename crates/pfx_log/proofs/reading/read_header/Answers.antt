@@ -1,4 +1,4 @@
-use Rattle.std.proofs.Common.{rules, ◌≡◌, ◌≤◌, ◌<◌, ◌+◌, List, ℕ, length, take, drop, refl, sym, ap, subst, arith, ◌∙◌}
+use Rattle.std.proofs.Common.{rules, ◌≡◌, ◌<◌, length, refl, sym, ap, subst, ◌∙◌}
 use Rattle.byteorder.specs.Endian.{little_number}
 use Rattle.pfx_log.specs.Faults.{IsOfMachine}
 use Rattle.pfx_log.specs.Logs.{AreBytes, first_head, new_log}

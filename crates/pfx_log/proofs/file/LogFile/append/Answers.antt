@@ -1,4 +1,4 @@
-use Rattle.std.proofs.Common.{rules, ◌≡◌, ◌≤◌, ◌<◌, ◌+◌, ◌^◌, ◌∷◌, [], ◌++◌, List, ℕ, length, refl, sym, ap, subst, arith, ◌∙◌}
+use Rattle.std.proofs.Common.{rules, ◌≡◌, ◌<◌, ◌+◌, ◌^◌, ◌++◌, List, ℕ, length, refl, sym, ap, subst, arith, ◌∙◌}
 use Rattle.pfx_log.specs.Holding.{Holds}
 use Rattle.pfx_log.specs.Logs.{Block, IsBlock, block_of, block_text, head_of, last_head, last_number, log_bytes, with_block}
 use Rattle.pfx_log.proofs.Appendings.{held_more, leaves_grows, new_end, put_is, put_long}

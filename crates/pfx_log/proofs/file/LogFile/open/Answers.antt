@@ -1,6 +1,5 @@
-use Rattle.std.proofs.Common.{◌≡◌, ◌<◌, length, refl, sym, ap, subst, arith}
+use Rattle.std.proofs.Common.{length, refl, sym, ap, subst, arith}
 use Rattle.pfx_log.specs.Holding.{Holds}
-use Rattle.pfx_log.specs.Reading.{Keeps}
 use Rattle.pfx_log.proofs.Openings.{inside_of}
 use Rattle.pfx_log.proofs.Refusals.{held_none}
 use Rattle.pfx_log.proofs.file.LogFile.open.Goals as goal
