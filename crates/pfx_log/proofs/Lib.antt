@@ -1,6 +1,7 @@
 pub mod Appendings
 pub mod Chains
 pub mod Creations
+mod Examples
 pub mod Fronts
 pub mod Handed
 pub mod Hashes

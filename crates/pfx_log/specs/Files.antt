@@ -5,7 +5,7 @@ use Rattle.pfx_disk.specs.declared.device.Disk.{Ghosts}
 use Rattle.pfx_segment.specs.Segment.{Takes}
 use Rattle.pfx_log.specs.Acts.{Creates, Grows}
 use Rattle.pfx_log.specs.Holding.{Holds, IsEnd}
-use Rattle.pfx_log.specs.Logs.{Block, Log, with_block}
+use Rattle.pfx_log.specs.Logs.{Block, Log, head_of, with_block}
 use Rattle.pfx_log.specs.declared.faults.AppendFault.{AppendFault}
 use Rattle.pfx_log.specs.declared.faults.AppendFault.TheVariants.{Broken, Device as DeviceIs, Full, Gap, NoMemory as NoMemoryIs, TooLong as TooLongIs}
 use Rattle.pfx_log.specs.declared.faults.CreateFault.{CreateFault}
@@ -20,6 +20,12 @@ pub record IsOpen {D : Type 0} {g : Ghosts D} (log : Log) (file : LogFile D g) :
   pub images : (image : List ℕ) → (g.view file.disk).now image → Holds image log
   pub end : IsEnd log file.place
   pub whole : file.broken ≡ false
+
+-- the place behind a block that stands at a place
+pub record IsBehind (place : LogPlace) (block : Block) (next : LogPlace) : Type 0 where
+  pub at : next.at ≡ place.at + (57 + length block.frames)
+  pub last : next.last ≡ block.last
+  pub head : next.head ≡ head_of place.head block
 
 -- Why a log isn't made on this disk, which then is the other one: no memory, and no call was made; the disk failed; or it held bytes, and
 -- nothing was written.
@@ -46,7 +52,7 @@ IsRefused place first last long Full = 2 ^ 62 ≤ place.at
 
 -- the disk failed in the call, or before it, and the log is broken; else it is as it was
 abbrev pub IsLeftBy : {D : Type 0} {g : Ghosts D} → LogFile D g → LogFile D g → AppendFault → Type 0
-IsLeftBy {g = g} old new DeviceIs = (new.broken ≡ true) × (old.broken ≡ false) × HasFailed (g.view old.disk) (g.view new.disk)
+IsLeftBy {g = g} old new DeviceIs = (new.broken ≡ true) × (old.broken ≡ false) × (new.place ≡ old.place) × HasFailed (g.view old.disk) (g.view new.disk)
 IsLeftBy old new Broken = (new ≡ old) × (old.broken ≡ true)
 IsLeftBy old new NoMemoryIs = new ≡ old
 IsLeftBy old new Gap = new ≡ old

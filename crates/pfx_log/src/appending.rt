@@ -1,6 +1,6 @@
 // Appending a block.
-ghost use Rattle.std.specs.Prelude.{◌≡◌, length};
-ghost use Rattle.pfx_log.specs.Files.{Appends, IsAppend, IsOpen};
+ghost use Rattle.std.specs.Prelude.{◌≡◌, length, OnOk};
+ghost use Rattle.pfx_log.specs.Files.{Appends, IsAppend, IsBehind, IsOpen};
 ghost use Rattle.pfx_log.specs.Logs.{Log, block_of};
 
 use crate::faults::AppendFault;
@@ -30,6 +30,7 @@ impl<D: Disk> LogFile<D> {
         frames: &[u8],
     ) -> Result<(), AppendFault>
         ensures call { IsAppend self.old self.new result first last (length frames.now) }
+        ensures place { OnOk result (IsBehind self.old.place (block_of first last frames.now) self.new.place) }
         // Of an open log.
         ensures appends { (log : Log) → IsOpen log self.old → Appends self.old self.new result log (block_of first last frames.now) }
     {

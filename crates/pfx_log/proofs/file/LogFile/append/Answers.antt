@@ -62,3 +62,14 @@ returns-clause-appends g c log is_open =
       };
       acknowledged = λ image since. subst (λ x. Holds x (with_block log b)) (sym (only image (g.met.D.Disk.only_now c.put_behind.new.disk image since))) held;
     }
+
+pub returns-clause-place : goal.returns-clause-place
+returns-clause-place g c =
+    let len : c.len.result ≡ length c.in_ok-bytes.bytes.items = search rules in
+    let b : Block = block_of c.args.first c.args.last c.args.frames.now in
+    let long = put_long b c.head_of-head.result c.args.self.now.place.head c.in_ok-bytes.bytes.items c.head_of-head.ensures.value c.in_ok-bytes.ensures in
+    record {
+      at = ap (λ (n : ℕ). c.args.self.now.place.at + n) (len ∙ long);
+      last = refl;
+      head = c.head_of-head.ensures.value;
+    }
