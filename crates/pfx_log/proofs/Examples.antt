@@ -1,9 +1,8 @@
 -- Worked rows: what the definitions say of small logs, and what each of their fields refuses.
-use Rattle.std.proofs.Common.{◌≡◌, ◌≢◌, inl, inr, ⊎_elim, ℕ, zero, suc, ◌+◌, ◌^◌, ◌≤◌, ◌<◌, List, [], ◌∷◌, ◌++◌, length, get_or, replicate, refl, ap, arith}
+use Rattle.std.proofs.Common.{◌≡◌, ⊎_elim, ℕ, ◌+◌, ◌^◌, ◌≤◌, ◌<◌, List, [], ◌∷◌, length, get_or, refl, sym, ap, arith}
 use Rattle.pfx_disk.specs.declared.gates.TheConstants.{GATE_OPEN}
-use Rattle.pfx_log.specs.Holding.{Holds, IsEnd, IsShutBehind, IsUnmade}
-use Rattle.pfx_log.specs.Logs.{AreBlocks, Block, IsBlock, IsHeader, Log, block_of, block_text, header_text, log_bytes, new_log, number_behind, number_of, with_block}
-use Rattle.pfx_log.specs.declared.place.LogPlace.{LogPlace}
+use Rattle.pfx_log.specs.Holding.{IsShutBehind, IsUnmade}
+use Rattle.pfx_log.specs.Logs.{AreBlocks, IsBlock, IsHeader, block_of, block_text, header_text, log_bytes, new_log, number_behind, number_of, with_block}
 use Rattle.pfx_log.specs.declared.place.TheConstants.{MOST}
 
 header_row : header_text (new_log 2 (7 ∷ 8 ∷ []) (9 ∷ [])) ≡ 0x50 ∷ 0x46 ∷ 0x58 ∷ 0x41 ∷ 0x55 ∷ 0x44 ∷ 0x49 ∷ 0x54 ∷ 1 ∷ 2 ∷ 2 ∷ 0 ∷ 0 ∷ 0 ∷ 7 ∷ 8 ∷ 9 ∷ []
@@ -75,7 +74,7 @@ shut_row : IsShutBehind (1 ∷ 2 ∷ []) (1 ∷ 2 ∷ 0 ∷ 9 ∷ [])
 shut_row = record { gate = 0; rest = 9 ∷ []; whole = refl; shut = λ opened. omega (arith, opened) }
 
 not_open : IsShutBehind [] (GATE_OPEN ∷ 9 ∷ []) → ⊥
-not_open is = is.shut (ap (λ l. get_or l 0 0) (is.whole))
+not_open is = is.shut (sym (ap (λ l. get_or l 0 0) is.whole))
 
 not_cut : IsShutBehind (1 ∷ 2 ∷ []) (1 ∷ 2 ∷ []) → ⊥
 not_cut is = let long = ap length is.whole in omega (arith, long)
