@@ -2,15 +2,12 @@
 
 use crate::check::{check, check_at};
 use crate::vector::{
-    BEFORE, FRAMES, GATES, LEN, LOG, NUMBERS, STATE, VERSION, append, disk_of, ends_behind, held,
-    written,
+    BEFORE, FRAMES, GATES, LEN, LOG, NUMBERS, STATE, VERSION, append, block_at, disk_of,
+    ends_behind, header_of, held, written,
 };
 use pfx_disk::Disk;
 use pfx_log::laws::{one_head, one_log, unmade_holds_none};
-use pfx_log::{
-    AppendFault, CreateFault, Damage, LogBlock, LogFault, LogFile, LogPlace, MOST, read_block,
-    read_header,
-};
+use pfx_log::{AppendFault, CreateFault, Damage, LogBlock, LogFault, LogFile, LogPlace, MOST};
 use std::alloc::Global;
 
 /// Whether a log of three blocks takes 7 calls and 4 each, and has these very bytes.
@@ -49,26 +46,19 @@ fn is_block(block: &LogBlock, place: &LogPlace, at: usize) -> bool {
 /// Whether the header and the three blocks are read, and then the end.
 fn is_read(alloc: Global) -> Option<bool> {
     let mut disk = disk_of(alloc, &LOG)?;
-    let len = disk.len().ok()?;
-    let (header, mut place) = read_header(alloc, &mut disk, len).ok()?;
+    let (header, mut place) = header_of(alloc, &mut disk)?;
     let is_its = header.version == VERSION && header.before == BEFORE;
     if !is_its || header.state.as_slice() != STATE.as_slice() {
         return None;
     }
     for at in 0..3 {
-        if place.at > len {
-            return None;
-        }
-        let (block, next) = read_block(alloc, &mut disk, len, place).ok()??;
+        let (block, next) = block_at(alloc, &mut disk, place)??;
         if !is_block(&block, &next, at) {
             return None;
         }
         place = next;
     }
-    if place.at > len {
-        return None;
-    }
-    let is_end = read_block(alloc, &mut disk, len, place).ok()?.is_none();
+    let is_end = block_at(alloc, &mut disk, place)?.is_none();
     Some(is_end && place.head.as_slice() == &LOG[205..237])
 }
 

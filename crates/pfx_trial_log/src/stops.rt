@@ -44,7 +44,7 @@ fn a_stop_leaves_no_log_or_the_whole(rt: HostRuntime) {
 fn is_one_or_two(alloc: Global, after: usize, fate: Fate, again: usize) -> Option<bool> {
     let disk = written(alloc, 2)?.into_disk();
     // The log and its first block were written by 11 calls.
-    let first = left(alloc, &disk, 11 + after, fate)?;
+    let first = left(alloc, &disk, after.saturating_add(11), fate)?;
     let mut file = LogFile::open(alloc, first).ok()?;
     let blocks = if file.place.at == 117 { 1 } else { 2 };
     if !ends_behind(file.place.at, file.place.last, blocks) || after == 4 && blocks == 1 {
@@ -55,8 +55,8 @@ fn is_one_or_two(alloc: Global, after: usize, fate: Fate, again: usize) -> Optio
     }
     append(alloc, &mut file, 2).ok()?;
     let disk = file.into_disk();
-    let opened = disk.clock() - 4;
-    let second = left(alloc, &disk, opened as usize + again, fate)?;
+    let opened = disk.clock().saturating_sub(4) as usize;
+    let second = left(alloc, &disk, opened.saturating_add(again), fate)?;
     match blocks_of(alloc, second)? {
         2 => Some(again < 4),
         3 => Some(again >= 3),
@@ -97,7 +97,7 @@ fn is_not_made(alloc: Global, k: u64, works: bool) -> Option<bool> {
 
 /// Whether an append whose k-th call fails breaks the log, which has the block or not when it is opened again.
 fn is_broken(alloc: Global, k: u64, works: bool) -> Option<bool> {
-    let disk = faulty(disk_of(alloc, &[])?, 7 + k, works);
+    let disk = faulty(disk_of(alloc, &[])?, k.saturating_add(7), works);
     let mut file = LogFile::create(alloc, disk, VERSION, &STATE, BEFORE).ok()?;
     if append(alloc, &mut file, 0).is_ok() {
         return Some(k == 4 && !file.broken);

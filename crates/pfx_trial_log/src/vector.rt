@@ -2,7 +2,7 @@
 //! number 5, a head before it, and the commands 6, 7 to 9, and 10.
 
 use pfx_disk::{Disk, Fate, GATE_OPEN, MemoryDisk};
-use pfx_log::{AppendFault, LogFile};
+use pfx_log::{AppendFault, LogBlock, LogFile, LogHeader, LogPlace, read_block, read_header};
 use std::alloc::Global;
 
 pub const STATE: [u8; 10] = [5, 0, 0, 0, 0, 0, 0, 0, 0xAA, 0xBB];
@@ -106,4 +106,23 @@ pub fn blocks_of<D: Disk + Drop>(alloc: Global, disk: D) -> Option<usize> {
         }
     }
     None
+}
+
+/// The header that the disk holds, and the place behind it.
+pub fn header_of<D: Disk>(alloc: Global, disk: &mut D) -> Option<(LogHeader, LogPlace)> {
+    let len = disk.len().ok()?;
+    read_header(alloc, disk, len).ok()
+}
+
+/// The block at this place, or none at the log's end.
+pub fn block_at<D: Disk>(
+    alloc: Global,
+    disk: &mut D,
+    place: LogPlace,
+) -> Option<Option<(LogBlock, LogPlace)>> {
+    let len = disk.len().ok()?;
+    if place.at > len {
+        return None;
+    }
+    read_block(alloc, disk, len, place).ok()
 }
