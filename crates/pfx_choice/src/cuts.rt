@@ -3,6 +3,8 @@
 ghost use Rattle.std.specs.Prelude.{◌≡◌, ◌+◌, ◌<◌, ◌≤◌, length, IfSome};
 ghost use Rattle.pfx_choice.specs.Cuts.{below, IsCut};
 
+use crate::counts::count_below;
+
 /// Where the workers run out: each task at a lesser place runs, none at a greater one does, and of those at it as many as
 /// are left.
 #[derive(Clone, Copy)]
@@ -13,20 +15,6 @@ pub struct Cut {
     pub left: usize,
     /// How many tasks are at it.
     pub tasks: usize,
-}
-
-/// How many places are below one.
-pub fn count_below(places: &[u8], d: u8) -> usize
-    requires { length places.now ≤ 1152 }
-    ensures number { result ≡ below places.now d }
-    ensures within { result ≤ length places.now }
-{
-    // Two bytes wide: so many of them go through a vector at a time.
-    let mut number: u16 = 0;
-    for place in places {
-        number += u16::from(*place < d);
-    }
-    usize::from(number)
 }
 
 /// The place at which the workers run out, if they do at one. The one guessed and those beside it are tried first.

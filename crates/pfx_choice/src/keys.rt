@@ -21,7 +21,7 @@ pub struct Keys {
     /// The keys of the tasks at the place, as numbers, in any order.
     order: Vec<u64>,
     /// Keys that were found; any serve.
-    kept: Vec<KeptKey>,
+    pub kept: Vec<KeptKey>,
 }
 
 impl Keys {
@@ -32,6 +32,16 @@ impl Keys {
             order: Vec::new(alloc),
             kept: Vec::new(alloc),
         }
+    }
+
+    /// Makes room for the keys that are kept.
+    pub fn make_room(&mut self) -> Result<(), AllocError>
+        ensures { self.new.of_tasks ≡ self.old.of_tasks }
+    {
+        if self.kept.len() != KEPT {
+            self.kept.resize(KEPT, KeptKey::none())?;
+        }
+        Ok(())
     }
 
     /// Takes the keys of the tasks at place `d`, which tell so many rounds.
@@ -46,9 +56,7 @@ impl Keys {
         ensures { OnOk result (AreKeysAt ledger.now d rounds self.new.of_tasks.items) }
     {
         let total = ledger.total();
-        if self.kept.len() != KEPT {
-            self.kept.resize(KEPT, KeptKey::none())?;
-        }
+        self.make_room()?;
         if self.of_tasks.len() != total {
             self.of_tasks.resize(total, no_key())?;
         }

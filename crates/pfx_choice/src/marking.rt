@@ -8,7 +8,8 @@ ghost use Rattle.pfx_choice.specs.Picks.{ranks_if, IsReady};
 ghost use Rattle.pfx_choice.specs.Places.{place, ArePlacesIn};
 ghost use Rattle.pfx_choice.specs.Refined.{AreSplit};
 
-use crate::cuts::{Cut, count_below};
+use crate::counts::count_below;
+use crate::cuts::Cut;
 use crate::keys::Keys;
 use pfx_columns::Columns;
 use pfx_symbols::{Key, Rank};

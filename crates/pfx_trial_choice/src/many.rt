@@ -129,12 +129,35 @@ fn agrees_on_a_ledger_of_its_own(rt: HostRuntime) {
     assert!(rt; agrees_from(alloc, ledger, 48));
 }
 
+/// Tasks of three weights, two of which are one number.
+fn of_few_weights(alloc: Global) -> Option<Columns> {
+    let parts = [
+        part_of((1, 10), 0, 20),
+        part_of((1, 20), 0, 20),
+        part_of((2, 40), 0, 20),
+    ];
+    ledger_of(alloc, 4, 0, &parts)
+}
+
+/// As many tasks, of one weight.
+fn of_one_weight(alloc: Global) -> Option<Columns> {
+    ledger_of(alloc, 4, 0, &[part_of((1, 15), 0, 60)])
+}
+
+#[test]
+fn agrees_on_few_weights(rt: HostRuntime) {
+    let alloc = rt.alloc();
+    assert!(rt; agrees_from(alloc, of_few_weights(alloc), 120), "three");
+    assert!(rt; agrees_from(alloc, of_one_weight(alloc), 60), "one");
+    assert!(rt;
+        agrees_from(alloc, start(alloc, 3, &[(3, 40); 33]), 120),
+        "one, and idle workers"
+    );
+}
+
 /// Whether one chooser agrees with the plain program on two ledgers in turn.
-fn serves_two(alloc: Global) -> bool {
-    let Some(mut one) = start(alloc, 8, &SPREAD) else {
-        return false;
-    };
-    let Some(mut other) = start(alloc, 10, &HALVES) else {
+fn serves_two(alloc: Global, one: Option<Columns>, other: Option<Columns>) -> bool {
+    let (Some(mut one), Some(mut other)) = (one, other) else {
         return false;
     };
     let mut chooser = Chooser::new(alloc);
@@ -151,7 +174,11 @@ fn serves_two(alloc: Global) -> bool {
 
 #[test]
 fn one_chooser_serves_two_ledgers(rt: HostRuntime) {
-    assert!(rt; serves_two(rt.alloc()));
+    let alloc = rt.alloc();
+    let (one, other) = (start(alloc, 8, &SPREAD), start(alloc, 10, &HALVES));
+    assert!(rt; serves_two(alloc, one, other), "of many weights");
+    let (one, other) = (of_few_weights(alloc), of_one_weight(alloc));
+    assert!(rt; serves_two(alloc, one, other), "of few");
 }
 
 /// Whether no row is chosen at the ledger of more than 16 tasks, for this cause.
