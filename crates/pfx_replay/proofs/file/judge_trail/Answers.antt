@@ -1,9 +1,16 @@
-use Rattle.std.proofs.Common.{◌≡◌, Some, map, sym, subst}
+use Rattle.std.proofs.Common.{◌≡◌, ◌∙◌, Some, map, sym, subst}
+use Rattle.std.proofs.lemmas.Option.{none-some}
 use Rattle.pfx_record.specs.Records.{plain}
 use Rattle.pfx_redo.specs.Applying.{applied}
 use Rattle.pfx_replay.specs.Verdicts.{IsVerdict}
 use Rattle.pfx_replay.specs.Stated.{plain_of}
 use Rattle.pfx_replay.proofs.file.judge_trail.Goals as goal
+
+pub returns-then-not-branch : goal.returns-then-not-branch
+returns-then-not-branch g c = λ t u led on. none-some t (sym (c.in_ok-apply_all.ensures.wrong c.if-not-branch.true) ∙ led)
+
+pub returns-then-not-branch-2 : goal.returns-then-not-branch-2
+returns-then-not-branch-2 g c = λ t u led on. none-some u (sym (c.in_ok-apply_all-2.ensures.wrong c.if-not-branch-2.true) ∙ on)
 
 pub judge_history-requires-clause-before : goal.judge_history-requires-clause-before
 judge_history-requires-clause-before g c =
