@@ -40,7 +40,7 @@ use Rattle.pfx_book.proofs.Merges.{some_is}
 module _ {J : Type 0} where
   -- what isn't for want of memory is the session's refusal
   pub other_of : (K : Kind J) (full : Bool) (s : Plain J) (why : BookFault) → StaysUnopened K full s why → why ≢ Machine no_memory → refused_at full K s Slot ≡ Some why
-  other_of K full s why (inl same) other = absurd (other same)
+  other_of K full s why (inl same) other = absurd (other same.0)
   other_of K full s why (inr refused) other = refused
 
   -- a session that doesn't refuse a command isn't full

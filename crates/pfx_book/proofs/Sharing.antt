@@ -1,6 +1,6 @@
 -- Records that the flusher takes together.
 use Rattle.std.specs.Prelude.{All, IsTrue, if◌then◌else◌}
-use Rattle.std.proofs.Common.{◌≡◌, ℕ, zero, suc, List, [], ◌∷◌, ◌++◌, length, map, Bool, true, false, Option, Some, None, refl, sym, ap, ◌∙◌, arith, subst}
+use Rattle.std.proofs.Common.{◌≡◌, ℕ, zero, suc, ◌<◌, ◌≤◌, List, [], ◌∷◌, ◌++◌, length, map, Bool, true, false, Option, Some, None, refl, sym, ap, ◌∙◌, arith, subst, inl, inr}
 use Rattle.std.proofs.lemmas.Bool.{false≢true}
 use Rattle.std.proofs.lemmas.Option.{none-some}
 use Rattle.pfx_jobs.specs.Kind.{Kind}
@@ -21,7 +21,7 @@ use Rattle.pfx_redo.specs.Applying.{after_record, applied, form_at, is_common, i
 use Rattle.pfx_redo.specs.Recording.{record_of, records_of}
 use Rattle.pfx_redo.proofs.Commons.{common_fits}
 use Rattle.pfx_redo.proofs.States.{common_behind, in_force, right_parts}
-use Rattle.pfx_book.specs.Batching.{MayShare, real_for, width_behind}
+use Rattle.pfx_book.specs.Batching.{GoesFar, MayShare, StopsAt, real_for, width_behind}
 use Rattle.pfx_book.proofs.Merges.{some_is}
 
 module _ {J : Type 0} where
@@ -45,6 +45,47 @@ module _ {J : Type 0} where
 
   pub common_share : (xs : List (Record J)) → All (λ entry. IsTrue (is_common (plain entry))) xs → MayShare (map plain xs)
   common_share xs all = share_all (map plain xs) (common_mapped xs all)
+
+  -- the last one of records that may be a batch
+  last_of : (xs : List (Recorded J)) (x : Recorded J) → All (λ done. IsTrue (is_common done)) (xs ++ x ∷ []) → IsTrue (is_common x)
+  last_of [] x all = all 0 x (omega arith)
+  last_of (y ∷ xs) x all = last_of xs x (λ k d l. all (suc k) d (omega (arith, l)))
+
+  share_last : (y : Recorded J) (xs : List (Recorded J)) (x : Recorded J) → MayShare ((y ∷ xs) ++ x ∷ []) → IsTrue (is_common x)
+  share_last y [] x share = last_of (y ∷ []) x share
+  share_last y (z ∷ xs) x share = last_of (y ∷ z ∷ xs) x share
+
+  -- some records go as far as they may where the next one is of new weights
+  pub stops_far : (xs rest : List (Recorded J)) → 0 < length xs → StopsAt rest → GoesFar xs rest
+  stops_far [] rest some stops = absurd (omega (arith, some))
+  stops_far (y ∷ xs) [] some stops = tt
+  stops_far (y ∷ xs) (x ∷ rest) some stops = inr (λ share. false≢true (sym stops ∙ share_last y xs x share))
+
+  -- and where they are of new weights alone
+  pub alone_far : (x : Recorded J) (rest : List (Recorded J)) → is_common x ≡ false → GoesFar (x ∷ []) rest
+  alone_far x [] new = tt
+  alone_far x (y ∷ rest) new = inr (λ share. false≢true (sym new ∙ share 0 x (omega arith)))
+
+  pub sixteen_far : (xs rest : List (Recorded J)) → 16 ≤ length xs → GoesFar xs rest
+  sixteen_far xs [] long = tt
+  sixteen_far xs (x ∷ rest) long = inl long
+
+  -- the records of commands that may be a batch
+  common_of : (K : Kind J) (s : Plain J) (c : Command J) → IsCommon c → IsTrue (is_common (record_of K s c))
+  common_of K s (Submit task job) common = refl
+  common_of K s (Withdraw task) common = refl
+  common_of K s Slot common = refl
+  common_of K s (Reweigh workers weights) common = absurd common
+
+  all_common : (K : Kind J) (s : Plain J) (H : List (Command J)) → AreCommon H → All (λ done. IsTrue (is_common done)) (records_of K s H)
+  all_common K s [] common k d l = absurd (omega (arith, l))
+  all_common K s (c ∷ H) common zero d l = common_of K s c common.0
+  all_common K s (c ∷ H) common (suc k) d l = all_common K (outcome K s (c ∷ [])) H common.1 k d (omega (arith, l))
+
+  pub shareable : (K : Kind J) (s : Plain J) (H : List (Command J)) → IsBatchable H → MayShare (records_of K s H)
+  shareable K s [] batch = tt
+  shareable K s (c ∷ []) batch = tt
+  shareable K s (c ∷ d ∷ H) batch = all_common K s (c ∷ d ∷ H) batch
 
   -- the commands of records that may be a batch
   of_common : (K : Kind J) (s : Plain J) (c : Command J) → IsTrue (is_common (record_of K s c)) → IsCommon c

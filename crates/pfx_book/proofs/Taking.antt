@@ -1,6 +1,6 @@
 -- The records that are taken next.
 use Rattle.std.specs.Prelude.{slice_get, if◌then◌else◌, IsTrue}
-use Rattle.std.proofs.Common.{◌≡◌, ℕ, suc, ◌+◌, ◌<◌, ◌≤◌, ◌^◌, List, [], ◌∷◌, ◌++◌, length, map, set, take, drop, Option, Some, None, refl, sym, ap, ◌∙◌, subst, arith, length-append}
+use Rattle.std.proofs.Common.{◌≡◌, ℕ, suc, ◌+◌, ◌<◌, ◌≤◌, ◌^◌, List, [], ◌∷◌, ◌++◌, length, map, set, take, drop, Option, Some, None, refl, sym, ap, ◌∙◌, subst, arith, inl, inr, length-append}
 use Rattle.std.proofs.lemmas.Bool.{false≢true, lt-ltb, le-leb}
 use Rattle.std.proofs.lemmas.List.{take-append-drop, length-take-le}
 use Rattle.pfx_slot.proofs.Placed.{take_own}
@@ -25,10 +25,11 @@ use Rattle.pfx_record.specs.declared.record.Record.{Record}
 use Rattle.pfx_book.specs.declared.note.Note.{Note}
 use Rattle.pfx_book.specs.declared.note.Note.TheVariants.{Took, Marked}
 use Rattle.pfx_book.specs.Notes.{Noted, commands_of, records_in, GoesOn}
-use Rattle.pfx_book.specs.Batching.{MayShare, real_for, width_behind}
+use Rattle.pfx_book.specs.Batching.{GoesFar, MayShare, real_for, width_behind}
+use Rattle.pfx_book.specs.Calls.{ReachesFar}
 use Rattle.pfx_book.specs.Kept.{Counts, HasFailed, IsKept}
 use Rattle.pfx_book.proofs.Merges.{some_is}
-use Rattle.pfx_book.proofs.Sharing.{batchable, shared_fit, split_if, width_is}
+use Rattle.pfx_book.proofs.Sharing.{batchable, shareable, shared_fit, split_if, width_is}
 use Rattle.pfx_book.proofs.Notes.{noted_more, records_long, all_accepted}
 use Rattle.pfx_book.proofs.Keeping.{is_mark, flushed_is, commands_are, all_taken, kept_note, failed_more}
 
@@ -47,6 +48,12 @@ module _ {J : Type 0} (K : Kind J) where
 
   pub record_next : (L : Laws K) (s : Plain J) (H : List (Command J)) (c : Command J) → records_of K s (H ++ c ∷ []) ≡ records_of K s H ++ record_of K (outcome K s H) c ∷ []
   record_next L s H c = records_split L s H (c ∷ [])
+
+  -- records that go as far as they may are of commands that do
+  reach_of : (L : Laws K) (s : Plain J) (H G : List (Command J)) → GoesFar (records_of K s H) (records_of K (outcome K s H) G) → ReachesFar H G
+  reach_of L s H [] far = tt
+  reach_of L s H (c ∷ G) (inl long) = inl (omega (arith, long, records_long K s H))
+  reach_of L s H (c ∷ G) (inr apart) = inr (λ batch. apart (subst MayShare (record_next L s H c) (shareable K s (H ++ c ∷ []) batch)))
 
   -- of records that lead on, some first ones lead on, and the others from there
   applied_front : (s : Plain J) (xs ys : List (Recorded J)) (u : Plain J) → applied K s (xs ++ ys) ≡ Some u → (t : Plain J) × (applied K s xs ≡ Some t) × (applied K t ys ≡ Some u)
@@ -95,6 +102,21 @@ module _ {J : Type 0} (K : Kind J) where
         let size : k ≤ length G = omega (arith, ap length next, records_long K t G, length-append batch rest) in
         let same : length (records_of K t (take k G)) ≡ k = records_long K t (take k G) ∙ length-take-le k G size in
         sym (take_own k batch rest refl) ∙ ap (take k) split ∙ take_own k (records_of K t (take k G)) (records_of K (outcome K t (take k G)) (drop k G)) same
+
+    -- which goes as far as a batch may, if its records do
+    pub reaches : Now → GoesFar batch rest → ReachesFar (take (length batch) (drop taken (commands_of session))) (drop (length batch) (drop taken (commands_of session)))
+    reaches h far =
+        let H = commands_of session in
+        let t = outcome K start (take taken H) in
+        let G = drop taken H in
+        let k = length batch in
+        let here = next_is h in
+        let size : length (records_of K t (take k G)) ≡ k = ap length (sym here) in
+        let split : batch ++ rest ≡ records_of K t (take k G) ++ records_of K (outcome K t (take k G)) (drop k G) =
+        tails (records_in h.flushed) (records_of K start (take taken H)) (batch ++ rest) (records_of K t G) (half_long h) (halves h)
+        ∙ ap (records_of K t) (sym (take-append-drop k G)) ∙ records_split L t (take k G) (drop k G) in
+        let later = tails batch (records_of K t (take k G)) rest (records_of K (outcome K t (take k G)) (drop k G)) size split in
+        reach_of L t (take k G) (drop k G) (subst (λ (q : List (Recorded J) × List (Recorded J)). GoesFar q.0 q.1) (λ i. (here i, later i)) far)
 
     -- where the noted records lead, and the batch from there
     pub record Leads (notes : List (Note J)) : Type 0 where

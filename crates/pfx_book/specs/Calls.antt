@@ -1,5 +1,5 @@
 -- What the book's calls do.
-use Rattle.std.specs.Prelude.{◌≡◌, ◌≢◌, ◌⊎◌, ℕ, ◌^◌, ◌<◌, ◌+◌, List, [], ◌∷◌, ◌++◌, length, map, take, drop, slice_get, Option, None, Some, nat_le, ⊤, false}
+use Rattle.std.specs.Prelude.{◌≡◌, ◌≢◌, ◌⊎◌, ℕ, ◌^◌, ◌<◌, ◌≤◌, ◌+◌, List, [], ◌∷◌, ◌++◌, length, map, take, drop, slice_get, Option, None, Some, nat_le, ⊤, false}
 use Rattle.std.specs.Global.{Vec}
 use Rattle.pfx_crew.specs.Gathering.{Refuses as Repels}
 use Rattle.pfx_crew.specs.declared.gathering.GatherFault.{GatherFault}
@@ -62,6 +62,11 @@ module _ {J : Type 0} where
   IsFirstMissing (Some o) d = (place : ℕ) × (slice_get o.quanta place ≡ Some d) × (slice_get o.back place ≡ Some None)
       × ((k : ℕ) → k < place → slice_get o.back k ≢ Some None)
 
+  -- what was taken of some commands goes as far as a batch may: there are 16, or no more, or the next one may not be of the batch
+  abbrev pub ReachesFar : List (Command J) → List (Command J) → Type 0
+  ReachesFar batch [] = ⊤
+  ReachesFar batch (c ∷ rest) = (16 ≤ length batch) ⊎ (IsBatchable (batch ++ c ∷ []) → ⊥)
+
   -- this quantum's result comes back: the quantum, stepped
   abbrev pub ComesBack : Kind J → Deal J → Register J → Register J → Type 0
   ComesBack K d old new = (place : ℕ) × MayGive old.session place d × (new ≡ record old { session = gave place (K.stepped d.before) old.session })
@@ -102,12 +107,14 @@ module _ {J : Type 0} where
     pub noted : later ≡ noted (Receipt number old.session.marked_at) pass
 
   -- The records of the next accepted commands were taken as a batch, which may come next after what the flusher noted and is noted.
-  -- They are of a Reweigh alone, or there is none among them. All that was taken before is marked.
+  -- They are of a Reweigh alone, or there is none among them, and are as many as may be. All that was taken before is marked.
   pub record IsTaken (K : Kind J) (start : Plain J) (workers real first : ℕ) (records : Vec (Record J)) (old new : Register J) (share later : List (Note J))
       : Type 0 where
     pub event : new ≡ record old { session = took (length records.items) old.session }
     pub noted : later ≡ share ++ Took first records ∷ []
     pub batchable : IsBatchable (take (length records.items) (drop old.session.taken old.session.accepted))
+    pub far : ReachesFar (take (length records.items) (drop old.session.taken old.session.accepted))
+        (drop (length records.items) (drop old.session.taken old.session.accepted))
     pub commands : map plain records.items ≡ next_records K start (length records.items) old.session
     pub next : GoesOn K start share workers real first (map plain records.items)
     pub rested : old.session.marked ≡ old.session.taken

@@ -1,5 +1,6 @@
 //! Copies of commands and replies.
-ghost use Rattle.std.specs.Prelude.{◌≡◌, IfSome};
+ghost use Rattle.std.specs.Prelude.{◌≡◌, IfSome, IfNone};
+ghost use Rattle.pfx_machine.specs.Refusals.{TakesMemory};
 
 use pfx_jobs::job::Job;
 use pfx_machine::{Command, Reply};
@@ -31,7 +32,8 @@ pub fn copy_reply(reply: &Reply) -> Reply
 
 /// A copy of a command. `None` if an allocation fails, which only a Reweigh takes.
 pub fn copy_command<J: Job>(alloc: Global, command: &Command<J>) -> Option<Command<J>>
-    ensures { IfSome result (λ copy. copy ≡ command.now) }
+    ensures same { IfSome result (λ copy. copy ≡ command.now) }
+    ensures none { IfNone result (TakesMemory command.now) }
 {
     match command {
         Command::Submit { task, job } => Some(Command::Submit {

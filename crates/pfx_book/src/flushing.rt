@@ -53,7 +53,7 @@ impl<J: Job, B: Named<J>> Book<J, B> {
         !self.pending.is_empty()
     }
 
-    /// Takes the records of the next commands, 16 at the most, as a batch, which the share notes, into an empty vector with room
+    /// Takes the records of the next commands, as many as may be, 16 at the most, as a batch, which the share notes, into an empty vector with room
     /// for them. A Reweigh is a batch of its own, so the one before it ends there. All that was taken before has to be marked. If
     /// there are none nothing changes, and the vector comes back. It takes no memory.
     pub fn take_batch(

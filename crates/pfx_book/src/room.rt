@@ -1,9 +1,9 @@
 //! Memory, and records in a row.
-ghost use Rattle.std.specs.Prelude.{◌≡◌, ◌++◌, ◌<◌, ◌≤◌, ◌+◌, [], length, map, IfSome, IsTrue, option_to_list, vec_len, vec_capacity};
+ghost use Rattle.std.specs.Prelude.{◌≡◌, ◌++◌, ◌<◌, ◌≤◌, ◌+◌, [], length, map, IfSome, IfNone, IsTrue, option_to_list, vec_len, vec_capacity};
 ghost use Rattle.std.specs.VecDeque.{deque_items, deque_capacity};
 ghost use Rattle.pfx_record.specs.Records.{plain};
 ghost use Rattle.pfx_redo.specs.Applying.{is_common};
-ghost use Rattle.pfx_book.specs.Batching.{MayShare};
+ghost use Rattle.pfx_book.specs.Batching.{GoesFar, MayShare, StopsAt};
 
 use pfx_record::Record;
 use pfx_redo::is_common;
@@ -24,6 +24,7 @@ pub fn make_room<T: Drop>(list: &mut Vec<T>, more: usize) -> bool
 fn pop_common<J>(pending: &mut VecDeque<Record<J>>) -> Option<Record<J>>
     ensures split { deque_items pending.old ≡ option_to_list result ++ deque_items pending.new }
     ensures common { IfSome result (λ entry. IsTrue (is_common (plain entry))) }
+    ensures none { IfNone result (StopsAt (map plain (deque_items pending.old))) }
     ensures capacity { deque_capacity pending.new ≡ deque_capacity pending.old }
 {
     match pending.front() {
@@ -37,13 +38,14 @@ fn pop_common<J>(pending: &mut VecDeque<Record<J>>) -> Option<Record<J>>
     pending.pop_front()
 }
 
-/// Takes some of the first ones, into a vector with room for them: up to 16 other than of new weights, or new weights alone.
+/// Takes the first ones, as many as may be, into a vector with room for them: up to 16 other than of new weights, or new weights alone.
 pub fn take_front<J>(pending: &mut VecDeque<Record<J>>, room: Vec<Record<J>>) -> Vec<Record<J>>
     requires empty { room.items ≡ [] }
     requires room { 16 ≤ vec_capacity room }
     ensures split { deque_items pending.old ≡ result.items ++ deque_items pending.new }
     ensures few { length result.items ≤ 16 }
     ensures shared { MayShare (map plain result.items) }
+    ensures far { GoesFar (map plain result.items) (map plain (deque_items pending.new)) }
     ensures all { result.items ≡ [] → deque_items pending.new ≡ [] }
     ensures capacity { deque_capacity pending.new ≡ deque_capacity pending.old }
     ensures width { vec_capacity result ≡ vec_capacity room }

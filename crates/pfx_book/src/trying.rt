@@ -37,7 +37,7 @@ pub fn is_no_memory(fault: BookFault) -> bool
     )
 }
 
-/// Tries a command on the state of a session that is full or not.
+/// Tries a command on the state of a session that is full or not. `NoMemory` isn't said of a full one, nor of a Submit or a Withdraw.
 pub fn try_command<J: Job>(
     alloc: Global,
     state: &mut State<J>,
@@ -46,12 +46,12 @@ pub fn try_command<J: Job>(
 ) -> Tried<J>
     ensures { Tries J.kind is_full state.old command state.new result }
 {
+    if is_full {
+        return Tried::Refused(command, BookFault::SessionFull);
+    }
     let Some(copy) = copy_command(alloc, &command) else {
         return Tried::NoMemory;
     };
-    if is_full {
-        return Tried::Refused(copy, BookFault::SessionFull);
-    }
     match run_recorded(alloc, state, command) {
         Ok(Recorded { reply, entry }) => Tried::Done(copy, reply, entry),
         Err(fault) => {
@@ -63,7 +63,7 @@ pub fn try_command<J: Job>(
     }
 }
 
-/// Tries to open the next slot of a session that is full or not.
+/// Tries to open the next slot of a session that is full or not. A full one isn't refused for want of memory.
 pub fn try_open<J: Job>(
     alloc: Global,
     state: &mut State<J>,

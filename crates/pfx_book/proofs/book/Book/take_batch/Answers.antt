@@ -8,14 +8,14 @@ use Rattle.pfx_record.specs.Records.{plain, Recorded}
 use Rattle.pfx_book.specs.declared.note.Note.{Note}
 use Rattle.pfx_book.specs.declared.note.Note.TheVariants.{Took}
 use Rattle.pfx_book.specs.Notes.{GoesOn, IsRested, commands_of}
-use Rattle.pfx_book.specs.Calls.{next_records}
+use Rattle.pfx_book.specs.Calls.{ReachesFar, next_records}
 use Rattle.pfx_book.specs.Lines.{told}
 use Rattle.pfx_book.specs.Batching.{real_for, width_behind}
 use Rattle.pfx_book.specs.Kept.{Counts, IsKept}
 use Rattle.pfx_book.specs.Register.{Register}
 use Rattle.pfx_book.proofs.Merges.{some_is}
 use Rattle.pfx_book.proofs.Keeping.{all_marked, all_taken, state_number}
-use Rattle.pfx_book.proofs.Taking.{batchable_next, counts_take, enough, fits_next, goes_on, next_is, kept_take, length_map, nil_of}
+use Rattle.pfx_book.proofs.Taking.{batchable_next, counts_take, enough, fits_next, goes_on, next_is, kept_take, length_map, nil_of, reaches}
 use Rattle.pfx_book.proofs.book.Book.take_batch.Goals as goal
 
 pub returns-then-is_empty-clause-err : goal.returns-then-is_empty-clause-err
@@ -151,6 +151,9 @@ returns-in-Some-clause-taken g c =
       noted = search rules;
       batchable = (let b = batchable_next K L B xs s.keeper s.passes s.state batch rest s.taken s.marked s.clock s.failure h share in
           subst (λ (q : ℕ × Register g.row.J.Denot). IsBatchable (take q.0 (drop q.1.session.taken q.1.session.accepted))) (λ i. (length_is i, c.self.view_is i)) b);
+      far = (let f = reaches K L B xs s.keeper s.passes s.state batch rest s.taken s.marked s.clock s.failure h c.take_front-records.ensures.far in
+          subst (λ (q : ℕ × Register g.row.J.Denot). ReachesFar (take q.0 (drop q.1.session.taken q.1.session.accepted)) (drop q.0 (drop q.1.session.taken q.1.session.accepted)))
+          (λ i. (length_is i, c.self.view_is i)) f);
       commands = (λ i. map plain (sym records i).items) ∙ next ∙ (λ i. next_records K B (length_is i) (c.self.view_is i).session);
       rested = subst (λ (v : Register g.row.J.Denot). v.session.marked ≡ v.session.taken) c.self.view_is
           (all_marked K B xs s.keeper s.passes s.state (batch ++ rest) s.taken s.marked s.clock s.failure h mine at (subst (IsRested B.number) (sym c.share.view_is) c.requires.rested));
