@@ -7,11 +7,10 @@ use pfx_book::book::{Book, Pass};
 use pfx_book::closing::Receipt;
 use pfx_book::faults::BookFault;
 use pfx_book::name::Named;
-use pfx_book::note::Loss;
-use pfx_fault::Cause;
 use pfx_jobs::quantum::Quantum;
-use pfx_machine::{Command, MachineFault, Reply};
-use std::alloc::AllocError;
+use pfx_machine::{Command, Reply};
+use pfx_weights::Weights;
+use std::alloc::{AllocError, Global};
 
 /// What a command is answered.
 pub type Answer = Result<(u64, Reply), BookFault>;
@@ -51,6 +50,27 @@ pub fn withdraw<J: Trial, B: Named<J>>(
     Some(book.ask(pass, Command::Withdraw { task }))
 }
 
+/// Asks for new weights, each of 1/3, and one worker.
+pub fn reweigh<J: Trial, B: Named<J>>(
+    alloc: Global,
+    book: &mut Book<J, B>,
+    pass: &mut Pass<J, B>,
+    count: usize,
+) -> Option<Answer> {
+    let items = Vec::from_elem(alloc, (1, 3), count).ok()?;
+    if !is_free(book) {
+        return None;
+    }
+    let weights = Weights::new(items);
+    Some(book.ask(
+        pass,
+        Command::Reweigh {
+            workers: 1,
+            weights,
+        },
+    ))
+}
+
 /// Opens a slot.
 pub fn open<J: Trial, B: Named<J>>(
     book: &mut Book<J, B>,
@@ -81,58 +101,4 @@ pub fn tell<J: Trial, B: Named<J>>(book: &mut Book<J, B>, pass: &mut Pass<J, B>)
     }
     book.note_failure(pass);
     true
-}
-
-/// Whether a client was told that the device failed, behind this mark.
-pub fn is_told<J: Trial, B: Named<J>>(pass: &Pass<J, B>, marked: u64) -> bool {
-    pass.lost()
-        == Some(Loss {
-            marked,
-            cause: Cause::Device,
-        })
-}
-
-/// Whether a Submit for this task was accepted with this number.
-pub fn is_submitted(answer: &Option<Answer>, number: u64, wanted: u16) -> bool {
-    match answer {
-        Some(Ok((got, Reply::Submitted { task }))) => *got == number && *task == wanted,
-        _ => false,
-    }
-}
-
-/// Whether a Withdraw for this task was accepted with this number.
-pub fn is_withdrawn(answer: &Option<Answer>, number: u64, wanted: u16) -> bool {
-    match answer {
-        Some(Ok((got, Reply::Withdrawn { task }))) => *got == number && *task == wanted,
-        _ => false,
-    }
-}
-
-/// Whether slot 0 with tasks 0 and 1 was sealed with this number.
-pub fn is_first_slot(answer: &Option<(u64, Reply)>, number: u64) -> bool {
-    match answer {
-        Some((got, Reply::Ran { slot, row })) => {
-            *got == number && *slot == 0 && row.len() == 2 && row.holds(0) && row.holds(1)
-        }
-        _ => false,
-    }
-}
-
-/// Whether the machine refused a command for this fault.
-pub fn is_refused(answer: &Option<Answer>, fault: MachineFault) -> bool {
-    match answer {
-        Some(Err(got)) => *got == BookFault::Machine(fault),
-        _ => false,
-    }
-}
-
-/// Whether the machine refused to open a slot for this fault.
-pub fn is_unopened<J: Trial>(
-    answer: &Option<Result<Vec<Quantum<J>>, BookFault>>,
-    fault: MachineFault,
-) -> bool {
-    match answer {
-        Some(Err(got)) => *got == BookFault::Machine(fault),
-        _ => false,
-    }
 }

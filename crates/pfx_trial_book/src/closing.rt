@@ -1,27 +1,18 @@
 //! Passes that come back, in order and out of order.
-ghost use Rattle.std.specs.Prelude.{◌≡◌};
 
-use crate::asking::{submit, withdraw};
-use crate::flusher::begin;
-use crate::states::{Trial, thirds};
-use pfx_book::book::{Book, Pass};
-use pfx_book::name::Named;
-use pfx_book::note::Note;
-use pfx_kinds::any::AnyJob;
-use pfx_machine::State;
-use pfx_token::tokens::Opened;
+use crate::service::Service;
+use crate::sessions::{Session, at_thirds};
 use std::alloc::Global;
-use std::marker::Brand;
 
 /// Three passes, each with an entry, in their order. The last one's is a refusal.
-fn three<J: Trial, B: Named<J>>(alloc: Global, book: &mut Book<J, B>) -> Option<Vec<Pass<J, B>>> {
+fn three<S: Service>(alloc: Global, book: &mut S) -> Option<Vec<S::Pass>> {
     let mut passes = Vec::with_capacity(alloc, 3).ok()?;
     for task in 0..3 {
-        let mut pass = book.pass()?;
+        let mut pass = book.admit()?;
         if task < 2 {
-            submit(book, &mut pass, task)?.ok()?;
+            book.submit(&mut pass, task)?.ok()?;
         } else {
-            withdraw(book, &mut pass, task)?.err()?;
+            book.withdraw(&mut pass, task)?.err()?;
         }
         passes.push(pass).ok()?;
     }
@@ -29,18 +20,10 @@ fn three<J: Trial, B: Named<J>>(alloc: Global, book: &mut Book<J, B>) -> Option<
 }
 
 /// Whether passes are gathered if all are back in order, and only there. They come back in order.
-fn gather<J: Trial, B: Named<J>>(
-    alloc: Global,
-    tokens: Opened<Note<J>>,
-    state: &State<J>,
-) -> Option<bool>
-    requires table { tokens.table.shared.table_id ≡ B.table }
-    requires start { state.now ≡ B.start }
-{
-    let (mut book, _flusher) = begin::<J, B>(alloc, tokens, state)?;
+pub fn visit<S: Service>(alloc: Global, book: &mut S) -> Option<bool> {
     let mut none = Vec::new(alloc);
     let empty = book.gathered(&mut none);
-    let mut passes = three(alloc, &mut book)?;
+    let mut passes = three(alloc, book)?;
     let ordered = book.gathered(&mut passes) && book.gathered(&mut passes);
     let third = passes.pop()?;
     let missing = book.gathered(&mut passes) || book.gathered(&mut none);
@@ -51,14 +34,7 @@ fn gather<J: Trial, B: Named<J>>(
     Some(empty && ordered && !missing && !turned)
 }
 
-/// Whether passes are gathered as they should be.
-fn passes_are_gathered(alloc: Global) -> Option<bool> {
-    let state = thirds(alloc)?;
-    let tokens = Opened::new(alloc).ok()?;
-    gather::<AnyJob, Brand>(alloc, tokens, &state)
-}
-
 #[test]
 fn passes_are_gathered_in_order(rt: HostRuntime) {
-    assert!(rt; passes_are_gathered(rt.alloc()) == Some(true));
+    assert!(rt; at_thirds(rt.alloc(), Session::Closing) == Some(true));
 }

@@ -20,18 +20,26 @@ pub struct Flusher<J: Trial, B: Named<J>> {
     ghost last_is: { last ≡ B.start.number + length (records_in share) },
 }
 
+/// A book and its flusher.
+#[derive(Drop)]
+pub struct Kept<J: Trial, B: Named<J>> {
+    pub book: Book<J, B>,
+    pub flusher: Flusher<J, B>,
+}
+
 /// A book that begins at this state, marked at clock 7, and its flusher.
 pub fn begin<J: Trial, B: Named<J>>(
     alloc: Global,
     tokens: Opened<Note<J>>,
     state: &State<J>,
-) -> Option<(Book<J, B>, Flusher<J, B>)>
+) -> Option<Kept<J, B>>
     requires table { tokens.table.shared.table_id ≡ B.table }
     requires start { state.now ≡ B.start }
 {
     let (book, share) = Book::<J, B>::new(alloc, tokens, state, 7).ok()?;
     let last = book.marked();
-    Some((book, Flusher { share, last }))
+    let flusher = Flusher { share, last };
+    Some(Kept { book, flusher })
 }
 
 /// A vector with room for a batch.
@@ -64,23 +72,6 @@ impl<J: Trial, B: Named<J>> Flusher<J, B> {
         book.settled(share);
         *last += batch.records.len() as u64;
         Ok(batch)
-    }
-
-    /// Takes a batch, and answers whether it begins with this number and has so many records.
-    pub fn takes(
-        &mut self,
-        alloc: Global,
-        book: &mut Book<J, B>,
-        first: u64,
-        count: usize,
-    ) -> bool {
-        let Some(room) = batch_room(alloc) else {
-            return false;
-        };
-        match self.take(book, room) {
-            Ok(batch) => batch.workers == 2 && batch.first == first && batch.records.len() == count,
-            Err(_) => false,
-        }
     }
 
     /// Marks what it took, at this clock, unless it has given up.

@@ -5,6 +5,8 @@
 //! | `states` | states that books begin with |
 //! | `asking` | calls of a book whose premises are tested first |
 //! | `flusher` | a share with the number of the last command that it took |
+//! | `service`, `answers` | a book and its flusher as the sessions see them, and whether clients are answered as they should be |
+//! | `sessions` | the session of each module below, and the book at which it is held |
 //! | `worked` | two Submits and a slot of two quanta, with results that are refused |
 //! | `calls` | each call once, through the life of a book |
 //! | `refusals` | each refusal by its name |
@@ -15,6 +17,8 @@
 //! | `memory` | calls that are refused memory, and again |
 #![tactic(auto)]
 
+#[cfg(test)]
+mod answers;
 #[cfg(test)]
 mod asking;
 #[cfg(test)]
@@ -33,6 +37,10 @@ mod memory;
 mod refusals;
 #[cfg(test)]
 mod reweighing;
+#[cfg(test)]
+mod service;
+#[cfg(test)]
+mod sessions;
 #[cfg(test)]
 mod states;
 #[cfg(test)]

@@ -1,77 +1,56 @@
 //! Calls that are refused memory, and again. Run with each allocation failing in turn, each refusal is an answer, and changes
 //! nothing: what is asked once more is answered as if it had never been refused.
-ghost use Rattle.std.specs.Prelude.{◌≡◌};
 
-use crate::asking::{
-    Answer, is_first_slot, is_refused, is_submitted, is_unopened, is_withdrawn, open, receipt,
-    submit, withdraw,
-};
-use crate::flusher::begin;
-use crate::states::{Trial, thirds};
-use pfx_book::book::{Book, Pass};
+use crate::answers::{is_first_slot, is_refused, is_submitted, is_unopened, is_withdrawn};
+use crate::asking::Answer;
+use crate::service::Service;
+use crate::sessions::{Session, at_thirds};
 use pfx_book::closing::Receipt;
 use pfx_book::faults::BookFault;
-use pfx_book::name::Named;
-use pfx_book::note::Note;
 use pfx_choice::ChoiceFault;
-use pfx_jobs::quantum::Quantum;
-use pfx_kinds::any::AnyJob;
-use pfx_machine::{MachineFault, State};
-use pfx_token::tokens::Opened;
-use std::alloc::Global;
-use std::marker::Brand;
+use pfx_machine::MachineFault;
 
 /// Submits, and once more if an allocation fails.
-fn submit_again<J: Trial, B: Named<J>>(
-    book: &mut Book<J, B>,
-    pass: &mut Pass<J, B>,
-    task: u16,
-) -> Option<Answer> {
-    let answer = submit(book, pass, task);
+fn submit_again<S: Service>(book: &mut S, pass: &mut S::Pass, task: u16) -> Option<Answer> {
+    let answer = book.submit(pass, task);
     if is_refused(&answer, MachineFault::NoRow(ChoiceFault::NoMemory)) {
-        return submit(book, pass, task);
+        return book.submit(pass, task);
     }
     answer
 }
 
 /// Withdraws, and once more if an allocation fails.
-fn withdraw_again<J: Trial, B: Named<J>>(
-    book: &mut Book<J, B>,
-    pass: &mut Pass<J, B>,
-    task: u16,
-) -> Option<Answer> {
-    let answer = withdraw(book, pass, task);
+fn withdraw_again<S: Service>(book: &mut S, pass: &mut S::Pass, task: u16) -> Option<Answer> {
+    let answer = book.withdraw(pass, task);
     if is_refused(&answer, MachineFault::NoRow(ChoiceFault::NoMemory)) {
-        return withdraw(book, pass, task);
+        return book.withdraw(pass, task);
     }
     answer
 }
 
 /// Opens a slot, and once more if an allocation fails.
-fn open_again<J: Trial, B: Named<J>>(
-    book: &mut Book<J, B>,
-    pass: &mut Pass<J, B>,
-) -> Option<Result<Vec<Quantum<J>>, BookFault>> {
-    let answer = open(book, pass);
-    if is_unopened(&answer, MachineFault::NoRow(ChoiceFault::NoMemory)) && !book.is_open() {
-        return open(book, pass);
+fn open_again<S: Service>(
+    book: &mut S,
+    pass: &mut S::Pass,
+) -> Option<Result<Vec<S::Quantum>, BookFault>> {
+    let answer = book.open(pass);
+    let fault = MachineFault::NoRow(ChoiceFault::NoMemory);
+    if is_unopened(&answer, fault) && !book.looks().is_open {
+        return book.open(pass);
     }
     answer
 }
 
 /// A receipt for the start, once more if an allocation fails.
-fn receipt_again<J: Trial, B: Named<J>>(
-    book: &mut Book<J, B>,
-    pass: &mut Pass<J, B>,
-) -> Option<Receipt> {
-    match receipt(book, pass, 0)? {
+fn receipt_again<S: Service>(book: &mut S, pass: &mut S::Pass) -> Option<Receipt> {
+    match book.receipt(pass, 0)? {
         Ok(given) => Some(given),
-        Err(_) => receipt(book, pass, 0)?.ok(),
+        Err(_) => book.receipt(pass, 0)?.ok(),
     }
 }
 
 /// Whether a slot is opened, run and sealed, with nine receipts in its midst.
-fn runs<J: Trial, B: Named<J>>(book: &mut Book<J, B>, pass: &mut Pass<J, B>) -> Option<bool> {
+fn runs<S: Service>(book: &mut S, pass: &mut S::Pass) -> Option<bool> {
     let quanta = open_again(book, pass)?.ok()?;
     for _time in 0..9 {
         if receipt_again(book, pass)?.clock != 7 {
@@ -79,42 +58,26 @@ fn runs<J: Trial, B: Named<J>>(book: &mut Book<J, B>, pass: &mut Pass<J, B>) -> 
         }
     }
     for quantum in quanta {
-        book.give(quantum.run()).ok()?;
+        book.give(quantum).ok()?;
     }
     Some(is_first_slot(&book.seal(pass), 3))
 }
 
 /// Whether all is answered as it should be, whatever was refused.
-fn serve<J: Trial, B: Named<J>>(alloc: Global, tokens: Opened<Note<J>>, state: &State<J>) -> bool
-    requires table { tokens.table.shared.table_id ≡ B.table }
-    requires start { state.now ≡ B.start }
-{
-    let Some((mut book, _flusher)) = begin::<J, B>(alloc, tokens, state) else {
-        return true;
-    };
-    let (Some(mut one), Some(mut other)) = (book.pass(), book.pass()) else {
+pub fn visit<S: Service>(book: &mut S) -> bool {
+    let (Some(mut one), Some(mut other)) = (book.admit(), book.admit()) else {
         return false;
     };
-    is_submitted(&submit_again(&mut book, &mut one, 0), 1, 0)
-        && is_submitted(&submit_again(&mut book, &mut other, 1), 2, 1)
-        && runs(&mut book, &mut one) == Some(true)
-        && is_withdrawn(&withdraw_again(&mut book, &mut other, 1), 4, 1)
-        && one.greatest() == 3
-        && other.greatest() == 4
-}
-
-/// Whether refused memory is an answer.
-fn refused_memory(alloc: Global) -> bool {
-    let Some(state) = thirds(alloc) else {
-        return true;
-    };
-    match Opened::new(alloc) {
-        Ok(tokens) => serve::<AnyJob, Brand>(alloc, tokens, &state),
-        Err(_) => true,
-    }
+    is_submitted(&submit_again(book, &mut one, 0), 1, 0)
+        && is_submitted(&submit_again(book, &mut other, 1), 2, 1)
+        && runs(book, &mut one) == Some(true)
+        && is_withdrawn(&withdraw_again(book, &mut other, 1), 4, 1)
+        && book.knows(&one).greatest == 3
+        && book.knows(&other).greatest == 4
 }
 
 #[test]
 fn refused_memory_is_an_answer(rt: HostRuntime) {
-    assert!(rt; refused_memory(rt.alloc()));
+    // Without memory there may be no book.
+    assert!(rt; at_thirds(rt.alloc(), Session::Memory) != Some(false));
 }

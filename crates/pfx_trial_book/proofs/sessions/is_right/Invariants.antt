@@ -1,4 +1,4 @@
-use Rattle.pfx_trial_book.proofs.memory.refused_memory.Given as goal
+use Rattle.pfx_trial_book.proofs.sessions.is_right.Given as goal
 
 abbrev pub ghosts-serve-B-Room : goal.ghosts-serve-B-Room
 ghosts-serve-B-Room a = record { table = a.tokens.table.shared.table_id }
