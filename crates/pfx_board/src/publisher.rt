@@ -3,6 +3,7 @@ ghost use Rattle.std.specs.Prelude.{◌≡◌, ◌≤◌, ◌<◌, ◌^◌, ◌+
 ghost use mathlib.Core.List.{IsPrefix};
 ghost use Rattle.left_right.specs.Handles.{published, pending};
 ghost use Rattle.pfx_redo.specs.Applying.{applied};
+ghost use Rattle.pfx_board.specs.Lasting.{IsDurable};
 ghost use Rattle.pfx_board.specs.Word.{records_of};
 ghost use Rattle.pfx_board.specs.Publisher.{Published};
 
@@ -11,6 +12,8 @@ use crate::reader::Reader;
 use crate::shown::{MOST_LINES, Shown};
 use crate::word::Word;
 use left_right::{Absorb, WriteHandle};
+use pfx_chronicle::list::Moment;
+use pfx_chronicle::name::Charted;
 use pfx_jobs::job::Job;
 use pfx_machine::State;
 use pfx_record::Batch;
@@ -50,7 +53,7 @@ impl<J: Job, B: Begun<J>, T: Absorb<T, State = [Batch<J>; 0]> + Drop, R: Wait + 
     ghost invariant = { λ p. (pending p.writer ≡ []) × IsPrefix (T.state (published p.writer)) p.word };
 }
 
-impl<J: Job, B: Begun<J>, R: Wait + Drop> BoardWriter<J, B, Shown<J, B>, R> {
+impl<J: Job, B: Begun<J> + Charted, R: Wait + Drop> BoardWriter<J, B, Shown<J, B>, R> {
     /// A board of this state, with no batch after it, and so many readers. `AllocError` if an allocation fails.
     pub fn new(
         alloc: Global,
@@ -80,22 +83,25 @@ impl<J: Job, B: Begun<J>, R: Wait + Drop> BoardWriter<J, B, Shown<J, B>, R> {
         Ok((BoardWriter { end, word, writer }, given))
     }
 
-    /// The batch is the next one of the durable list, and the state that it leads to is shown. That the batch is durable is its
-    /// caller's to know: no clause asks for it. It waits for readers that still look at the board of the publication before the
-    /// last. `AllocError` if an allocation fails: then the list has the batch, and what was shown is shown.
+    /// The batch is the next one of the durable list, and the state that it leads to is shown. It is durable at this moment of the
+    /// disk: whatever a stop may leave then is recovered to that state. It waits for readers that still look at the board of the
+    /// publication before the last. `AllocError` if an allocation fails: then the list has the batch, and what was shown is shown.
     pub fn publish<W: Wait>(
         &mut self,
         rt: &W,
         alloc: Global,
         batch: &Batch<J>,
         state: &State<J>,
+        moment: &Moment<B>,
     ) -> Result<(), AllocError>
-        requires { applied J.kind B.origin (records_of (self.old.batches ++ batch.now ∷ [])) ≡ Some state.now }
+        requires leads { applied J.kind B.origin (records_of (self.old.batches ++ batch.now ∷ [])) ≡ Some state.now }
+        requires lasting { IsDurable J.kind B.origin B.held B.image moment.now (self.old.batches ++ batch.now ∷ []) }
         ensures durable { self.new.batches ≡ self.old.batches ++ batch.now ∷ [] }
         ensures shown { OnOk result (self.new.shown ≡ self.new.batches) }
         ensures kept { OnErr result (self.new.shown ≡ self.old.shown) }
     {
         let _number = state.number();
+        let _moment = moment;
         let BoardWriter { end, word, writer } = self;
         if !word.extend(end, batch) {
             for _ in rt.forever() {}

@@ -1,5 +1,5 @@
 //! The disk that notes its calls.
-ghost use Rattle.std.specs.Prelude.{◌≡◌, ◌≤◌, ◌<◌, ◌+◌, ◌-◌, ◌^◌, ◌++◌, ◌∷◌, [], List, ℕ, length, false, IsTrue, OnOk};
+ghost use Rattle.std.specs.Prelude.{◌≡◌, ◌≤◌, ◌<◌, ◌+◌, ◌-◌, ◌^◌, ◌++◌, ◌∷◌, [], List, ℕ, length, take, false, IsTrue, OnOk};
 ghost use Rattle.pfx_disk.specs.Disk.{IsHonest, IsLive, IsSpent, Leaves, Same, Only};
 ghost use Rattle.pfx_disk.specs.Stop.{Left};
 ghost use Rattle.pfx_chronicle.specs.Chart.{acts_of, noted_view, GoesAlong};
@@ -17,9 +17,11 @@ const LIMIT: u64 = (1 << 63) - 1;
 pub trait Logged<B: Charted>: Disk {
     ghost use Rattle.pfx_disk.specs.Disk.{View, IsHonest};
 
-    /// The calls that were made.
+    /// The calls that were made. What a stop may leave after the first so many of them, it may have left since any clock up to then.
     fn moment(&self) -> Moment<B>
         ensures images { B.held → (image : List ℕ) → Left B.image (acts_of result) image → (Self.view self.now).now image }
+        ensures since { B.held → (c k : ℕ) → c ≤ B.clock + k → k ≤ length result
+            → (image : List ℕ) → Left B.image (take k (acts_of result)) image → (Self.view self.now).since c image }
         ensures clock { B.clock + length result ≤ (Self.view self.now).clock };
 
     /// A law: it is honest, if it held what it is said to have held.

@@ -3,6 +3,8 @@ ghost use Rattle.std.specs.Prelude.{◌≡◌, []};
 
 use pfx_board::name::Begun;
 use pfx_board::publisher::Publisher;
+use pfx_chronicle::list::{Moment, Opened};
+use pfx_chronicle::name::Charted;
 use pfx_jobs::job::Job;
 use pfx_kinds::any::AnyJob;
 use pfx_machine::State;
@@ -10,18 +12,24 @@ use pfx_record::{Batch, Place, Record, fits};
 use pfx_redo::{apply_record, is_common};
 use pfx_weights::TaskSet;
 use std::alloc::Global;
-use std::marker::Model;
+use std::marker::{Brand, Model};
 use std::sync::Wait;
 
-/// A publisher, and the state after all that is durable.
+/// Names a board, and a disk of which nothing is said.
+pub trait Listed<J>: Begun<J> + Charted {}
+
+impl<J> Listed<J> for Brand {}
+
+/// A publisher, and the state after all that is durable. The disk is none: it isn't so that it held what it is said to have held.
 #[derive(Drop)]
-pub struct Line<J: Job, B: Begun<J>, R: Wait + Drop> {
+pub struct Line<J: Job, B: Listed<J>, R: Wait + Drop> {
     /// Where batches are published.
     pub publisher: Publisher<J, B, R>,
     state: State<J>,
+    moment: Moment<B>,
 }
 
-impl<J: Job, B: Begun<J>, R: Wait + Drop> Model for Line<J, B, R> {
+impl<J: Job, B: Listed<J>, R: Wait + Drop> Model for Line<J, B, R> {
     ghost use Rattle.std.specs.Prelude.{◌≡◌, Some};
     ghost use Rattle.pfx_machine.specs.Plain.{Plain};
     ghost use Rattle.pfx_redo.specs.Applying.{applied};
@@ -31,21 +39,32 @@ impl<J: Job, B: Begun<J>, R: Wait + Drop> Model for Line<J, B, R> {
 
     ghost view = { λ l. l.state };
 
-    ghost invariant = { λ l. applied J.kind B.origin (records_of l.publisher.batches) ≡ Some l.state };
+    ghost invariant = { λ l. (applied J.kind B.origin (records_of l.publisher.batches) ≡ Some l.state) × (B.held → ⊥) };
 }
 
-impl<J: Job, B: Begun<J>, R: Wait + Drop> Line<J, B, R> {
+impl<J: Job, B: Listed<J>, R: Wait + Drop> Line<J, B, R> {
     /// With nothing durable yet.
-    pub fn new(publisher: Publisher<J, B, R>, state: State<J>) -> Line<J, B, R>
+    pub fn new(publisher: Publisher<J, B, R>, state: State<J>, calls: Opened) -> Line<J, B, R>
         requires batches { publisher.batches ≡ [] }
         requires origin { state ≡ B.origin }
+        requires calls { (calls.seen.book ≡ B.calls) × (B.clock ≡ 0) }
+        requires no_disk { B.held → ⊥ }
     {
-        Line { publisher, state }
+        let (_end, moment) = calls.named::<B>(0);
+        Line {
+            publisher,
+            state,
+            moment,
+        }
     }
 
     /// Takes a record over, but one of new weights, and publishes it as a batch of one. Whether it was right there, and memory was enough.
     pub fn keep<W: Wait>(&mut self, rt: &W, alloc: Global, entry: Record<J>) -> bool {
-        let Line { publisher, state } = self;
+        let Line {
+            publisher,
+            state,
+            moment,
+        } = self;
         let workers = state.columns().workers();
         let first = state.number() + 1;
         let mut records = Vec::new(alloc);
@@ -62,7 +81,7 @@ impl<J: Job, B: Begun<J>, R: Wait + Drop> Line<J, B, R> {
         if !apply_record(state, &batch.records[0]) {
             return false;
         }
-        publisher.publish(rt, alloc, &batch, state).is_ok()
+        publisher.publish(rt, alloc, &batch, state, moment).is_ok()
     }
 }
 
@@ -85,7 +104,7 @@ fn row(alloc: Global, one: u16, other: u16) -> Option<Record<AnyJob>> {
 }
 
 /// Whether a slot in which these two tasks ran was right, and is published.
-pub fn keep_row<B: Begun<AnyJob>, R: Wait + Drop>(
+pub fn keep_row<B: Listed<AnyJob>, R: Wait + Drop>(
     rt: &R,
     alloc: Global,
     line: &mut Line<AnyJob, B, R>,
@@ -99,7 +118,7 @@ pub fn keep_row<B: Begun<AnyJob>, R: Wait + Drop>(
 }
 
 /// Whether a task could be given a count of two steps, and that is published.
-pub fn keep_count<B: Begun<AnyJob>, R: Wait + Drop>(
+pub fn keep_count<B: Listed<AnyJob>, R: Wait + Drop>(
     rt: &R,
     alloc: Global,
     line: &mut Line<AnyJob, B, R>,

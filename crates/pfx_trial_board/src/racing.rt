@@ -1,11 +1,12 @@
 ghost use Rattle.std.specs.Prelude.{◌≡◌};
 
-use crate::line::{Line, keep_row, thirds};
+use crate::line::{Line, Listed, keep_row, thirds};
 use pfx_board::name::Begun;
 use pfx_board::publisher::Publisher;
 use pfx_board::reader::Reader;
 use pfx_board::receipt::Receipt;
 use pfx_board::word::Word;
+use pfx_chronicle::list;
 use pfx_kinds::any::AnyJob;
 use pfx_machine::{Board, State};
 use pfx_record::Batch;
@@ -26,7 +27,7 @@ const LOOKS: u32 = 10_000_000;
 type Words<B> = Mutex<Option<Word<AnyJob, B>>>;
 
 /// Publishes a slot, and leaves its word. Whether it did.
-fn write_one<B: Begun<AnyJob>, R: Wait + Drop>(
+fn write_one<B: Listed<AnyJob>, R: Wait + Drop>(
     rt: &R,
     alloc: Global,
     line: &mut Line<AnyJob, B, R>,
@@ -39,7 +40,7 @@ fn write_one<B: Begun<AnyJob>, R: Wait + Drop>(
 }
 
 /// Publishes slots one by one. Whether it did.
-fn write<B: Begun<AnyJob>, R: Wait + Copy + Drop>(
+fn write<B: Listed<AnyJob>, R: Wait + Copy + Drop>(
     rt: R,
     alloc: Global,
     line: Line<AnyJob, B, R>,
@@ -122,20 +123,23 @@ fn read<B: Begun<AnyJob>, R: Wait + Drop>(
 }
 
 /// One thread publishes and another reads.
-fn race<B: Begun<AnyJob> + Send + Sync, R: Threads + Wait + Copy + Drop + Send + Sync>(
+fn race<B: Listed<AnyJob> + Send + Sync, R: Threads + Wait + Copy + Drop + Send + Sync>(
     rt: R,
     alloc: Global,
     opened: Opened<Batch<AnyJob>>,
+    calls: list::Opened,
     state: State<AnyJob>,
 ) -> bool
     requires book { opened.seen.book ≡ B.book }
     requires origin { state ≡ B.origin }
+    requires calls { (calls.seen.book ≡ B.calls) × (B.clock ≡ 0) }
+    requires no_disk { B.held → ⊥ }
 {
     let Ok((publisher, mut readers)) = Publisher::<AnyJob, B, R>::new(alloc, rt, opened, &state, 1)
     else {
         return false;
     };
-    let line = Line::new(publisher, state);
+    let line = Line::new(publisher, state, calls);
     let Some(reader) = readers.pop() else {
         return false;
     };
@@ -152,7 +156,7 @@ fn race<B: Begun<AnyJob> + Send + Sync, R: Threads + Wait + Copy + Drop + Send +
 /// Whether a reader sees all that it is told of, beside a thread that publishes.
 fn told_reader_sees<R: Threads + Wait + Copy + Drop + Send + Sync>(rt: R, alloc: Global) -> bool {
     match thirds(alloc) {
-        Some(state) => race::<Brand, R>(rt, alloc, Opened::new(), state),
+        Some(state) => race::<Brand, R>(rt, alloc, Opened::new(), list::Opened::new(), state),
         None => false,
     }
 }

@@ -1,11 +1,12 @@
 ghost use Rattle.std.specs.Prelude.{◌≡◌};
 
-use crate::line::{Line, keep_count, keep_row, thirds};
+use crate::line::{Line, Listed, keep_count, keep_row, thirds};
 use pfx_board::name::Begun;
 use pfx_board::publisher::Publisher;
 use pfx_board::reader::{Reader, StatusFault};
 use pfx_board::receipt::Receipt;
 use pfx_board::word::Word;
+use pfx_chronicle::list;
 use pfx_kinds::any::AnyJob;
 use pfx_machine::{Board, JobStatus, State};
 use pfx_record::Batch;
@@ -86,7 +87,7 @@ fn grows<B: Begun<AnyJob>>(earlier: &Word<AnyJob, B>, later: &Word<AnyJob, B>) -
 }
 
 /// Readers look before and after three publications, and once they are told of the last.
-fn show<B: Begun<AnyJob>, R: Wait + Drop>(
+fn show<B: Listed<AnyJob>, R: Wait + Drop>(
     rt: &R,
     alloc: Global,
     line: &mut Line<AnyJob, B, R>,
@@ -114,7 +115,7 @@ fn show<B: Begun<AnyJob>, R: Wait + Drop>(
 }
 
 /// Once the writer is gone, no reader sees or looks at anything.
-fn leave<B: Begun<AnyJob>, R: Wait + Drop>(
+fn leave<B: Listed<AnyJob>, R: Wait + Drop>(
     alloc: Global,
     line: Line<AnyJob, B, R>,
     readers: &mut Vec<Reader<AnyJob, B>>,
@@ -125,27 +126,30 @@ fn leave<B: Begun<AnyJob>, R: Wait + Drop>(
 }
 
 /// Two readers of a board that is published three times.
-fn serve<B: Begun<AnyJob>, R: Wait + Copy + Drop>(
+fn serve<B: Listed<AnyJob>, R: Wait + Copy + Drop>(
     rt: R,
     alloc: Global,
     opened: Opened<Batch<AnyJob>>,
+    calls: list::Opened,
     state: State<AnyJob>,
 ) -> bool
     requires book { opened.seen.book ≡ B.book }
     requires origin { state ≡ B.origin }
+    requires calls { (calls.seen.book ≡ B.calls) × (B.clock ≡ 0) }
+    requires no_disk { B.held → ⊥ }
 {
     let Ok((publisher, mut readers)) = Publisher::<AnyJob, B, R>::new(alloc, rt, opened, &state, 2)
     else {
         return false;
     };
-    let mut line = Line::new(publisher, state);
+    let mut line = Line::new(publisher, state, calls);
     show(&rt, alloc, &mut line, &mut readers) && leave(alloc, line, &mut readers)
 }
 
 /// Whether readers see what they should.
 fn readers_see<R: Wait + Copy + Drop>(rt: R, alloc: Global) -> bool {
     match thirds(alloc) {
-        Some(state) => serve::<Brand, R>(rt, alloc, Opened::new(), state),
+        Some(state) => serve::<Brand, R>(rt, alloc, Opened::new(), list::Opened::new(), state),
         None => false,
     }
 }

@@ -14,7 +14,7 @@ extend-requires g c =
     let o = g.B.Begun.origin in
     let batch = c.args.batch.now in
     let same = ap (λ (v : Published g.row.J.Denot). v.batches) c.self.view_is in
-    let leads = subst (λ w. applied K o (records_of (w ++ batch ∷ [])) ≡ Some c.args.state.now) (sym same) c.requires in
+    let leads = subst (λ w. applied K o (records_of (w ++ batch ∷ [])) ≡ Some c.args.state.now) (sym same) c.requires.leads in
     let behind = applied_behind K o c.args.state.now (records_of (c.self.inside.word ++ batch ∷ [])) leads in
     record { room = omega (arith, behind.number, c.number-number.ensures.state.number) }
 
