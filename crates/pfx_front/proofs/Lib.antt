@@ -4,6 +4,7 @@ mod Groups
 mod Ends
 mod Looking
 mod Losses
+mod Lasting
 mod Telling
 mod Refuted
 mod RefutedEnds

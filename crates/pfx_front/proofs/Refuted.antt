@@ -1,24 +1,22 @@
--- Worked rows: for each field of what a stop leaves, an image and batches of which it doesn't hold. A definition that says less lets them pass, and
--- its row fails.
-use Rattle.std.proofs.Common.{◌≡◌, ◌+◌, ◌≤◌, ℕ, List, [], ◌∷◌, Some, None, true, false, refl, sym, ap, ◌∙◌, arith}
-use Rattle.std.specs.Prelude.{Bool, Result, Ok, Err}
+-- Worked rows: for each field of what a receipt's moment keeps, and of what an append comes to, an image or a store for which it doesn't
+-- hold. A definition that says less lets one pass, and the row fails.
+use Rattle.std.specs.Prelude.{map}
+use Rattle.std.proofs.Common.{◌≡◌, ◌+◌, ◌<◌, ℕ, List, [], ◌∷◌, None, Some, true, false, refl, sym, ap, ◌∙◌, arith, inl, inr}
 use Rattle.std.proofs.lemmas.Bool.{false≢true}
 use Rattle.std.proofs.lemmas.Option.{none-some, same_Some}
-use Rattle.pfx_board.specs.Word.{records_of}
-use Rattle.pfx_format.specs.Format.{format}
-use Rattle.pfx_header.specs.Headers.{read_header}
+use Rattle.pfx_disk.specs.Disk.{View, IsHonest, IsSpent}
+use Rattle.pfx_fault.specs.declared.parts.Cause.{Cause}
+use Rattle.pfx_fault.specs.declared.parts.Cause.TheVariants.{Device, Memory}
 use Rattle.pfx_jobs.specs.Kind.{Kind}
 use Rattle.pfx_machine.specs.Plain.{Plain}
-use Rattle.pfx_record.specs.Records.{Recorded, withdrawn}
+use Rattle.pfx_record.specs.Records.{plain}
 use Rattle.pfx_record.specs.declared.batch.Batch.{Batch}
-use Rattle.pfx_recovery.specs.Recovery.{found, recovered}
 use Rattle.pfx_redo.specs.Applying.{applied}
-use Rattle.pfx_front.specs.Lasting.{Recovers, HasNumber}
-
--- whether something was found
-abbrev pub is_ok : {A E : Type 0} → Result A E → Bool
-is_ok (Ok x) = true
-is_ok (Err e) = false
+use Rattle.pfx_store.specs.Marks.{AreKept, Covers}
+use Rattle.pfx_store.specs.Stores.{PlainStore}
+use Rattle.pfx_store.specs.declared.store.Mark.{Mark}
+use Rattle.pfx_front.specs.Appending.{IsAppended, IsMissed, with_frame}
+use Rattle.pfx_front.specs.Lasting.{HasNumber}
 
 module _ {J : Type 0} (K : Kind J) (origin : Plain J) where
   -- no batch leaves the state where it was, which doesn't have the next number
@@ -28,13 +26,61 @@ module _ {J : Type 0} (K : Kind J) (origin : Plain J) where
       let number = h.number in
       omega (arith, here, number)
 
-  -- no state is found in an empty file
-  nothing_found : (batches : List (Batch J)) → Recovers K origin batches [] → ⊥
-  unfolding recovered found read_header
-  nothing_found batches h = false≢true (ap is_ok h.recovered)
+module _ {D J : Type 0} (view : D → View) (K : Kind J) (batch : Batch J) (old new : PlainStore D J) where
+  abbrev before : View
+  before = view old.file.disk
 
-  -- a job that isn't there can't be taken away, so the batches lead nowhere
-  leads_nowhere : (batches : List (Batch J)) (image : List ℕ) → origin.jobs ≡ [] → records_of batches ≡ withdrawn 0 ∷ [] → Recovers K origin batches image → ⊥
-  leads_nowhere batches image none are h =
-      let nowhere : applied K (record { number = origin.number; from = origin.from; ledger = origin.ledger; jobs = []; segment = origin.segment }) (withdrawn 0 ∷ []) ≡ None = refl in
-      none-some h.state (sym nowhere ∙ (λ i. applied K (record { number = origin.number; from = origin.from; ledger = origin.ledger; jobs = sym none i; segment = origin.segment }) (sym are i)) ∙ h.leads)
+  abbrev after : View
+  after = view new.file.disk
+
+  module _ (mark : Mark) where
+    -- the records lead nowhere
+    leads_nowhere : applied K old.state (map plain batch.records.items) ≡ None → IsAppended view K batch mark old new → ⊥
+    leads_nowhere none h = none-some new.state (sym none ∙ h.moved)
+
+    -- the store is broken
+    appended_and_broken : new.file.broken ≡ true → IsAppended view K batch mark old new → ⊥
+    appended_and_broken broken h = false≢true (sym h.whole ∙ broken)
+
+    -- the mark is of the number behind the batch
+    mark_ahead : mark.number ≡ new.state.number + 1 → IsAppended view K batch mark old new → ⊥
+    mark_ahead ahead h = let number = h.number in omega (arith, ahead, number)
+
+    -- a failure of before is forgotten
+    failure_forgotten : before.failures ≡ after.failures + 1 → IsAppended view K batch mark old new → ⊥
+    failure_forgotten less h = let no_fewer = h.no_fewer in omega (arith, less, no_fewer)
+
+    -- a disk that wasn't honest is
+    honest_at_last : IsHonest after → (IsHonest before → ⊥) → IsAppended view K batch mark old new → ⊥
+    honest_at_last now never h = never (h.honest now)
+
+    -- the mark isn't kept
+    mark_not_kept : IsHonest before → (start : Plain J) → Covers K start [] [] old.file.broken old.state before
+        → (Covers K start (with_frame K batch []) (mark ∷ []) new.file.broken new.state after → ⊥) → IsAppended view K batch mark old new → ⊥
+    mark_not_kept honest start covers lost h = lost (h.marks honest start [] [] covers)
+
+  -- the state went on
+  missed_and_moved : (cause : Cause) → new.state.number ≡ old.state.number + 1 → IsMissed view K batch cause old new → ⊥
+  missed_and_moved cause more h =
+      let same = ap (λ (s : Plain J). s.number) h.same in
+      omega (arith, more, same)
+
+  -- the device is said to have failed, and hasn't
+  device_unfailed : after.failures ≡ before.failures → (IsSpent after → ⊥) → IsMissed view K batch Device old new → ⊥
+  device_unfailed same live h = elim (h.device refl) [
+    | inl more ↦ omega (arith, same, more)
+    | inr spent ↦ live spent
+  ]
+
+  -- memory is said to have been refused, and the store is broken
+  refused_and_broken : old.file.broken ≡ false → new.file.broken ≡ true → IsMissed view K batch Memory old new → ⊥
+  refused_and_broken whole broken h = false≢true (sym whole ∙ sym (ap (λ (s : PlainStore D J). s.file.broken) (h.memory refl)) ∙ broken)
+
+  -- a disk that wasn't honest is
+  missed_and_honest : (cause : Cause) → IsHonest after → (IsHonest before → ⊥) → IsMissed view K batch cause old new → ⊥
+  missed_and_honest cause now never h = never (h.honest now)
+
+  -- a mark of before isn't kept
+  mark_lost : (cause : Cause) (mark : Mark) → IsHonest before → (start : Plain J) (all : List (List ℕ)) → Covers K start all (mark ∷ []) old.file.broken old.state before
+      → (AreKept K start (with_frame K batch all) (mark ∷ []) after → ⊥) → IsMissed view K batch cause old new → ⊥
+  mark_lost cause mark honest start all covers lost h = lost (h.marks honest start all (mark ∷ []) covers)

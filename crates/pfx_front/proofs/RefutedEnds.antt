@@ -27,7 +27,7 @@ use Rattle.pfx_redo.specs.Recording.{records_of}
 use Rattle.pfx_store.proofs.Grouping.{length-records}
 use Rattle.pfx_front.specs.Closing.{Acknowledged, AreSeen, IsSeen, IsSession, IsShort, IsStored, IsTold, Survives}
 use Rattle.pfx_front.specs.declared.faults.CloseFault.TheVariants.{PassOut}
-use Rattle.pfx_front.proofs.Refuted.{is_ok}
+use Rattle.pfx_board.proofs.Refuted.{is_ok}
 
 -- a client was told of a failure, and the flusher goes on
 told_of_none : (J : Type 0) (loss : Loss) → IsTold {J = J} None loss.marked (1, Lost loss ∷ []) → ⊥

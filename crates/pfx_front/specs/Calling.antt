@@ -1,16 +1,23 @@
 -- What a client knows whose call was refused.
 use Rattle.std.specs.Prelude.{◌≡◌, ◌⊎◌, ◌<◌, ℕ, List, Some}
+use Rattle.pfx_jobs.specs.Kind.{Kind}
 use Rattle.pfx_machine.specs.declared.command.Command.{Command}
 use Rattle.pfx_machine.specs.Faults.{no_memory}
 use Rattle.pfx_book.specs.declared.faults.BookFault.TheVariants.{Machine}
 use Rattle.pfx_book.specs.declared.note.Note.{Note}
 use Rattle.pfx_book.specs.declared.note.Note.TheVariants as note
 use Rattle.pfx_book.specs.Notes.{answers_of, lost_in}
-use Rattle.pfx_book.specs.Calls.{noted}
+use Rattle.pfx_book.specs.Calls.{Refuses, noted}
+use Rattle.pfx_book.specs.Register.{Register}
 use Rattle.pfx_front.specs.declared.faults.CallFault.{CallFault}
 use Rattle.pfx_front.specs.declared.faults.CallFault.TheVariants.{Refused, StoreFailed}
 
 module _ {J : Type 0} where
+  -- the book refuses a command of this pass: for want of memory, and nothing changes; or with an entry of the pass, and nothing else
+  abbrev pub IsRefusedBy : Kind J → Command J → Register J → Register J → ℕ × List (Note J) → ℕ × List (Note J) → CallFault → Type 0
+  IsRefusedBy K c old new pass later (Refused fault) = Refuses K c old new pass later fault
+  IsRefusedBy K c old new pass later (StoreFailed marked cause) = ⊥
+
   -- the client was told that the flusher gave up, why, and behind which mark, now or before; it has no answer more
   abbrev pub IsLost : ℕ × List (Note J) → ℕ × List (Note J) → CallFault → Type 0
   IsLost old new (Refused fault) = ⊥

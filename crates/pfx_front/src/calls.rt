@@ -2,16 +2,16 @@
 ghost use Rattle.std.specs.Prelude.{◌≡◌, ◌<◌, ◌≤◌, ◌+◌, ℕ, [], length, IfOk, IfErr, IfSome, IfNone, OnOk, Some, None, false};
 ghost use Rattle.pfx_fault.specs.declared.parts.Cause.{Cause};
 ghost use Rattle.pfx_machine.specs.declared.command.Command.TheVariants.{Slot};
-ghost use Rattle.pfx_world.specs.Session.{IsQuick};
-ghost use Rattle.pfx_book.specs.Calls.{noted};
+ghost use Rattle.pfx_world.specs.Session.{IsQuick, asked};
+ghost use Rattle.pfx_book.specs.Calls.{IsAccepted, noted};
 ghost use Rattle.pfx_book.specs.Notes.{greatest};
 ghost use Rattle.pfx_book.specs.Register.{HasRoom};
 ghost use Rattle.pfx_book.specs.declared.note.Note.TheVariants.{Accepted, Receipt as Receipted};
-ghost use Rattle.pfx_front.specs.Calling.{IsLost, HasNoReply, HasNoReceipt};
+ghost use Rattle.pfx_front.specs.Calling.{IsLost, IsRefusedBy, HasNoReply, HasNoReceipt};
 ghost use Rattle.pfx_front.specs.Lasting.{IsAcknowledged};
 ghost use Rattle.pfx_front.specs.declared.faults.CallFault.TheVariants.{StoreFailed};
 
-use crate::durable::Acknowledged;
+use crate::durable::{Acknowledged, Durable};
 use crate::faults::CallFault;
 use crate::monitor::{Monitor, is_busy, is_ready};
 use crate::name::Since;
@@ -186,7 +186,7 @@ fn open_in<J: Job, B: Since<J>, R: Wait>(
     unreachable!()
 }
 
-/// The book's answer to a command.
+/// The book's answer to a command. What it accepts or refuses is an entry of this pass, and of none else.
 fn ask_of<J: Job, B: Since<J>>(
     book: &mut Book<J, B>,
     pass: &mut Pass<J, B>,
@@ -199,6 +199,8 @@ fn ask_of<J: Job, B: Since<J>>(
     requires not_shut { book.old.shut ≡ false }
     ensures ok { IfOk result (λ r. (pass.new ≡ noted (Accepted r.0 command r.1) pass.old) × (greatest pass.old.1 < r.0)) }
     ensures err { IfErr result (HasNoReply command pass.old pass.new) }
+    ensures accepted { IfOk result (IsAccepted command (asked J.kind command book.old.session) book.old book.new pass.old pass.new) }
+    ensures refused { IfErr result (IsRefusedBy J.kind command book.old book.new pass.old pass.new) }
 {
     match book.ask(pass, command) {
         Ok(reply) => Ok(reply),
@@ -387,6 +389,12 @@ where
                 Ok(end_slot(rt, shared.alloc, &shared.monitor, pass, back))
             }
         }
+    }
+
+    /// What was durable at the last mark, and has been since the marks before it. Asked whether it holds a receipt, it says that
+    /// whatever a stop may have left at any call between the receipt's moment and its own has the receipt's command.
+    pub fn moment<R: Wait>(&self, rt: &R) -> Durable<J, B> {
+        self.shared.monitor.durable.lock(rt).again()
     }
 
     /// Waits until the command of this number is durable, and gives its receipt, which the pass notes. A reader that is told of

@@ -1,7 +1,8 @@
 //! The end of a front.
-ghost use Rattle.std.specs.Prelude.{◌≡◌, ◌≢◌, ◌+◌, ◌-◌, [], length, map, true, IfOk, IfErr, IfSome, IfNone, IsTrue, IsPermutation};
+ghost use Rattle.std.specs.Prelude.{◌≡◌, ◌≢◌, ◌+◌, ◌-◌, [], length, map, Some, true, false, IfOk, IfErr, IfSome, IfNone, IsTrue, IsPermutation};
 ghost use Rattle.pfx_chronicle.specs.Chart.{noted_view};
 ghost use Rattle.pfx_disk.specs.Disk.{IsHonest};
+ghost use Rattle.pfx_fault.specs.declared.parts.Cause.TheVariants.{Memory};
 ghost use Rattle.pfx_book.specs.Merging.{numbers_from};
 ghost use Rattle.pfx_front.specs.Closing.{IsTold, AreTold, AreLooked, AreSeen, IsSession, IsShort, IsStored, IsHeld};
 ghost use Rattle.pfx_front.specs.Keeping.{Behind};
@@ -180,8 +181,18 @@ fn ended<J: Job, B: Since<J>, D: Disk + Drop, R: Wait + Drop>(
     })
 }
 
+/// Whether the store is whole, if it is for memory that the flusher gave up.
+fn is_whole_for<J: Job, D: Disk>(failure: Option<Cause>, store: &Store<D, J>) -> bool
+    ensures { IsTrue result → failure ≡ Some Memory → store.now.file.broken ≡ false }
+{
+    match failure {
+        Some(Cause::Memory) => !store.is_broken(),
+        _ => true,
+    }
+}
+
 /// The store on the disk itself, which has gone along with what was told of it. `None` if the flusher gave up for a device that
-/// hasn't failed.
+/// hasn't failed, or for memory where the store is broken.
 fn told<J: Job, B: Since<J>, D: Disk + Drop>(
     before: &Before<B>,
     book: &Book<J, B>,
@@ -193,9 +204,11 @@ fn told<J: Job, B: Since<J>, D: Disk + Drop>(
     ensures state { IfSome result (λ s. s.state ≡ store.state) }
     ensures store { IfSome result (λ s. IsStored J.kind B.start B.failures book.now s.state (D.view s.file.disk)) }
     ensures images { IfSome result (λ s. IsHonest (D.view s.file.disk) → IsHeld J.kind B.start B.clock book.now (D.view s.file.disk)) }
+    ensures whole { IfSome result (λ s. book.now.failure ≡ Some Memory → s.file.broken ≡ false) }
 {
     let store = store.told();
-    if before.backs(book.failure(), store.disk()) {
+    let failure = book.failure();
+    if before.backs(failure, store.disk()) && is_whole_for(failure, &store) {
         return Some(store);
     }
     None
@@ -215,6 +228,7 @@ fn ended_on_disk<J: Job, B: Since<J>, D: Disk + Drop, R: Wait + Drop>(
     ensures store { IfSome result (λ c. IsStored J.kind B.start B.failures c.book c.store.state (D.view c.store.file.disk)) }
     ensures images { IfSome result (λ c. IsHonest (D.view c.store.file.disk) → IsHeld J.kind B.start B.clock c.book (D.view c.store.file.disk)) }
     ensures readers { IfSome result (λ c. AreSeen J.kind B.start c.book c.store.state given.readers.items c.given.readers.items c.looked.items) }
+    ensures whole { IfSome result (λ c. c.book.failure ≡ Some Memory → c.store.file.broken ≡ false) }
 {
     let Some(closed) = ended(book, flushed, given, looked) else {
         return None;
@@ -246,9 +260,9 @@ where
     /// The store comes back on the disk itself. Of what comes back it says: the session is the merge of the passes' notes, and
     /// legal, so each answer is the machine's; a client that was told of a failure was told of the session's; the store is the
     /// outcome of its first commands, of all up to the last mark, and of all of them unless the store has failed, which it is
-    /// said to have by `Device` only if the disk has; each image that a stop may leave since a receipt's moment is recovered to
-    /// the outcome of first commands, the receipt's among them; and what a reader that looked has seen are first commands that
-    /// the store has.
+    /// said to have by `Device` only if the disk has; where the flusher gave up for `Memory` the store is whole; each image that
+    /// a stop may leave since a receipt's moment is recovered to the outcome of first commands, the receipt's among them; and
+    /// what a reader that looked has seen are first commands that the store has.
     ///
     /// `PassOut` says that a pass is missing, or is another front's; then nothing has ended, and all comes back as it was, the passes
     /// perhaps in another order. Of the front's book, which is under its lock, no clause says so.
@@ -267,6 +281,7 @@ where
         ensures store { IfOk result (λ c. IsStored J.kind B.start B.failures c.book c.store.state (D.view c.store.file.disk)) }
         ensures images { IfOk result (λ c. IsHonest (D.view c.store.file.disk) → IsHeld J.kind B.start B.clock c.book (D.view c.store.file.disk)) }
         ensures readers { IfOk result (λ c. AreSeen J.kind B.start c.book c.store.state given.readers.items c.given.readers.items c.looked.items) }
+        ensures whole { IfOk result (λ c. c.book.failure ≡ Some Memory → c.store.file.broken ≡ false) }
     {
         let Given {
             mut passes,

@@ -7,18 +7,21 @@ ghost use Rattle.pfx_fault.specs.declared.parts.Cause.{Cause};
 ghost use Rattle.pfx_book.specs.Notes.{IsRested, Noted, records_in};
 ghost use Rattle.pfx_book.specs.declared.note.Note.TheVariants.{Marked, Failed};
 ghost use Rattle.pfx_front.specs.Keeping.{InStep, Behind};
+ghost use Rattle.pfx_front.specs.Lasting.{AreNoted};
 ghost use Rattle.pfx_front.specs.Showing.{AreShown, IsShown, IsShownBefore};
 ghost use Rattle.pfx_front.specs.Working.{Gives, IsTaken};
 
 use crate::appending::append_taken;
-use crate::durable::Durable;
+use crate::durable::{Durable, moment_of};
 use crate::gathering::{Pace, gathered};
+use crate::marking::Marking;
 use crate::monitor::Monitor;
 use crate::name::Since;
 use left_right::Absorb;
 use pfx_board::publisher::BoardWriter;
 use pfx_board::shown::Shown;
-use pfx_book::book::Share;
+use pfx_board::word::Word;
+use pfx_book::book::{Book, Share};
 use pfx_chronicle::chronicle::Logged;
 use pfx_disk::Disk;
 use pfx_fault::Cause;
@@ -30,7 +33,7 @@ use std::marker::Model;
 use std::sync::Wait;
 use std::time::Clock;
 
-/// What the flusher's thread owns: room for the records of a batch, its share of the book, the store, and the board's writer.
+/// What the flusher's thread owns: room for the records of a batch, its share of the book, the store, the board's writer, and the marks.
 /// Contracts see it as the share's notes, the store and what is published, which are in step.
 #[derive(Drop)]
 pub struct Flusher<
@@ -44,6 +47,7 @@ pub struct Flusher<
     pub(crate) share: Share<J, B>,
     pub(crate) store: Store<D, J>,
     pub(crate) publisher: BoardWriter<J, B, T, R>,
+    pub(crate) marking: Marking<J, B>,
 }
 
 impl<J: Job, B: Since<J>, D: Disk, T: Absorb<T, State = [Batch<J>; 0]> + Drop, R: Wait + Drop> Model
@@ -53,6 +57,7 @@ impl<J: Job, B: Since<J>, D: Disk, T: Absorb<T, State = [Batch<J>; 0]> + Drop, R
     ghost use Rattle.pfx_board.specs.Publisher.{Published};
     ghost use Rattle.pfx_book.specs.declared.note.Note.{Note};
     ghost use Rattle.pfx_front.specs.Keeping.{InStep};
+    ghost use Rattle.pfx_front.specs.Lasting.{AreNoted};
     ghost use Rattle.pfx_front.specs.Showing.{AreShown};
 
     ghost Value = { List (Note J) × PlainStore D J × Published J };
@@ -61,7 +66,7 @@ impl<J: Job, B: Since<J>, D: Disk, T: Absorb<T, State = [Batch<J>; 0]> + Drop, R
 
     ghost invariant = { λ f. InStep J.kind B.start B.failures B.clock f.share f.store.file.broken f.store.state (D.view f.store.file.disk)
         × AreShown f.share f.publisher.batches × (B.origin ≡ B.start)
-        × (f.room.items ≡ []) × (16 ≤ vec_capacity f.room) };
+        × (f.room.items ≡ []) × (16 ≤ vec_capacity f.room) × AreNoted f.marking f.share };
 }
 
 /// What comes home when the flusher's thread ends. Contracts see it as the share's notes, the store, which has what its marks
@@ -141,32 +146,68 @@ fn next_work<J: Job, B: Since<J>, R: Wait + Clock>(
     }
 }
 
+/// Marks all that was taken in the book, which it looks at: what is durable, to be left to those who will be told of it. `None` if the
+/// list of marks is longer than its end knows.
+fn mark_book<J: Job, B: Since<J>, D: Disk + Logged<B>>(
+    book: &mut Book<J, B>,
+    share: &mut Share<J, B>,
+    store: &Store<D, J>,
+    marking: &mut Marking<J, B>,
+    word: Word<J, B>,
+    mark: Mark,
+) -> Option<Durable<J, B>>
+    requires taken { records_of word ≡ records_in share.old }
+    requires origin { B.origin ≡ B.start }
+    requires number { mark.number ≡ B.start.number + length (records_in share.old) }
+    requires unfailed { (cause : Cause) → Noted (Failed cause) share.old → ⊥ }
+    requires step { InStep J.kind B.start B.failures B.clock (share.old ++ Marked mark.number mark.clock ∷ []) store.now.file.broken store.now.state (D.view store.now.file.disk) }
+    requires noted { AreNoted marking.old share.old }
+    ensures share { IfSome result (λ _. share.new ≡ share.old ++ Marked mark.number mark.clock ∷ []) }
+    ensures noted { IfSome result (λ _. AreNoted marking.new share.new) }
+{
+    let moment = moment_of(store);
+    book.settled(share);
+    book.legal();
+    if !marking.add(&mark) {
+        return None;
+    }
+    let durable = Durable::new(word, moment, marking.marked(), Some(mark));
+    book.mark(share, mark.number, mark.clock);
+    Some(durable)
+}
+
 /// Leaves what is durable to those who will be told of it, all that was taken, marks that, and wakes those who wait for it. Room for a
 /// command more may have come.
-fn mark_in<J: Job, B: Since<J>, R: Wait>(
+fn mark_in<J: Job, B: Since<J>, D: Disk + Logged<B>, R: Wait>(
     rt: &R,
     monitor: &Monitor<J, B>,
     share: &mut Share<J, B>,
-    durable: Durable<J, B>,
+    store: &Store<D, J>,
+    marking: &mut Marking<J, B>,
+    word: Word<J, B>,
     mark: Mark,
 )
-    requires durable { records_of durable.word ≡ records_in share.old }
+    requires taken { records_of word ≡ records_in share.old }
+    requires origin { B.origin ≡ B.start }
     requires number { mark.number ≡ B.start.number + length (records_in share.old) }
     requires unfailed { (cause : Cause) → Noted (Failed cause) share.old → ⊥ }
-    ensures { share.new ≡ share.old ++ Marked mark.number mark.clock ∷ [] }
+    requires step { InStep J.kind B.start B.failures B.clock (share.old ++ Marked mark.number mark.clock ∷ []) store.now.file.broken store.now.state (D.view store.now.file.disk) }
+    requires noted { AreNoted marking.old share.old }
+    ensures share { share.new ≡ share.old ++ Marked mark.number mark.clock ∷ [] }
+    ensures noted { AreNoted marking.new share.new }
 {
-    *monitor.durable.lock(rt) = durable;
     let mut guard = monitor.book.lock(rt);
     if let Some(book) = &mut *guard {
-        book.settled(share);
-        book.mark(share, mark.number, mark.clock);
-        drop(guard);
-        monitor.marked.notify_all();
-        monitor.free.notify_one();
-        return;
+        if let Some(durable) = mark_book(book, share, store, marking, word, mark) {
+            *monitor.durable.lock(rt) = durable;
+            drop(guard);
+            monitor.marked.notify_all();
+            monitor.free.notify_one();
+            return;
+        }
     }
 
-    // The book is taken out only once this thread has ended.
+    // The book is taken out only once this thread has ended, and the list of marks has this end alone.
     for _ in rt.forever() {}
     unreachable!()
 }
@@ -204,7 +245,7 @@ fn room_of<J: Job>(batch: Batch<J>) -> Vec<Record<J>>
     room
 }
 
-/// Publishes a batch that is durable: what is durable then, with all that was taken. `None` if an allocation fails; then the book knows.
+/// Publishes a batch that is durable: the batches that are published then, all that were taken. `None` if an allocation fails; then the book knows.
 fn show<J: Job, B: Since<J>, D: Disk + Logged<B>, R: Wait + Drop, W: Wait>(
     rt: &W,
     alloc: Global,
@@ -213,16 +254,17 @@ fn show<J: Job, B: Since<J>, D: Disk + Logged<B>, R: Wait + Drop, W: Wait>(
     store: &Store<D, J>,
     publisher: &mut BoardWriter<J, B, Shown<J, B>, R>,
     batch: &Batch<J>,
-) -> Option<Durable<J, B>>
+) -> Option<Word<J, B>>
     requires taken { AreShown share.old (publisher.old.batches ++ batch.now ∷ []) }
     requires leads { applied J.kind B.origin (records_of (publisher.old.batches ++ batch.now ∷ [])) ≡ Some store.now.state }
     requires whole { store.now.file.broken ≡ false }
     ensures batches { publisher.new.batches ≡ publisher.old.batches ++ batch.now ∷ [] }
-    ensures shown { IfSome result (λ durable. (share.new ≡ share.old) × (records_of durable.word ≡ records_in share.new)) }
+    ensures shown { IfSome result (λ word. (share.new ≡ share.old) × (records_of word ≡ records_in share.new)) }
     ensures lost { IfNone result (share.new ≡ share.old ++ Failed Memory ∷ []) }
 {
-    match publisher.publish(rt, alloc, batch, store.state()) {
-        Ok(()) => Some(Durable::of(store, share, publisher.published().again())),
+    let moment = moment_of(store);
+    match publisher.publish(rt, alloc, batch, store.state(), &moment) {
+        Ok(()) => Some(publisher.published().again()),
         Err(_) => {
             fail_in(rt, monitor, share, Cause::Memory);
             None
@@ -239,22 +281,25 @@ fn commit<J: Job, B: Since<J>, D: Disk + Logged<B>, R: Wait + Drop, W: Wait>(
     share: &mut Share<J, B>,
     store: &mut Store<D, J>,
     publisher: &mut BoardWriter<J, B, Shown<J, B>, R>,
+    marking: &mut Marking<J, B>,
     batch: Batch<J>,
 ) -> Option<Vec<Record<J>>>
     requires taken { IsTaken J.kind B.start B.failures B.clock share.old batch store.old.file.broken store.old.state (D.view store.old.file.disk) }
     requires shown { IsShownBefore share.old publisher.old.batches batch }
     requires origin { B.origin ≡ B.start }
     requires room { 16 ≤ vec_capacity batch.records }
+    requires noted { AreNoted marking.old share.old }
     ensures step { IfSome result (λ _. InStep J.kind B.start B.failures B.clock share.new store.new.file.broken store.new.state (D.view store.new.file.disk)) }
     ensures shown { IfSome result (λ _. AreShown share.new publisher.new.batches) }
     ensures room { IfSome result (λ room. (room.items ≡ []) × (16 ≤ vec_capacity room)) }
+    ensures noted { IfSome result (λ _. AreNoted marking.new share.new) }
     ensures behind { IfNone result (Behind J.kind B.start B.failures B.clock share.new store.new.file.broken store.new.state (D.view store.new.file.disk)) }
     ensures left { IfNone result (IsShown J.kind B.start share.new publisher.new.batches store.new.state) }
 {
     match append_taken(alloc, store, &batch) {
         Ok(mark) => match show(rt, alloc, monitor, share, store, publisher, &batch) {
-            Some(durable) => {
-                mark_in(rt, monitor, share, durable, mark);
+            Some(word) => {
+                mark_in(rt, monitor, share, store, marking, word, mark);
                 Some(room_of(batch))
             }
             None => None,
@@ -275,6 +320,7 @@ fn tend<J: Job, B: Since<J>, D: Disk, R: Wait>(
 ) -> bool
     requires { InStep J.kind B.start B.failures B.clock share.old store.old.file.broken store.old.state (D.view store.old.file.disk) }
     ensures step { IsTrue result → InStep J.kind B.start B.failures B.clock share.new store.new.file.broken store.new.state (D.view store.new.file.disk) }
+    ensures kept { IsTrue result → share.new ≡ share.old }
     ensures notes { records_in share.new ≡ records_in share.old }
     ensures leads { applied J.kind B.start (records_in share.new) ≡ Some store.new.state }
     ensures behind { result ≡ false → Behind J.kind B.start B.failures B.clock share.new store.new.file.broken store.new.state (D.view store.new.file.disk) }
@@ -317,6 +363,7 @@ pub(crate) fn flush<J: Job, B: Since<J>, D: Disk + Logged<B>, R: Wait + Drop, W:
         mut store,
         mut publisher,
         mut room,
+        mut marking,
     } = flusher;
     let mut pace = Pace::new();
     for _ in rt.forever() {
@@ -336,6 +383,7 @@ pub(crate) fn flush<J: Job, B: Since<J>, D: Disk + Logged<B>, R: Wait + Drop, W:
                     &mut share,
                     &mut store,
                     &mut publisher,
+                    &mut marking,
                     batch,
                 ) {
                     Some(back) => room = back,

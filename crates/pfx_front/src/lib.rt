@@ -16,7 +16,8 @@
 //! - `start`: a front with its threads.
 //! - `sole`: what a client knows that is the only one: its answers are the machine's, and the board and a copy of their state.
 //! - `before`: how often the disk had failed when it began.
-//! - `durable`: what is durable at a moment of the disk, and the acknowledgement that carries it out of the lock.
+//! - `durable`: what is durable at a moment of the disk and has been since earlier ones, and the acknowledgement that carries it out of the lock.
+//! - `marking`: the list of the marks, which is kept in proofs alone.
 //! - `closing`: the end: all threads joined, and what session and store have come to.
 //!
 //! What tokens carry: clients know what happened to their pass, and the flusher what happened to its share. The lists that they
@@ -33,6 +34,7 @@ pub mod durable;
 pub mod faults;
 pub mod flusher;
 mod gathering;
+pub mod marking;
 pub mod monitor;
 pub mod name;
 pub mod sole;

@@ -6,22 +6,31 @@ use pfx_chronicle::list;
 use pfx_chronicle::name::Charted;
 use pfx_jobs::job::Job;
 use pfx_record::Batch;
+use pfx_store::Mark;
 use pfx_token::{past, tokens};
 use std::alloc::{AllocError, Global};
 use std::marker::Brand;
 
-/// Names a front, with its book, its board and the calls that are made on its disk from its beginning on.
-pub trait Since<J>: Named<J> + Begun<J> + Charted {}
+/// Names a front, with its book, its board, the calls that are made on its disk from its beginning on, and its marks.
+pub trait Since<J>: Named<J> + Begun<J> + Charted {
+    ghost use Rattle.logbook.specs.Pages.{Book};
 
-impl<J> Since<J> for Brand {}
+    /// The list of the marks.
+    ghost marks: { Book };
+}
 
-/// The lists of a front, which have no name yet: what happened to its passes, its durable batches, and the calls that are made
-/// on its disk.
+impl<J> Since<J> for Brand {
+    ghost marks = { record { number = 0; log_name = 0; cells_name = 0 } };
+}
+
+/// The lists of a front, which have no name yet: what happened to its passes, its durable batches, the calls that are made
+/// on its disk, and its marks.
 #[derive(Drop)]
 pub struct Names<J: Job> {
     pub(crate) tokens: tokens::Opened<Note<J>>,
     pub(crate) list: past::Opened<Batch<J>>,
     pub(crate) calls: list::Opened,
+    pub(crate) marks: past::Opened<Mark>,
 }
 
 impl<J: Job> Names<J> {
@@ -32,6 +41,7 @@ impl<J: Job> Names<J> {
             tokens,
             list: past::Opened::new(),
             calls: list::Opened::new(),
+            marks: past::Opened::new(),
         })
     }
 }

@@ -8,9 +8,10 @@ ghost use Rattle.pfx_redo.specs.Applying.{applied};
 
 use crate::before::Before;
 use crate::calls::{Front, Shared};
-use crate::durable::Durable;
+use crate::durable::{Durable, moment_of};
 use crate::faults::StartFault;
 use crate::flusher::{Flushed, Flusher, flush};
+use crate::marking::Marking;
 use crate::monitor::Monitor;
 use crate::name::{Names, Since};
 use left_right::Absorb;
@@ -27,7 +28,7 @@ use pfx_disk::Disk;
 use pfx_jobs::job::Job;
 use pfx_jobs::quantum::{Done, Quantum};
 use pfx_record::{Batch, Record};
-use pfx_store::Store;
+use pfx_store::{Mark, Store};
 use pfx_token::past;
 use pfx_token::tokens::Opened;
 use std::alloc::{AllocError, Global};
@@ -168,6 +169,7 @@ fn furnish<J: Job, B: Since<J>, D: Disk + Logged<B>, K: Desk<Quantum<J>, Done<J>
     tokens: Opened<Note<J>>,
     store: &Store<D, J>,
     word: Word<J, B>,
+    marking: &Marking<J, B>,
     desk: K,
     workers: u32,
 ) -> Result<(Arc<Shared<J, B, K>, Global>, Share<J, B>, Vec<Record<J>>), AllocError>
@@ -177,12 +179,13 @@ where
     requires start { store.now.state ≡ B.start }
     requires whole { store.now.file.broken ≡ false }
     requires none { records_of word ≡ [] }
+    requires unmarked { marking.now ≡ [] }
     requires leads { applied J.kind B.origin (records_of word) ≡ Some store.now.state }
     ensures share { IfOk result (λ r. r.1 ≡ Marked B.start.number (D.view store.now.file.disk).clock ∷ []) }
     ensures room { IfOk result (λ r. (r.2.items ≡ []) × (16 ≤ vec_capacity r.2)) }
 {
     let (book, share) = Book::new(alloc, tokens, store.state(), store.disk().clock())?;
-    let durable = Durable::of(store, &share, word);
+    let durable = Durable::new(word, moment_of(store), marking.marked(), None);
     let room = Vec::with_capacity(alloc, 16)?;
     let seat = desk.seat(rt)?;
     let shared = Arc::new(
@@ -320,7 +323,7 @@ fn manned<
 >(
     rt: R,
     alloc: Global,
-    lists: (Opened<Note<J>>, past::Opened<Batch<J>>),
+    lists: (Opened<Note<J>>, past::Opened<Batch<J>>, past::Opened<Mark>),
     store: Store<D, J>,
     before: Before<B>,
     desk: K,
@@ -330,19 +333,21 @@ fn manned<
 where
     K::Seat: Drop + Send + 'static,
     requires named { (lists.0.table.shared.table_id ≡ B.table) × (lists.1.seen.book ≡ B.book) × (B.origin ≡ B.start) }
+    requires marks { lists.2.seen.book ≡ B.marks }
     requires readers { 0 < readers }
     requires fresh { IsFresh J.kind B.start B.failures B.clock store.file.broken store.state (D.view store.file.disk) }
     ensures readers { IfOk result (λ r. r.2.items ≡ replicate readers []) }
     ensures given_back { IfErr result (λ e. e.1 ≡ store) }
 {
-    let (tokens, list) = lists;
+    let (tokens, list, marks) = lists;
     let Ok((publisher, given, looked)) = show_first::<J, B, D, R>(rt, alloc, list, &store, readers)
     else {
         return Err((StartFault::NoMemory, store));
     };
     let word = publisher.published().again();
+    let marking = Marking::new(marks);
     let Ok((shared, share, room)) = furnish::<J, B, D, K, R>(
-        &rt, alloc, tokens, &store, word, desk, workers,
+        &rt, alloc, tokens, &store, word, &marking, desk, workers,
     ) else {
         return Err((StartFault::NoMemory, store));
     };
@@ -355,6 +360,7 @@ where
         store,
         publisher,
         room,
+        marking,
     };
     post(&rt, &*mailbox, owned);
     let crew = Hands {
@@ -395,7 +401,7 @@ where
         readers: u8,
     ) -> Result<(Front<J, B, K>, Crew<J, B, D, K, R>, Vec<Reader<J, B>>), (StartFault, Store<D, J>)>
         requires named { (names.tokens.table.shared.table_id ≡ B.table) × (names.list.seen.book ≡ B.book) × (B.origin ≡ B.start) }
-        requires calls { names.calls.seen.book ≡ B.calls }
+        requires calls { (names.calls.seen.book ≡ B.calls) × (names.marks.seen.book ≡ B.marks) }
         requires readers { 0 < readers }
         requires begins { Begins J.kind B.start B.failures B.clock B.held B.image store (D.view store.file.disk) }
         ensures readers { IfOk result (λ r. r.2.items ≡ replicate readers []) }
@@ -405,6 +411,7 @@ where
             tokens,
             list,
             calls,
+            marks,
         } = names;
         let before = Before::of(store.disk());
         let noted = store.noted::<B>(calls);
@@ -412,7 +419,7 @@ where
         match manned::<J, B, Chronicle<D, B>, K, R>(
             rt,
             alloc,
-            (tokens, list),
+            (tokens, list, marks),
             noted,
             before,
             desk,

@@ -62,7 +62,7 @@ fn begin<
 where
     K::Seat: Drop + Send + 'static,
     requires named { (names.tokens.table.shared.table_id ≡ B.table) × (names.list.seen.book ≡ B.book) × (B.origin ≡ B.start) }
-    requires calls { names.calls.seen.book ≡ B.calls }
+    requires calls { (names.calls.seen.book ≡ B.calls) × (names.marks.seen.book ≡ B.marks) }
     requires begins { Begins any_kind B.start B.failures B.clock B.held B.image store (D.view store.file.disk) }
 {
     match Front::<AnyJob, B, K>::start::<D, R>(
@@ -182,7 +182,7 @@ fn serve<
 where
     K::Seat: Drop + Send + 'static,
     requires named { (names.tokens.table.shared.table_id ≡ B.table) × (names.list.seen.book ≡ B.book) × (B.origin ≡ B.start) }
-    requires calls { names.calls.seen.book ≡ B.calls }
+    requires calls { (names.calls.seen.book ≡ B.calls) × (names.marks.seen.book ≡ B.marks) }
     requires begins { Begins any_kind B.start B.failures B.clock B.held B.image store (D.view store.file.disk) }
 {
     let began = store.state().number();

@@ -3,6 +3,7 @@ use Rattle.pfx_book.specs.Notes.{Noted, records_in}
 use Rattle.pfx_book.specs.declared.note.Note.TheVariants.{Failed, Marked}
 use Rattle.pfx_board.specs.Word.{records_of}
 use Rattle.pfx_redo.specs.Applying.{applied}
+use Rattle.pfx_front.specs.Lasting.{AreNoted}
 use Rattle.pfx_front.specs.Showing.{AreShown, IsShown}
 use Rattle.pfx_store.specs.Stores.{PlainStore}
 use Rattle.pfx_front.proofs.Steps.{batch_small, mark_number, step_marked, published, unfailed_here, batch_behind, memory_behind, memory_shown, marked_shown, missed_shown, published_leads}
@@ -26,7 +27,8 @@ pub mark_in-requires : goal.mark_in-requires
 mark_in-requires g c =
     let small = batch_small c.args.batch.workers c.args.batch.real c.args.batch.first c.args.batch.records.items c.args.batch.fits in
     record {
-      durable = c.in-Some.ensures.shown.1;
+      taken = c.in-Some.ensures.shown.1;
+      origin = c.requires.origin;
       number = subst (λ n. c.in-Ok.mark.number ≡ g.B.Named.start.number + length (records_in n)) (sym c.in-Some.ensures.shown.0)
           (mark_number g.J.Job.kind g.B.Named.start g.B.Charted.failures g.B.Charted.clock c.args.share.now c.args.batch c.args.store.now.file.broken c.append_taken.new.store.file.broken
           c.args.store.now.state c.append_taken.new.store.state (g.D.Disk.view c.args.store.now.file.disk) (g.D.Disk.view c.append_taken.new.store.file.disk) c.requires.taken small
@@ -35,6 +37,12 @@ mark_in-requires g c =
           unfailed_here g.J.Job.kind g.B.Named.start g.B.Charted.failures g.B.Charted.clock c.args.share.now c.args.batch c.args.store.now.file.broken c.append_taken.new.store.file.broken
           c.args.store.now.state c.append_taken.new.store.state (g.D.Disk.view c.args.store.now.file.disk) (g.D.Disk.view c.append_taken.new.store.file.disk) c.requires.taken small
           cause (subst (Noted (Failed cause)) c.in-Some.ensures.shown.0 noted);
+      step =
+          step_marked g.J.Job.kind g.B.Named.start g.B.Charted.failures g.B.Charted.clock c.args.share.now c.args.batch c.args.store.now.file.broken c.append_taken.new.store.file.broken
+          c.args.store.now.state c.append_taken.new.store.state (g.D.Disk.view c.args.store.now.file.disk) (g.D.Disk.view c.append_taken.new.store.file.disk) c.requires.taken small
+          (c.show.new.share ++ Marked c.in-Ok.mark.number c.in-Ok.mark.clock ∷ []) c.in-Ok.mark (ap (λ l. l ++ Marked c.in-Ok.mark.number c.in-Ok.mark.clock ∷ []) c.in-Some.ensures.shown.0)
+          c.in-Ok.ensures.done.whole c.in-Ok.ensures.done.moved c.in-Ok.ensures.done.number c.in-Ok.ensures.done.no_fewer c.in-Ok.ensures.done.honest c.in-Ok.ensures.done.marks;
+      noted = subst (AreNoted c.args.marking.now) (sym c.in-Some.ensures.shown.0) c.requires.noted;
     }
 
 pub returns-in-None-clause-behind : goal.returns-in-None-clause-behind
@@ -55,7 +63,7 @@ returns-in-None-clause-left g c =
 pub returns-in-Some-clause-step : goal.returns-in-Some-clause-step
 returns-in-Some-clause-step g c =
     let small = batch_small c.args.batch.workers c.args.batch.real c.args.batch.first c.args.batch.records.items c.args.batch.fits in
-    let noted = c.mark_in.ensures ∙ ap (λ l. l ++ Marked c.in-Ok.mark.number c.in-Ok.mark.clock ∷ []) c.in-Some.ensures.shown.0 in
+    let noted = c.mark_in.ensures.share ∙ ap (λ l. l ++ Marked c.in-Ok.mark.number c.in-Ok.mark.clock ∷ []) c.in-Some.ensures.shown.0 in
     step_marked g.J.Job.kind g.B.Named.start g.B.Charted.failures g.B.Charted.clock c.args.share.now c.args.batch c.args.store.now.file.broken c.append_taken.new.store.file.broken
     c.args.store.now.state c.append_taken.new.store.state (g.D.Disk.view c.args.store.now.file.disk) (g.D.Disk.view c.append_taken.new.store.file.disk) c.requires.taken small
     c.mark_in.new.share c.in-Ok.mark noted c.in-Ok.ensures.done.whole c.in-Ok.ensures.done.moved c.in-Ok.ensures.done.number
@@ -64,7 +72,7 @@ returns-in-Some-clause-step g c =
 pub returns-in-Some-clause-shown : goal.returns-in-Some-clause-shown
 returns-in-Some-clause-shown g c =
     let small = batch_small c.args.batch.workers c.args.batch.real c.args.batch.first c.args.batch.records.items c.args.batch.fits in
-    let noted = c.mark_in.ensures ∙ ap (λ l. l ++ Marked c.in-Ok.mark.number c.in-Ok.mark.clock ∷ []) c.in-Some.ensures.shown.0 in
+    let noted = c.mark_in.ensures.share ∙ ap (λ l. l ++ Marked c.in-Ok.mark.number c.in-Ok.mark.clock ∷ []) c.in-Some.ensures.shown.0 in
     subst (AreShown c.mark_in.new.share) (sym c.show.ensures.batches)
     (marked_shown g.J.Job.kind g.B.Named.start g.B.Charted.failures g.B.Charted.clock c.args.share.now c.args.batch c.args.store.now.file.broken c.append_taken.new.store.file.broken
     c.args.store.now.state c.append_taken.new.store.state (g.D.Disk.view c.args.store.now.file.disk) (g.D.Disk.view c.append_taken.new.store.file.disk) c.requires.taken small

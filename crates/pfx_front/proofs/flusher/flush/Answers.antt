@@ -4,7 +4,10 @@ use Rattle.pfx_board.specs.Publisher.{Published}
 use Rattle.pfx_board.specs.Word.{records_of}
 use Rattle.pfx_book.specs.Notes.{records_in}
 use Rattle.pfx_front.specs.Keeping.{InStep, Behind}
+use Rattle.pfx_book.specs.declared.note.Note.TheVariants.{Took}
+use Rattle.pfx_front.specs.Lasting.{AreNoted}
 use Rattle.pfx_front.specs.Showing.{AreShown, IsShown}
+use Rattle.pfx_front.proofs.Lasting.{still_noted}
 use Rattle.pfx_front.proofs.Steps.{step_behind, step_shown, took_shown}
 use Rattle.pfx_front.proofs.flusher.flush.Goals.{in-Tend, in-Append+in-Some-commit}
 use Rattle.pfx_front.proofs.flusher.flush.Goals as goal
@@ -28,6 +31,9 @@ next_work-requires-clause-rested g c = c.loop.invariant.0.rested
 pub commit-requires-clause-shown : goal.commit-requires-clause-shown
 commit-requires-clause-shown g c =
     took_shown c.loop.share c.next_work.new.share c.loop.publisher.batches c.in-Append.batch c.in-Append.ensures.0 c.loop.invariant.1
+
+pub commit-requires-clause-noted : goal.commit-requires-clause-noted
+commit-requires-clause-noted g c = still_noted c.loop.marking c.loop.share c.next_work.new.share (Took c.in-Append.batch.first c.in-Append.batch.records) c.in-Append.ensures.0 c.loop.invariant.5
 
 pub tend-requires : goal.tend-requires
 tend-requires g c =
@@ -69,4 +75,16 @@ loop-preserved g c =
       | in-Tend w ↦ subst (λ v. (v.items ≡ []) × (16 ≤ vec_capacity v)) (sym w.room-is) (w.in-Tend.ensures.1, w.in-Tend.ensures.2)
       | in-Append+in-Some-commit w ↦ subst (λ v. (v.items ≡ []) × (16 ≤ vec_capacity v)) (sym w.room-is) w.in-Some-commit.ensures.room
     ] in
-    (c.if-not-tend.ensures.step refl, shown ∙ sym c.tend.ensures.notes, c.loop.invariant.2, room.0, room.1)
+    let noted : AreNoted c.match-next_work.marking c.match-next_work.share = elim c.match-next_work.branch [
+      | in-Tend w ↦
+          subst (λ m. AreNoted m c.match-next_work.share) (sym w.marking-is) (subst (AreNoted c.loop.marking) (sym (w.share-is ∙ w.in-Tend.ensures.0)) c.loop.invariant.5)
+      | in-Append+in-Some-commit w ↦
+          subst (λ m. AreNoted m c.match-next_work.share) (sym w.marking-is) (subst (AreNoted w.commit.new.marking) (sym w.share-is) w.in-Some-commit.ensures.noted)
+    ] in (
+      c.if-not-tend.ensures.step refl,
+      shown ∙ sym c.tend.ensures.notes,
+      c.loop.invariant.2,
+      room.0,
+      room.1,
+      subst (AreNoted c.match-next_work.marking) (sym (c.if-not-tend.ensures.kept refl)) noted,
+    )

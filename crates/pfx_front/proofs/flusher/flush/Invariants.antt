@@ -1,6 +1,7 @@
 use Rattle.std.proofs.Common.{◌≡◌, ◌≤◌, []}
 use Rattle.std.specs.Prelude.{vec_capacity}
 use Rattle.pfx_front.specs.Keeping.{InStep}
+use Rattle.pfx_front.specs.Lasting.{AreNoted}
 use Rattle.pfx_front.specs.Showing.{AreShown}
 use Rattle.pfx_front.proofs.flusher.flush.Given as goal
 
@@ -8,4 +9,4 @@ abbrev pub invariant-loop : goal.invariant-loop
 invariant-loop g l =
     InStep g.J.Job.kind g.B.Named.start g.B.Charted.failures g.B.Charted.clock l.share l.store.file.broken l.store.state (g.D.Disk.view l.store.file.disk)
     × AreShown l.share l.publisher.batches × (g.B.Begun.origin ≡ g.B.Named.start)
-    × (l.room.items ≡ []) × (16 ≤ vec_capacity l.room)
+    × (l.room.items ≡ []) × (16 ≤ vec_capacity l.room) × AreNoted l.marking l.share

@@ -1,7 +1,7 @@
-use Rattle.std.proofs.Common.{sym, ap, ◌∙◌}
+use Rattle.std.proofs.Common.{sym, ap, ◌∙◌, subst}
 use Rattle.pfx_board.specs.Publisher.{Published}
 use Rattle.pfx_board.specs.Word.{records_of}
-use Rattle.pfx_book.specs.Notes.{records_in}
+use Rattle.pfx_book.specs.Notes.{Noted, records_in}
 use Rattle.pfx_front.proofs.Steps.{begins_in_step}
 use Rattle.pfx_front.proofs.start.manned.Goals as goal
 
@@ -13,4 +13,5 @@ invariant_of-owned g c = (
   c.requires.named.2,
   c.in-Ok-furnish.ensures.room.0,
   c.in-Ok-furnish.ensures.room.1,
+  λ mark is. absurd (subst (Noted mark) c.new-marking.ensures is),
 )

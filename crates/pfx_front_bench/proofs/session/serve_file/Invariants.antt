@@ -22,3 +22,6 @@ ghosts-serve-B-Charted g a = record {
   image = (file_view a.store.file.disk).contents;
   held = IsHonest (file_view a.store.file.disk);
 }
+
+abbrev pub ghosts-serve-B-Since : goal.ghosts-serve-B-Since
+ghosts-serve-B-Since g a = record { marks = a.names.marks.seen.book }

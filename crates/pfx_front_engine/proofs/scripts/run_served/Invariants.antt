@@ -20,3 +20,6 @@ ghosts-serve-B-Charted g a = record {
   image = g.N.Charted.image;
   held = g.N.Charted.held;
 }
+
+abbrev pub ghosts-serve-B-Since : goal.ghosts-serve-B-Since
+ghosts-serve-B-Since g a = record { marks = a.names.marks.seen.book }

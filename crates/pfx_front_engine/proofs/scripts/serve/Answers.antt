@@ -24,7 +24,7 @@ returns-in-Ok-close g c =
     let only : closed.given.passes.items ≡ pass ∷ [] = one_pass pass closed.given.passes.items (subst (λ (l : List (ℕ × List (Note AnyJob))). IsPermutation l closed.given.passes.items) given c.in-Ok-close.ensures.passes) in
     let session : IsSession any_kind B closed.book (pass ∷ []) = subst (λ (l : List (ℕ × List (Note AnyJob))). IsSession any_kind B closed.book l) only c.in-Ok-close.ensures.session in
     served c.args.form B closed.book (g.D.Disk.view closed.store.file.disk) _ pass.1 (session_alone any_kind B closed.book pass.0 pass.1 session) session.commands
-    {E = FrontEngine g.row.B.Denot g.row.K.Denot g.row.R.Denot g.row.K-Seat.Denot g.B.Named g.B.Room g.B.Begun g.B.Naming g.B.Charted} (λ e. e.client) (max c.args.window c.args.group) _ c.run_script-result.new.engine c.new-client.ensures (sym c.into_pass.ensures) c.in-Ok-close.ensures.images c.args.script.now
+    {E = FrontEngine g.row.B.Denot g.row.K.Denot g.row.R.Denot g.row.K-Seat.Denot g.B.Since g.B.Named g.B.Room g.B.Begun g.B.Naming g.B.Charted} (λ e. e.client) (max c.args.window c.args.group) _ c.run_script-result.new.engine c.new-client.ensures (sym c.into_pass.ensures) c.in-Ok-close.ensures.images c.args.script.now
     c.run_script-result.new.script.failed (g.W.Write.contents c.args.output.now) (g.W.Write.contents c.run_script-result.new.output) c.run_script-result.result c.run_script-result.ensures
 
 pub returns-after-pass : goal.returns-after-pass

@@ -3,7 +3,8 @@ use Rattle.std.proofs.Math.Logic.{∥∥₁_map}
 use Rattle.pfx_board.specs.Word.{records_of}
 use Rattle.pfx_redo.specs.Applying.{applied}
 use Rattle.pfx_redo.proofs.States.{applied_behind}
-use Rattle.pfx_front.specs.Lasting.{Recovers, HasNumber}
+use Rattle.pfx_board.specs.Lasting.{Recovers}
+use Rattle.pfx_front.specs.Lasting.{HasNumber}
 use Rattle.pfx_front.proofs.durable.Acknowledged.new.Goals as goal
 
 pub invariant_of-result-clause-durable : goal.invariant_of-result-clause-durable
@@ -19,3 +20,6 @@ invariant_of-result-clause-durable g c held image left =
       recovers = record { state = r.state; recovered = r.recovered; leads = leads };
       number = omega (arith, reaches, behind);
     })
+
+pub invariant_of-result-clause-given : goal.invariant_of-result-clause-given
+invariant_of-result-clause-given g c = c.args.durable.last_is c.in-Some.mark c.in-Some.is
