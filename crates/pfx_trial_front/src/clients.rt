@@ -1,16 +1,15 @@
 //! Two clients in threads of their own, and two workers: what was answered is in the store.
 
-use crate::fronts::{Served, end, is_kept};
-use crate::sessions::{Session, in_memory};
-use crate::stores::{is_settled, submit};
+use crate::answers::{is_accepted, is_settled};
+use crate::fronts::{Ended, is_kept};
+use crate::service::{Ask, Service};
+use crate::sessions::{Session, Visit, in_memory};
 use pfx_book::book::Pass;
 use pfx_crew::desk::Desk;
-use pfx_disk::Disk;
 use pfx_front::calls::Front;
 use pfx_front::name::Since;
 use pfx_jobs::quantum::{Done, Quantum};
 use pfx_kinds::any::AnyJob;
-use pfx_machine::Command;
 use std::alloc::Global;
 use std::sync::Wait;
 use std::thread;
@@ -20,50 +19,47 @@ use std::thread::Threads;
 const SLOTS: u32 = 40;
 
 /// Gives a task a job and runs slots, with a receipt after each. Whether all were answered.
-fn client<B: Since<AnyJob>, K: Desk<Quantum<AnyJob>, Done<AnyJob>> + Drop, R: Wait>(
+fn client<F: Service, R: Wait>(
     rt: &R,
-    front: &Front<AnyJob, B, K>,
-    pass: Pass<AnyJob, B>,
+    alloc: Global,
+    front: &F,
+    pass: F::Pass,
     task: u16,
-) -> (Pass<AnyJob, B>, bool)
-where
-    K::Seat: Drop,
-{
+) -> (F::Pass, bool) {
     let mut pass = pass;
-    let Some(command) = submit(task) else {
-        return (pass, false);
-    };
-    let mut answered = front.call(rt, &mut pass, command).is_ok();
+    let mut answered = is_accepted(&front.ask(rt, alloc, &mut pass, Ask::Submit { task }));
     for _slot in 0..SLOTS {
-        answered = front.call(rt, &mut pass, Command::Slot).is_ok() && answered;
+        answered = is_accepted(&front.ask(rt, alloc, &mut pass, Ask::Slot)) && answered;
         answered = is_settled(rt, front, &mut pass) && answered;
     }
     (pass, answered)
 }
 
-/// Two clients at once. Whether both were answered, and all is in the store.
-pub fn are_served<
+/// Two clients at once. Whether both were answered.
+pub fn visit<
     B: Since<AnyJob> + Send + Sync,
     K: Desk<Quantum<AnyJob>, Done<AnyJob>> + Drop + Send + Sync,
-    D: Disk + Drop,
-    R: Threads + Wait + Drop + Sync,
->(rt: &R, alloc: Global, served: Served<B, D, K, R>) -> Option<bool>
+    R: Threads + Wait + Sync,
+>(rt: &R, alloc: Global, front: &Front<AnyJob, B, K>) -> Option<Visit<Pass<AnyJob, B>>>
 where
     K::Seat: Drop + Send,
 {
-    let one = served.0.pass(rt)?;
-    let other = served.0.pass(rt)?;
-    let shared = &served.0;
+    let one = front.admit(rt)?;
+    let other = front.admit(rt)?;
     let ((one, first), (other, second)) = thread::join(
         rt,
-        move || client(rt, shared, one, 0),
-        move || client(rt, shared, other, 1),
+        move || client(rt, alloc, front, one, 0),
+        move || client(rt, alloc, front, other, 1),
     );
     let mut passes = Vec::new(alloc);
     passes.push(other).ok()?;
     passes.push(one).ok()?;
-    let closed = end(rt, served, passes)?;
-    Some(first && second && is_kept(&closed, 2 + 2 * u64::from(SLOTS)))
+    Some((first && second, passes))
+}
+
+/// Whether all is in the store.
+pub fn has_ended(ended: &Ended) -> bool {
+    is_kept(ended, 2 + 2 * u64::from(SLOTS))
 }
 
 #[test]

@@ -1,4 +1,4 @@
-//! How the modules below start a front and end it.
+//! How sessions start a front and end it.
 ghost use Rattle.std.specs.Prelude.{◌≡◌};
 ghost use Rattle.pfx_kinds.specs.AnyKind.{any_kind};
 ghost use Rattle.pfx_front.specs.Starting.{Begins};
@@ -7,6 +7,7 @@ use pfx_board::reader::Reader;
 use pfx_book::book::Pass;
 use pfx_crew::desk::Desk;
 use pfx_disk::Disk;
+use pfx_fault::Cause;
 use pfx_front::calls::Front;
 use pfx_front::closing::{Closed, Given};
 use pfx_front::name::{Names, Since};
@@ -26,6 +27,23 @@ pub type Served<B, D, K, R> = (
     Vec<Reader<AnyJob, B>>,
 );
 
+/// What a front left.
+#[derive(Drop)]
+pub struct Ended {
+    /// The number of the store's last command.
+    pub number: u64,
+    /// Whether the store is broken.
+    pub broken: bool,
+    /// The number of the book's last mark.
+    pub marked: u64,
+    /// Why the flusher gave up.
+    pub failure: Option<Cause>,
+    /// Of each reader, whether it saw the last publication.
+    pub looked: Vec<bool>,
+    /// How many passes came back.
+    pub passes: usize,
+}
+
 /// Starts a front.
 pub fn begin<
     B: Since<AnyJob> + Send + Sync + 'static,
@@ -43,10 +61,29 @@ pub fn begin<
 where
     K::Seat: Drop + Send + 'static,
     requires named { (names.tokens.table.shared.table_id ≡ B.table) × (names.list.seen.book ≡ B.book) × (B.origin ≡ B.start) }
-    requires calls { names.calls.seen.book ≡ B.calls }
+    requires calls { (names.calls.seen.book ≡ B.calls) × (names.marks.seen.book ≡ B.marks) }
     requires begins { Begins any_kind B.start B.failures B.clock B.held B.image store (D.view store.file.disk) }
 {
     Front::<AnyJob, B, K>::start::<D, R>(rt, alloc, names, store, desk, workers, 1).ok()
+}
+
+/// What a closed front left, and its disk.
+pub fn left_by<B: Since<AnyJob>, D: Disk + Drop>(closed: Closed<AnyJob, B, D>) -> (Ended, D) {
+    let Closed {
+        store,
+        book,
+        given,
+        looked,
+    } = closed;
+    let left = Ended {
+        number: store.state().number(),
+        broken: store.is_broken(),
+        marked: book.marked(),
+        failure: book.failure(),
+        looked,
+        passes: given.passes.len(),
+    };
+    (left, store.into_disk())
 }
 
 /// Ends a front.
@@ -55,59 +92,29 @@ pub fn end<
     K: Desk<Quantum<AnyJob>, Done<AnyJob>> + Drop,
     D: Disk + Drop,
     R: Threads + Wait + Drop,
->(rt: &R, served: Served<B, D, K, R>, passes: Vec<Pass<AnyJob, B>>) -> Option<Closed<AnyJob, B, D>>
+>(rt: &R, served: Served<B, D, K, R>, passes: Vec<Pass<AnyJob, B>>) -> Option<Ended>
 where
     K::Seat: Drop,
 {
     let (front, crew, readers) = served;
-    front.close(rt, crew, Given { passes, readers }).ok()
-}
-
-/// Ends a front whose only pass is this one.
-pub fn end_alone<
-    B: Since<AnyJob>,
-    K: Desk<Quantum<AnyJob>, Done<AnyJob>> + Drop,
-    D: Disk + Drop,
-    R: Threads + Wait + Drop,
->(
-    rt: &R,
-    alloc: Global,
-    served: Served<B, D, K, R>,
-    pass: Pass<AnyJob, B>,
-) -> Option<Closed<AnyJob, B, D>>
-where
-    K::Seat: Drop,
-{
-    let mut passes = Vec::new(alloc);
-    passes.push(pass).ok()?;
-    end(rt, served, passes)
-}
-
-/// So many passes, or as many as there are.
-pub fn admit<B: Since<AnyJob>, K: Desk<Quantum<AnyJob>, Done<AnyJob>> + Drop, R: Wait>(
-    rt: &R,
-    alloc: Global,
-    front: &Front<AnyJob, B, K>,
-    clients: u64,
-) -> Option<Vec<Pass<AnyJob, B>>>
-where
-    K::Seat: Drop,
-{
-    let mut passes = Vec::new(alloc);
-    for _client in 0..clients {
-        match front.pass(rt) {
-            None => return Some(passes),
-            Some(pass) => passes.push(pass).ok()?,
-        }
+    match front.close(rt, crew, Given { passes, readers }) {
+        Ok(closed) => Some(left_by(closed).0),
+        Err(_) => None,
     }
-    Some(passes)
 }
 
 /// Whether the closed front ends at this number, and all of it is durable.
-pub fn is_kept<B: Since<AnyJob>, D: Disk + Drop>(
-    closed: &Closed<AnyJob, B, D>,
-    number: u64,
-) -> bool {
-    let settled = closed.book.failure().is_none() && closed.book.marked() == number;
-    settled && closed.store.state().number() == number && !closed.store.is_broken()
+pub fn is_kept(ended: &Ended, number: u64) -> bool {
+    let settled = ended.failure.is_none() && ended.marked == number;
+    settled && ended.number == number && !ended.broken
+}
+
+/// Whether so many readers looked, each of whom saw the last publication.
+pub fn have_looked(looked: &[bool], readers: usize) -> bool {
+    for did in looked {
+        if !*did {
+            return false;
+        }
+    }
+    looked.len() == readers
 }

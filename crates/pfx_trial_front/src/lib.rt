@@ -2,7 +2,8 @@
 //!
 //! | Module | Tests |
 //! |---|---|
-//! | `stores` | the stores that the modules below begin with, and what clients ask |
+//! | `stores` | the stores that the modules below begin with |
+//! | `service`, `answers` | a front as the sessions of its clients see it, and whether they are answered as they should be |
 //! | `served` | a client's calls by no worker, one and two, new weights, a receipt, a pass that is out, and the store opened again |
 //! | `fronts`, `sessions` | how the modules below start a front and end it; the session of each of them |
 //! | `passes` | all passes that there are |
@@ -15,6 +16,8 @@
 //! | `lost` | a device that fails: who is told, and what is left |
 #![tactic(auto)]
 
+#[cfg(test)]
+mod answers;
 #[cfg(test)]
 mod clients;
 #[cfg(test)]
@@ -35,6 +38,8 @@ mod passes;
 mod pieces;
 #[cfg(test)]
 mod served;
+#[cfg(test)]
+mod service;
 #[cfg(test)]
 mod sessions;
 #[cfg(test)]

@@ -1,17 +1,11 @@
 //! Two workers, one of whom is late: the front makes what is missing by itself, and drops the result that comes after it.
 
-use crate::fronts::{Served, end_alone, is_kept};
+use crate::answers::{is_accepted, is_first_slot, is_number, is_settled};
+use crate::fronts::{Ended, is_kept};
 use crate::late::LateDesk;
-use crate::sessions::{Session, is_right};
-use crate::stores::{SEGMENT, desk, is_first_slot, is_number, is_settled, memory, submit};
-use pfx_book::book::Pass;
-use pfx_crew::desk::Desk;
-use pfx_disk::Disk;
-use pfx_front::calls::Front;
-use pfx_front::name::Since;
-use pfx_jobs::quantum::{Done, Quantum};
-use pfx_kinds::any::AnyJob;
-use pfx_machine::Command;
+use crate::service::{Ask, Service};
+use crate::sessions::{Session, Visit, alone, is_right};
+use crate::stores::{SEGMENT, desk, memory};
 use std::alloc::Global;
 use std::sync::Wait;
 use std::thread::Threads;
@@ -21,39 +15,33 @@ use std::time::Clock;
 const LAST: u64 = 6;
 
 /// Whether two jobs are taken, and a slot that both have is answered with a receipt, and slots after it.
-fn slots_are_answered<B: Since<AnyJob>, K: Desk<Quantum<AnyJob>, Done<AnyJob>> + Drop, R: Wait>(
+fn slots_are_answered<F: Service, R: Wait>(
     rt: &R,
-    front: &Front<AnyJob, B, K>,
-    pass: &mut Pass<AnyJob, B>,
-) -> Option<bool>
-where
-    K::Seat: Drop,
-{
-    let given = front.call(rt, pass, submit(0)?).is_ok();
-    let both = front.call(rt, pass, submit(1)?).is_ok();
-    let slot = front.call(rt, pass, Command::Slot);
+    alloc: Global,
+    front: &F,
+    pass: &mut F::Pass,
+) -> bool {
+    let given = is_accepted(&front.ask(rt, alloc, pass, Ask::Submit { task: 0 }));
+    let both = is_accepted(&front.ask(rt, alloc, pass, Ask::Submit { task: 1 }));
+    let slot = front.ask(rt, alloc, pass, Ask::Slot);
     let mut answered = given && both && is_first_slot(&slot) && is_settled(rt, front, pass);
     for number in 4..LAST + 1 {
-        let slot = front.call(rt, pass, Command::Slot);
+        let slot = front.ask(rt, alloc, pass, Ask::Slot);
         answered = is_number(&slot, number) && is_settled(rt, front, pass) && answered;
     }
-    Some(answered)
+    answered
 }
 
-/// Whether all slots are answered and kept.
-pub fn are_answered<
-    B: Since<AnyJob>,
-    K: Desk<Quantum<AnyJob>, Done<AnyJob>> + Drop,
-    D: Disk + Drop,
-    R: Threads + Wait + Drop,
->(rt: &R, alloc: Global, served: Served<B, D, K, R>) -> Option<bool>
-where
-    K::Seat: Drop,
-{
-    let mut pass = served.0.pass(rt)?;
-    let answered = slots_are_answered(rt, &served.0, &mut pass)?;
-    let closed = end_alone(rt, alloc, served, pass)?;
-    Some(answered && is_kept(&closed, LAST))
+/// Whether all slots are answered.
+pub fn visit<F: Service, R: Wait>(rt: &R, alloc: Global, front: &F) -> Option<Visit<F::Pass>> {
+    let mut pass = front.admit(rt)?;
+    let answered = slots_are_answered(rt, alloc, front, &mut pass);
+    alone(alloc, answered, pass)
+}
+
+/// Whether all is in the store.
+pub fn has_ended(ended: &Ended) -> bool {
+    is_kept(ended, LAST)
 }
 
 /// Whether slots are answered though a result is late, and the desk had held it until the next slot.

@@ -1,40 +1,29 @@
 //! All passes that there are.
 
-use crate::fronts::{Served, admit, end, is_kept};
-use crate::sessions::{Session, in_memory};
-use crate::stores::is_settled;
-use pfx_crew::desk::Desk;
-use pfx_disk::Disk;
-use pfx_front::name::Since;
-use pfx_jobs::quantum::{Done, Quantum};
-use pfx_kinds::any::AnyJob;
-use pfx_machine::Command;
+use crate::answers::{admit, is_accepted, is_settled};
+use crate::fronts::{Ended, is_kept};
+use crate::service::{Ask, Service};
+use crate::sessions::{Session, Visit, in_memory};
 use std::alloc::Global;
 use std::sync::Wait;
-use std::thread::Threads;
 
 /// How many passes a front gives.
 const MOST: usize = 64;
 
 /// Whether there are 64 passes, by the last of which a slot is run, and no more.
-pub fn are_few<
-    B: Since<AnyJob>,
-    K: Desk<Quantum<AnyJob>, Done<AnyJob>> + Drop,
-    D: Disk + Drop,
-    R: Threads + Wait + Drop,
->(rt: &R, alloc: Global, served: Served<B, D, K, R>) -> Option<bool>
-where
-    K::Seat: Drop,
-{
-    let front = &served.0;
+pub fn visit<F: Service, R: Wait>(rt: &R, alloc: Global, front: &F) -> Option<Visit<F::Pass>> {
     let mut passes = admit(rt, alloc, front, 100)?;
-    let all = passes.len() == MOST && front.pass(rt).is_none();
+    let all = passes.len() == MOST && front.admit(rt).is_none();
     let mut last = passes.pop()?;
-    let called = front.call(rt, &mut last, Command::Slot).is_ok();
+    let called = is_accepted(&front.ask(rt, alloc, &mut last, Ask::Slot));
     let settled = is_settled(rt, front, &mut last);
     passes.push(last).ok()?;
-    let closed = end(rt, served, passes)?;
-    Some(all && called && settled && is_kept(&closed, 1) && closed.given.passes.len() == MOST)
+    Some((all && called && settled, passes))
+}
+
+/// Whether all is in the store, and all passes come back.
+pub fn has_ended(ended: &Ended) -> bool {
+    is_kept(ended, 1) && ended.passes == MOST
 }
 
 #[test]

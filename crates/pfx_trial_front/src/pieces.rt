@@ -1,18 +1,12 @@
 //! A checkpoint whose first piece is held, or fails: calls are answered meanwhile, and what was marked before stays so.
 
-use crate::fronts::{Served, end_alone, is_kept};
-use crate::sessions::{Session, is_right};
-use crate::stores::{desk, is_number, is_settled, memory};
-use pfx_book::book::Pass;
-use pfx_crew::desk::Desk;
-use pfx_disk::{Disk, FaultDisk, Gate, GateDisk};
+use crate::answers::{is_accepted, is_number, is_settled};
+use crate::fronts::{Ended, is_kept};
+use crate::service::{Ask, Service};
+use crate::sessions::{Session, Visit, alone, is_right};
+use crate::stores::{desk, memory};
+use pfx_disk::{FaultDisk, Gate, GateDisk};
 use pfx_fault::Cause;
-use pfx_front::calls::Front;
-use pfx_front::closing::Closed;
-use pfx_front::name::Since;
-use pfx_jobs::quantum::{Done, Quantum};
-use pfx_kinds::any::AnyJob;
-use pfx_machine::Command;
 use std::alloc::Global;
 use std::sync::Wait;
 use std::thread::Threads;
@@ -28,74 +22,57 @@ const TURNING: u64 = 192;
 const FIRST_PIECE: u64 = 9 + 4 * TURNING + 6;
 
 /// Whether slots are answered up to the one with which the file turns, each with its receipt.
-fn is_turned<B: Since<AnyJob>, K: Desk<Quantum<AnyJob>, Done<AnyJob>> + Drop, R: Wait>(
-    rt: &R,
-    front: &Front<AnyJob, B, K>,
-    pass: &mut Pass<AnyJob, B>,
-) -> bool
-where
-    K::Seat: Drop,
-{
+fn is_turned<F: Service, R: Wait>(rt: &R, alloc: Global, front: &F, pass: &mut F::Pass) -> bool {
     let mut settled = true;
     for _slot in 0..TURNING {
-        settled = front.call(rt, pass, Command::Slot).is_ok() && settled;
+        settled = is_accepted(&front.ask(rt, alloc, pass, Ask::Slot)) && settled;
         settled = is_settled(rt, front, pass) && settled;
     }
     settled
 }
 
 /// Whether the next slot is answered while the piece is held, and settled once it is released.
-fn is_answered<B: Since<AnyJob>, K: Desk<Quantum<AnyJob>, Done<AnyJob>> + Drop, R: Wait>(
+fn is_answered<F: Service, R: Wait>(
     rt: &R,
-    front: &Front<AnyJob, B, K>,
-    pass: &mut Pass<AnyJob, B>,
-    gate: Gate,
-) -> bool
-where
-    K::Seat: Drop,
-{
-    let slot = front.call(rt, pass, Command::Slot);
+    alloc: Global,
+    front: &F,
+    pass: &mut F::Pass,
+    gate: &Gate,
+) -> bool {
+    let slot = front.ask(rt, alloc, pass, Ask::Slot);
     gate.release();
     is_number(&slot, TURNING + 1) && is_settled(rt, front, pass)
 }
 
+/// Whether a slot more is answered while the first piece of a checkpoint is held.
+pub fn visit_held<F: Service, R: Wait>(
+    rt: &R,
+    alloc: Global,
+    front: &F,
+    gate: &Gate,
+) -> Option<Visit<F::Pass>> {
+    let mut pass = front.admit(rt)?;
+    let turned = is_turned(rt, alloc, front, &mut pass);
+    let answered = is_answered(rt, alloc, front, &mut pass, gate);
+    alone(alloc, turned && answered, pass)
+}
+
+/// Whether all slots are kept.
+pub fn has_ended(ended: &Ended) -> bool {
+    is_kept(ended, TURNING + 1)
+}
+
+/// Whether slots are answered up to the turn, behind which the device fails.
+pub fn visit_lost<F: Service, R: Wait>(rt: &R, alloc: Global, front: &F) -> Option<Visit<F::Pass>> {
+    let mut pass = front.admit(rt)?;
+    let turned = is_turned(rt, alloc, front, &mut pass);
+    alone(alloc, turned, pass)
+}
+
 /// Whether the front is closed because its device failed, with all slots up to the turn durable and nothing more.
-fn is_failed<B: Since<AnyJob>, D: Disk + Drop>(closed: &Closed<AnyJob, B, D>) -> bool {
-    let failed = closed.book.failure() == Some(Cause::Device) && closed.store.is_broken();
-    failed && closed.book.marked() == TURNING && closed.store.state().number() == TURNING
-}
-
-/// Whether a slot more is answered while the first piece of a checkpoint is held, and all of them are kept.
-pub fn is_held<
-    B: Since<AnyJob>,
-    K: Desk<Quantum<AnyJob>, Done<AnyJob>> + Drop,
-    D: Disk + Drop,
-    R: Threads + Wait + Drop,
->(rt: &R, alloc: Global, served: Served<B, D, K, R>, gate: Gate) -> Option<bool>
-where
-    K::Seat: Drop,
-{
-    let mut pass = served.0.pass(rt)?;
-    let turned = is_turned(rt, &served.0, &mut pass);
-    let answered = is_answered(rt, &served.0, &mut pass, gate);
-    let closed = end_alone(rt, alloc, served, pass)?;
-    Some(turned && answered && is_kept(&closed, TURNING + 1))
-}
-
-/// Whether the device fails at the first piece of a checkpoint, behind all slots up to the turn.
-pub fn is_left<
-    B: Since<AnyJob>,
-    K: Desk<Quantum<AnyJob>, Done<AnyJob>> + Drop,
-    D: Disk + Drop,
-    R: Threads + Wait + Drop,
->(rt: &R, alloc: Global, served: Served<B, D, K, R>) -> Option<bool>
-where
-    K::Seat: Drop,
-{
-    let mut pass = served.0.pass(rt)?;
-    let turned = is_turned(rt, &served.0, &mut pass);
-    let closed = end_alone(rt, alloc, served, pass)?;
-    Some(turned && is_failed(&closed))
+pub fn has_failed(ended: &Ended) -> bool {
+    let failed = ended.failure == Some(Cause::Device) && ended.broken;
+    failed && ended.marked == TURNING && ended.number == TURNING
 }
 
 /// Whether a slot is answered while a checkpoint's piece is held.

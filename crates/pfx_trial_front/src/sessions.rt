@@ -3,11 +3,15 @@ ghost use Rattle.std.specs.Prelude.{◌≡◌};
 ghost use Rattle.pfx_kinds.specs.AnyKind.{any_kind};
 ghost use Rattle.pfx_front.specs.Starting.{Begins, BeginsHonest};
 
-use crate::fronts::begin;
+use crate::fronts::{Ended, Served, begin, end};
+use crate::service::Service;
 use crate::stores::{SEGMENT, desk, memory, thirds_by};
 use crate::{clients, held, lost, many, missed, passes, pieces, served, sole};
+use pfx_board::reader::Reader;
+use pfx_book::book::Pass;
 use pfx_crew::desk::Desk;
 use pfx_disk::{Disk, Gate};
+use pfx_front::calls::Front;
 use pfx_front::name::{Names, Since};
 use pfx_jobs::quantum::{Done, Quantum};
 use pfx_kinds::any::AnyJob;
@@ -43,6 +47,16 @@ pub enum Session {
     LostPiece,
 }
 
+/// Whether all was answered as it should be, and the clients' passes.
+pub type Visit<P> = (bool, Vec<P>);
+
+/// The visit of one client.
+pub fn alone<P: Drop>(alloc: Global, answered: bool, pass: P) -> Option<Visit<P>> {
+    let mut passes = Vec::new(alloc);
+    passes.push(pass).ok()?;
+    Some((answered, passes))
+}
+
 /// How many workers there are.
 fn workers_of(session: &Session) -> u32 {
     match session {
@@ -51,6 +65,87 @@ fn workers_of(session: &Session) -> u32 {
         Session::Many | Session::Missed | Session::Clients => 2,
         _ => 0,
     }
+}
+
+/// What the clients of a session in one thread come to.
+fn visit_alone<F: Service, R: Wait>(
+    rt: &R,
+    alloc: Global,
+    front: &F,
+    reader: &mut F::Reader,
+    session: &Session,
+) -> Option<Visit<F::Pass>> {
+    match session {
+        Session::Served { .. } => served::visit(rt, alloc, front, reader),
+        Session::Passes => passes::visit(rt, alloc, front),
+        Session::Sole => sole::visit(rt, alloc, front),
+        Session::Missed => missed::visit(rt, alloc, front),
+        Session::Held { gate } => held::visit(rt, alloc, front, reader, gate),
+        Session::Lost => lost::visit(rt, alloc, front),
+        Session::HeldPiece { gate } => pieces::visit_held(rt, alloc, front, gate),
+        Session::LostPiece => pieces::visit_lost(rt, alloc, front),
+        Session::Many | Session::Clients => None,
+    }
+}
+
+/// What the clients of a session come to. Sessions with threads have to know the front that they share.
+fn visit<
+    B: Since<AnyJob> + Send + Sync,
+    K: Desk<Quantum<AnyJob>, Done<AnyJob>> + Drop + Send + Sync,
+    R: Threads + Wait + Sync,
+>(
+    rt: &R,
+    alloc: Global,
+    front: &Front<AnyJob, B, K>,
+    reader: &mut Reader<AnyJob, B>,
+    session: &Session,
+) -> Option<Visit<Pass<AnyJob, B>>>
+where
+    K::Seat: Drop + Send,
+{
+    match session {
+        Session::Many => many::visit(rt, alloc, front),
+        Session::Clients => clients::visit(rt, alloc, front),
+        _ => visit_alone(rt, alloc, front, reader, session),
+    }
+}
+
+/// Whether the front that a session was at left what it should.
+fn has_ended(session: &Session, ended: &Ended) -> bool {
+    match session {
+        Session::Served { .. } => served::has_ended(ended),
+        Session::Passes => passes::has_ended(ended),
+        Session::Sole => sole::has_ended(ended),
+        Session::Many => many::has_ended(ended),
+        Session::Missed => missed::has_ended(ended),
+        Session::Clients => clients::has_ended(ended),
+        Session::Held { .. } => held::has_ended(ended),
+        Session::Lost => lost::has_ended(ended),
+        Session::HeldPiece { .. } => pieces::has_ended(ended),
+        Session::LostPiece => pieces::has_failed(ended),
+    }
+}
+
+/// Whether the front of a session ends as it should.
+fn ends<
+    B: Since<AnyJob>,
+    K: Desk<Quantum<AnyJob>, Done<AnyJob>> + Drop,
+    D: Disk + Drop,
+    R: Threads + Wait + Drop,
+>(
+    rt: &R,
+    alloc: Global,
+    served: Served<B, D, K, R>,
+    passes: Vec<Pass<AnyJob, B>>,
+    session: &Session,
+) -> Option<bool>
+where
+    K::Seat: Drop,
+{
+    if matches!(session, Session::Served { .. }) {
+        return served::is_ended(rt, alloc, served, passes);
+    }
+    Some(has_ended(session, &end(rt, served, passes)?))
 }
 
 /// Whether all is as it should be in a session at a front of this store.
@@ -70,23 +165,14 @@ fn serve<
 where
     K::Seat: Drop + Send + 'static,
     requires named { (names.tokens.table.shared.table_id ≡ B.table) × (names.list.seen.book ≡ B.book) × (B.origin ≡ B.start) }
-    requires calls { names.calls.seen.book ≡ B.calls }
+    requires calls { (names.calls.seen.book ≡ B.calls) × (names.marks.seen.book ≡ B.marks) }
     requires begins { Begins any_kind B.start B.failures B.clock B.held B.image store (D.view store.file.disk) }
 {
     let workers = workers_of(&session);
-    let served = begin::<B, K, D, R>(rt, alloc, names, store, desk, workers)?;
-    match session {
-        Session::Served { .. } => served::is_served(&rt, alloc, served),
-        Session::Passes => passes::are_few(&rt, alloc, served),
-        Session::Sole => sole::is_served(&rt, alloc, served),
-        Session::Many => many::are_served(&rt, alloc, served),
-        Session::Missed => missed::are_answered(&rt, alloc, served),
-        Session::Clients => clients::are_served(&rt, alloc, served),
-        Session::Held { gate } => held::is_answered(&rt, alloc, served, gate),
-        Session::Lost => lost::is_lost(&rt, alloc, served),
-        Session::HeldPiece { gate } => pieces::is_held(&rt, alloc, served, gate),
-        Session::LostPiece => pieces::is_left(&rt, alloc, served),
-    }
+    let mut served = begin::<B, K, D, R>(rt, alloc, names, store, desk, workers)?;
+    let reader = served.2.get_mut(0)?;
+    let (answered, passes) = visit(&rt, alloc, &served.0, reader, &session)?;
+    Some(answered && ends(&rt, alloc, served, passes, &session)?)
 }
 
 /// The same by a name of its own.

@@ -21,3 +21,6 @@ ghosts-serve-B-Charted g a = record {
   image = (g.D.Disk.view a.store.file.disk).contents;
   held = IsHonest (g.D.Disk.view a.store.file.disk);
 }
+
+abbrev pub ghosts-serve-B-Since : goal.ghosts-serve-B-Since
+ghosts-serve-B-Since g a = record { marks = a.names.marks.seen.book }

@@ -1,0 +1,209 @@
+//! A front as the sessions of clients see it. They know no more of it, so that each is proved over any front.
+
+use crate::stores::submit;
+use pfx_board::reader::Reader;
+use pfx_book::book::Pass;
+use pfx_book::note::Loss;
+use pfx_crew::desk::Desk;
+use pfx_front::calls::Front;
+use pfx_front::durable::Acknowledged;
+use pfx_front::faults::CallFault;
+use pfx_front::name::Since;
+use pfx_jobs::job::Job;
+use pfx_jobs::quantum::{Done, Quantum};
+use pfx_kinds::any::AnyJob;
+use pfx_machine::{Board, Command, JobStatus, Reply, State};
+use pfx_weights::Weights;
+use std::alloc::Global;
+use std::sync::Wait;
+
+/// What a client asks.
+#[derive(Clone, Copy)]
+pub enum Ask {
+    /// A count of five steps for a task.
+    Submit { task: u16 },
+    /// A task's job back.
+    Withdraw { task: u16 },
+    /// A slot.
+    Slot,
+    /// One worker, and for each of three tasks the weight 1/3.
+    Thirds,
+}
+
+/// What a client is answered. `None` if there was no memory to ask.
+pub type Answer = Option<Result<(u64, Reply), CallFault>>;
+
+/// What a client knows of a state: the number of its last command, and how many steps the jobs of the first three tasks have left.
+pub type Copied = (u64, [Option<u32>; 3]);
+
+/// A front.
+pub trait Service {
+    /// A client's pass.
+    type Pass: Drop;
+
+    /// A reader of the board.
+    type Reader: Drop;
+
+    /// A pass for one more client.
+    fn admit<R: Wait>(&self, rt: &R) -> Option<Self::Pass>;
+
+    /// Asks.
+    fn ask<R: Wait>(&self, rt: &R, alloc: Global, pass: &mut Self::Pass, ask: Ask) -> Answer;
+
+    /// Waits for the receipt of what was accepted last: whether it has that number, and came at a moment that its clock had
+    /// reached. `None` if nothing was accepted.
+    fn settle<R: Wait>(&self, rt: &R, pass: &mut Self::Pass) -> Option<Result<bool, CallFault>>;
+
+    /// Waits for the same receipt, tells a reader of it, and gives its number.
+    fn tell<R: Wait>(
+        &self,
+        rt: &R,
+        pass: &mut Self::Pass,
+        reader: &mut Self::Reader,
+    ) -> Option<u64>;
+
+    /// The number of the board that a reader is shown, and at how many tasks a job is open there.
+    fn shown(&self, alloc: Global, reader: &mut Self::Reader) -> Option<(u64, u32)>;
+
+    /// What the client was told of the flusher's end.
+    fn lost(&self, pass: &Self::Pass) -> Option<Loss>;
+
+    /// Whether the client is the only one.
+    fn is_alone<R: Wait>(&self, rt: &R, pass: &mut Self::Pass) -> bool;
+
+    /// What the client knows of its state: `Some(None)` if there are other clients, `None` if an allocation failed.
+    fn copied<R: Wait>(&self, rt: &R, pass: &mut Self::Pass) -> Option<Option<Copied>>;
+
+    /// The number of its own board, and at how many tasks a job is open there; `Some(None)` and `None` as for the state.
+    fn boarded<R: Wait>(&self, rt: &R, pass: &mut Self::Pass) -> Option<Option<(u64, u32)>>;
+}
+
+/// One worker, and for each of three tasks the weight 1/3.
+fn thirds(alloc: Global) -> Option<Command<AnyJob>> {
+    let mut items = Vec::new(alloc);
+    for _weight in 0..3 {
+        items.push((1, 3)).ok()?;
+    }
+    let weights = Weights::new(items);
+    Some(Command::Reweigh {
+        workers: 1,
+        weights,
+    })
+}
+
+/// The command that is asked.
+fn command_of(alloc: Global, ask: Ask) -> Option<Command<AnyJob>> {
+    match ask {
+        Ask::Submit { task } => submit(task),
+        Ask::Withdraw { task } => Some(Command::Withdraw { task }),
+        Ask::Slot => Some(Command::Slot),
+        Ask::Thirds => thirds(alloc),
+    }
+}
+
+/// At how many tasks of a board a job is open.
+fn open_jobs(board: &Board) -> u32 {
+    let mut open = 0u32;
+    for line in &board.lines {
+        if matches!(line.job, JobStatus::Open) {
+            open = open.saturating_add(1);
+        }
+    }
+    open
+}
+
+/// How many steps a task's job has left. `None` if the task has no job.
+fn left(state: &State<AnyJob>, task: usize) -> Option<u32> {
+    Some(state.jobs().get(task)?.as_ref()?.left())
+}
+
+/// Waits for the receipt of what was accepted last. `None` if nothing was.
+fn settle_last<B: Since<AnyJob>, K: Desk<Quantum<AnyJob>, Done<AnyJob>> + Drop, R: Wait>(
+    rt: &R,
+    front: &Front<AnyJob, B, K>,
+    pass: &mut Pass<AnyJob, B>,
+) -> Option<Result<Acknowledged<AnyJob, B>, CallFault>>
+where
+    K::Seat: Drop,
+{
+    let number = pass.greatest();
+    if number == 0 {
+        return None;
+    }
+    Some(front.settled(rt, pass, number))
+}
+
+/// Whether the receipt has this number, and came at a moment that its clock had reached.
+fn is_reached<B: Since<AnyJob>>(acknowledged: &Acknowledged<AnyJob, B>, number: u64) -> bool {
+    let receipt = &acknowledged.receipt;
+    receipt.number == number && receipt.clock > 0 && acknowledged.moment.reaches(receipt.clock)
+}
+
+impl<B: Since<AnyJob>, K: Desk<Quantum<AnyJob>, Done<AnyJob>> + Drop> Service
+    for Front<AnyJob, B, K>
+where
+    K::Seat: Drop,
+{
+    type Pass = Pass<AnyJob, B>;
+
+    type Reader = Reader<AnyJob, B>;
+
+    fn admit<R: Wait>(&self, rt: &R) -> Option<Pass<AnyJob, B>> {
+        self.pass(rt)
+    }
+
+    fn ask<R: Wait>(&self, rt: &R, alloc: Global, pass: &mut Pass<AnyJob, B>, ask: Ask) -> Answer {
+        let command = command_of(alloc, ask)?;
+        Some(self.call(rt, pass, command))
+    }
+
+    fn settle<R: Wait>(
+        &self,
+        rt: &R,
+        pass: &mut Pass<AnyJob, B>,
+    ) -> Option<Result<bool, CallFault>> {
+        match settle_last(rt, self, pass)? {
+            Ok(acknowledged) => Some(Ok(is_reached(&acknowledged, pass.greatest()))),
+            Err(fault) => Some(Err(fault)),
+        }
+    }
+
+    fn tell<R: Wait>(
+        &self,
+        rt: &R,
+        pass: &mut Pass<AnyJob, B>,
+        reader: &mut Reader<AnyJob, B>,
+    ) -> Option<u64> {
+        let acknowledged = settle_last(rt, self, pass)?.ok()?;
+        reader.told(&acknowledged.receipt);
+        Some(acknowledged.receipt.number)
+    }
+
+    fn shown(&self, alloc: Global, reader: &mut Reader<AnyJob, B>) -> Option<(u64, u32)> {
+        let board = reader.status(alloc).ok()?;
+        Some((board.number, open_jobs(&board)))
+    }
+
+    fn lost(&self, pass: &Pass<AnyJob, B>) -> Option<Loss> {
+        pass.lost()
+    }
+
+    fn is_alone<R: Wait>(&self, rt: &R, pass: &mut Pass<AnyJob, B>) -> bool {
+        self.is_sole(rt, pass)
+    }
+
+    fn copied<R: Wait>(&self, rt: &R, pass: &mut Pass<AnyJob, B>) -> Option<Option<Copied>> {
+        let Some(copy) = self.state(rt, pass).ok()? else {
+            return Some(None);
+        };
+        let jobs = [left(&copy, 0), left(&copy, 1), left(&copy, 2)];
+        Some(Some((copy.number(), jobs)))
+    }
+
+    fn boarded<R: Wait>(&self, rt: &R, pass: &mut Pass<AnyJob, B>) -> Option<Option<(u64, u32)>> {
+        let Some(board) = self.board(rt, pass).ok()? else {
+            return Some(None);
+        };
+        Some(Some((board.number, open_jobs(&board))))
+    }
+}
