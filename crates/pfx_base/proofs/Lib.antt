@@ -1,0 +1,4 @@
+pub mod Bounded
+pub mod Acting
+pub mod Keeping
+mod Examples
