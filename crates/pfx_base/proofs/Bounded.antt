@@ -137,3 +137,7 @@ module _ {H S : Type 0} (K : Codec H S) (h : H) (image : List ℕ) where
 
   pub base_low : (p : Parts S) (s : S) → IsStore K h p s image → K.number p.base ≤ K.number p.middle
   base_low p s is = base_by p.turned p s is.other
+
+-- so each image of a file is recovered from one
+pub file_based : {H S : Type 0} (K : Codec H S) → Laws K → (f : File H S) (s : S) (image : List ℕ) → IsFile K s f image → IsBased K (turn_number K f) image
+file_based K laws f s image is = based K (turn_number K f) f.head image laws f.parts s (store_up K (turn_number K f) f.head image f.parts s (base_low K f.head image f.parts s is.store) is.store)
