@@ -1,6 +1,6 @@
 -- The tasks that run by their levels are PF's row.
 use Rattle.std.proofs.Common.{◌≡◌, ◌≢◌, ℕ, ◌*◌, ◌%◌, ◌<◌, ◌≤◌, ◌==◌, ◌||◌, ◌&&◌, ◌⊎◌, inl, inr, Bool, true, false, if◌then◌else◌, List, ℤ, pos, w32, to_z, of_z, length, slice_index_or, set, length-set, get_or-set_same, get_or-set_other, subst, arith, ap, sym, ◌∙◌, refl}
-use Rattle.std.specs.Prelude.{nat_lt, All, FitsSigned}
+use Rattle.std.specs.Prelude.{nat_lt, FitsSigned}
 use Rattle.std.specs.declared.cmp.Ordering.{Ordering}
 use Rattle.std.specs.declared.cmp.Ordering.TheVariants.{Less, Equal, Greater}
 use Rattle.std.specs.Ordering.{ordering_reverse, ordering_then}
@@ -8,7 +8,6 @@ use Rattle.std.specs.Cmp.{IsTotalOrder}
 use Rattle.std.specs.Cmp.Lexicographic.{slice_cmp}
 use Rattle.std.proofs.lemmas.Bool.{cases_lt, cases_eq}
 use Rattle.std.proofs.lemmas.Int.{ints, to_z-of_z}
-use Rattle.std.proofs.lemmas.List.Elements.{All-get_or}
 use Rattle.std.proofs.lemmas.Cmp.{lists_total, tied_itself}
 use Rattle.pfx_symbols.specs.declared.kinds.Symbol.{Symbol}
 use Rattle.pfx_symbols.specs.declared.kinds.Class.{Class}
@@ -192,7 +191,8 @@ one_weight g x y e f p q h l m e_is f_is p_is q_is same also = record {
 
 -- the same of columns in which all numbers are those of the first task
 pub all_one_weight : (g : Ledger) (es ps : List ℤ) → IsLedger g → IsColumn (total g) (e_in g) es → IsColumn (total g) (p_in g) ps
-    → All (λ e. e ≡ to_z w32 (of_z w32 (slice_index_or es 0 (pos 0)))) es → All (λ p. p ≡ to_z w32 (of_z w32 (slice_index_or ps 0 (pos 0)))) ps
+    → ((x : ℕ) → x < length es → slice_index_or es x (pos 0) ≡ to_z w32 (of_z w32 (slice_index_or es 0 (pos 0))))
+    → ((x : ℕ) → x < length ps → slice_index_or ps x (pos 0) ≡ to_z w32 (of_z w32 (slice_index_or ps 0 (pos 0))))
     → (x : ℕ) → x < total g → HaveOneWeight g x 0
 all_one_weight g es ps h e_at p_at e_all p_all x l =
     let n = e_at.long in
@@ -200,8 +200,8 @@ all_one_weight g es ps h e_at p_at e_all p_all x l =
     let some : 0 < total g = omega (arith, l) in
     let d = slice_index_or es 0 (pos 0) in
     let q = slice_index_or ps 0 (pos 0) in
-    let e = All-get_or (λ e. e ≡ to_z w32 (of_z w32 d)) es x (pos 0) (omega (arith, n, l)) e_all in
-    let p = All-get_or (λ p. p ≡ to_z w32 (of_z w32 q)) ps x (pos 0) (omega (arith, m, l)) p_all in
+    let e = e_all x (omega (arith, n, l)) in
+    let p = p_all x (omega (arith, m, l)) in
     record {
       e = same_natural _ _ _ d (e_at.at x l) (e_at.at 0 some) (e ∙ to_z-of_z w32 d (e_fits g 0 h some d (e_at.at 0 some)));
       p = same_natural _ _ _ q (p_at.at x l) (p_at.at 0 some) (p ∙ to_z-of_z w32 q (p_fits g 0 h some q (p_at.at 0 some)));

@@ -60,9 +60,10 @@ fn divide_leads(leads: &mut [u8], guesses: &[u8], ledger: &Columns)
     ensures { AreLeadsIn ledger.now leads.new }
 {
     let _total = ledger.total();
+    let (lags, es, ps) = (ledger.lags(), ledger.es(), ledger.ps());
     let mut x = first_from(guesses, UNKNOWN, 0);
     'unknown: while x < guesses.len() {
-        leads[x] = divided(ledger, x);
+        leads[x] = divided(ledger, x, lags[x], es[x], ps[x]);
         x = first_from(guesses, UNKNOWN, x + 1);
     }
 }
@@ -105,13 +106,15 @@ fn tested(guess: u8, e: u32, left: u32) -> u8
 }
 
 /// A task's lead, or 254 if it is more.
-fn divided(ledger: &Columns, x: usize) -> u8
-    requires { x < total ledger.now }
+fn divided(ledger: &Columns, x: usize, lag: i32, e: i32, p: i32) -> u8
+    requires within { x < total ledger.now }
+    requires lag { lag ≡ lag_in ledger.now x }
+    requires e { e ≡ e_in ledger.now x }
+    requires p { p ≡ p_in ledger.now x }
     ensures { result ≡ near ledger.now x }
 {
     let _total = ledger.total();
-    let (lags, es, ps) = (ledger.lags(), ledger.es(), ledger.ps());
-    quotient(natural(es[x]), left_of(ps[x], lags[x]))
+    quotient(natural(e), left_of(p, lag))
 }
 
 /// The quotient, or 254 if it is more.

@@ -3,7 +3,7 @@
 //! A level is 1 for a task that runs, 2 for one that rests, and 0 for one whose string is that of the one task: of those the first ones
 //! run. So if all tasks have one weight, their classes are their levels.
 
-ghost use Rattle.std.specs.Prelude.{◌≡◌, ◌≢◌, ℕ, ◌<◌, ◌≤◌, ◌||◌, ◌&&◌, ◌==◌, nat_lt, if◌then◌else◌, length, slice_index_or, All, IsTrue};
+ghost use Rattle.std.specs.Prelude.{◌≡◌, ◌≢◌, ℕ, ◌<◌, ◌≤◌, ◌||◌, ◌&&◌, ◌==◌, nat_lt, if◌then◌else◌, length, pos, slice_index_or, IsTrue};
 ghost use Rattle.std.specs.Cmp.Lexicographic.{slice_cmp};
 ghost use Rattle.pfx_weights.specs.Rows.{marked_in};
 ghost use Rattle.pfx_symbols.specs.Ranks.{substring};
@@ -48,11 +48,15 @@ pub fn are_of_one_weight(ledger: &Columns) -> bool
     are_all(ps, ps[0])
 }
 
-/// Whether all numbers are this one.
+/// Whether all numbers are this one. It looks at each, so that several are compared at a time.
 fn are_all(numbers: &[i32], number: i32) -> bool
-    ensures { IsTrue result → All (λ x. x ≡ number) numbers.now }
+    ensures { IsTrue result → (x : ℕ) → x < length numbers.now → slice_index_or numbers.now x (pos 0) ≡ number }
 {
-    numbers.iter().all(|x| *x == number)
+    let mut same = true;
+    for x in 0..numbers.len() {
+        same = same & (numbers[x] == number);
+    }
+    same
 }
 
 /// Takes the level of each task's string to the pivot's, as far as it is one of those named; 3 stands for the others.
