@@ -23,7 +23,7 @@ pub(crate) fn check(
         Err(fault) => return Err(Refusal::alone(alloc, fault)),
     };
     let text = run_check(alloc, form, &mut input)?;
-    match output_of(rt, &traces.seen).write_all(text.as_slice()) {
+    match output_of(rt, &traces.failed).write_all(text.as_slice()) {
         Ok(()) => Ok(()),
         Err(error) => Err(Refusal::alone(alloc, fault_of(&error, Fault::OutputFailed))),
     }

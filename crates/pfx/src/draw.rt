@@ -32,7 +32,7 @@ pub(crate) fn draw(
     let Some(text) = run_draw(alloc, &mut input, at, name_of(set), u64::from(slots))? else {
         return Ok(false);
     };
-    match output_of(rt, &traces.seen).write_all(text.as_slice()) {
+    match output_of(rt, &traces.failed).write_all(text.as_slice()) {
         Ok(()) => Ok(true),
         Err(error) => Err(fault_of(&error, Fault::OutputFailed)),
     }

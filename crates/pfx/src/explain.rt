@@ -20,7 +20,7 @@ pub(crate) fn explain(
     let Some(entry) = entry_named(word) else {
         return Ok(false);
     };
-    let mut output = output_of(rt, &traces.seen);
+    let mut output = output_of(rt, &traces.failed);
     let put = match form {
         Form::Text => put_entry(&mut output, entry),
         Form::Json => match entry_line(alloc, entry) {

@@ -144,11 +144,11 @@ fn carried_out<R: Threads + Wait + Clock + Copy + Drop + Send + Sync + 'static>(
             strict,
             ..
         } => {
-            traces.be_strict(strict);
             run(
-                rt, threads, alloc, file, script, workers, batch, form, traces,
+                rt, threads, alloc, file, script, workers, batch, strict, form, traces,
             )?;
-            return Ok(if traces.has_ended() { REFUSED } else { 0 });
+            let refused = strict && traces.has_refused();
+            return Ok(if refused { REFUSED } else { 0 });
         }
         Request::Status { file, .. } => status(rt, alloc, file, form, traces)?,
         Request::Replay { file, .. } => {

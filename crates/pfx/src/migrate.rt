@@ -68,7 +68,7 @@ pub(crate) fn migrate_store(
     let Ok(line) = line_of(alloc, form, number) else {
         return Err(Fault::NoMemory);
     };
-    match output_of(rt, &traces.seen).write_all(line.as_bytes()) {
+    match output_of(rt, &traces.failed).write_all(line.as_bytes()) {
         Ok(()) => Ok(()),
         Err(error) => Err(fault_of(&error, Fault::OutputFailed)),
     }

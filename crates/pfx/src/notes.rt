@@ -353,7 +353,7 @@ pub(crate) fn note_of(
     match fault {
         Fault::InputFailed => return input_failed(rt, alloc, request, traces),
         Fault::OutputFailed => {
-            return match traces.seen.get().failed {
+            return match traces.failed.get() {
                 Some(kind) => output_note(alloc, why(kind), stands_of(request)),
                 None => Ok(None),
             };

@@ -20,7 +20,7 @@ pub(crate) fn plan(
     traces: &mut Traces,
 ) -> Result<(), Fault> {
     let mut input = set_source(input(rt, set)?, &mut traces.set);
-    let Ok(output) = BufWriter::new(alloc, output_of(rt, &traces.seen)) else {
+    let Ok(output) = BufWriter::new(alloc, output_of(rt, &traces.failed)) else {
         return Err(Fault::NoMemory);
     };
     let mut output = Told::new(rt, alloc, output, "slots", Some(slots));

@@ -57,7 +57,7 @@ pub(crate) fn replay(
     let Ok(line) = line_of(alloc, form, verdict) else {
         return Err(Fault::NoMemory);
     };
-    match output_of(rt, &traces.seen).write_all(line.as_slice()) {
+    match output_of(rt, &traces.failed).write_all(line.as_slice()) {
         Ok(()) => Ok(matches!(verdict, Verdict::Agrees { .. })),
         Err(error) => Err(fault_of(&error, Fault::OutputFailed)),
     }

@@ -5,10 +5,10 @@ ghost use Rattle.pfx_disk.specs.File.{file_view};
 ghost use Rattle.pfx_front.specs.Starting.{Begins};
 ghost use Rattle.pfx_kinds.specs.AnyKind.{any_kind};
 
-use crate::files::{disk, input};
+use crate::files::{Source, disk, input};
 use crate::progress::Told;
 use crate::store::opened;
-use crate::traces::{Lines, Traces, output_of, script_of};
+use crate::traces::{Traces, output_of};
 use pfx_chronicle::list::Opened;
 use pfx_chronicle::name::Charted;
 use pfx_crew::channel::ChannelDesk;
@@ -19,7 +19,7 @@ use pfx_front_engine::engine::WINDOW;
 use pfx_front_engine::scripts::run_served;
 use pfx_jobs::quantum::{Done, Quantum};
 use pfx_kinds::any::AnyJob;
-use pfx_program::{Form, level_slot};
+use pfx_program::{AtRefusal, Form, level_slot};
 use pfx_script::{Script, Whole};
 use pfx_store::Store;
 use std::alloc::Global;
@@ -41,8 +41,9 @@ fn run_alone<N: Charted>(
     alloc: Global,
     list: Opened,
     store: Store<FileDisk, AnyJob>,
-    script: &mut Script<Whole<Lines<'_>>>,
+    script: &mut Script<Whole<Source>>,
     window: u32,
+    at_refusal: AtRefusal,
     form: Form,
     traces: &Traces,
 ) -> Result<(), Fault>
@@ -50,7 +51,7 @@ fn run_alone<N: Charted>(
     requires list { list.seen.book ≡ N.calls }
     requires begins { Begins any_kind store.state N.failures N.clock N.held N.image store (file_view store.file.disk) }
 {
-    let mut output = Told::new(rt, alloc, output_of(rt, &traces.seen), "lines", None);
+    let mut output = Told::new(rt, alloc, output_of(rt, &traces.failed), "lines", None);
     let ran = run_noted::<_, _, FileDisk, N>(
         alloc,
         list,
@@ -58,13 +59,14 @@ fn run_alone<N: Charted>(
         script,
         window,
         GROUP,
+        at_refusal,
         form,
         &mut output,
     );
     output.clear();
     traces.keep_said(ran.store.disk());
     traces.level.set(Some(level_slot(ran.store.state())));
-    ran.result
+    traces.keep_report(ran.result)
 }
 
 // Runs a script on a store by so many workers. The name says which bytes the file held when it was opened: that they stand for the
@@ -75,8 +77,9 @@ fn run_by<N: Charted, R: Threads + Wait + Clock + Copy + Drop + Send + Sync + 's
     alloc: Global,
     store: Store<FileDisk, AnyJob>,
     workers: u32,
-    script: &mut Script<Whole<Lines<'_>>>,
+    script: &mut Script<Whole<Source>>,
     window: u32,
+    at_refusal: AtRefusal,
     form: Form,
     traces: &Traces,
 ) -> Result<(), Fault>
@@ -87,7 +90,7 @@ fn run_by<N: Charted, R: Threads + Wait + Clock + Copy + Drop + Send + Sync + 's
     let Ok(desk) = JobDesk::new(alloc) else {
         return Err(Fault::NoMemory);
     };
-    let mut output = Told::new(rt, alloc, output_of(rt, &traces.seen), "lines", None);
+    let mut output = Told::new(rt, alloc, output_of(rt, &traces.failed), "lines", None);
     let served = run_served::<_, _, FileDisk, N, JobDesk, R>(
         threads,
         alloc,
@@ -97,13 +100,14 @@ fn run_by<N: Charted, R: Threads + Wait + Clock + Copy + Drop + Send + Sync + 's
         script,
         window,
         GROUP,
+        at_refusal,
         form,
         &mut output,
     );
     output.clear();
     traces.keep_said(served.store.disk());
     traces.level.set(Some(level_slot(served.store.state())));
-    served.result
+    traces.keep_report(served.result)
 }
 
 // By how many workers a store is run: those that are said, or else as many as the weights in force have, which need not be those of
@@ -116,7 +120,8 @@ fn workers_of(said: Option<u32>, store: &Store<FileDisk, AnyJob>) -> u32
 
 /// Runs a script on the store of a file by so many workers, as many as its weights have if none are said, or for 0 by one thread. Up
 /// to `window` slots of a record are kept at once; if that isn't said, it is 1, or 64 with workers. Records that stand ready together
-/// are kept at once too, up to 16. Lines are printed as they come.
+/// are kept at once too, up to 16. Lines are printed as they come. Behind a refused record the script goes on, or ends if it is
+/// strict.
 pub(crate) fn run<R: Threads + Wait + Clock + Copy + Drop + Send + Sync + 'static>(
     rt: &HostRuntime,
     threads: R,
@@ -125,13 +130,16 @@ pub(crate) fn run<R: Threads + Wait + Clock + Copy + Drop + Send + Sync + 'stati
     script: &str,
     workers: Option<u32>,
     window: Option<u32>,
+    strict: bool,
     form: Form,
     traces: &Traces,
 ) -> Result<(), Fault> {
-    let mut script = Script::new(
-        alloc,
-        Whole::new(script_of(input(rt, script)?, &traces.seen)),
-    );
+    let mut script = Script::new(alloc, Whole::new(input(rt, script)?));
+    let at_refusal = if strict {
+        AtRefusal::End
+    } else {
+        AtRefusal::GoOn
+    };
     let store = opened(alloc, disk(rt, file)?, traces)?;
     let workers = workers_of(workers, &store);
     if workers == 0 {
@@ -143,6 +151,7 @@ pub(crate) fn run<R: Threads + Wait + Clock + Copy + Drop + Send + Sync + 'stati
             store,
             &mut script,
             window,
+            at_refusal,
             form,
             traces,
         )
@@ -156,6 +165,7 @@ pub(crate) fn run<R: Threads + Wait + Clock + Copy + Drop + Send + Sync + 'stati
             workers,
             &mut script,
             window,
+            at_refusal,
             form,
             traces,
         )

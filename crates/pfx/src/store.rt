@@ -88,7 +88,7 @@ pub(crate) fn init(
     let Ok(line) = created_line(alloc, form, &set, store.places().sizes.file_len()) else {
         return Err(Fault::NoMemory);
     };
-    match output_of(rt, &traces.seen).write_all(line.as_bytes()) {
+    match output_of(rt, &traces.failed).write_all(line.as_bytes()) {
         Ok(()) => Ok(()),
         Err(error) => Err(fault_of(&error, Fault::OutputFailed)),
     }
@@ -131,7 +131,7 @@ pub(crate) fn status(
     traces: &Traces,
 ) -> Result<(), Fault> {
     let mut engine = engine(alloc, opened(alloc, shared_disk(rt, file)?, traces)?)?;
-    let Ok(mut output) = BufWriter::new(alloc, output_of(rt, &traces.seen)) else {
+    let Ok(mut output) = BufWriter::new(alloc, output_of(rt, &traces.failed)) else {
         return Err(Fault::NoMemory);
     };
     let shown = run_status(alloc, form, &mut output, &mut engine);
@@ -165,7 +165,7 @@ pub(crate) fn show(
     run_show(
         alloc,
         form,
-        &mut output_of(rt, &traces.seen),
+        &mut output_of(rt, &traces.failed),
         store.state(),
         task,
     )

@@ -1,17 +1,16 @@
 //! What is said on standard error: refusals, further faults of a set, and warnings, each by one write.
 
 use crate::notes::{note_of, text_of};
-use crate::traces::{Seen, Traces};
+use crate::traces::Traces;
 use pfx_args::Request;
 use pfx_check::put_also;
 use pfx_explain::Note;
 use pfx_fault::{Fault, put_fault};
-use pfx_notes::{further_note, passed_over_note, refused_note, set_note};
+use pfx_notes::{First, further_note, passed_over_note, refused_note, set_note};
 use pfx_objects::{also_line, error_line, warning_line};
-use pfx_program::Form;
+use pfx_program::{Form, RefusedRecord, Report};
 use std::alloc::{AllocError, Global};
 use std::io::{ErrorKind, Write};
-use std::str::from_utf8;
 
 /// What is said where there is no memory to say it in.
 const NO_MEMORY: &[u8] =
@@ -171,7 +170,7 @@ pub(crate) fn tell_all(
 
 /// Whether an output failed because its reader has gone.
 pub(crate) fn is_closed(traces: &Traces, fault: Fault) -> bool {
-    fault == Fault::OutputFailed && traces.seen.get().failed == Some(ErrorKind::BrokenPipe)
+    fault == Fault::OutputFailed && traces.failed.get() == Some(ErrorKind::BrokenPipe)
 }
 
 // Prints a warning and its note.
@@ -202,29 +201,19 @@ fn warn_refused(
     alloc: Global,
     form: Form,
     script: &str,
-    seen: &Seen,
+    first: First,
     level: Option<u64>,
 ) {
-    let Some(text) = text_of(rt, script) else {
+    let text = text_of(rt, script);
+    let bytes = match &text {
+        Some(text) => text.as_slice(),
+        None => b"",
+    };
+    let Ok(note) = refused_note(alloc, script, bytes, first) else {
         return;
     };
-    let refusal = &seen.refusal[..seen.len.min(seen.refusal.len())];
-    let note = refused_note(
-        alloc,
-        script,
-        text.as_slice(),
-        seen.answers,
-        seen.shown,
-        refusal,
-        seen.refused,
-    );
-    let Ok(note) = note else {
-        return;
-    };
-    let note = match level {
-        Some(slot) if from_utf8(refusal).unwrap_or("").contains("NotLevel") => {
-            with_level(alloc, note, slot)
-        }
+    let note = match (level, first.fault) {
+        (Some(slot), Fault::NotLevel { .. }) => with_level(alloc, note, slot),
         _ => note,
     };
     warn_of(rt, alloc, form, "a record was refused", note);
@@ -244,10 +233,16 @@ pub(crate) fn warn(rt: &HostRuntime, alloc: Global, request: &Request<'_>, trace
             }
         }
         Request::Run { script, .. } => {
-            let seen = traces.seen.get();
-            if seen.refused > 0 {
-                let level = traces.level.get();
-                warn_refused(rt, alloc, form, script, &seen, level);
+            if let Some(
+                Report {
+                    refused,
+                    first: Some(RefusedRecord { at, fault }),
+                    ..
+                },
+            ) = traces.report.get()
+            {
+                let first = First { at, fault, refused };
+                warn_refused(rt, alloc, form, script, first, traces.level.get());
             }
         }
         _ => {}

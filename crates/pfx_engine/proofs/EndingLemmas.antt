@@ -2,7 +2,8 @@
 use Rattle.std.proofs.Common.{◌≡◌, ℕ, List, [], ◌∷◌, ◌++◌, Option, Some, None, IfSome, refl, sym, append-nil}
 use Rattle.std.specs.Io.KnownBytes.{Appends}
 use Rattle.pfx_program.specs.Running.{first_text}
-use Rattle.pfx_program.specs.Script.{Step}
+use Rattle.pfx_program.specs.Script.{Run, Step, taken}
+use Rattle.pfx_program.specs.declared.report.AtRefusal.{AtRefusal}
 use Rattle.pfx_script.specs.Records.{Fields}
 
 -- a beginning of the first text of steps is one of the first text of more
@@ -15,6 +16,6 @@ pub nothing_more : (was : Option (List ℕ)) → Appends was was []
 nothing_more None = tt
 nothing_more (Some xs) = sym (append-nil xs)
 
-pub known_rest : (left : Option (List Fields)) → (records : List Fields) × IfSome left (λ all. all ≡ records)
-known_rest None = ([], tt)
-known_rest (Some all) = (all, refl)
+pub known_rest : (p : AtRefusal) (r : Run) (left : Option (List Fields)) → (records : List Fields) × IfSome left (λ all. taken p r all ≡ records)
+known_rest p r None = ([], tt)
+known_rest p r (Some all) = (taken p r all, refl)

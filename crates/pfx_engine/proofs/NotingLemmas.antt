@@ -16,7 +16,9 @@ use Rattle.pfx_machine.specs.declared.command.Command.{Command}
 use Rattle.pfx_program.proofs.StepLemmas.{commands_append, then_state}
 use Rattle.pfx_program.specs.declared.form.Form.{Form}
 use Rattle.pfx_program.specs.Running.{Carried, Ends, Halts, Runs, Stopped}
-use Rattle.pfx_program.specs.Script.{Step, at_start, commands_of, course_from, text_of}
+use Rattle.pfx_program.specs.Script.{Step, at_start, commands_of, course_from, taken, text_of}
+use Rattle.pfx_program.specs.declared.report.AtRefusal.{AtRefusal}
+use Rattle.pfx_program.specs.declared.report.Report.{Report}
 use Rattle.pfx_recovery.specs.Recovery.{recovered}
 use Rattle.pfx_script.specs.Records.{Fields, Records}
 use Rattle.pfx_engine.proofs.EndingLemmas.{begun, known_rest, nothing_more}
@@ -63,11 +65,12 @@ stands s printed tried rest t (inr at) = record {
 }
 
 module _ (held : Type 0) (image : List ℕ) (made : List Made) (disk : View) (premise : IsHonest disk → held) where
-  module _ {E : Type 0} (view : E → View) (broken : E → Bool) (kept : E → Plain AnyJob) (form : Form) (script : Records) (records : List Fields) (known : IfSome script.left (λ all. all ≡ records))
-      (failed : Bool) (a b : E) (was is : Option (List ℕ)) (whole : broken a ≡ false) (honest : held → IsHonest (view a)) (anchors : held → Anchors (view a) (kept a))
+  module _ {E : Type 0} (view : E → View) (broken : E → Bool) (kept : E → Plain AnyJob) (form : Form) (at_refusal : AtRefusal) (script : Records) (records : List Fields)
+      (a b : E) (known : IfSome script.left (λ all. taken at_refusal (at_start form (kept a)) all ≡ records))
+      (failed : Bool) (was is : Option (List ℕ)) (whole : broken a ≡ false) (honest : held → IsHonest (view a)) (anchors : held → Anchors (view a) (kept a))
       (leaves : held → (left : List ℕ) → Left image (acts_of made) left → (view b).now left) (follows : IsHonest disk → (left : List ℕ) → disk.now left → (view b).now left) where
-    went : (result : Result (Unit {0}) Fault) → EndsBehind (IsAloneFault (kept a)) (course_from (script.place + 1) (at_start form (kept a)) records).steps [] (course_from (script.place + 1) (at_start form (kept a)) records).ends_at failed was is result
-        → Carried (promise view broken kept) (course_from (script.place + 1) (at_start form (kept a)) records).steps a b was is → IsNotedRun form (kept a) script failed was is held image made disk (kept b) result
+    went : (result : Result Report Fault) → EndsBehind (IsAloneFault (kept a)) (course_from (script.place + 1) (at_start form (kept a)) records).steps [] (course_from (script.place + 1) (at_start form (kept a)) records) failed was is result
+        → Carried (promise view broken kept) (course_from (script.place + 1) (at_start form (kept a)) records).steps a b was is → IsNotedRun form at_refusal (kept a) script failed was is held image made disk (kept b) result
     went result ends h =
         let steps : List Step = (course_from (script.place + 1) (at_start form (kept a)) records).steps in
         let all : steps ≡ steps ++ [] = sym (append-nil steps) in
@@ -92,8 +95,8 @@ module _ (held : Type 0) (image : List ℕ) (made : List Made) (disk : View) (pr
 
     stopped : (most : ℕ) (f : Fault) → Stopped (promise view broken kept) most (failed ≡ true) (course_from (script.place + 1) (at_start form (kept a)) records).steps a b was is f
         → ((printed tried rest : List Step) (t : Plain AnyJob) → Halts (failed ≡ true) (λ s g. (promise view broken kept).faults s g) (outcome any_kind (kept a) (commands_of printed)) (text_of printed) tried t was is f
-        → EndsBehind (IsAloneFault (kept a)) printed (tried ++ rest) (course_from (script.place + 1) (at_start form (kept a)) records).ends_at failed was is (Err f))
-        → IsNotedRun form (kept a) script failed was is held image made disk (kept b) (Err f)
+        → EndsBehind (IsAloneFault (kept a)) printed (tried ++ rest) (course_from (script.place + 1) (at_start form (kept a)) records) failed was is (Err f))
+        → IsNotedRun form at_refusal (kept a) script failed was is held image made disk (kept b) (Err f)
     stopped most f h ends =
         let split : (commands_of h.printed ++ commands_of h.tried) ++ commands_of h.rest ≡ commands_of (h.printed ++ (h.tried ++ h.rest)) =
         append_assoc (commands_of h.printed) (commands_of h.tried) (commands_of h.rest)
@@ -119,28 +122,28 @@ module _ (held : Type 0) (image : List ℕ) (made : List Made) (disk : View) (pr
           on_disk = λ sure left here. survive (premise sure) left (follows sure left here);
         }
 
-    by_end : (most : ℕ) (result : Result (Unit {0}) Fault) → Ends (promise view broken kept) most (failed ≡ true) (course_from (script.place + 1) (at_start form (kept a)) records) a b was is result
-        → IsNotedRun form (kept a) script failed was is held image made disk (kept b) result
-    by_end most (Ok u) h = went (Ok u) (h.0, refl, h.1.text) h.1
+    by_end : (most : ℕ) (result : Result Report Fault) → Ends (promise view broken kept) most (failed ≡ true) (course_from (script.place + 1) (at_start form (kept a)) records) a b was is result
+        → IsNotedRun form at_refusal (kept a) script failed was is held image made disk (kept b) result
+    by_end most (Ok report) h = went (Ok report) (h.0, refl, h.1.text, h.3) h.1
     by_end most (Err (fault.BadScript at)) h = went (Err (fault.BadScript at)) (h.0, refl, h.1.text) h.1
     by_end most (Err fault.OutputFailed) h = stopped most fault.OutputFailed h (λ printed tried rest t why. (why.1, (begun tried rest why.1 why.2 why.3).0, (begun tried rest why.1 why.2 why.3).1, why.4))
     by_end most (Err fault.InputFailed) h = stopped most fault.InputFailed h (λ printed tried rest t why. (why.0, why.2))
     by_end most (Err fault.NoMemory) h = stopped most fault.NoMemory h (λ printed tried rest t why. (tt, why.1))
     by_end most (Err other) h = stopped most other h (λ printed tried rest t why. (why.0, why.2))
 
-  module _ {E : Type 0} (view : E → View) (broken : E → Bool) (kept : E → Plain AnyJob) (form : Form) where
-    pub noted_run : (most : ℕ) (script : Records) (failed : Bool) (a b : E) (was is : Option (List ℕ)) (result : Result (Unit {0}) Fault) → Runs (promise view broken kept) form most script failed a b was is result
+  module _ {E : Type 0} (view : E → View) (broken : E → Bool) (kept : E → Plain AnyJob) (form : Form) (at_refusal : AtRefusal) where
+    pub noted_run : (most : ℕ) (script : Records) (failed : Bool) (a b : E) (was is : Option (List ℕ)) (result : Result Report Fault) → Runs (promise view broken kept) form at_refusal most script failed a b was is result
         → broken a ≡ false → (held → IsHonest (view a)) → (held → Anchors (view a) (kept a)) → (held → (left : List ℕ) → Left image (acts_of made) left → (view b).now left)
-        → (IsHonest disk → (left : List ℕ) → disk.now left → (view b).now left) → IsNotedRun form (kept a) script failed was is held image made disk (kept b) result
+        → (IsHonest disk → (left : List ℕ) → disk.now left → (view b).now left) → IsNotedRun form at_refusal (kept a) script failed was is held image made disk (kept b) result
     noted_run most script failed a b was is result h whole honest anchors leaves follows =
-        by_end view broken kept form script h.records h.known failed a b was is whole honest anchors leaves follows most result h.ends
+        by_end view broken kept form at_refusal script h.records a b h.known failed was is whole honest anchors leaves follows most result h.ends
 
 -- a run for which there was no memory
-pub noted_none : (form : Form) (s : Plain AnyJob) (script : Records) (failed : Bool) (was : Option (List ℕ)) (held : Type 0) (image : List ℕ) (made : List Made) (disk : View) (here : List ℕ → Type 0) → (IsHonest disk → held)
+pub noted_none : (form : Form) (at_refusal : AtRefusal) (s : Plain AnyJob) (script : Records) (failed : Bool) (was : Option (List ℕ)) (held : Type 0) (image : List ℕ) (made : List Made) (disk : View) (here : List ℕ → Type 0) → (IsHonest disk → held)
     → (held → (left : List ℕ) → Left image (acts_of made) left → here left) → (IsHonest disk → (left : List ℕ) → disk.now left → here left)
     → (held → (left : List ℕ) → here left → recovered (format any_kind) left ≡ Ok s)
-    → IsNotedRun form s script failed was was held image made disk s (Err fault.NoMemory)
-noted_none form s script failed was held image made disk here premise leaves follows recovers = record {
+    → IsNotedRun form at_refusal s script failed was was held image made disk s (Err fault.NoMemory)
+noted_none form at_refusal s script failed was held image made disk here premise leaves follows recovers = record {
   records = rest.0;
   known = rest.1;
   printed = [];
@@ -156,8 +159,8 @@ noted_none form s script failed was held image made disk here premise leaves fol
   on_disk = λ sure left is. survive (premise sure) left (follows sure left is);
 }
   where
-    rest : (records : List Fields) × IfSome script.left (λ all. all ≡ records)
-    rest = known_rest script.left
+    rest : (records : List Fields) × IfSome script.left (λ all. taken at_refusal (at_start form s) all ≡ records)
+    rest = known_rest at_refusal (at_start form s) script.left
 
     survive : held → (left : List ℕ) → here left → Survives s (commands_of (course_from (script.place + 1) (at_start form s) rest.0).steps) 0 left
     survive so left is = record {

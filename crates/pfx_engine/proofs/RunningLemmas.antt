@@ -11,7 +11,9 @@ use Rattle.pfx_machine.specs.Outcome.{outcome}
 use Rattle.pfx_machine.specs.declared.command.Command.{Command}
 use Rattle.pfx_script.specs.Records.{Fields, Records}
 use Rattle.pfx_program.specs.declared.form.Form.{Form}
-use Rattle.pfx_program.specs.Script.{Step, at_start, commands_of, course_from, text_of}
+use Rattle.pfx_program.specs.Script.{Step, at_start, commands_of, course_from, taken, text_of}
+use Rattle.pfx_program.specs.declared.report.AtRefusal.{AtRefusal}
+use Rattle.pfx_program.specs.declared.report.Report.{Report}
 use Rattle.pfx_program.specs.Running.{Carried, Halts, Stopped, Ends, Runs}
 use Rattle.pfx_program.proofs.StepLemmas.{commands_append}
 use Rattle.pfx_engine.specs.Keeping.{Anchors}
@@ -61,12 +63,12 @@ module _ {E : Type 0} (view : E → View) (broken : E → Bool) (kept : E → Pl
             (survives_more (kept a) (commands_of h.printed ++ commands_of h.tried) (commands_of h.rest) (length (commands_of h.printed)) image ((h.keeps.kept whole honest anchors).survive image here));
       }
 
-  ended : (most : ℕ) (reading : Type 0) (script : Records) (records : List Fields) (a b : E) (was is : Option (List ℕ)) (result : Result (Unit {0}) Fault) → broken a ≡ false → IsHonest (view a) → Anchors (view a) (kept a)
+  ended : (most : ℕ) (reading : Type 0) (script : Records) (records : List Fields) (a b : E) (was is : Option (List ℕ)) (result : Result Report Fault) → broken a ≡ false → IsHonest (view a) → Anchors (view a) (kept a)
       → Ends (promise view broken kept) most reading (course_from (script.place + 1) (at_start form (kept a)) records) a b was is result → IsKeptAsPrinted form (kept a) script records was is (view b)
   ended most reading script records a b was is (Ok x) whole honest anchors h = carried_kept script records a b was is whole honest anchors h.1
   ended most reading script records a b was is (Err (fault.BadScript at)) whole honest anchors h = carried_kept script records a b was is whole honest anchors h.1
   ended most reading script records a b was is (Err other) whole honest anchors h = stopped_kept most reading script records a b was is other whole honest anchors h
 
-  pub kept_as_printed : (most : ℕ) (script : Records) (failed : Bool) (a b : E) (was is : Option (List ℕ)) (result : Result (Unit {0}) Fault) → Runs (promise view broken kept) form most script failed a b was is result
-      → broken a ≡ false → IsHonest (view a) → Anchors (view a) (kept a) → (records : List Fields) × IfSome script.left (λ all. all ≡ records) × IsKeptAsPrinted form (kept a) script records was is (view b)
-  kept_as_printed most script failed a b was is result h whole honest anchors = (h.records, h.known, ended most (failed ≡ true) script h.records a b was is result whole honest anchors h.ends)
+  pub kept_as_printed : (at_refusal : AtRefusal) (most : ℕ) (script : Records) (failed : Bool) (a b : E) (was is : Option (List ℕ)) (result : Result Report Fault) → Runs (promise view broken kept) form at_refusal most script failed a b was is result
+      → broken a ≡ false → IsHonest (view a) → Anchors (view a) (kept a) → (records : List Fields) × IfSome script.left (λ all. taken at_refusal (at_start form (kept a)) all ≡ records) × IsKeptAsPrinted form (kept a) script records was is (view b)
+  kept_as_printed at_refusal most script failed a b was is result h whole honest anchors = (h.records, h.known, ended most (failed ≡ true) script h.records a b was is result whole honest anchors h.ends)

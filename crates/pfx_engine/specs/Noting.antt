@@ -11,7 +11,9 @@ use Rattle.pfx_kinds.specs.declared.any.AnyJob.{AnyJob}
 use Rattle.pfx_machine.specs.Outcome.{outcome}
 use Rattle.pfx_machine.specs.Plain.{Plain}
 use Rattle.pfx_program.specs.declared.form.Form.{Form}
-use Rattle.pfx_program.specs.Script.{Step, at_start, commands_of, course_from}
+use Rattle.pfx_program.specs.Script.{Step, at_start, commands_of, course_from, taken}
+use Rattle.pfx_program.specs.declared.report.AtRefusal.{AtRefusal}
+use Rattle.pfx_program.specs.declared.report.Report.{Report}
 use Rattle.pfx_script.specs.Records.{Fields, Records}
 use Rattle.pfx_engine.specs.Ending.{EndsBehind}
 use Rattle.pfx_engine.specs.Failing.{stopped_at}
@@ -22,19 +24,19 @@ abbrev pub IsAloneFault : Plain AnyJob → List Step → Fault → Type 0
 IsAloneFault s printed fault.NoMemory = ⊤
 IsAloneFault s printed other = other ≡ stopped_at (outcome any_kind s (commands_of printed)).number
 
--- The records are the script's, as far as it is known. Of their course from the state on some first steps were printed, whole, and
+-- The records are those that the run takes of the script's, as far as it is known. Of their course from the state on some first steps were printed, whole, and
 -- the run ended so after them; the store is left at the state after them, or after some more of the course that were tried. If a disk
 -- held these bytes, each image that a stop may leave behind the calls that were made on it is recovered to the outcome of a beginning of
 -- the course's commands which holds each one that was printed. An honest disk is shown to have held them, and the images that a stop now
 -- may leave on it are recovered so.
-pub record IsNotedRun (form : Form) (s : Plain AnyJob) (script : Records) (failed : Bool) (was is : Option (List ℕ)) (held : Type 0)
-    (image : List ℕ) (made : List Made) (disk : View) (left : Plain AnyJob) (result : Result (Unit {0}) Fault) : Type 0 where
+pub record IsNotedRun (form : Form) (at_refusal : AtRefusal) (s : Plain AnyJob) (script : Records) (failed : Bool) (was is : Option (List ℕ)) (held : Type 0)
+    (image : List ℕ) (made : List Made) (disk : View) (left : Plain AnyJob) (result : Result Report Fault) : Type 0 where
   pub records : List Fields
-  pub known : IfSome script.left (λ all. all ≡ records)
+  pub known : IfSome script.left (λ all. taken at_refusal (at_start form s) all ≡ records)
   pub printed : List Step
   pub rest : List Step
   pub course : (course_from (script.place + 1) (at_start form s) records).steps ≡ printed ++ rest
-  pub ends : EndsBehind (IsAloneFault s) printed rest (course_from (script.place + 1) (at_start form s) records).ends_at failed was is result
+  pub ends : EndsBehind (IsAloneFault s) printed rest (course_from (script.place + 1) (at_start form s) records) failed was is result
   pub tried : List Step
   pub back : List Step
   pub untold : rest ≡ tried ++ back

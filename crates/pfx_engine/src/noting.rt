@@ -14,7 +14,7 @@ use pfx_chronicle::name::Charted;
 use pfx_disk::Disk;
 use pfx_fault::Fault;
 use pfx_kinds::any::AnyJob;
-use pfx_program::Form;
+use pfx_program::{AtRefusal, Form, Report};
 use pfx_script::Script;
 use pfx_store::Store;
 use std::alloc::Global;
@@ -28,7 +28,7 @@ pub struct NotedRun<D: Disk, B: Charted> {
     /// The calls that the run made on the disk.
     pub moment: Moment<B>,
     /// What the run answered.
-    pub result: Result<(), Fault>,
+    pub result: Result<Report, Fault>,
 }
 
 /// Runs the records of a script that are left on a store, as `run_durable` does, and notes the calls that are made on the disk in a list
@@ -44,6 +44,7 @@ pub fn run_noted<R: Read + Drop, W: Write, D: Disk, B: Charted>(
     script: &mut Script<R>,
     window: u32,
     group: u32,
+    at_refusal: AtRefusal,
     form: Form,
     output: &mut W,
 ) -> NotedRun<D, B>
@@ -55,7 +56,7 @@ pub fn run_noted<R: Read + Drop, W: Write, D: Disk, B: Charted>(
     requires honest { IsHonest (D.view store.file.disk)
         → B.held × ((D.view store.file.disk).contents ≡ B.image) × Only B.image (D.view store.file.disk) }
     requires held { B.held → IsHeldBy any_kind store B.image }
-    ensures ran { IsNotedRun form store.state script.old script.new.failed (W.contents output.old) (W.contents output.new)
+    ensures ran { IsNotedRun form at_refusal store.state script.old script.new.failed (W.contents output.old) (W.contents output.new)
         B.held B.image result.moment (D.view result.store.file.disk) result.store.state result.result }
 {
     let noted = store.noted::<B>(list);
@@ -67,7 +68,16 @@ pub fn run_noted<R: Read + Drop, W: Write, D: Disk, B: Charted>(
             result: Err(Fault::NoMemory),
         },
         Ok(mut engine) => {
-            let result = run_durable(alloc, script, window, group, form, output, &mut engine);
+            let result = run_durable(
+                alloc,
+                script,
+                window,
+                group,
+                at_refusal,
+                form,
+                output,
+                &mut engine,
+            );
             let after = engine.into_store();
             NotedRun {
                 moment: after.disk().moment(),

@@ -5,12 +5,13 @@ ghost use Rattle.pfx_disk.specs.Disk.{IsHonest};
 ghost use Rattle.pfx_engine.specs.Keeping.{Anchors};
 ghost use Rattle.pfx_engine.specs.Running.{IsKeptAsPrinted};
 ghost use Rattle.pfx_program.specs.Running.{Runs};
+ghost use Rattle.pfx_program.specs.Script.{at_start, taken};
 ghost use Rattle.pfx_script.specs.Records.{Fields};
 
 use crate::durable::DurableEngine;
 use pfx_disk::Disk;
 use pfx_fault::Fault;
-use pfx_program::{Engine, Form, run_script};
+use pfx_program::{AtRefusal, Engine, Form, Report, run_script};
 use pfx_script::Script;
 use std::alloc::Global;
 use std::io::{Read, Write};
@@ -28,18 +29,21 @@ pub fn run_durable<R: Read + Drop, W: Write, D: Disk>(
     script: &mut Script<R>,
     window: u32,
     group: u32,
+    at_refusal: AtRefusal,
     form: Form,
     output: &mut W,
     engine: &mut DurableEngine<D>,
-) -> Result<(), Fault>
+) -> Result<Report, Fault>
     requires some { 0 < window }
     requires few { group ≤ 16 }
-    ensures runs { Runs ⟦<DurableEngine<D> as Engine>⟧.promise form (max window group) script.old script.new.failed engine.old engine.new
+    ensures runs { Runs ⟦<DurableEngine<D> as Engine>⟧.promise form at_refusal (max window group) script.old script.new.failed engine.old engine.new
         (W.contents output.old) (W.contents output.new) result }
     ensures printed { engine.old.store.file.broken ≡ false → IsHonest (D.view engine.old.store.file.disk)
         → Anchors (D.view engine.old.store.file.disk) engine.old.store.state
-        → (records : List Fields) × IfSome script.old.left (λ all. all ≡ records)
+        → (records : List Fields) × IfSome script.old.left (λ all. taken at_refusal (at_start form engine.old.store.state) all ≡ records)
         × IsKeptAsPrinted form engine.old.store.state script.old records (W.contents output.old) (W.contents output.new) (D.view engine.new.store.file.disk) }
 {
-    run_script(alloc, script, window, group, form, output, engine)
+    run_script(
+        alloc, script, window, group, at_refusal, form, output, engine,
+    )
 }

@@ -31,7 +31,9 @@ use Rattle.pfx_machine.specs.declared.command.Command.{Command}
 use Rattle.pfx_program.proofs.StepLemmas.{commands_append}
 use Rattle.pfx_program.specs.declared.form.Form.{Form}
 use Rattle.pfx_program.specs.Running.{Carried, Ends, Halts, Runs, Stopped, first_text}
-use Rattle.pfx_program.specs.Script.{Step, at_start, course_from, text_of}
+use Rattle.pfx_program.specs.Script.{Step, at_start, course_from, taken, text_of}
+use Rattle.pfx_program.specs.declared.report.AtRefusal.{AtRefusal}
+use Rattle.pfx_program.specs.declared.report.Report.{Report}
 use Rattle.pfx_program.specs.Script as script
 use Rattle.pfx_recovery.specs.Recovery.{recovered}
 use Rattle.pfx_script.specs.Records.{Fields, Records}
@@ -82,7 +84,7 @@ session_alone K B r n notes h =
     first [] = []
     first (x ∷ xs) = x
 
-module _ (form : Form) (B : Plain AnyJob) (r : Register AnyJob) (disk : View) (began : ℕ) (b : List (Note AnyJob)) (session : r.history ≡ alone b) (accepted : r.session.accepted ≡ commands_of r.history) where
+module _ (form : Form) (at_refusal : AtRefusal) (B : Plain AnyJob) (r : Register AnyJob) (disk : View) (began : ℕ) (b : List (Note AnyJob)) (session : r.history ≡ alone b) (accepted : r.session.accepted ≡ commands_of r.history) where
   as_engine : (H : List (Command AnyJob)) (n m : ℕ) (image : List ℕ) → r.session.accepted ≡ H → B.number + n ≤ m → Survives any_kind B r.session.accepted m image → engine.Survives B H n image
   as_engine H n m image are le v =
       let most = v.at_most in
@@ -128,8 +130,8 @@ module _ (form : Form) (B : Plain AnyJob) (r : Register AnyJob) (disk : View) (b
           (mine (script.commands_of steps) (length (script.commands_of steps)) h.keeps honest image here)
 
       -- a run that went through its whole course
-      whole : (result : Result (Unit {0}) Fault) → EndsBehind IsServedFault (course_from (lines.place + 1) (at_start form B) records).steps [] (course_from (lines.place + 1) (at_start form B) records).ends_at failed was is result
-          → IfSome lines.left (λ all. all ≡ records) → Carried (promise notes B) (course_from (lines.place + 1) (at_start form B) records).steps x y was is → IsServedRun form B lines failed was is disk result
+      whole : (result : Result Report Fault) → EndsBehind IsServedFault (course_from (lines.place + 1) (at_start form B) records).steps [] (course_from (lines.place + 1) (at_start form B) records) failed was is result
+          → IfSome lines.left (λ all. taken at_refusal (at_start form B) all ≡ records) → Carried (promise notes B) (course_from (lines.place + 1) (at_start form B) records).steps x y was is → IsServedRun form at_refusal B lines failed was is disk result
       whole result ends known h = record {
         records = records;
         known = known;
@@ -140,10 +142,10 @@ module _ (form : Form) (B : Plain AnyJob) (r : Register AnyJob) (disk : View) (b
         kept = carried_kept h;
       }
 
-      stopped : (most : ℕ) (f : Fault) → IfSome lines.left (λ all. all ≡ records) → Stopped (promise notes B) most (failed ≡ true) (course_from (lines.place + 1) (at_start form B) records).steps x y was is f
+      stopped : (most : ℕ) (f : Fault) → IfSome lines.left (λ all. taken at_refusal (at_start form B) all ≡ records) → Stopped (promise notes B) most (failed ≡ true) (course_from (lines.place + 1) (at_start form B) records).steps x y was is f
           → ((printed tried rest : List Step) (s t : Plain AnyJob) → Halts (failed ≡ true) (λ u g. MayEndRun g) s (text_of printed) tried t was is f
-          → EndsBehind IsServedFault printed (tried ++ rest) (course_from (lines.place + 1) (at_start form B) records).ends_at failed was is (Err f))
-          → IsServedRun form B lines failed was is disk (Err f)
+          → EndsBehind IsServedFault printed (tried ++ rest) (course_from (lines.place + 1) (at_start form B) records) failed was is (Err f))
+          → IsServedRun form at_refusal B lines failed was is disk (Err f)
       stopped most f known h ends =
           let split : (script.commands_of h.printed ++ script.commands_of h.tried) ++ script.commands_of h.rest ≡ script.commands_of (h.printed ++ (h.tried ++ h.rest)) =
           append_assoc (script.commands_of h.printed) (script.commands_of h.tried) (script.commands_of h.rest)
@@ -160,9 +162,9 @@ module _ (form : Form) (B : Plain AnyJob) (r : Register AnyJob) (disk : View) (b
                 (mine (script.commands_of h.printed ++ script.commands_of h.tried) (length (script.commands_of h.printed)) h.keeps honest image here));
           }
 
-      by_end : (most : ℕ) (result : Result (Unit {0}) Fault) → IfSome lines.left (λ all. all ≡ records) → Ends (promise notes B) most (failed ≡ true) (course_from (lines.place + 1) (at_start form B) records) x y was is result
-          → IsServedRun form B lines failed was is disk result
-      by_end most (Ok u) known h = whole (Ok u) (h.0, refl, h.1.text) known h.1
+      by_end : (most : ℕ) (result : Result Report Fault) → IfSome lines.left (λ all. taken at_refusal (at_start form B) all ≡ records) → Ends (promise notes B) most (failed ≡ true) (course_from (lines.place + 1) (at_start form B) records) x y was is result
+          → IsServedRun form at_refusal B lines failed was is disk result
+      by_end most (Ok report) known h = whole (Ok report) (h.0, refl, h.1.text, h.3) known h.1
       by_end most (Err (fault.BadScript at)) known h = whole (Err (fault.BadScript at)) (h.0, refl, h.1.text) known h.1
       by_end most (Err fault.OutputFailed) known h = stopped most fault.OutputFailed known h (λ printed tried rest s t why. (why.1, (begun tried rest why.1 why.2 why.3).0, (begun tried rest why.1 why.2 why.3).1, why.4))
       by_end most (Err fault.InputFailed) known h = stopped most fault.InputFailed known h (λ printed tried rest s t why. (why.0, why.2))
@@ -171,17 +173,18 @@ module _ (form : Form) (B : Plain AnyJob) (r : Register AnyJob) (disk : View) (b
       by_end most (Err other) known h = stopped most other known h (λ printed tried rest s t why. (why.0, why.2))
 
     -- a run, and the end of its front
-    pub served : (most : ℕ) (x y : E) → notes x ≡ [] → notes y ≡ b → (IsHonest disk → IsHeld any_kind B began r disk) → (lines : Records) (failed : Bool) (was is : Option (List ℕ)) (result : Result (Unit {0}) Fault)
-        → Runs (promise notes B) form most lines failed x y was is result → IsServedRun form B lines failed was is disk result
+    pub served : (most : ℕ) (x y : E) → notes x ≡ [] → notes y ≡ b → (IsHonest disk → IsHeld any_kind B began r disk) → (lines : Records) (failed : Bool) (was is : Option (List ℕ)) (result : Result Report Fault)
+        → Runs (promise notes B) form at_refusal most lines failed x y was is result → IsServedRun form at_refusal B lines failed was is disk result
     served most x y none end held lines failed was is result h =
         let at : state_of any_kind B (notes x) ≡ B = ap (state_of any_kind B) none ∙ outcome-none any_kind B in
+        let known = subst (λ (s : Plain AnyJob). IfSome lines.left (λ all. taken at_refusal (at_start form s) all ≡ h.records)) at h.known in
         let ends = subst (λ (s : Plain AnyJob). Ends (promise notes B) most (failed ≡ true) (course_from (lines.place + 1) (at_start form s) h.records) x y was is result) at h.ends in
-        by_end x y none end held lines h.records failed was is most result h.known ends
+        by_end x y none end held lines h.records failed was is most result known ends
 
 -- a run whose front didn't start
-pub unserved : (form : Form) (B : Plain AnyJob) (disk : View) (lines : Records) (failed : Bool) (was : Option (List ℕ)) (f : Fault) → (f ≡ fault.NoThread) ⊎ (f ≡ fault.NoMemory)
-    → (IsHonest disk → (image : List ℕ) → disk.now image → recovered (format any_kind) image ≡ Ok B) → IsServedRun form B lines failed was was disk (Err f)
-unserved form B disk lines failed was f why images = record {
+pub unserved : (form : Form) (at_refusal : AtRefusal) (B : Plain AnyJob) (disk : View) (lines : Records) (failed : Bool) (was : Option (List ℕ)) (f : Fault) → (f ≡ fault.NoThread) ⊎ (f ≡ fault.NoMemory)
+    → (IsHonest disk → (image : List ℕ) → disk.now image → recovered (format any_kind) image ≡ Ok B) → IsServedRun form at_refusal B lines failed was was disk (Err f)
+unserved form at_refusal B disk lines failed was f why images = record {
   records = rest.0;
   known = rest.1;
   printed = [];
@@ -196,11 +199,11 @@ unserved form B disk lines failed was f why images = record {
   };
 }
   where
-    rest : (records : List Fields) × IfSome lines.left (λ all. all ≡ records)
-    rest = known_rest lines.left
+    rest : (records : List Fields) × IfSome lines.left (λ all. taken at_refusal (at_start form B) all ≡ records)
+    rest = known_rest at_refusal (at_start form B) lines.left
 
     Ends_so : Fault → Type 0
-    Ends_so g = EndsBehind IsServedFault [] (course_from (lines.place + 1) (at_start form B) rest.0).steps (course_from (lines.place + 1) (at_start form B) rest.0).ends_at failed was was (Err g)
+    Ends_so g = EndsBehind IsServedFault [] (course_from (lines.place + 1) (at_start form B) rest.0).steps (course_from (lines.place + 1) (at_start form B) rest.0) failed was was (Err g)
 
     by : (f ≡ fault.NoThread) ⊎ (f ≡ fault.NoMemory) → Ends_so f
     by (inl is) = subst Ends_so (sym is) (refl, nothing_more was)

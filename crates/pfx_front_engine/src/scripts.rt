@@ -16,7 +16,7 @@ use pfx_front::faults::StartFault;
 use pfx_front::name::{Names, Since};
 use pfx_jobs::quantum::{Done, Quantum};
 use pfx_kinds::any::AnyJob;
-use pfx_program::{Form, run_script};
+use pfx_program::{AtRefusal, Form, Report, run_script};
 use pfx_script::Script;
 use pfx_store::Store;
 use std::alloc::Global;
@@ -32,7 +32,7 @@ pub struct Served<D: Disk> {
     /// The store.
     pub store: Store<D, AnyJob>,
     /// What the run answered.
-    pub result: Result<(), Fault>,
+    pub result: Result<Report, Fault>,
 }
 
 /// Why a front doesn't start, as a run's fault.
@@ -71,6 +71,7 @@ fn serve<
     script: &mut Script<I>,
     window: u32,
     group: u32,
+    at_refusal: AtRefusal,
     form: Form,
     output: &mut W,
 ) -> Served<D>
@@ -81,7 +82,7 @@ where
     requires some { 0 < window }
     requires few { group ≤ 16 }
     requires begins { Begins any_kind B.start B.failures B.clock B.held B.image store (D.view store.file.disk) }
-    ensures { IsServedRun form B.start script.old script.new.failed (W.contents output.old) (W.contents output.new)
+    ensures { IsServedRun form at_refusal B.start script.old script.new.failed (W.contents output.old) (W.contents output.new)
         (D.view result.store.file.disk) result.result }
 {
     let number = store.state().number();
@@ -101,7 +102,16 @@ where
             if let Some(pass) = front.pass(&rt) {
                 let client = Client::new(pass, number);
                 let mut engine = FrontEngine { rt, front, client };
-                let result = run_script(alloc, script, window, group, form, output, &mut engine);
+                let result = run_script(
+                    alloc,
+                    script,
+                    window,
+                    group,
+                    at_refusal,
+                    form,
+                    output,
+                    &mut engine,
+                );
                 let FrontEngine { front, client, .. } = engine;
                 passes.push_reserved(client.into_pass());
                 if let Ok(closed) = front.close(&rt, crew, Given { passes, readers }) {
@@ -148,6 +158,7 @@ pub fn run_served<
     script: &mut Script<I>,
     window: u32,
     group: u32,
+    at_refusal: AtRefusal,
     form: Form,
     output: &mut W,
 ) -> Served<D>
@@ -157,13 +168,13 @@ where
     requires few { group ≤ 16 }
     requires begins { Begins any_kind store.state (D.view store.file.disk).failures
         (D.view store.file.disk).clock N.held N.image store (D.view store.file.disk) }
-    ensures { IsServedRun form store.state script.old script.new.failed (W.contents output.old) (W.contents output.new)
+    ensures { IsServedRun form at_refusal store.state script.old script.new.failed (W.contents output.old) (W.contents output.new)
         (D.view result.store.file.disk) result.result }
 {
     let _broken = store.is_broken();
     match Names::new(alloc) {
         Ok(names) => serve::<I, W, D, Brand, K, R>(
-            rt, alloc, store, names, desk, workers, script, window, group, form, output,
+            rt, alloc, store, names, desk, workers, script, window, group, at_refusal, form, output,
         ),
         Err(_) => Served {
             store,

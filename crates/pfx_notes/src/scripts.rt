@@ -141,8 +141,8 @@ fn said_of<'a>(found: &Found<'a>) -> Option<Said<'a>> {
     verb_note(found)
 }
 
-// Reads the record at this place, counted from 1; whether there is one.
-fn read_to(alloc: Global, text: &[u8], place: u64, row: &mut ByteRecord) -> bool {
+/// Reads the record at this place, counted from 1; whether there is one.
+pub(crate) fn read_to(alloc: Global, text: &[u8], place: u64, row: &mut ByteRecord) -> bool {
     let mut reader = ReaderBuilder::new()
         .has_headers(false)
         .flexible(true)

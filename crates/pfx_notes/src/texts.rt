@@ -524,9 +524,6 @@ pub(crate) const REFUSED: &str = "{0}: record {1} was refused: {2}";
 /// The same with the word that it was refused for.
 pub(crate) const REFUSED_WORD: &str = "{0}: record {1} was refused: {2}, for `{4}`";
 
-/// The same where it isn't known.
-pub(crate) const SOME_REFUSED: &str = "{0}: a record was refused: {2}";
-
 /// What to do about a refusal, by the name that it has.
 pub(crate) const REFUSALS: [(&str, &str); 15] = [
     (

@@ -4,6 +4,7 @@ use crate::fractions::Fraction;
 use crate::places::{Place, shown_path};
 use pfx_decimal::number_in;
 use pfx_explain::Note;
+use pfx_fault::Fault;
 use std::alloc::{AllocError, Global};
 
 /// The most bytes of a text that is shown in front.
@@ -38,8 +39,8 @@ pub(crate) enum Word<'a> {
     Fraction(Fraction),
     /// A number, or the next one too.
     Either(u64),
-    /// A refusal, as its line or as its object has it.
-    Refusal(&'a str),
+    /// A refusal: its number, its name and its fields.
+    Refusal(Fault),
 }
 
 /// What is wrong, and what to change: texts with places `{0}` to `{5}` for words.
@@ -184,41 +185,9 @@ fn put_count(alloc: Global, text: &mut String, count: u64, noun: &str) -> Result
     text.push('s')
 }
 
-// What stands in an object between these two texts.
-fn between<'a>(object: &'a str, front: &str, end: char) -> &'a str {
-    let Some((_, rest)) = object.split_once(front) else {
-        return "";
-    };
-    match rest.split_once(end) {
-        Some((found, _)) => found,
-        None => rest,
-    }
-}
-
-// The members of an object, each as ` task=0`.
-fn put_fields(text: &mut String, members: &str) -> Result<(), AllocError> {
-    if !members.is_empty() {
-        text.push(' ')?;
-    }
-    for c in members.chars() {
-        match c {
-            '"' => {}
-            ':' => text.push('=')?,
-            ',' => text.push(' ')?,
-            _ => text.push(c)?,
-        }
-    }
-    Ok(())
-}
-
-fn put_refusal(text: &mut String, refusal: &str) -> Result<(), AllocError> {
-    if !refusal.starts_with('{') {
-        return text.push_str(refusal);
-    }
-    text.push_str(between(refusal, "\"number\":", '}'))?;
-    text.push(' ')?;
-    text.push_str(between(refusal, "\"name\":\"", '"'))?;
-    put_fields(text, between(refusal, "\"fields\":{", '}'))
+fn put_refusal(alloc: Global, text: &mut String, fault: Fault) -> Result<(), AllocError> {
+    let said = fault.to_string(alloc)?;
+    text.push_str(said.as_str())
 }
 
 fn put_word(alloc: Global, text: &mut String, word: Word<'_>) -> Result<(), AllocError> {
@@ -245,7 +214,7 @@ fn put_word(alloc: Global, text: &mut String, word: Word<'_>) -> Result<(), Allo
             text.push('/')?;
             put_number(alloc, text, whole)
         }
-        Word::Refusal(refusal) => put_refusal(text, refusal),
+        Word::Refusal(fault) => put_refusal(alloc, text, fault),
         Word::Either(number) => {
             put_number(alloc, text, number)?;
             text.push_str(" or ")?;

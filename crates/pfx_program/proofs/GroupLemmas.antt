@@ -4,7 +4,7 @@ use Rattle.std.specs.Prelude.{slice_get, IfSome}
 use Rattle.std.specs.Option.{option_map}
 use Rattle.std.specs.Io.KnownBytes.{Appends}
 use Rattle.std.proofs.lemmas.Bool.{lt-ltb}
-use Rattle.std.proofs.lemmas.List.{take-append-drop, take_more}
+use Rattle.std.proofs.lemmas.List.{take-append-drop, take_more, length-take-le}
 use Rattle.csv.proofs.WriteFacts.{appends-more}
 use Rattle.pfx_fault.specs.declared.refusals.Fault.{Fault}
 use Rattle.pfx_fault.specs.declared.refusals.Fault.TheVariants as fault
@@ -33,16 +33,20 @@ use Rattle.pfx_program.specs.declared.groups.Joining.TheVariants as joining
 use Rattle.pfx_program.specs.Answers.{reply_line}
 use Rattle.pfx_program.specs.Faults.{fault_of_machine}
 use Rattle.pfx_program.specs.Grants.{counted, counted_at, is_next, granted}
-use Rattle.pfx_program.specs.Groups.{Avoid, Gathers, IsGiven, IsJoining, Joins, ToldFail, behind_group, group_steps, run_at, told_count, told_line, told_text, touches}
+use Rattle.pfx_program.specs.Groups.{Avoid, Gathers, IsGiven, IsJoining, Joins, ToldFail, behind_group, group_refusals, group_steps, run_at, told_count, told_line, told_refusals, told_text, touches}
 use Rattle.pfx_program.specs.Promises.{Promise, Laws, IsEngineFault, IsSame}
 use Rattle.pfx_program.specs.Running.{run_of, Carried, Halts, LineFails, Stopped}
-use Rattle.pfx_program.specs.Script.{Run, Step, after, answered, command_step, commands_of, course_from, job_by, moved, refused, text_of, with_command}
+use Rattle.pfx_program.specs.Reports.{IsAdded, first_of}
+use Rattle.pfx_program.specs.Script.{Run, Step, after, answered, carried, command_step, commands_of, course_from, job_by, moved, noted, refusal_of, refused, text_of, with_command}
+use Rattle.pfx_program.specs.declared.report.RefusedRecord.{RefusedRecord}
+use Rattle.pfx_program.specs.declared.report.Report.{Report}
+use Rattle.std.specs.Option.{option_or}
 use Rattle.pfx_program.specs.Sharing.{AreChanges, IsChange, AreAllDone, AreAllLeft, AreTold, Told, accepted_of}
 use Rattle.pfx_program.proofs.Appends.{appends-kept}
 use Rattle.pfx_program.proofs.Granting.{get_step}
-use Rattle.pfx_program.proofs.RunLemmas.{after_after, from_verb}
+use Rattle.pfx_program.proofs.RunLemmas.{after_after, first_append, from_verb}
 use Rattle.pfx_program.proofs.SlotLemmas.{moved_none, moved_then, slots_failed}
-use Rattle.pfx_program.proofs.StepLemmas.{carried_none, commands_append, given_step}
+use Rattle.pfx_program.proofs.StepLemmas.{carried_none, commands_append, given_step, refusal_one}
 
 -- ---- the steps of commands
 
@@ -71,6 +75,22 @@ group_append r (c ∷ H) G =
     ∙ ap (λ (t : Run). command_step r c ∷ (group_steps next H ++ group_steps t G)) (sym (behind_one r c H))
     ∙ ap (λ (l : List Step). l ++ group_steps (behind_group r (c ∷ H)) G) (sym (group_one r c H))
 
+-- a step for each
+pub group_long : (r : Run) (H : List (Command AnyJob)) → length (group_steps r H) ≡ length H
+group_long r [] = ap length (group_none r)
+group_long r (c ∷ H) = ap length (group_one r c H) ∙ ap suc (group_long (moved r (commands_of (command_step r c ∷ []))) H)
+
+-- the refused ones of two parts
+refusals_append : (at : ℕ) (a b : List Step) → group_refusals at (a ++ b) ≡ group_refusals at a ++ group_refusals (at + length a) b
+refusals_append at [] b = ap (λ (n : ℕ). group_refusals n b) (sym (add-zero at))
+refusals_append at (x ∷ a) b =
+    let sum : at + 1 + length a ≡ at + suc (length a) = omega arith in
+    ap (λ (l : List RefusedRecord). noted at x.refusal ++ l) (refusals_append (at + 1) a b ∙ ap (λ (n : ℕ). group_refusals (at + 1) a ++ group_refusals n b) sum)
+    ∙ sym (append_assoc (noted at x.refusal) (group_refusals (at + 1) a) (group_refusals (at + suc (length a)) b))
+
+one_refusal : (at : ℕ) (x : Step) → group_refusals at (x ∷ []) ≡ noted at (refusal_of (x ∷ []))
+one_refusal at x = append-nil (noted at x.refusal) ∙ ap (noted at) (sym (refusal_one x.refusal))
+
 -- one command more
 group_snoc : (r : Run) (H : List (Command AnyJob)) (c : Command AnyJob) → group_steps r (H ++ c ∷ []) ≡ group_steps r H ++ command_step (behind_group r H) c ∷ []
 group_snoc r H c =
@@ -86,7 +106,7 @@ behind_snoc r H c =
 -- ---- what they are told
 
 abbrev pub told_step : Form → Command AnyJob → Told → Step
-told_step form c (Ok x) = record { text = reply_line form x.0 x.1; command = Some c }
+told_step form c (Ok x) = carried (reply_line form x.0 x.1) c
 told_step form c (Err f) = refused form (fault_of_machine f)
 
 abbrev pub told_steps : Form → List (Command AnyJob) → List Told → List Step
@@ -97,7 +117,7 @@ told_steps form (c ∷ H) (x ∷ told) = told_step form c x ∷ told_steps form 
 told_one : (r : Run) (c : Command AnyJob) (x : ℕ × Reply) → r.accepted < 1048576 → answer any_kind r.state c ≡ Ok x.1 → x.0 ≡ r.state.number + 1 → command_step r c ≡ told_step r.form c (Ok x)
 told_one r c x few accepted next =
     ap (λ (b : Bool). if b then answered r c (answer any_kind r.state c) else refused r.form fault.SessionFull) (lt-ltb r.accepted 1048576 few)
-    ∙ ap (answered r c) accepted ∙ ap (λ (n : ℕ). record { text = reply_line r.form n x.1; command = Some c }) (sym next)
+    ∙ ap (answered r c) accepted ∙ ap (λ (n : ℕ). carried (reply_line r.form n x.1) c) (sym next)
 
 told_none : (r : Run) (c : Command AnyJob) (f : MachineFault) → r.accepted < 1048576 → answer any_kind r.state c ≡ Err f → command_step r c ≡ told_step r.form c (Err f)
 told_none r c f few refusal =
@@ -146,6 +166,13 @@ told_counts s (c ∷ H) [] all = absurd all
 told_counts s (c ∷ H) (Ok x ∷ told) (accepted, next, more) = let rest = told_counts (outcome any_kind s (c ∷ [])) H told more in omega (arith, rest)
 told_counts s (c ∷ H) (Err f ∷ told) (refusal, more) = told_counts s H told more
 
+pub told_refused : (form : Form) (s : Plain AnyJob) (at : ℕ) (H : List (Command AnyJob)) (told : List Told) → AreTold s H told → group_refusals at (told_steps form H told) ≡ told_refusals at told
+told_refused form s at [] [] all = refl
+told_refused form s at [] (x ∷ told) all = absurd all
+told_refused form s at (c ∷ H) [] all = absurd all
+told_refused form s at (c ∷ H) (Ok x ∷ told) (accepted, next, more) = told_refused form (outcome any_kind s (c ∷ [])) (at + 1) H told more
+told_refused form s at (c ∷ H) (Err f ∷ told) (refusal, more) = ap (λ (l : List RefusedRecord). record { at = at; fault = fault_of_machine f } ∷ l) (told_refused form s (at + 1) H told more)
+
 -- the step of the command behind some first ones
 pub told_split : (form : Form) (s : Plain AnyJob) (H : List (Command AnyJob)) (front : List Told) (x : Told) (back : List Told) → AreTold s H (front ++ x ∷ back)
     → (printed : List Step) × (c : Command AnyJob) × (rest : List Step) × (told_steps form H (front ++ x ∷ back) ≡ printed ++ told_step form c x ∷ rest) × (text_of printed ≡ told_text form front)
@@ -187,18 +214,60 @@ told_more form told i x a b c within is first second =
 pub count_more : (told : List Told) (i : ℕ) (x : Told) → i < length told → x ≡ get_or told i x → told_count (take (i + 1) told) ≡ told_count (take i told) + told_count (x ∷ [])
 count_more told i x within is = ap told_count (told_next told i x within is) ∙ count_append (take i told) (x ∷ [])
 
--- one line more, of a command that was accepted or refused
-pub count_ok : {y : ℕ × Reply} (told : List Told) (i : ℕ) (x : Told) (n m : ℕ) → i < length told → x ≡ get_or told i x → x ≡ Ok y → n ≡ told_count (take i told) → m ≡ n + 1 → m ≡ told_count (take (i + 1) told)
-count_ok told i x n m within at is was more =
-    let sum = count_more told i x within at in
-    let one : told_count (x ∷ []) ≡ 1 = ap (λ (z : Told). told_count (z ∷ [])) is in
-    omega (arith, was, more, sum, one)
+pub refusals_more : (at : ℕ) (a b : List Told) → told_refusals at (a ++ b) ≡ told_refusals at a ++ told_refusals (at + length a) b
+refusals_more at [] b = ap (λ (n : ℕ). told_refusals n b) (sym (add-zero at))
+refusals_more at (Ok x ∷ a) b = let sum : at + 1 + length a ≡ at + suc (length a) = omega arith in refusals_more (at + 1) a b ∙ ap (λ (n : ℕ). told_refusals (at + 1) a ++ told_refusals n b) sum
+refusals_more at (Err f ∷ a) b =
+    let sum : at + 1 + length a ≡ at + suc (length a) = omega arith in
+    ap (λ (l : List RefusedRecord). record { at = at; fault = fault_of_machine f } ∷ l) (refusals_more (at + 1) a b ∙ ap (λ (n : ℕ). told_refusals (at + 1) a ++ told_refusals n b) sum)
 
-pub count_err : {f : MachineFault} (told : List Told) (i : ℕ) (x : Told) (n : ℕ) → i < length told → x ≡ get_or told i x → x ≡ Err f → n ≡ told_count (take i told) → n ≡ told_count (take (i + 1) told)
-count_err told i x n within at is was =
-    let sum = count_more told i x within at in
-    let none : told_count (x ∷ []) ≡ 0 = ap (λ (z : Told). told_count (z ∷ [])) is in
-    omega (arith, was, sum, none)
+pub or_assoc : (a b c : Option RefusedRecord) → option_or (option_or a b) c ≡ option_or a (option_or b c)
+or_assoc None b c = refl
+or_assoc (Some x) b c = refl
+
+-- a report of one told command more
+pub added_more : (from : ℕ) (told : List Told) (i : ℕ) (x : Told) (old mid new : Report) → i < length told → x ≡ get_or told i x → IsAdded old (told_count (take i told)) (told_refusals (from + 1) (take i told)) mid
+    → IsAdded mid (told_count (x ∷ [])) (told_refusals (from + i + 1) (x ∷ [])) new → IsAdded old (told_count (take (i + 1) told)) (told_refusals (from + 1) (take (i + 1) told)) new
+added_more from told i x old mid new within is first second =
+    let front : List Told = take i told in
+    let sum = count_more told i x within is in
+    let long : length front ≡ i = length-take-le i told (omega (arith, within)) in
+    let at : from + 1 + length front ≡ from + i + 1 = omega (arith, long) in
+    let all : told_refusals (from + 1) (take (i + 1) told) ≡ told_refusals (from + 1) front ++ told_refusals (from + i + 1) (x ∷ []) =
+    ap (told_refusals (from + 1)) (told_next told i x within is) ∙ refusals_more (from + 1) front (x ∷ []) ∙ ap (λ (n : ℕ). told_refusals (from + 1) front ++ told_refusals n (x ∷ [])) at in
+    let more : length (told_refusals (from + 1) (take (i + 1) told)) ≡ length (told_refusals (from + 1) front) + length (told_refusals (from + i + 1) (x ∷ [])) =
+    ap length all ∙ length-append (told_refusals (from + 1) front) (told_refusals (from + i + 1) (x ∷ [])) in
+    let a = first.accepted in
+    let b = second.accepted in
+    let p = first.refused in
+    let q = second.refused in
+    record {
+      accepted = omega (arith, sum, a, b);
+      refused = omega (arith, more, p, q);
+      first = second.first ∙ ap (λ o. option_or o (first_of (told_refusals (from + i + 1) (x ∷ [])))) first.first ∙ or_assoc old.first (first_of (told_refusals (from + 1) front)) (first_of (told_refusals (from + i + 1) (x ∷ [])))
+          ∙ ap (option_or old.first) (sym (first_append (told_refusals (from + 1) front) (told_refusals (from + i + 1) (x ∷ []))) ∙ ap first_of (sym all));
+    }
+
+no_first : (o : Option RefusedRecord) → option_or o None ≡ o
+no_first None = refl
+no_first (Some x) = refl
+
+-- a report of one command that was accepted, or refused
+pub one_accepted : {y : ℕ × Reply} (at : ℕ) (x : Told) (old new : Report) → x ≡ Ok y → new.accepted ≡ old.accepted + 1 → new.refused ≡ old.refused → new.first ≡ old.first
+    → IsAdded old (told_count (x ∷ [])) (told_refusals at (x ∷ [])) new
+one_accepted {y} at x old new is accepted refused first = subst (λ (z : Told). IsAdded old (told_count (z ∷ [])) (told_refusals at (z ∷ [])) new) (sym is) (record {
+  accepted = accepted;
+  refused = refused ∙ sym (add-zero old.refused);
+  first = first ∙ sym (no_first old.first);
+})
+
+pub one_refused : {f : MachineFault} (at : ℕ) (x : Told) (old new : Report) → x ≡ Err f → IsAdded old 0 (noted at (Some (fault_of_machine f))) new → IsAdded old (told_count (x ∷ [])) (told_refusals at (x ∷ [])) new
+one_refused at x old new is h = subst (λ (z : Told). IsAdded old (told_count (z ∷ [])) (told_refusals at (z ∷ [])) new) (sym is) h
+
+pub refusals_small : (at : ℕ) (told : List Told) → length (told_refusals at told) ≤ length told
+refusals_small at [] = omega arith
+refusals_small at (Ok x ∷ told) = let rest = refusals_small (at + 1) told in omega (arith, rest)
+refusals_small at (Err f ∷ told) = let rest = refusals_small (at + 1) told in omega (arith, rest)
 
 pub told_fail : (form : Form) (told : List Told) (i : ℕ) (x : Told) (a b c : Option (List ℕ)) (f : Fault) → i < length told → x ≡ get_or told i x → Appends a b (told_text form (take i told)) → LineFails (told_line form x) b c f
     → ToldFail form told a c f
@@ -322,32 +391,45 @@ all_left script (Some all) is = (all, refl, is)
 pub gathers_none : (s : Plain AnyJob) (script : Records) → Gathers s script script []
 gathers_none s script = record {
   rows = [];
+  long = refl;
   known = all_left script script.left refl;
   place = sym (add-zero script.place);
   course = λ form accepted rest.
       let r : Run = run_at form s accepted in
-      ap (λ (t : Run). course_from (script.place + 1) t rest) (sym (behind_none r)) ∙ ap (λ (l : List Step). after l (course_from (script.place + 1) (behind_group r []) rest)) (sym (group_none r));
+      ap (λ (t : Run). course_from (script.place + 1) t rest) (sym (behind_none r))
+      ∙ ap (λ (l : List Step). after l (group_refusals (script.place + 1) l) (course_from (script.place + 1) (behind_group r []) rest)) (sym (group_none r));
 }
 
 pub gathers_more : (s : Plain AnyJob) (script mid next : Records) (group : List (Command AnyJob)) (c : Command AnyJob) (row : Fields) → Gathers s script mid group → Takes mid row next → Joins s group c row → Gathers s script next (group ++ c ∷ [])
 gathers_more s script mid next group c row h (place, whole, took) (verb, means, is) =
     let was = h.place in
+    let same = h.long in
     let long : length (group ++ c ∷ []) ≡ length group + 1 = length-append group (c ∷ []) in
+    let rows : length (h.rows ++ row ∷ []) ≡ length h.rows + 1 = length-append h.rows (row ∷ []) in
     record {
       rows = h.rows ++ row ∷ [];
+      long = omega (arith, same, long, rows);
       known = more script.left h.known;
       place = omega (arith, place, was, long);
       course = λ form accepted rest.
           let r : Run = run_at form s accepted in
           let last : Run = behind_group r group in
-          let x : List Step = command_step last c ∷ [] in
+          let y : Step = command_step last c in
+          let x : List Step = y ∷ [] in
+          let front : List Step = group_steps r group in
+          let p : List RefusedRecord = group_refusals (script.place + 1) front in
+          let at : script.place + 1 + length front ≡ mid.place + 1 = (let each = group_long r group in omega (arith, was, each)) in
+          let q : noted (mid.place + 1) (refusal_of x) ≡ group_refusals (script.place + 1 + length front) x = sym (one_refusal (mid.place + 1) y) ∙ ap (λ (n : ℕ). group_refusals n x) (sym at) in
+          let all : p ++ group_refusals (script.place + 1 + length front) x ≡ group_refusals (script.place + 1) (front ++ x) = sym (refusals_append (script.place + 1) front x) in
           ap (course_from (script.place + 1) r) (append_assoc h.rows (row ∷ []) rest) ∙ h.course form accepted (row ∷ rest)
-          ∙ ap (after (group_steps r group)) (from_verb (mid.place + 1) last row rest verb (sym means)
-          ∙ ap (λ (l : List Step). after l (course_from (mid.place + 1 + 1) (moved last (commands_of l)) rest)) (is form accepted)
-          ∙ ap (λ (n : ℕ). after x (course_from (n + 1) (moved last (commands_of x)) rest)) (sym place))
-          ∙ after_after (group_steps r group) x (course_from (next.place + 1) (moved last (commands_of x)) rest)
-          ∙ ap (λ (l : List Step). after l (course_from (next.place + 1) (moved last (commands_of x)) rest)) (sym (group_snoc r group c))
-          ∙ ap (λ (t : Run). after (group_steps r (group ++ c ∷ [])) (course_from (next.place + 1) t rest)) (sym (behind_snoc r group c));
+          ∙ ap (after front p) (from_verb (mid.place + 1) last row rest verb (sym means)
+          ∙ ap (λ (l : List Step). after l (noted (mid.place + 1) (refusal_of l)) (course_from (mid.place + 1 + 1) (moved last (commands_of l)) rest)) (is form accepted)
+          ∙ ap (λ (n : ℕ). after x (noted (mid.place + 1) (refusal_of x)) (course_from (n + 1) (moved last (commands_of x)) rest)) (sym place))
+          ∙ after_after front x p (noted (mid.place + 1) (refusal_of x)) (course_from (next.place + 1) (moved last (commands_of x)) rest)
+          ∙ ap (λ (l : List RefusedRecord). after (front ++ x) (p ++ l) (course_from (next.place + 1) (moved last (commands_of x)) rest)) q
+          ∙ ap (λ (l : List RefusedRecord). after (front ++ x) l (course_from (next.place + 1) (moved last (commands_of x)) rest)) all
+          ∙ ap (λ (l : List Step). after l (group_refusals (script.place + 1) l) (course_from (next.place + 1) (moved last (commands_of x)) rest)) (sym (group_snoc r group c))
+          ∙ ap (λ (t : Run). after (group_steps r (group ++ c ∷ [])) (group_refusals (script.place + 1) (group_steps r (group ++ c ∷ []))) (course_from (next.place + 1) t rest)) (sym (behind_snoc r group c));
     }
   where
     more : (left : Option (List Fields)) → IfSome left (λ all. (rest : List Fields) × (all ≡ h.rows ++ rest) × (mid.left ≡ Some rest))
@@ -402,6 +484,14 @@ module _ {E : Type 0} (P : Promise E) (form : Form) (L : Laws P) where
   group_counts H told accepted a b h few =
       told_counts (P.state a) H told h.answered ∙ ap length (sym (told_commands form H told)) ∙ ap (λ (l : List Step). length (commands_of l)) (sym (told_group (run_of P form a accepted) H told h.answered few))
 
+  pub group_added : (H : List (Command AnyJob)) (told : List Told) (before later : Report) (at : ℕ) (a b : E) → AreAllDone P H told a b → before.accepted + length H ≤ 1048576 → IsAdded before (told_count told) (told_refusals at told) later
+      → IsAdded before (length (commands_of (group_steps (run_of P form a before.accepted) H))) (group_refusals at (group_steps (run_of P form a before.accepted) H)) later
+  group_added H told before later at a b h few added =
+      let is : group_steps (run_of P form a before.accepted) H ≡ told_steps form H told = told_group (run_of P form a before.accepted) H told h.answered few in
+      let refusals : told_refusals at told ≡ group_refusals at (group_steps (run_of P form a before.accepted) H) = sym (ap (group_refusals at) is ∙ told_refused form (P.state a) at H told h.answered) in
+      subst (λ (n : ℕ). IsAdded before n (group_refusals at (group_steps (run_of P form a before.accepted) H)) later) (group_counts H told before.accepted a b h few)
+      (subst (λ (l : List RefusedRecord). IsAdded before (told_count told) l later) refusals added)
+
   pub group_unwritten : (H : List (Command AnyJob)) (told : List Told) (accepted : ℕ) (a b : E) (u v : Option (List ℕ)) (f : Fault) → AreAllDone P H told a b → accepted + length H ≤ 1048576 → ToldFail form told u v f
       → Stopped P (length H) ⊥ (group_steps (run_of P form a accepted) H) a b u v f
   group_unwritten H told accepted a b u v f h few fails =
@@ -432,9 +522,13 @@ module _ {E : Type 0} (P : Promise E) (form : Form) (L : Laws P) where
   group_empty [] accepted e w none = subst (λ (l : List Step). Carried P l e e w w) (sym (group_none (run_of P form e accepted))) (carried_none P L e w)
   group_empty (c ∷ H) accepted e w none = absurd (let no : suc (length H) ≡ 0 = none in omega (arith, no))
 
-pub empty_counts : (r : Run) (H : List (Command AnyJob)) (n : ℕ) → length H ≡ 0 → n ≡ n + length (commands_of (group_steps r H))
-empty_counts r [] n none = sym (add-zero n) ∙ ap (λ (l : List Step). n + length (commands_of l)) (sym (group_none r))
-empty_counts r (c ∷ H) n none = absurd (let no : suc (length H) ≡ 0 = none in omega (arith, no))
+pub empty_added : (r : Run) (at : ℕ) (H : List (Command AnyJob)) (report : Report) → length H ≡ 0 → IsAdded report (length (commands_of (group_steps r H))) (group_refusals at (group_steps r H)) report
+empty_added r at [] report none = subst (λ (l : List Step). IsAdded report (length (commands_of l)) (group_refusals at l) report) (sym (group_none r)) (record {
+  accepted = sym (add-zero report.accepted);
+  refused = sym (add-zero report.refused);
+  first = sym (no_first report.first);
+})
+empty_added r at (c ∷ H) report none = absurd (let no : suc (length H) ≡ 0 = none in omega (arith, no))
 
 -- no more of them are accepted than there are
 pub count_small : (told : List Told) → told_count told ≤ length told

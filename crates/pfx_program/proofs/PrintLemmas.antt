@@ -10,16 +10,20 @@ use Rattle.pfx_script.specs.Records.{Fields, Records, Takes}
 use Rattle.pfx_script.specs.Verbs.{Said, verb_of}
 use Rattle.pfx_program.specs.declared.form.Form.{Form}
 use Rattle.pfx_program.specs.Answers.{closed_line}
-use Rattle.pfx_program.specs.Groups.{Gathers, group_steps, told_line, told_text}
+use Rattle.pfx_program.specs.Groups.{Gathers, behind_group, group_steps, told_line, told_text}
 use Rattle.pfx_program.specs.Printing.{MayPrint, MayRun, MayTell, Rule, line_of, lines_of}
 use Rattle.pfx_program.specs.Promises.{Promise, Laws, IsSame, slots_for}
 use Rattle.pfx_program.specs.Running.{run_of, ran_step, ran_steps, Carried}
-use Rattle.pfx_program.specs.Script.{Run, Step, after, at_start, commands_of, course_from, shown, text_of, verb_steps}
+use Rattle.pfx_fault.specs.declared.refusals.Fault.{Fault}
+use Rattle.pfx_program.specs.Script.{Run, Step, after, at_start, commands_of, course_from, moved, refusal_of, shown, silent, taken, text_of, verb_steps}
+use Rattle.pfx_program.specs.declared.report.AtRefusal.{AtRefusal}
+use Rattle.pfx_program.specs.declared.report.AtRefusal.TheVariants.{GoOn, End}
+use Rattle.pfx_program.specs.declared.report.Report.{Report}
 use Rattle.pfx_program.specs.Sharing.{AreTold, Told, accepted_of}
 use Rattle.pfx_program.proofs.Appends.{appends-nothing}
 use Rattle.pfx_program.proofs.GroupLemmas.{step_line, told_commands, told_group, told_split, told_step, told_steps}
-use Rattle.pfx_program.proofs.GroupRuns.{progress_same}
-use Rattle.pfx_program.proofs.RunLemmas.{Progress, from_none, from_verb}
+use Rattle.pfx_program.proofs.GroupRuns.{MayShare, progress_same, taken_group}
+use Rattle.pfx_program.proofs.RunLemmas.{Progress, from_none, from_verb, taken_none, taken_refused, taken_row}
 use Rattle.pfx_program.proofs.SlotLemmas.{ran_append, ran_commands}
 use Rattle.pfx_program.proofs.StepLemmas.{commands_append, same_state, then_text}
 
@@ -34,7 +38,7 @@ module _ {E : Type 0} (P : Promise E) (L : Laws P) (allows : Rule E) where
   may_show a b was x more h kept = h [] x [] more refl b kept was (appends-nothing was)
 
   -- a step that carries no command out
-  pub may_show_text : (a b : E) (was : Option (List ℕ)) (x : Step) (text : List ℕ) (more : List Step) → MayPrint P allows a was (x ∷ more) → x ≡ shown text → P.keeps a [] 0 b → allows b was text
+  pub may_show_text : {why : Option Fault} (a b : E) (was : Option (List ℕ)) (x : Step) (text : List ℕ) (more : List Step) → MayPrint P allows a was (x ∷ more) → x ≡ silent text why → P.keeps a [] 0 b → allows b was text
   may_show_text a b was x text more h is kept =
       subst (λ (y : Step). allows b was y.text) is (may_show a b was x more h (subst (λ (y : Step). P.keeps a (commands_of (y ∷ [])) (length (commands_of (y ∷ []))) b) (sym is) kept))
 
@@ -99,45 +103,81 @@ module _ {E : Type 0} (P : Promise E) (L : Laws P) (allows : Rule E) where
   -- ---- the records of a script
 
   -- those that are left behind some that were run
-  pub may_run_on : (form : Form) (first script : Records) (a b : E) (accepted : ℕ) (was is : Option (List ℕ)) → Progress P form first script a b accepted was is → MayRun P allows form first 0 a was → MayRun P allows form script accepted b is
-  may_run_on form first script a b accepted was is p h records known =
-      may_more p.steps (course_from (script.place + 1) (run_of P form b accepted) records).steps a b was is p.carried
+  pub may_run_on : (form : Form) (at_refusal : AtRefusal) (first script : Records) (a b : E) (report : Report) (was is : Option (List ℕ)) → Progress P form at_refusal first script a b report was is → MayRun P allows form at_refusal first 0 a was
+      → MayRun P allows form at_refusal script report.accepted b is
+  may_run_on form at_refusal first script a b report was is p h records known =
+      may_more p.steps (course_from (script.place + 1) (run_of P form b report.accepted) records).steps a b was is p.carried
       (subst (λ (l : List Step). MayPrint P allows a was l) (ap (λ o. o.steps) (p.same records)) (h (p.rows ++ records) (all_of first.left p.known)))
     where
-      all_of : (left : Option (List Fields)) → IfSome left (λ all. (rest : List Fields) × (all ≡ p.rows ++ rest) × (script.left ≡ Some rest)) → IfSome left (λ all. all ≡ p.rows ++ records)
+      all_of : (left : Option (List Fields)) → IfSome left (λ all. (rest : List Fields) × (all ≡ p.rows ++ rest) × (script.left ≡ Some rest)) → IfSome left (λ all. taken at_refusal (at_start form (P.state a)) all ≡ p.rows ++ records)
       all_of None k = tt
-      all_of (Some all) (rest, split, left) = let same : rest ≡ records = rw left at known in split ∙ ap (λ (l : List Fields). p.rows ++ l) same
+      all_of (Some all) (rest, split, left) =
+          let same : taken at_refusal (run_of P form b report.accepted) rest ≡ records = rw left at known in
+          ap (taken at_refusal (at_start form (P.state a))) split ∙ p.goes rest ∙ ap (λ (l : List Fields). p.rows ++ l) same
 
-  -- the next one
-  pub may_row : (form : Form) (script next : Records) (row : Fields) (verb : Said) (e : E) (accepted : ℕ) (was : Option (List ℕ)) → MayRun P allows form script accepted e was → Takes script row next → verb_of row ≡ Some verb
-      → MayPrint P allows e was (verb_steps (run_of P form e accepted) verb)
-  may_row form script next row verb e accepted was h (place, whole, took) means =
-      let found = by script.left took in
-      may_less e was (course_from (script.place + 1) (run_of P form e accepted) (row ∷ found.0)).steps (verb_steps (run_of P form e accepted) verb) _ (ap (λ o. o.steps) (from_verb (script.place + 1) (run_of P form e accepted) row found.0 verb (sym means)))
-      (h (row ∷ found.0) found.1)
+  -- what is known of the records that are left where the next one is
+  next_of : (script next : Records) (row : Fields) → IfSome script.left (λ rows. (rest : List Fields) × (rows ≡ row ∷ rest) × (next.left ≡ Some rest)) → (more : List Fields) × IfSome script.left (λ all. all ≡ row ∷ more)
+  next_of script next row took = by script.left took
     where
       by : (left : Option (List Fields)) → IfSome left (λ rows. (rest : List Fields) × (rows ≡ row ∷ rest) × (next.left ≡ Some rest)) → (more : List Fields) × IfSome left (λ all. all ≡ row ∷ more)
       by None k = ([], tt)
       by (Some all) (rest, split, left) = (rest, split)
 
+  all_taken : (at_refusal : AtRefusal) (r : Run) (left : Option (List Fields)) (all some : List Fields) → taken at_refusal r all ≡ some → IfSome left (λ rows. rows ≡ all) → IfSome left (λ rows. taken at_refusal r rows ≡ some)
+  all_taken at_refusal r None all some is known = tt
+  all_taken at_refusal r (Some rows) all some is known = ap (taken at_refusal r) known ∙ is
+
+  -- the next one
+  pub may_row : (form : Form) (at_refusal : AtRefusal) (script next : Records) (row : Fields) (verb : Said) (e : E) (accepted : ℕ) (was : Option (List ℕ)) → MayRun P allows form at_refusal script accepted e was → Takes script row next
+      → verb_of row ≡ Some verb → MayPrint P allows e was (verb_steps (run_of P form e accepted) verb)
+  may_row form at_refusal script next row verb e accepted was h (place, whole, took) means =
+      let found = next_of script next row took in
+      let r : Run = run_of P form e accepted in
+      let (tail, takes) = taken_row at_refusal r row found.0 in
+      may_less e was (course_from (script.place + 1) r (row ∷ tail)).steps (verb_steps r verb) _ (ap (λ o. o.steps) (from_verb (script.place + 1) r row tail verb (sym means)))
+      (h (row ∷ tail) (all_taken at_refusal r script.left (row ∷ found.0) (row ∷ tail) takes found.1))
+
   -- those of a group
-  pub may_group : (form : Form) (script mid : Records) (group : List (Command AnyJob)) (e : E) (accepted : ℕ) (was : Option (List ℕ)) → MayRun P allows form script accepted e was → Gathers (P.state e) script mid group
-      → MayPrint P allows e was (group_steps (run_of P form e accepted) group)
-  may_group form script mid group e accepted was h g =
+  pub may_group : (form : Form) (at_refusal : AtRefusal) (script mid : Records) (group : List (Command AnyJob)) (e : E) (accepted : ℕ) (was : Option (List ℕ)) → MayRun P allows form at_refusal script accepted e was → Gathers (P.state e) script mid group
+      → MayShare P form at_refusal L group → MayPrint P allows e was (group_steps (run_of P form e accepted) group)
+  may_group form at_refusal script mid group e accepted was h g share =
       let found = by script.left g.known in
-      may_less e was (course_from (script.place + 1) (run_of P form e accepted) (g.rows ++ found.0)).steps (group_steps (run_of P form e accepted) group) _ (ap (λ o. o.steps) (g.course form accepted found.0)) (h (g.rows ++ found.0) found.1)
+      let r : Run = run_of P form e accepted in
+      let some : List Fields = taken at_refusal (behind_group r group) found.0 in
+      may_less e was (course_from (script.place + 1) r (g.rows ++ some)).steps (group_steps r group) _ (ap (λ o. o.steps) (g.course form accepted some))
+      (h (g.rows ++ some) (all_taken at_refusal r script.left (g.rows ++ found.0) (g.rows ++ some) (taken_group P form at_refusal L g.rows group r found.0 g.long share) found.1))
     where
       by : (left : Option (List Fields)) → IfSome left (λ all. (rest : List Fields) × (all ≡ g.rows ++ rest) × (mid.left ≡ Some rest)) → (more : List Fields) × IfSome left (λ all. all ≡ g.rows ++ more)
       by None k = ([], tt)
       by (Some all) (rest, split, left) = (rest, split)
 
   -- none is left
-  pub may_close : (form : Form) (script : Records) (e : E) (accepted : ℕ) (was : Option (List ℕ)) → MayRun P allows form script accepted e was → IfSome script.left (λ rows. rows ≡ []) → MayPrint P allows e was (shown (closed_line form (P.state e).number) ∷ [])
-  may_close form script e accepted was h over = subst (λ (l : List Step). MayPrint P allows e was l) (ap (λ o. o.steps) (from_none (script.place + 1) (run_of P form e accepted))) (h [] over)
+  pub may_close : (form : Form) (at_refusal : AtRefusal) (script : Records) (e : E) (accepted : ℕ) (was : Option (List ℕ)) → MayRun P allows form at_refusal script accepted e was → IfSome script.left (λ rows. rows ≡ [])
+      → MayPrint P allows e was (shown (closed_line form (P.state e).number) ∷ [])
+  may_close form at_refusal script e accepted was h over =
+      subst (λ (l : List Step). MayPrint P allows e was l) (ap (λ o. o.steps) (from_none (script.place + 1) (run_of P form e accepted)))
+      (h [] (all_taken at_refusal (run_of P form e accepted) script.left [] [] (taken_none at_refusal (run_of P form e accepted)) over))
+
+  -- the next one was refused, and the run ends there
+  pub may_end : (form : Form) (at_refusal : AtRefusal) (script next : Records) (row : Fields) (verb : Said) (f : Fault) (a b : E) (accepted later : ℕ) (was is : Option (List ℕ)) → MayRun P allows form at_refusal script accepted a was
+      → Takes script row next → verb_of row ≡ Some verb → at_refusal ≡ End → refusal_of (verb_steps (run_of P form a accepted) verb) ≡ Some f → Carried P (verb_steps (run_of P form a accepted) verb) a b was is
+      → later ≡ accepted + length (commands_of (verb_steps (run_of P form a accepted) verb)) → MayPrint P allows b is (shown (closed_line form (P.state b).number) ∷ [])
+  may_end form at_refusal script next row verb f a b accepted later was is h (place, whole, took) means ends why done counts =
+      let found = next_of script next row took in
+      let r : Run = run_of P form a accepted in
+      let x : List Step = verb_steps r verb in
+      let last : taken at_refusal r (row ∷ found.0) ≡ row ∷ [] = ap (λ (p : AtRefusal). taken p r (row ∷ found.0)) ends ∙ taken_refused r row found.0 verb f (sym means) why in
+      let now : moved r (commands_of x) ≡ run_of P form b later = λ i. record { form = form; state = sym done.state i; accepted = sym counts i } in
+      let end : (course_from (script.place + 1 + 1) (moved r (commands_of x)) []).steps ≡ shown (closed_line form (P.state b).number) ∷ [] =
+      ap (λ (t : Run). (course_from (script.place + 1 + 1) t []).steps) now ∙ ap (λ o. o.steps) (from_none (script.place + 1 + 1) (run_of P form b later)) in
+      may_more x (shown (closed_line form (P.state b).number) ∷ []) a b was is done (subst (λ (l : List Step). MayPrint P allows a was (x ++ l)) end
+      (subst (λ (l : List Step). MayPrint P allows a was l) (ap (λ o. o.steps) (from_verb (script.place + 1) r row [] verb (sym means)))
+      (h (row ∷ []) (all_taken at_refusal r script.left (row ∷ found.0) (row ∷ []) last found.1))))
 
   -- those of a group that was gathered from the engine's state before
-  pub may_gathered : (form : Form) (first script mid : Records) (a b c : E) (accepted : ℕ) (group : List (Command AnyJob)) (u v : Option (List ℕ)) → MayRun P allows form first 0 a u → Progress P form first script a b accepted u v
-      → Gathers (P.state b) script mid group → IsSame P b c → (P.settled b → P.settled c) → MayPrint P allows c v (group_steps (run_of P form c accepted) group)
-  may_gathered form first script mid a b c accepted group u v h p g same settled =
-      may_group form script mid group c accepted v (may_run_on form first script a c accepted u v (progress_same P form L first script a b c accepted u v p same settled) h)
-      (subst (λ (s : Plain AnyJob). Gathers s script mid group) (sym same.state) g)
+  pub may_gathered : (form : Form) (at_refusal : AtRefusal) (first script mid : Records) (a b c : E) (report : Report) (group : List (Command AnyJob)) (u v : Option (List ℕ)) → MayRun P allows form at_refusal first 0 a u
+      → Progress P form at_refusal first script a b report u v → Gathers (P.state b) script mid group → MayShare P form at_refusal L group → IsSame P b c → (P.settled b → P.settled c)
+      → MayPrint P allows c v (group_steps (run_of P form c report.accepted) group)
+  may_gathered form at_refusal first script mid a b c report group u v h p g share same settled =
+      may_group form at_refusal script mid group c report.accepted v (may_run_on form at_refusal first script a c report u v (progress_same P form at_refusal L first script a b c report u v p same settled) h)
+      (subst (λ (s : Plain AnyJob). Gathers s script mid group) (sym same.state) g) share

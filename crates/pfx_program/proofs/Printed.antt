@@ -9,13 +9,14 @@ use Rattle.pfx_machine.specs.declared.command.Command.{Command}
 use Rattle.pfx_machine.specs.declared.command.Command.TheVariants.{Slot}
 use Rattle.pfx_program.specs.Printing.{MayPrint, MayRun, MayTell, Rule}
 use Rattle.pfx_program.specs.Promises.{Promise}
-use Rattle.pfx_program.specs.Script.{Step, course_from, with_command}
+use Rattle.pfx_program.specs.Script.{Step, carried, course_from, taken, with_command}
 use Rattle.pfx_program.specs.declared.form.Form.{Form}
+use Rattle.pfx_program.specs.declared.report.AtRefusal.{AtRefusal}
 use Rattle.pfx_script.specs.Records.{Fields, Records}
 
 -- a Slot that prints one byte
 abbrev pub slot : Step
-slot = record { text = 7 ∷ []; command = Some Slot }
+slot = carried (7 ∷ []) Slot
 
 abbrev first_command : List Step → Option (Command AnyJob)
 first_command [] = None
@@ -64,8 +65,8 @@ module _ (s : Plain AnyJob) where
       omega (arith, long)
 
   -- at the end of a script a line is printed, whatever its records were
-  end_is_printed : (form : Form) (script : Records) → script.left ≡ None → MayRun counted (behind 1) form script 0 0 (Some []) → ⊥
+  end_is_printed : (form : Form) (at_refusal : AtRefusal) (script : Records) → script.left ≡ None → MayRun counted (behind 1) form at_refusal script 0 0 (Some []) → ⊥
   unfolding course_from
-  end_is_printed form script unknown may =
-      let none : 1 ≤ 0 = may [] (subst (λ (l : Option (List Fields)). IfSome l (λ all. all ≡ [])) (sym unknown) tt) [] _ [] [] refl 0 (omega arith) (Some []) refl in
+  end_is_printed form at_refusal script unknown may =
+      let none : 1 ≤ 0 = may [] (subst (λ (l : Option (List Fields)). IfSome l (λ all. taken at_refusal (record { form = form; state = s; accepted = 0 }) all ≡ [])) (sym unknown) tt) [] _ [] [] refl 0 (omega arith) (Some []) refl in
       omega (arith, none)

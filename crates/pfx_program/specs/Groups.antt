@@ -18,7 +18,8 @@ use Rattle.pfx_program.specs.Faults.{fault_of_machine}
 use Rattle.pfx_program.specs.Grants.{counted, is_next}
 use Rattle.pfx_program.specs.Promises.{IsEngineFault}
 use Rattle.pfx_program.specs.Running.{LineFails}
-use Rattle.pfx_program.specs.Script.{Run, Step, after, command_step, commands_of, course_from, moved, verb_steps}
+use Rattle.pfx_program.specs.Script.{Run, Step, after, command_step, commands_of, course_from, moved, noted, verb_steps}
+use Rattle.pfx_program.specs.declared.report.RefusedRecord.{RefusedRecord}
 use Rattle.pfx_program.specs.Sharing.{IsChange, Told}
 
 -- the steps of commands, one after the other
@@ -28,6 +29,11 @@ group_steps r (c ∷ H) = command_step r c ∷ group_steps (moved r (commands_of
 
 abbrev pub run_at : Form → Plain AnyJob → ℕ → Run
 run_at form s accepted = record { form = form; state = s; accepted = accepted }
+
+-- the refused ones of records that have one step each, of which the first has the place `at`
+abbrev pub group_refusals : ℕ → List Step → List RefusedRecord
+group_refusals at [] = []
+group_refusals at (x ∷ steps) = noted at x.refusal ++ group_refusals (at + 1) steps
 
 -- how far a run has come behind them
 abbrev pub behind_group : Run → List (Command AnyJob) → Run
@@ -47,6 +53,12 @@ abbrev pub told_count : List Told → ℕ
 told_count [] = 0
 told_count (Ok x ∷ told) = 1 + told_count told
 told_count (Err f ∷ told) = told_count told
+
+-- the refused ones, of which the first record has the place `at`
+abbrev pub told_refusals : ℕ → List Told → List RefusedRecord
+told_refusals at [] = []
+told_refusals at (Ok x ∷ told) = told_refusals (at + 1) told
+told_refusals at (Err f ∷ told) = record { at = at; fault = fault_of_machine f } ∷ told_refusals (at + 1) told
 
 -- some first lines were written, whole, and the next one wasn't
 pub record ToldFail (form : Form) (told : List Told) (old new : Option (List ℕ)) (f : Fault) : Type 0 where
@@ -97,10 +109,12 @@ HasNotFailed other = ⊤
 -- of a script's records these commands were read, one of each, and the others are left: the course of all goes through theirs
 pub record Gathers (s : Plain AnyJob) (script next : Records) (group : List (Command AnyJob)) : Type 0 where
   pub rows : List Fields
+  pub long : length rows ≡ length group
   pub known : IfSome script.left (λ all. (rest : List Fields) × (all ≡ rows ++ rest) × (next.left ≡ Some rest))
   pub place : next.place ≡ script.place + length group
   pub course : (form : Form) → (accepted : ℕ) → (rest : List Fields) → course_from (script.place + 1) (run_at form s accepted) (rows ++ rest)
-      ≡ after (group_steps (run_at form s accepted) group) (course_from (next.place + 1) (behind_group (run_at form s accepted) group) rest)
+      ≡ after (group_steps (run_at form s accepted) group) (group_refusals (script.place + 1) (group_steps (run_at form s accepted) group))
+      (course_from (next.place + 1) (behind_group (run_at form s accepted) group) rest)
 
 -- What stands behind a group: no further record is ready; one that doesn't join was read; none is left; the next one wasn't read; or
 -- the engine failed.

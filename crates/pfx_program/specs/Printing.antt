@@ -5,8 +5,9 @@ use Rattle.pfx_machine.specs.declared.command.Reply.{Reply}
 use Rattle.pfx_program.specs.Answers.{reply_line}
 use Rattle.pfx_program.specs.Promises.{Promise}
 use Rattle.pfx_program.specs.Running.{run_of, ran_steps}
-use Rattle.pfx_program.specs.Script.{Step, commands_of, course_from, text_of}
+use Rattle.pfx_program.specs.Script.{Step, commands_of, course_from, taken, text_of}
 use Rattle.pfx_program.specs.declared.form.Form.{Form}
+use Rattle.pfx_program.specs.declared.report.AtRefusal.{AtRefusal}
 use Rattle.pfx_script.specs.Records.{Fields, Records}
 
 -- when a text may be printed: by this engine, behind what was written
@@ -30,7 +31,7 @@ line_of form x = reply_line form x.0 x.1
 abbrev pub lines_of : Form → List (ℕ × Reply) → List ℕ
 lines_of form said = text_of (ran_steps form said)
 
--- whatever records a script has left, as far as they are known: of their course from here on each text may be printed so
-abbrev pub MayRun : {E : Type 0} → Promise E → Rule E → Form → Records → ℕ → E → Option (List ℕ) → Type 0
-MayRun P allows form script accepted engine was = (records : List Fields) → IfSome script.left (λ all. all ≡ records)
+-- whatever records a run takes of those that a script has left, as far as they are known: of their course from here on each text may be printed so
+abbrev pub MayRun : {E : Type 0} → Promise E → Rule E → Form → AtRefusal → Records → ℕ → E → Option (List ℕ) → Type 0
+MayRun P allows form at_refusal script accepted engine was = (records : List Fields) → IfSome script.left (λ all. taken at_refusal (run_of P form engine accepted) all ≡ records)
     → MayPrint P allows engine was (course_from (script.place + 1) (run_of P form engine accepted) records).steps

@@ -1,6 +1,7 @@
 -- What a run of a script does: steps, each with what it prints and the command that it carries out; a function of the
 -- script's records and of the state that it begins with.
-use Rattle.std.specs.Prelude.{◌++◌, ℕ, zero, suc, ◌+◌, nat_lt, if◌then◌else◌, Bool, length, List, [], ◌∷◌, Option, Some, None, is_some, Result, Ok, Err}
+use Rattle.std.specs.Prelude.{◌++◌, ℕ, zero, suc, ◌+◌, nat_lt, if◌then◌else◌, Bool, length, List, [], ◌∷◌, Option, Some, None, Result, Ok, Err}
+use Rattle.std.specs.Option.{option_or}
 use Rattle.pfx_kinds.specs.AnyKind.{any_kind, any_decoded}
 use Rattle.pfx_kinds.specs.Counts.{count_bytes}
 use Rattle.pfx_kinds.specs.Rules.{rule_bytes}
@@ -23,6 +24,9 @@ use Rattle.pfx_script.specs.Records.{Fields, script_records}
 use Rattle.pfx_fault.specs.declared.refusals.Fault.{Fault}
 use Rattle.pfx_fault.specs.declared.refusals.Fault.TheVariants as fault
 use Rattle.pfx_program.specs.declared.form.Form.{Form}
+use Rattle.pfx_program.specs.declared.report.AtRefusal.{AtRefusal}
+use Rattle.pfx_program.specs.declared.report.AtRefusal.TheVariants.{GoOn, End}
+use Rattle.pfx_program.specs.declared.report.RefusedRecord.{RefusedRecord}
 use Rattle.pfx_program.specs.Answers.{reply_line, refused_line, settled_line, closed_line, board_shown}
 use Rattle.pfx_program.specs.Grants.{counted, is_next}
 use Rattle.pfx_program.specs.Jobs.{shown_jobs}
@@ -34,10 +38,11 @@ pub record Run : Type 0 where
   pub state : Plain AnyJob
   pub accepted : ℕ
 
--- a step of a run: the lines that it prints, and the command that it carries out, if there is one
+-- a step of a run: the lines that it prints, the command that it carries out, if there is one, and why it is refused, if it is
 pub record Step : Type 0 where
   pub text : List ℕ
   pub command : Option (Command AnyJob)
+  pub refusal : Option Fault
 
 -- what steps print
 abbrev pub text_of : List Step → List ℕ
@@ -57,25 +62,33 @@ commands_of (x ∷ steps) = with_command x.command (commands_of steps)
 abbrev pub moved : Run → List (Command AnyJob) → Run
 moved r H = record { form = r.form; state = outcome any_kind r.state H; accepted = r.accepted + length H }
 
--- lines alone
+-- why a record is refused that has these steps: as the first of them that is
+abbrev pub refusal_of : List Step → Option Fault
+refusal_of [] = None
+refusal_of (x ∷ steps) = option_or x.refusal (refusal_of steps)
+
+-- lines alone, with the refusal that they tell, if they tell one
+abbrev pub silent : List ℕ → Option Fault → Step
+silent text why = record { text = text; command = None; refusal = why }
+
 abbrev pub shown : List ℕ → Step
-shown text = record { text = text; command = None }
+shown text = silent text None
 
 -- a refused command changes nothing
 abbrev pub refused : Form → Fault → Step
-refused form f = shown (refused_line form f)
+refused form f = silent (refused_line form f) (Some f)
+
+-- a command that is carried out
+abbrev pub carried : List ℕ → Command AnyJob → Step
+carried text c = record { text = text; command = Some c; refusal = None }
 
 abbrev pub answered : Run → Command AnyJob → Result Reply MachineFault → Step
-answered r c (Ok reply) = record { text = reply_line r.form (r.state.number + 1) reply; command = Some c }
+answered r c (Ok reply) = carried (reply_line r.form (r.state.number + 1) reply) c
 answered r c (Err f) = refused r.form (fault_of_machine f)
 
 -- a command: one run accepts 1,048,576 of them
 abbrev pub command_step : Run → Command AnyJob → Step
 command_step r c = if nat_lt r.accepted 1048576 then answered r c (answer any_kind r.state c) else refused r.form fault.SessionFull
-
--- whether a step carries a command out
-abbrev pub is_carried : Step → Bool
-is_carried x = is_some x.command
 
 -- more follows a command that is accepted
 abbrev pub follows : (Run → List Step) → Run → Option (Command AnyJob) → List Step
@@ -125,28 +138,53 @@ verb_steps r status = shown (board_of r.form r.state) ∷ []
 verb_steps r (show task) = jobs_step r.form (shown_jobs r.form r.state.jobs task) ∷ []
 verb_steps r (reweigh workers text) = command_step r (Reweigh workers (said_weights text)) ∷ []
 
--- the steps of a script, and the place, counted from 1, of the record without form that ends them
+-- The steps of a script, its refused records, and the place, counted from 1, of the record without form that ends them.
 pub record Course : Type 0 where
   pub steps : List Step
+  pub refusals : List RefusedRecord
   pub ends_at : Option ℕ
 
-abbrev pub after : List Step → Course → Course
-after steps o = record { steps = steps ++ o.steps; ends_at = o.ends_at }
+-- a record at this place, if it is refused
+abbrev pub noted : ℕ → Option Fault → List RefusedRecord
+noted at None = []
+noted at (Some f) = record { at = at; fault = f } ∷ []
+
+abbrev pub after : List Step → List RefusedRecord → Course → Course
+after steps refusals o = record { steps = steps ++ o.steps; refusals = refusals ++ o.refusals; ends_at = o.ends_at }
 
 -- a record's steps, and then what follows; a record without form ends the run
 abbrev pub course_by : (Run → Course) → ℕ → Run → Option Said → Course
-course_by more at r None = record { steps = []; ends_at = Some at }
-course_by more at r (Some verb) = after (verb_steps r verb) (more (moved r (commands_of (verb_steps r verb))))
+course_by more at r None = record { steps = []; refusals = []; ends_at = Some at }
+course_by more at r (Some verb) = after (verb_steps r verb) (noted at (refusal_of (verb_steps r verb))) (more (moved r (commands_of (verb_steps r verb))))
 
 -- the course of records, of which the first has the place `at`; at the end the last number is printed
 unfoldable pub course_from : ℕ → Run → List Fields → Course
-course_from at r [] = record { steps = shown (closed_line r.form r.state.number) ∷ []; ends_at = None }
+course_from at r [] = record { steps = shown (closed_line r.form r.state.number) ∷ []; refusals = []; ends_at = None }
 course_from at r (row ∷ rows) = course_by (λ next. course_from (at + 1) next rows) at r (verb_of row)
+
+-- what follows a record, if it has a form and isn't refused
+abbrev pub unless_refused : (Run → List Fields) → Run → List Step → Option Fault → List Fields
+unless_refused more r steps None = more (moved r (commands_of steps))
+unless_refused more r steps (Some f) = []
+
+abbrev pub up_by : (Run → List Fields) → Run → Option Said → List Fields
+up_by more r None = []
+up_by more r (Some verb) = unless_refused more r (verb_steps r verb) (refusal_of (verb_steps r verb))
+
+-- the records up to the first one that is refused or has no form
+unfoldable pub up_to_refusal : Run → List Fields → List Fields
+up_to_refusal r [] = []
+up_to_refusal r (row ∷ rows) = row ∷ up_by (λ next. up_to_refusal next rows) r (verb_of row)
+
+-- the records that a run takes of these: all, or, if it ends at a refusal, those up to the first one that is refused
+abbrev pub taken : AtRefusal → Run → List Fields → List Fields
+taken GoOn r rows = rows
+taken End r rows = up_to_refusal r rows
 
 -- how far a run has come that begins with a state
 abbrev pub at_start : Form → Plain AnyJob → Run
 at_start form s = record { form = form; state = s; accepted = 0 }
 
--- the course of a script's bytes, from a state on
-abbrev pub script_course : Form → Plain AnyJob → List ℕ → Course
-script_course form s bytes = course_from 1 (at_start form s) (script_records bytes)
+-- the course of a script's bytes, from a state on, by what it does at a refusal
+abbrev pub script_course : Form → AtRefusal → Plain AnyJob → List ℕ → Course
+script_course form at_refusal s bytes = course_from 1 (at_start form s) (taken at_refusal (at_start form s) (script_records bytes))

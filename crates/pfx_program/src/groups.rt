@@ -3,7 +3,8 @@
 ghost use Rattle.std.specs.Prelude.{◌≡◌, ◌+◌, ◌-◌, ◌≤◌, ◌<◌, ◌^◌, false, length, IfOk, IfErr, OnOk};
 ghost use Rattle.std.specs.Io.KnownBytes.{Appends};
 ghost use Rattle.csv.specs.Records.{fields_of, AllText};
-ghost use Rattle.pfx_program.specs.Groups.{touches, Avoid, HasNotFailed, IsBehind, IsGiven, IsJoining, IsStill, ToldFail, group_steps, told_count, told_line, told_text};
+ghost use Rattle.pfx_program.specs.Groups.{touches, Avoid, HasNotFailed, IsBehind, IsGiven, IsJoining, IsStill, ToldFail, group_refusals, group_steps, told_count, told_line, told_refusals, told_text};
+ghost use Rattle.pfx_program.specs.Reports.{IsAdded};
 ghost use Rattle.pfx_program.specs.Printing.{MayPrint, MayTell};
 ghost use Rattle.pfx_program.specs.Promises.{IsSame};
 ghost use Rattle.pfx_program.specs.Running.{run_of, Carried, Stopped};
@@ -15,7 +16,8 @@ use crate::engine::{Engine, Told};
 use crate::faults::machine_fault;
 use crate::grants::{is_next, started};
 use crate::printer::Printer;
-use crate::writing::{put_refused, put_reply};
+use crate::report::Report;
+use crate::writing::{put_reply, refuse};
 use csv::StringRecord;
 use pfx_fault::Fault;
 use pfx_kinds::any::AnyJob;
@@ -145,6 +147,7 @@ pub(crate) fn gather<R: Read + Drop, E: Engine>(
     ensures settled { IsStill result.behind → E.promise.settled engine.old → E.promise.settled engine.new }
     ensures same { IsSame E.promise engine.old engine.new }
     ensures counts { script.new.place < 2 ^ 64 }
+    ensures places { script.old.place + length result.group.items < 2 ^ 64 }
 {
     let mut group = Vec::new(alloc);
     'records: loop {
@@ -184,57 +187,68 @@ pub(crate) fn gather<R: Read + Drop, E: Engine>(
     }
 }
 
-// Prints what commands were told: how many of them were accepted.
+// Prints what commands were told, and reports of them. `from` is the place of the record before the first one's.
 fn put_told<W: Printer<E>, E>(
     alloc: Global,
+    from: u64,
+    report: &mut Report,
     form: Form,
     output: &mut W,
     engine: &E,
     told: &[Told],
-) -> Result<u32, Fault>
+) -> Result<(), Fault>
     requires may { MayTell W.allows engine.now (W.contents output.old) (told_line form) (told_text form) told.now }
-    requires few { length told.now ≤ 16 }
+    requires room { report.old.accepted + length told.now ≤ 1048576 }
+    requires places { from + length told.now < 2 ^ 64 }
+    requires few { report.old.refused ≤ from }
     ensures ok { OnOk result (Appends (W.contents output.old) (W.contents output.new) (told_text form told.now)) }
-    ensures count { IfOk result (λ count. count ≡ told_count told.now) }
+    ensures counts { OnOk result (IsAdded report.old (told_count told.now) (told_refusals (from + 1) told.now) report.new) }
     ensures err { IfErr result (ToldFail form told.now (W.contents output.old) (W.contents output.new)) }
 {
-    let mut count = 0;
+    let mut at = from;
     for entry in told {
+        at += 1;
         match entry {
             Ok((number, reply)) => {
                 put_reply(alloc, form, output, engine, *number, reply)?;
-                count += 1;
+                report.accepted += 1;
             }
-            Err(fault) => put_refused(alloc, form, output, engine, machine_fault(*fault))?,
+            Err(fault) => {
+                let why = refuse(alloc, form, output, engine, machine_fault(*fault))?;
+                report.note(at, why);
+            }
         }
     }
-    Ok(count)
+    Ok(())
 }
 
-/// Carries the commands of a group out in one call of the engine, and prints their lines once all that were accepted are kept.
+/// Carries the commands of a group out in one call of the engine, prints their lines once all that were accepted are kept, and reports
+/// of them. `from` is the place of the record before the first one's.
 pub(crate) fn run_group<W: Printer<E>, E: Engine>(
     alloc: Global,
     group: Vec<Command<AnyJob>>,
-    accepted: &mut u32,
+    from: u64,
+    report: &mut Report,
     form: Form,
     output: &mut W,
     engine: &mut E,
 ) -> Result<(), Fault>
     requires changes { AreChanges group.items }
     requires few { length group.items ≤ 16 }
-    requires room { length group.items ≤ 1048576 - accepted.old }
-    requires may { MayPrint E.promise W.allows engine.old (W.contents output.old) (group_steps (run_of E.promise form engine.old accepted.old) group.items) }
-    ensures ok { OnOk result (Carried E.promise (group_steps (run_of E.promise form engine.old accepted.old) group.items) engine.old engine.new
+    requires room { length group.items ≤ 1048576 - report.old.accepted }
+    requires places { from + length group.items < 2 ^ 64 }
+    requires refused { report.old.refused ≤ from }
+    requires may { MayPrint E.promise W.allows engine.old (W.contents output.old) (group_steps (run_of E.promise form engine.old report.old.accepted) group.items) }
+    ensures ok { OnOk result (Carried E.promise (group_steps (run_of E.promise form engine.old report.old.accepted) group.items) engine.old engine.new
         (W.contents output.old) (W.contents output.new)) }
-    ensures counts { OnOk result
-        (accepted.new ≡ accepted.old + length (commands_of (group_steps (run_of E.promise form engine.old accepted.old) group.items))) }
-    ensures err { IfErr result (Stopped E.promise (length group.items) ⊥ (group_steps (run_of E.promise form engine.old accepted.old) group.items)
+    ensures counts { OnOk result (IsAdded report.old (length (commands_of (group_steps (run_of E.promise form engine.old report.old.accepted) group.items)))
+        (group_refusals (from + 1) (group_steps (run_of E.promise form engine.old report.old.accepted) group.items)) report.new) }
+    ensures err { IfErr result (Stopped E.promise (length group.items) ⊥ (group_steps (run_of E.promise form engine.old report.old.accepted) group.items)
         engine.old engine.new (W.contents output.old) (W.contents output.new)) }
 {
     if group.is_empty() {
         return Ok(());
     }
     let told = engine.all(alloc, group)?;
-    *accepted += put_told(alloc, form, output, engine, &told)?;
-    Ok(())
+    put_told(alloc, from, report, form, output, engine, &told)
 }

@@ -1,6 +1,6 @@
 //! Writing the lines of a run.
 
-ghost use Rattle.std.specs.Prelude.{OnOk, IfErr};
+ghost use Rattle.std.specs.Prelude.{◌≡◌, Some, OnOk, IfOk, IfErr};
 ghost use Rattle.std.specs.Io.KnownBytes.{Appends};
 ghost use Rattle.pfx_program.specs.Answers.{reply_line, refused_line};
 ghost use Rattle.pfx_program.specs.Running.{LineFails};
@@ -72,4 +72,21 @@ pub(crate) fn put_refused<W: Printer<E>, E>(
         Ok(line) => put_text(output, engine, line.as_str()),
         Err(_) => Err(Fault::NoMemory),
     }
+}
+
+/// Writes the line of a refusal, and gives back why.
+pub(crate) fn refuse<W: Printer<E>, E>(
+    alloc: Global,
+    form: Form,
+    output: &mut W,
+    engine: &E,
+    fault: Fault,
+) -> Result<Option<Fault>, Fault>
+    requires allowed { W.allows engine.now (W.contents output.old) (refused_line form fault) }
+    ensures ok { OnOk result (Appends (W.contents output.old) (W.contents output.new) (refused_line form fault)) }
+    ensures told { IfOk result (λ why. why ≡ Some fault) }
+    ensures err { IfErr result (LineFails (refused_line form fault) (W.contents output.old) (W.contents output.new)) }
+{
+    put_refused(alloc, form, output, engine, fault)?;
+    Ok(Some(fault))
 }

@@ -39,6 +39,8 @@ mod program;
 #[cfg(test)]
 mod refused_sets;
 #[cfg(test)]
+mod reports;
+#[cfg(test)]
 mod reweighs;
 #[cfg(test)]
 mod script;

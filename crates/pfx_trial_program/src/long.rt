@@ -4,7 +4,7 @@ use crate::refused_sets::REFUSED_SETS;
 use crate::scripts::thirds;
 use crate::torn::Torn;
 use pfx_fault::Fault;
-use pfx_program::{Form, read_task_set, run_plan, run_script};
+use pfx_program::{AtRefusal, Form, read_task_set, run_plan, run_script};
 use pfx_script::Script;
 use std::alloc::Global;
 use std::io;
@@ -35,6 +35,7 @@ fn runs_slots(alloc: Global, script: &[u8], slots: u32) -> bool {
         &mut Script::new(alloc, script),
         1,
         0,
+        AtRefusal::GoOn,
         Form::Text,
         &mut written,
         &mut state,
@@ -99,6 +100,7 @@ fn is_written_slowly(alloc: Global) -> bool {
         &mut Script::new(alloc, script),
         1,
         0,
+        AtRefusal::GoOn,
         Form::Text,
         &mut output,
         &mut state,
@@ -170,6 +172,7 @@ fn answers_worked(alloc: Global) -> bool {
         &mut script,
         1,
         0,
+        AtRefusal::GoOn,
         Form::Text,
         &mut written,
         &mut state,

@@ -3,8 +3,8 @@
 use pfx_explain::{Note, entry_named, put_entry};
 use pfx_fault::Fault;
 use pfx_notes::{
-    Named, Stands, Trouble, input_note, output_note, passed_over_note, record_note, refused_note,
-    script_note, set_note, store_note, trouble_note,
+    First, Named, Stands, Trouble, input_note, output_note, passed_over_note, record_note,
+    refused_note, script_note, set_note, store_note, trouble_note,
 };
 use std::alloc::{AllocError, Global};
 
@@ -107,15 +107,12 @@ fn says_what_is_wrong_with_a_script(rt: HostRuntime) {
     let lines = "  standard input: record 3 has no form of a record
   A record has five fields, VERB,TASK,KIND,GOAL,DATA, as submit,0,count,5, or slot,,,3, with unused ones empty.\n";
     assert!(rt; says(rt.alloc(), note, lines));
-    let note = refused_note(
-        rt.alloc(),
-        "a.csv",
-        b"slot,,,2,\nwithdraw,0,,,\n",
-        2,
-        0,
-        b"33 NoJob task=0",
-        3,
-    );
+    let first = First {
+        at: 2,
+        fault: Fault::NoJob { task: 0 },
+        refused: 3,
+    };
+    let note = refused_note(rt.alloc(), "a.csv", b"slot,,,2,\nwithdraw,0,,,\n", first);
     let lines = "  a.csv:2:1: record 2 was refused: 33 NoJob task=0
   Take away or show only what is there: pfx status says job=open or job=done of a task that has one.
   2 more records were refused.\n";
@@ -162,15 +159,29 @@ fn says_how_new_weights_are_given(rt: HostRuntime) {
 #[test]
 fn says_what_to_do_about_refused_weights(rt: HostRuntime) {
     let text = b"slot,,,,\nreweigh,,,2,1/3\n";
-    let note = refused_note(rt.alloc(), "a.csv", text, 1, 0, b"35 NotLevel task=0", 1);
+    let first = First {
+        at: 2,
+        fault: Fault::NotLevel { task: 0 },
+        refused: 1,
+    };
+    let note = refused_note(rt.alloc(), "a.csv", text, first);
     let lines = "  a.csv:2:1: record 2 was refused: 35 NotLevel task=0
   Run slots until every lag is 0: pfx status has them, and at each multiple of the hyperperiod behind the last new weights all are.\n";
     assert!(rt; tells(rt.alloc(), note, lines));
 }
 
-/// Whether this record of a script is said to be refused after so many answers, of which so many show jobs.
-fn tells_refused(alloc: Global, text: &[u8], answers: u64, shown: u64, place: u64) -> bool {
-    let note = refused_note(alloc, "a.csv", text, answers, shown, b"33 NoJob task=2", 1);
+/// A record that is refused because a task has no job.
+fn jobless(at: u64) -> First {
+    First {
+        at,
+        fault: Fault::NoJob { task: 2 },
+        refused: 1,
+    }
+}
+
+/// Whether the record at this place of a script, and in this line, is said to be refused.
+fn tells_refused(alloc: Global, text: &[u8], place: u64) -> bool {
+    let note = refused_note(alloc, "a.csv", text, jobless(place));
     let lines = format!(in alloc;
         "  a.csv:{place}:1: record {place} was refused: 33 NoJob task=2
   Take away or show only what is there: pfx status says job=open or job=done of a task that has one.\n"
@@ -183,45 +194,22 @@ fn tells_refused(alloc: Global, text: &[u8], answers: u64, shown: u64, place: u6
 
 #[test]
 fn finds_a_refused_record_behind_jobs_that_were_shown(rt: HostRuntime) {
-    // Jobs that are shown are an answer if there are some, and none else.
     let first = b"show,,,,\nshow,2,,,\n";
-    assert!(rt;
-        tells_refused(rt.alloc(), first, 0, 0, 2),
-        "none were shown"
-    );
-    assert!(rt;
-        tells_refused(rt.alloc(), first, 1, 1, 2),
-        "some were shown"
-    );
+    assert!(rt; tells_refused(rt.alloc(), first, 2), "none or some");
     let given = b"submit,0,count,9,\nshow,,,,\nslot,,,2,\nshow,2,,,\nslot,,,,\n";
-    assert!(rt;
-        tells_refused(rt.alloc(), given, 4, 1, 4),
-        "a job was given"
-    );
+    assert!(rt; tells_refused(rt.alloc(), given, 4), "a job was given");
     let unsure = b"show,,,,\nstatus,,,,\nwithdraw,1,,,\nwithdraw,2,,,\n";
-    assert!(rt;
-        tells_refused(rt.alloc(), unsure, 1, 0, 3),
-        "none, and the first"
-    );
-    assert!(rt;
-        tells_refused(rt.alloc(), unsure, 2, 1, 3),
-        "some, and the first"
-    );
-    assert!(rt;
-        tells_refused(rt.alloc(), unsure, 2, 0, 4),
-        "none, and the second"
-    );
-    assert!(rt;
-        tells_refused(rt.alloc(), unsure, 3, 1, 4),
-        "some, and the second"
-    );
+    assert!(rt; tells_refused(rt.alloc(), unsure, 3), "the first");
+    assert!(rt; tells_refused(rt.alloc(), unsure, 4), "the second");
+    let either = b"show,,,,\nshow,1,,,\nshow,2,,,\n";
+    assert!(rt; tells_refused(rt.alloc(), either, 2), "one of two");
+    assert!(rt; tells_refused(rt.alloc(), either, 3), "the other");
 }
 
 #[test]
-fn tells_no_place_where_two_records_may_be_refused(rt: HostRuntime) {
-    let either = b"show,,,,\nshow,1,,,\nshow,2,,,\n";
-    let note = refused_note(rt.alloc(), "a.csv", either, 1, 1, b"33 NoJob task=2", 1);
-    let lines = "  a.csv: a record was refused: 33 NoJob task=2
+fn tells_the_place_of_a_record_whose_text_is_not_at_hand(rt: HostRuntime) {
+    let note = refused_note(rt.alloc(), "-", b"", jobless(7));
+    let lines = "  standard input: record 7 was refused: 33 NoJob task=2
   Take away or show only what is there: pfx status says job=open or job=done of a task that has one.\n";
     assert!(rt; tells(rt.alloc(), note, lines));
 }

@@ -7,7 +7,7 @@ use pfx_kinds::any::AnyJob;
 use pfx_kit::states::SEGMENT;
 use pfx_kit::week::{FIRST_WEEK, SECOND_WEEK, WEEK};
 use pfx_machine::State;
-use pfx_program::{Form, run_record, run_script};
+use pfx_program::{AtRefusal, Form, run_record, run_script};
 use pfx_script::Script;
 use pfx_weights::TaskSet;
 use std::alloc::Global;
@@ -40,11 +40,12 @@ pub fn prints_as(
         &mut Script::new(alloc, script.as_bytes()),
         1,
         0,
+        AtRefusal::GoOn,
         form,
         &mut written,
         state,
     );
-    got == end && written.as_slice() == want.as_bytes()
+    got.err() == end.err() && written.as_slice() == want.as_bytes()
 }
 
 fn prints(
@@ -282,6 +283,7 @@ fn runs_up_to_the_tear(alloc: Global, state: &mut State<AnyJob>) -> bool {
         &mut Script::new(alloc, input),
         1,
         0,
+        AtRefusal::GoOn,
         Form::Text,
         &mut written,
         state,
@@ -333,6 +335,7 @@ fn answers_a_group_before_it_asks(alloc: Global, state: &mut State<AnyJob>) -> b
         &mut Script::new(alloc, input),
         1,
         16,
+        AtRefusal::GoOn,
         Form::Text,
         &mut written,
         state,
@@ -395,6 +398,7 @@ fn writes_the_beginning(alloc: Global, state: &mut State<AnyJob>) -> bool {
         &mut Script::new(alloc, WEEK.as_bytes()),
         1,
         0,
+        AtRefusal::GoOn,
         Form::Text,
         &mut output,
         state,

@@ -4,7 +4,7 @@ use crate::scripts::thirds;
 use pfx_fault::Fault;
 use pfx_kinds::any::AnyJob;
 use pfx_machine::{Command, State};
-use pfx_program::{Form, created_line, run_script, run_show, run_status};
+use pfx_program::{AtRefusal, Form, created_line, run_script, run_show, run_status};
 use pfx_script::Script;
 use pfx_weights::TaskSet;
 use std::alloc::Global;
@@ -127,7 +127,18 @@ fn shows_objects(alloc: Global) -> bool {
     };
     let mut script = Script::new(alloc, WHOLE_WEEK.as_bytes());
     let mut lines = Vec::new(alloc);
-    if run_script(alloc, &mut script, 1, 0, Form::Text, &mut lines, &mut state).is_err() {
+    if run_script(
+        alloc,
+        &mut script,
+        1,
+        0,
+        AtRefusal::GoOn,
+        Form::Text,
+        &mut lines,
+        &mut state,
+    )
+    .is_err()
+    {
         return false;
     }
     has_shown(alloc, Form::Json, &state, None, OBJECTS)
@@ -146,7 +157,18 @@ fn shows_two_jobs(alloc: Global) -> bool {
     };
     let mut script = Script::new(alloc, WEEK.as_bytes());
     let mut lines = Vec::new(alloc);
-    if run_script(alloc, &mut script, 1, 0, Form::Text, &mut lines, &mut state).is_err() {
+    if run_script(
+        alloc,
+        &mut script,
+        1,
+        0,
+        AtRefusal::GoOn,
+        Form::Text,
+        &mut lines,
+        &mut state,
+    )
+    .is_err()
+    {
         return false;
     }
     has_jobs(alloc, &state, None, JOBS)

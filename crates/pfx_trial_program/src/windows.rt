@@ -5,7 +5,7 @@ use pfx_fault::Fault;
 use pfx_kinds::any::AnyJob;
 use pfx_kit::states::state_at;
 use pfx_machine::State;
-use pfx_program::{Form, run_script};
+use pfx_program::{AtRefusal, Form, run_script};
 use pfx_script::Script;
 use pfx_weights::TaskSet;
 use std::alloc::Global;
@@ -74,6 +74,7 @@ fn prints(alloc: Global, room: u64, window: u32) -> bool {
         &mut Script::new(alloc, SCRIPT.as_bytes()),
         window.max(1),
         window.min(16),
+        AtRefusal::GoOn,
         Form::Text,
         &mut written,
         &mut state,
@@ -131,6 +132,7 @@ fn takes_the_first(alloc: Global, all: &[u8], room: usize, window: u32) -> bool 
         &mut Script::new(alloc, SCRIPT.as_bytes()),
         window.max(1),
         window.min(16),
+        AtRefusal::GoOn,
         Form::Text,
         &mut output,
         &mut state,

@@ -12,7 +12,7 @@ use pfx_disk::{Disk, MemoryDisk};
 use pfx_front_engine::scripts::run_served;
 use pfx_kinds::any::AnyJob;
 use pfx_kit::week::{FIRST_WEEK, SECOND_WEEK, WEEK};
-use pfx_program::Form;
+use pfx_program::{AtRefusal, Form};
 use pfx_script::Script;
 use pfx_store::Store;
 use pfx_store::laws::honest_disks_hold;
@@ -57,6 +57,7 @@ fn printed<R: Threads + Wait + Clock + Copy + Drop + Send + Sync + 'static>(
         &mut script,
         2,
         0,
+        AtRefusal::GoOn,
         Form::Text,
         &mut output,
     );

@@ -8,7 +8,7 @@ use pfx_fault::{Cause, Fault};
 use pfx_kit::places::END;
 use pfx_kit::week::{FIRST_WEEK, SECOND_WEEK, WEEK};
 use pfx_machine::{Command, Reply};
-use pfx_program::{CallFault, Engine, Form, run_script};
+use pfx_program::{AtRefusal, CallFault, Engine, Form, run_script};
 use pfx_script::Script;
 use std::alloc::Global;
 use std::fs::{File, OpenOptions};
@@ -29,6 +29,7 @@ fn prints<D: Disk>(
         &mut Script::new(alloc, script.as_bytes()),
         1,
         0,
+        AtRefusal::GoOn,
         Form::Text,
         &mut written,
         engine,
@@ -181,11 +182,12 @@ fn segments_are_turned(rt: HostRuntime) {
         &mut Script::new(alloc, b"slot,,,800,\n".as_slice()),
         1,
         0,
+        AtRefusal::GoOn,
         Form::Text,
         &mut written,
         &mut engine,
     );
-    check(&rt, end == Ok(()), "800 slots");
+    check(&rt, end.is_ok(), "800 slots");
     let disk = engine.into_store().into_disk();
     check(&rt, stands_at(alloc, disk, 800), "opened again");
 }

@@ -6,7 +6,7 @@ use crate::stops::{kept_by, survivors};
 use pfx_disk::{Disk, Fate, FaultDisk, MemoryDisk};
 use pfx_engine::{DurableEngine, run_durable};
 use pfx_fault::{Cause, Fault};
-use pfx_program::Form;
+use pfx_program::{AtRefusal, Form};
 use pfx_script::Script;
 use std::alloc::Global;
 use std::io::Write;
@@ -24,11 +24,15 @@ fn run<D: Disk>(
         &mut Script::new(alloc, script.as_bytes()),
         window.max(1),
         window.min(16),
+        AtRefusal::GoOn,
         Form::Text,
         &mut written,
         engine,
     );
-    (written, end)
+    match end {
+        Ok(_) => (written, Ok(())),
+        Err(fault) => (written, Err(fault)),
+    }
 }
 
 /// Records of slots that end within a window and at its border, with commands between them that are taken and refused.

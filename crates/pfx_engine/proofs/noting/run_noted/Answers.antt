@@ -15,9 +15,9 @@ returns-in-Err g c =
     let whole : noted.file.broken ≡ false = ap (λ s. s.file.broken) c.noted-noted.ensures in
     let state : noted.state ≡ c.args.store.state = ap (λ s. s.state) c.noted-noted.ensures in
     record {
-      ran = subst (λ t. IsNotedRun c.args.form c.args.store.state c.args.script.now c.args.script.now.failed (g.W.Write.contents c.args.output.now) (g.W.Write.contents c.args.output.now) held image c.moment.result
+      ran = subst (λ t. IsNotedRun c.args.form c.args.at_refusal c.args.store.state c.args.script.now c.args.script.now.failed (g.W.Write.contents c.args.output.now) (g.W.Write.contents c.args.output.now) held image c.moment.result
           (g.D.Disk.view c.told.result.file.disk) t (Err fault.NoMemory)) (sym (c.told.ensures.state.0 ∙ ap (λ s. s.state) c.in-Err.ensures.given_back ∙ state))
-          (noted_none c.args.form c.args.store.state c.args.script.now c.args.script.now.failed (g.W.Write.contents c.args.output.now) held image c.moment.result
+          (noted_none c.args.form c.args.at_refusal c.args.store.state c.args.script.now c.args.script.now.failed (g.W.Write.contents c.args.output.now) held image c.moment.result
           (g.D.Disk.view c.told.result.file.disk) (view c.in-Err.back.file.disk).now
           (λ honest. (along.follows honest).premise)
           (λ so left behind. subst (λ d. (view d).now left) c.disk.ensures (c.moment.ensures.images so left behind))
@@ -39,12 +39,12 @@ returns-in-Ok g c =
     let whole : noted.file.broken ≡ false = ap (λ s. s.file.broken) c.noted-noted.ensures in
     let at : begun.store.state ≡ c.args.store.state = ap (λ s. s.state) c.in-Ok.ensures.store ∙ ap (λ s. s.state) c.noted-noted.ensures in
     record {
-      ran = subst (λ t. IsNotedRun c.args.form c.args.store.state c.args.script.now c.run_durable-result.new.script.failed (g.W.Write.contents c.args.output.now) (g.W.Write.contents c.run_durable-result.new.output) held image
+      ran = subst (λ t. IsNotedRun c.args.form c.args.at_refusal c.args.store.state c.args.script.now c.run_durable-result.new.script.failed (g.W.Write.contents c.args.output.now) (g.W.Write.contents c.run_durable-result.new.output) held image
           c.moment-in-Ok.result (g.D.Disk.view c.told-in-Ok.result.file.disk) t c.run_durable-result.result) (sym (c.told-in-Ok.ensures.state.0 ∙ ap (λ s. s.state) c.into_store-after.ensures))
-          (subst (λ s. IsNotedRun c.args.form s c.args.script.now c.run_durable-result.new.script.failed (g.W.Write.contents c.args.output.now) (g.W.Write.contents c.run_durable-result.new.output) held image
+          (subst (λ s. IsNotedRun c.args.form c.args.at_refusal s c.args.script.now c.run_durable-result.new.script.failed (g.W.Write.contents c.args.output.now) (g.W.Write.contents c.run_durable-result.new.output) held image
           c.moment-in-Ok.result (g.D.Disk.view c.told-in-Ok.result.file.disk) c.run_durable-result.new.engine.store.state c.run_durable-result.result) at
           (noted_run held image c.moment-in-Ok.result (g.D.Disk.view c.told-in-Ok.result.file.disk) (λ honest. (along.follows honest).premise)
-          (λ engine. view engine.store.file.disk) (λ engine. engine.store.file.broken) (λ engine. engine.store.state) c.args.form
+          (λ engine. view engine.store.file.disk) (λ engine. engine.store.file.broken) (λ engine. engine.store.state) c.args.form c.args.at_refusal
           (max c.args.window c.args.group) c.args.script.now c.run_durable-result.new.script.failed begun c.run_durable-result.new.engine (g.W.Write.contents c.args.output.now) (g.W.Write.contents c.run_durable-result.new.output)
           c.run_durable-result.result c.run_durable-result.ensures.runs
           (ap (λ s. s.file.broken) c.in-Ok.ensures.store ∙ whole)

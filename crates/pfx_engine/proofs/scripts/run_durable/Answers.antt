@@ -4,5 +4,5 @@ use Rattle.pfx_engine.proofs.scripts.run_durable.Goals as goal
 
 pub returns-clause-printed : goal.returns-clause-printed
 returns-clause-printed g c =
-    kept_as_printed (λ engine. g.D.Disk.view engine.store.file.disk) (λ engine. engine.store.file.broken) (λ engine. engine.store.state) c.args.form (max c.args.window c.args.group) c.args.script.now c.run_script.new.script.failed
+    kept_as_printed (λ engine. g.D.Disk.view engine.store.file.disk) (λ engine. engine.store.file.broken) (λ engine. engine.store.state) c.args.form c.args.at_refusal (max c.args.window c.args.group) c.args.script.now c.run_script.new.script.failed
     c.args.engine.now c.run_script.new.engine (g.W.Write.contents c.args.output.now) (g.W.Write.contents c.run_script.new.output) c.run_script.result c.run_script.ensures

@@ -1,8 +1,7 @@
-use Rattle.std.proofs.Common.{◌≡◌, ◌<◌, ◌+◌, ◌-◌, ◌*◌, ℕ, arith, ap, ◌∙◌, subst}
+use Rattle.std.proofs.Common.{◌≡◌, ◌<◌, ◌+◌, ◌-◌, ◌*◌, arith, ap, ◌∙◌, subst}
 use Rattle.std.specs.Prelude.{◌/◌, ◌%◌}
 use Rattle.std.proofs.Math.Nat.{mod-lt}
 use Rattle.pfx_columns.specs.Ledgers.{Ledger}
-use Rattle.pfx_program.specs.Level.{IsNextLevel}
 use Rattle.pfx_program.proofs.Levels.{at_period, to_period}
 use Rattle.pfx_program.proofs.level.level_slot.Goals as goal
 

@@ -1,0 +1,64 @@
+//! What a run of a script does at a refusal, and what it counts.
+
+ghost use Rattle.std.specs.Prelude.{◌≡◌, ◌<◌, None};
+ghost use Rattle.pfx_program.specs.Reports.{IsAdded};
+ghost use Rattle.pfx_program.specs.Script.{noted};
+
+use pfx_fault::Fault;
+
+/// What a run of a script does behind a record that is refused.
+#[derive(Clone, Copy, Debug, PartialEq, Eq)]
+pub enum AtRefusal {
+    /// It goes on with the next record.
+    GoOn,
+    /// It ends there, as if the script did.
+    End,
+}
+
+/// A record of a script that was refused.
+#[derive(Clone, Copy, Debug, PartialEq, Eq)]
+pub struct RefusedRecord {
+    /// Its place in the script, counted from 1.
+    pub at: u64,
+    /// Why.
+    pub fault: Fault,
+}
+
+/// What a run of a script has counted.
+#[derive(Clone, Copy, Debug, PartialEq, Eq)]
+pub struct Report {
+    /// How many commands were accepted.
+    pub accepted: u32,
+    /// How many records were refused. A record of slots ends with its first refusal, and is refused then.
+    pub refused: u64,
+    /// The first of these.
+    pub first: Option<RefusedRecord>,
+}
+
+impl Report {
+    /// Of a run that has done nothing.
+    pub(crate) fn new() -> Report
+        ensures accepted { result.accepted ≡ 0 }
+        ensures refused { result.refused ≡ 0 }
+        ensures first { result.first ≡ None }
+    {
+        Report {
+            accepted: 0,
+            refused: 0,
+            first: None,
+        }
+    }
+
+    /// Counts the record at a place, if it was refused. Fewer were so far than stand before it.
+    pub(crate) fn note(&mut self, at: u64, refusal: Option<Fault>)
+        requires room { self.old.refused < at }
+        ensures { IsAdded self.old 0 (noted at refusal) self.new }
+    {
+        if let Some(fault) = refusal {
+            self.refused += 1;
+            if self.first.is_none() {
+                self.first = Some(RefusedRecord { at, fault });
+            }
+        }
+    }
+}
