@@ -1,0 +1,45 @@
+-- Worked rows: frames in a row, what a log has kept, and the frames behind a number.
+use Rattle.std.proofs.Common.{◌≡◌, ℕ, zero, suc, List, [], ◌∷◌, length, refl, sym, ap, arith}
+use Rattle.pfx_jobs.specs.Kind.{Kind}
+use Rattle.pfx_log.specs.Logs.{block_of, new_log, number_of, with_block}
+use Rattle.pfx_machine.specs.Plain.{Plain}
+use Rattle.pfx_recovery.specs.ToyCodec.{toy}
+use Rattle.pfx_recovery.proofs.Runs.{numbers_rise}
+use Rattle.pfx_recovery.proofs.ToyLaws.{toy_meets}
+use Rattle.pfx_store_log.specs.Behind.{IsGap, StandBehind}
+use Rattle.pfx_store_log.specs.Covering.{HasKept, frames_in, in_a_row}
+use Rattle.pfx_store_log.specs.Joining.{Gathers, none_behind}
+
+row : in_a_row ((1 ∷ 2 ∷ []) ∷ [] ∷ (3 ∷ []) ∷ []) ≡ 1 ∷ 2 ∷ 3 ∷ []
+row = refl
+
+blocks : frames_in (block_of 1 2 (7 ∷ []) ∷ block_of 3 3 (8 ∷ 9 ∷ []) ∷ []) ≡ 7 ∷ 8 ∷ 9 ∷ []
+blocks = refl
+
+module _ {J : Type 0} (K : Kind J) (s : Plain J) (version : ℕ) (state before : List ℕ) where
+  -- a new log has kept none of the frames behind its state
+  none_kept : (all : List (List ℕ)) → number_of state ≡ s.number → HasKept K s all 0 s (new_log version state before)
+  none_kept all same = record { few = omega arith; frames = refl; leads = refl; number = sym same }
+
+  -- one whose block has another byte than the frame hasn't kept it
+  other_byte : (kept : ℕ) (behind : Plain J) → ¬ HasKept K s ((7 ∷ []) ∷ []) kept behind (with_block (new_log version state before) (block_of 1 1 (9 ∷ [])))
+  other_byte zero behind is = absurd (omega (arith, ap length is.frames))
+  other_byte (suc zero) behind is = absurd (omega (arith, ap {B = ℕ} (λ l. elim l [ [] ↦ 0 | x ∷ xs ↦ x ]) is.frames))
+  other_byte (suc (suc kept)) behind is = absurd (let few = is.few in omega (arith, few))
+
+-- a frame of the toy codec, with this number and this record
+toy_frame : ℕ → ℕ → List ℕ
+toy_frame n v = 195 ∷ 1 ∷ 0 ∷ 0 ∷ 0 ∷ n ∷ 0 ∷ 0 ∷ 0 ∷ 0 ∷ 0 ∷ 0 ∷ 0 ∷ 1 ∷ 0 ∷ v ∷ []
+
+-- of two frames the second is behind number 1, and that is what is gathered
+second_behind : StandBehind toy 0 (toy_frame 1 7 ∷ toy_frame 2 8 ∷ []) 1 (toy_frame 2 8 ∷ [])
+unfolding toy_frame
+second_behind = record { front = toy_frame 1 7 ∷ []; whole = refl; reaches = (1, refl, refl) }
+
+second_gathered : Gathers toy 1 (none_behind 0) (toy_frame 1 7 ∷ toy_frame 2 8 ∷ []) (record { bytes = toy_frame 2 8; begin = 1; number = 2 })
+unfolding toy_frame
+second_gathered = (1, refl, (2, refl, refl))
+
+-- none are behind the last number of a log that ends before the first frame's
+begins_later : IsGap toy 3 (toy_frame 4 7 ∷ []) 2
+begins_later rest stand = absurd (omega (arith, numbers_rise toy toy_meets 3 stand.front 2 stand.reaches))

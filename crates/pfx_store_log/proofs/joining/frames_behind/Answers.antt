@@ -1,0 +1,19 @@
+use Rattle.std.proofs.Common.{refl, ⊎_elim}
+use Rattle.pfx_format.specs.Format.{format}
+use Rattle.pfx_format.proofs.Keeping.{format_laws}
+use Rattle.pfx_store_log.specs.Behind.{all_frames}
+use Rattle.pfx_store_log.specs.Joining.{gathering}
+use Rattle.pfx_store_log.proofs.Behind.{ends}
+use Rattle.pfx_store_log.proofs.joining.frames_behind.Goals as goal
+
+pub returns-then-gathered-last-clause-exact : goal.returns-then-gathered-last-clause-exact
+returns-then-gathered-last-clause-exact g c honest h p s found are =
+    let K = format g.J.Job.kind in
+    ⊎_elim (λ there. absurd (c.if-gathered-last.true there.0)) (λ none. (refl, none.1))
+    (ends K c.args.last (format_laws g.J.Job.kind g.met.J.Job.laws) p.base.number (all_frames p) (gathering c.in_ok-gathered.gathered) (c.in_ok-gathered.ensures.exact honest h p s found are))
+
+pub returns-clause-exact : goal.returns-clause-exact
+returns-clause-exact g c honest h p s found are =
+    let K = format g.J.Job.kind in
+    ⊎_elim (λ there. there.1) (λ none. absurd (none.0 c.if-gathered-last.false))
+    (ends K c.args.last (format_laws g.J.Job.kind g.met.J.Job.laws) p.base.number (all_frames p) (gathering c.in_ok-gathered.gathered) (c.in_ok-gathered.ensures.exact honest h p s found are))

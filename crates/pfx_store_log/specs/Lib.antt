@@ -1,0 +1,6 @@
+pub mod Behind
+pub mod Covering
+pub mod Fitting
+pub mod Joining
+pub mod Opening
+pub mod Working

@@ -1,0 +1,22 @@
+// A store, its log, and the frames that the log doesn't have yet.
+ghost use Rattle.std.specs.Prelude.{◌≡◌, ◌≤◌, length, false, vec_capacity};
+ghost use Rattle.pfx_store_log.specs.Fitting.{FitsIn};
+
+use pfx_disk::Disk;
+use pfx_jobs::job::Job;
+use pfx_log::LogFile;
+use pfx_store::Store;
+
+/// A store beside its log, with the frames that the store has and the log hasn't. They are of the segment that frames go to, and have room in memory
+/// up to its end.
+#[derive(Drop)]
+pub struct LoggedStore<D: Disk, L: Disk, J: Job> {
+    /// The store.
+    pub store: Store<D, J>,
+    /// The log.
+    pub log: LogFile<L>,
+    /// The frames behind the log's last block, one behind the other.
+    pub copy: Vec<u8>,
+    ghost fits: { store.file.broken ≡ false → FitsIn (length copy.items) store.file.places },
+    ghost room: { store.file.places.sizes.segment ≤ vec_capacity copy },
+}
