@@ -1,20 +1,19 @@
 //! A run of grants and of answers to them on one thread, stopped twice.
 
 use crate::check::check_at;
-use crate::folds::{Fold, MADE, SEGMENT, empty, thirds};
+use crate::courses::{Course, run_on_disk};
+use crate::engines::{MemoryEngine, Stopped};
+use crate::folds::{MADE, empty, folds};
 use crate::stopped::{FATES, Run, stops};
 use crate::twice::MORE;
-use pfx_disk::{Disk, Fate, MemoryDisk};
-use pfx_engine::DurableEngine;
+use pfx_disk::{Fate, MemoryDisk};
 use pfx_kinds::any::AnyJob;
-use pfx_machine::{Command, State};
-use pfx_replay::plain_state;
-use pfx_store::Store;
+use pfx_machine::Command;
 use std::alloc::Global;
 
 /// How many commands the run has: a start for each task, and then 25 slots, each with the answers of its two units behind it. Their
 /// frames fill a segment more than once.
-const COMMANDS: u64 = 78;
+pub const COMMANDS: u64 = 78;
 
 /// The tasks of a slot's row.
 fn row(slot: u64) -> [u16; 2] {
@@ -46,7 +45,7 @@ fn answer(task: u16, unit: u64) -> Option<Command<AnyJob>> {
 }
 
 /// The run's command of this number.
-fn command(number: u64) -> Option<Command<AnyJob>> {
+pub fn command(number: u64) -> Option<Command<AnyJob>> {
     if number <= 3 {
         return answer(number.checked_sub(1)? as u16, 0);
     }
@@ -59,45 +58,18 @@ fn command(number: u64) -> Option<Command<AnyJob>> {
     }
 }
 
-/// The folds of the first commands: of none of them, of one, and so on up to all.
-fn folds(alloc: Global) -> Option<Vec<Fold>> {
-    let start = State::new(alloc, &thirds(alloc)?, SEGMENT).ok()?;
-    let mut commands = Vec::new(alloc);
-    let mut folds = Vec::new(alloc);
-    for number in 1..COMMANDS + 2 {
-        let state = plain_state(alloc, &start, &commands).ok()??;
-        commands.push(Command::Slot).ok()?;
-        let behind_slot = plain_state(alloc, &start, &commands).ok()??;
-        folds.push(Fold { state, behind_slot }).ok()?;
-        commands.pop()?;
-        commands.push(command(number)?).ok()?;
-    }
-    Some(folds)
-}
-
-/// The disk after the run, and the clocks of the run's marks.
-fn run_on_disk(alloc: Global) -> Option<(MemoryDisk, Vec<u64>)> {
-    let store = Store::init(alloc, empty(alloc)?, &thirds(alloc)?, SEGMENT).ok()?;
-    let mut engine = DurableEngine::new(alloc, store).ok()?;
-    let mut marks = Vec::new(alloc);
-    for number in 1..COMMANDS + 1 {
-        let (mark, _reply) = engine.execute(alloc, command(number)?).ok()?;
-        marks.push(mark.clock).ok()?;
-    }
-    Some((engine.into_store().into_disk(), marks))
-}
-
 /// Whether the run is stopped after each of its calls with this fate, and each stop leaves what it has to, now and one Slot later.
 fn is_kept(alloc: Global, fate: Fate) -> Option<bool> {
-    let (disk, marks) = run_on_disk(alloc)?;
-    let folds = folds(alloc)?;
+    let begun = empty(alloc)?;
+    let (disk, marks) = run_on_disk::<MemoryDisk, MemoryEngine>(alloc, begun, Course::Answered)?;
+    let folds = folds(alloc, Course::Answered)?;
     let run = Run {
         folds: &folds,
         marks: &marks,
     };
-    let calls = disk.clock().checked_sub(MADE)?;
+    let calls = disk.calls().checked_sub(MADE)?;
     let wanted = calls.saturating_add(1).saturating_mul(2);
-    let (first, second) = stops(alloc, &disk, &run, fate)?;
+    let (first, second) = stops::<MemoryDisk, MemoryEngine>(alloc, &disk, &run, fate)?;
     Some(calls > 4 * COMMANDS && first == wanted && second >= MORE.saturating_mul(wanted))
 }
 

@@ -1,7 +1,9 @@
 //! A store on one thread, each of whose calls of the disk fails in turn, and each call of whose opening does.
 
 use crate::check::check_at;
-use crate::folds::{CALLS, COMMANDS, Fold, MADE, SEGMENT, command, empty, folds, is_state, thirds};
+use crate::courses::Course;
+use crate::engines::{Engine, MemoryEngine, Stopped};
+use crate::folds::{CALLS, COMMANDS, Fold, MADE, command, empty, folds};
 use pfx_disk::{Disk, FaultDisk, MemoryDisk};
 use pfx_engine::DurableEngine;
 use pfx_fault::{Cause, Fault};
@@ -10,30 +12,27 @@ use pfx_machine::Command;
 use pfx_program::CallFault;
 use pfx_recover::OpenFault;
 use pfx_store::Store;
-use pfx_store_file::StoreFault;
 use std::alloc::Global;
+
+/// The engine over a store on a disk that fails.
+type FaultEngine = DurableEngine<FaultDisk<MemoryDisk>>;
 
 /// How many calls an opening of the disk after the run takes.
 const OPENING: u64 = 9;
 
-/// The engine on a disk whose call of this number fails, doing its work all the same or not.
-fn failing(alloc: Global, call: u64, works: bool) -> Option<DurableEngine<FaultDisk<MemoryDisk>>> {
+/// A disk whose call of this number fails, doing its work all the same or not.
+fn failing(alloc: Global, call: u64, works: bool) -> Option<FaultDisk<MemoryDisk>> {
     let memory = empty(alloc)?;
-    let disk = match works {
+    Some(match works {
         true => FaultDisk::with_work_done(memory, call),
         false => FaultDisk::new(memory, call),
-    };
-    let store = Store::init(alloc, disk, &thirds(alloc)?, SEGMENT).ok()?;
-    DurableEngine::new(alloc, store).ok()
+    })
 }
 
 /// How many commands of the run are carried out, and why the next one isn't.
-fn carried_out(
-    alloc: Global,
-    engine: &mut DurableEngine<FaultDisk<MemoryDisk>>,
-) -> Option<(u64, Option<CallFault>)> {
+fn carried_out<D, E: Engine<D>>(alloc: Global, engine: &mut E) -> Option<(u64, Option<CallFault>)> {
     for number in 1..COMMANDS + 1 {
-        match engine.execute(alloc, command(alloc, number)?) {
+        match engine.carry_out(alloc, command(alloc, number)?) {
             Ok(_) => {}
             Err(fault) => return Some((number - 1, Some(fault))),
         }
@@ -41,61 +40,72 @@ fn carried_out(
     Some((COMMANDS, None))
 }
 
-/// Whether the store answers each call as broken, and makes none of the disk's, whose clock this is: so a disk that fails once
-/// and ever after is answered as one that fails once.
-fn stays_broken(store: &mut Store<FaultDisk<MemoryDisk>, AnyJob>, clock: u64) -> bool {
-    let tended = store.tend();
-    let turned = store.turn();
-    tended == Err(StoreFault::Broken)
-        && turned == Err(StoreFault::Broken)
-        && store.is_broken()
-        && store.disk().clock() == clock
-}
-
 /// Whether the disk opens to the state after so many commands, or after some more, which are so many at the most.
-pub fn holds(alloc: Global, disk: MemoryDisk, done: u64, most: u64, folds: &[Fold]) -> bool {
-    let Ok(store) = Store::<MemoryDisk, AnyJob>::open(alloc, disk) else {
+pub fn holds<D, E: Engine<D>>(
+    alloc: Global,
+    disk: D,
+    done: u64,
+    most: u64,
+    folds: &[Fold],
+) -> bool {
+    let Some(engine) = E::opened(alloc, disk) else {
         return false;
     };
-    let number = store.state().number();
+    let number = engine.number();
     match folds.get(number as usize) {
-        Some(fold) => {
-            done <= number && number - done <= most && is_state(store.state(), &fold.state)
-        }
+        Some(fold) => done <= number && number - done <= most && engine.is_at(&fold.state),
         None => false,
     }
 }
 
-/// Whether the command under way is answered by what failed, the next one too, and what was answered before is kept.
-fn is_ended(alloc: Global, call: u64, works: bool, folds: &[Fold]) -> Option<bool> {
-    let mut engine = failing(alloc, MADE.saturating_add(call), works)?;
+/// How many commands are carried out on a disk that fails; whether the one under way is answered by what failed, and the next one
+/// too, and the store is broken; and the disk. A store that is broken makes no call of its disk, so a disk that fails once and ever
+/// after is answered as one that fails once.
+fn ends<D, E: Engine<D>>(alloc: Global, disk: D) -> Option<(u64, bool, D)> {
+    let mut engine = E::begun(alloc, disk)?;
     let (done, fault) = carried_out(alloc, &mut engine)?;
     let told = CallFault::Failed(Fault::StoreFailed {
         marked: done,
         cause: Cause::Device,
     });
-    let clock = engine.store.disk().clock();
-    let again = engine.execute(alloc, Command::Slot).err();
+    let calls = engine.calls();
+    let again = engine.carry_out(alloc, Command::Slot).err();
     let is_told = fault == Some(told) && again == Some(told);
-    let mut store = engine.into_store();
-    let is_broken = stays_broken(&mut store, clock);
-    let disk = store.into_disk().into_inner();
-    Some(is_told && is_broken && holds(alloc, disk, done, 1, folds))
+    let (is_broken, left) = engine.broken(calls);
+    Some((done, is_told && is_broken, left))
 }
 
-/// Whether the run goes through where the call that is to fail comes after its last one.
-fn is_whole(alloc: Global) -> bool {
-    let Some(mut engine) = failing(alloc, MADE.saturating_add(CALLS), false) else {
-        return false;
-    };
-    carried_out(alloc, &mut engine) == Some((COMMANDS, None))
+/// Whether a call that fails is answered so, and what was answered before is kept.
+fn is_ended(alloc: Global, call: u64, works: bool, folds: &[Fold]) -> Option<bool> {
+    let disk = failing(alloc, MADE.saturating_add(call), works)?;
+    let (done, is_told, left) = ends::<FaultDisk<MemoryDisk>, FaultEngine>(alloc, disk)?;
+    let is_kept = holds::<MemoryDisk, MemoryEngine>(alloc, left.into_inner(), done, 1, folds);
+    Some(is_told && is_kept)
+}
+
+/// The disk after the run, if this one lets it through.
+fn gone_through<D: Drop, E: Engine<D>>(alloc: Global, disk: D) -> Option<D> {
+    let mut engine = E::begun(alloc, disk)?;
+    if carried_out(alloc, &mut engine)? == (COMMANDS, None) {
+        Some(engine.into_disk())
+    } else {
+        None
+    }
+}
+
+/// The disk after the run, if the call that is to fail is this one and doesn't come.
+fn run_disk(alloc: Global, call: u64) -> Option<MemoryDisk> {
+    let disk = failing(alloc, call, false)?;
+    let left = gone_through::<FaultDisk<MemoryDisk>, FaultEngine>(alloc, disk)?;
+    Some(left.into_inner())
 }
 
 #[test]
 fn each_call_fails_in_turn(rt: HostRuntime) {
     let alloc = rt.alloc();
-    let folds = folds(alloc).unwrap_or(Vec::new(alloc));
-    check_at(&rt, is_whole(alloc), "calls of the run", CALLS);
+    let folds = folds(alloc, Course::Reweighed).unwrap_or(Vec::new(alloc));
+    let is_whole = run_disk(alloc, MADE.saturating_add(CALLS)).is_some();
+    check_at(&rt, is_whole, "calls of the run", CALLS);
     for call in 0..CALLS {
         for works in [false, true] {
             let holds = is_ended(alloc, call, works, &folds) == Some(true);
@@ -104,14 +114,15 @@ fn each_call_fails_in_turn(rt: HostRuntime) {
     }
 }
 
-/// The disk after the run.
-fn run_disk(alloc: Global) -> Option<MemoryDisk> {
-    let mut engine = failing(alloc, 100_000, false)?;
-    let (done, _fault) = carried_out(alloc, &mut engine)?;
-    if done == COMMANDS {
-        Some(engine.into_store().into_disk().into_inner())
-    } else {
-        None
+/// Of an opening whose call of this number fails, whether it is answered by Device, and no other call is made after it; and the
+/// disk. `None` if it opens.
+fn refused(alloc: Global, disk: MemoryDisk, call: u64) -> Option<(bool, MemoryDisk)> {
+    match Store::<FaultDisk<MemoryDisk>, AnyJob>::open(alloc, FaultDisk::new(disk, call)) {
+        Ok(_store) => None,
+        Err((fault, left)) => {
+            let is_last = left.clock() == call.saturating_add(1);
+            Some((fault == OpenFault::Device && is_last, left.into_inner()))
+        }
     }
 }
 
@@ -119,14 +130,11 @@ fn run_disk(alloc: Global) -> Option<MemoryDisk> {
 /// after it, or the disk doesn't open then.
 fn opening_calls(alloc: Global, disk: &MemoryDisk, folds: &[Fold]) -> Option<u64> {
     for call in 0..1000 {
-        let copy = disk.stopped(alloc, disk.clock() as usize, &[]).ok()?;
-        match Store::<FaultDisk<MemoryDisk>, AnyJob>::open(alloc, FaultDisk::new(copy, call)) {
-            Ok(_store) => return Some(call),
-            Err((fault, left)) => {
-                if fault != OpenFault::Device
-                    || left.clock() != call + 1
-                    || !holds(alloc, left.into_inner(), COMMANDS, 1, folds)
-                {
+        let copy = disk.left(alloc, disk.calls(), &[])?;
+        match refused(alloc, copy, call) {
+            None => return Some(call),
+            Some((is_told, left)) => {
+                if !is_told || !holds::<MemoryDisk, MemoryEngine>(alloc, left, COMMANDS, 1, folds) {
                     return None;
                 }
             }
@@ -138,8 +146,8 @@ fn opening_calls(alloc: Global, disk: &MemoryDisk, folds: &[Fold]) -> Option<u64
 #[test]
 fn each_call_of_an_opening_fails_in_turn(rt: HostRuntime) {
     let alloc = rt.alloc();
-    let folds = folds(alloc).unwrap_or(Vec::new(alloc));
-    let Some(disk) = run_disk(alloc) else {
+    let folds = folds(alloc, Course::Reweighed).unwrap_or(Vec::new(alloc));
+    let Some(disk) = run_disk(alloc, 100_000) else {
         return check_at(&rt, false, "commands", COMMANDS);
     };
     let calls = opening_calls(alloc, &disk, &folds).unwrap_or(0);

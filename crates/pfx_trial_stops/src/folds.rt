@@ -1,5 +1,6 @@
 //! The run of the trials, and what its commands lead to by a slow fold, one task after the other.
 
+use crate::courses::Course;
 use pfx_disk::MemoryDisk;
 use pfx_jobs::job::Job;
 use pfx_kinds::any::AnyJob;
@@ -27,9 +28,14 @@ pub const LONGEST: usize = FIRST_SEGMENT + 2 * SEGMENT as usize;
 /// How many bytes the run and what comes after it write at most.
 pub const WRITTEN: usize = 60_000;
 
+/// An empty disk with room for the run if it is for so many calls.
+pub fn empty_for(alloc: Global, calls: usize) -> Option<MemoryDisk> {
+    MemoryDisk::new(alloc, &[], LONGEST, calls, WRITTEN).ok()
+}
+
 /// An empty disk with room for the run.
 pub fn empty(alloc: Global) -> Option<MemoryDisk> {
-    MemoryDisk::new(alloc, &[], LONGEST, 1000, WRITTEN).ok()
+    empty_for(alloc, 1000)
 }
 
 /// The set: three tasks of weight 2/3 on two workers.
@@ -69,18 +75,56 @@ pub struct Fold {
     pub behind_slot: PlainState<AnyJob>,
 }
 
-/// The folds of the first commands: of none of them, of one, and so on up to all.
-pub fn folds(alloc: Global) -> Option<Vec<Fold>> {
-    let start = State::new(alloc, &thirds(alloc)?, SEGMENT).ok()?;
+/// What commands lead to.
+fn state_after(
+    alloc: Global,
+    start: &State<AnyJob>,
+    commands: &[Command<AnyJob>],
+) -> Option<PlainState<AnyJob>> {
+    plain_state(alloc, start, commands).ok()?
+}
+
+/// The fold of these commands, which are left as they are.
+fn fold_of(
+    alloc: Global,
+    start: &State<AnyJob>,
+    commands: &mut Vec<Command<AnyJob>>,
+) -> Option<Fold> {
+    let state = state_after(alloc, start, commands)?;
+    commands.push(Command::Slot).ok()?;
+    let behind_slot = state_after(alloc, start, commands)?;
+    commands.pop()?;
+    Some(Fold { state, behind_slot })
+}
+
+/// The state that a run begins with.
+fn begin(alloc: Global) -> Option<State<AnyJob>> {
+    State::new(alloc, &thirds(alloc)?, SEGMENT).ok()
+}
+
+/// Puts a run's command of this number behind those before it, if it isn't 0, and their fold behind theirs. `None` if an allocation
+/// failed.
+fn go_on(
+    alloc: Global,
+    start: &State<AnyJob>,
+    course: Course,
+    number: u64,
+    commands: &mut Vec<Command<AnyJob>>,
+    folds: &mut Vec<Fold>,
+) -> Option<()> {
+    if number > 0 {
+        commands.push(course.command(alloc, number)?).ok()?;
+    }
+    folds.push(fold_of(alloc, start, commands)?).ok()
+}
+
+/// The folds of a run's first commands: of none of them, of one, and so on up to all.
+pub fn folds(alloc: Global, course: Course) -> Option<Vec<Fold>> {
+    let start = begin(alloc)?;
     let mut commands = Vec::new(alloc);
     let mut folds = Vec::new(alloc);
-    for number in 1..COMMANDS + 2 {
-        let state = plain_state(alloc, &start, &commands).ok()??;
-        commands.push(Command::Slot).ok()?;
-        let behind_slot = plain_state(alloc, &start, &commands).ok()??;
-        folds.push(Fold { state, behind_slot }).ok()?;
-        commands.pop()?;
-        commands.push(command(alloc, number)?).ok()?;
+    for number in 0..course.commands().saturating_add(1) {
+        go_on(alloc, &start, course, number, &mut commands, &mut folds)?;
     }
     Some(folds)
 }

@@ -1,10 +1,9 @@
 //! Stops after each call of a run's disk; what each leaves is opened, one Slot is appended, and that is stopped again.
 
-use crate::folds::{Fold, MADE, is_state};
-use pfx_disk::{Disk, Fate, MemoryDisk};
-use pfx_engine::DurableEngine;
+use crate::engines::{Engine, Stopped};
+use crate::folds::{Fold, MADE};
+use pfx_disk::Fate;
 use pfx_machine::Command;
-use pfx_store::Store;
 use std::alloc::Global;
 
 /// What becomes of what isn't synced.
@@ -35,22 +34,14 @@ fn marked_by(marks: &[u64], calls: u64) -> u64 {
 }
 
 /// The bytes that a stop after so many calls leaves.
-fn bytes_left(alloc: Global, disk: &MemoryDisk, calls: u64, fates: &[Fate]) -> Option<Vec<u8>> {
-    if disk.clock() < calls {
-        return None;
-    }
-    let mut left = disk.stopped(alloc, calls as usize, fates).ok()?;
-    let n = left.len().ok()?;
-    let mut bytes = Vec::new(alloc);
-    bytes.resize(n, 0).ok()?;
-    left.read(0, &mut bytes).ok()?;
-    Some(bytes)
+fn bytes_left<D: Stopped>(alloc: Global, disk: &D, calls: u64, fates: &[Fate]) -> Option<Vec<u8>> {
+    disk.left(alloc, calls, fates)?.bytes(alloc)
 }
 
 /// Whether after each call there are two writes at the most that no sync has covered: what becomes of a third one changes
 /// nothing.
-pub fn are_two(alloc: Global, disk: &MemoryDisk) -> bool {
-    for calls in MADE..disk.clock().saturating_add(1) {
+pub fn are_two<D: Stopped>(alloc: Global, disk: &D) -> bool {
+    for calls in MADE..disk.calls().saturating_add(1) {
         let kept = bytes_left(alloc, disk, calls, &[]);
         for byte in [0x00, 0xff] {
             let third = [Fate::Kept, Fate::Kept, Fate::Filled(byte)];
@@ -63,39 +54,36 @@ pub fn are_two(alloc: Global, disk: &MemoryDisk) -> bool {
 }
 
 /// The engine over what a stop after so many calls leaves.
-fn left(
+fn left<D: Stopped, E: Engine<D>>(
     alloc: Global,
-    disk: &MemoryDisk,
+    disk: &D,
     calls: u64,
     fates: &[Fate],
-) -> Option<DurableEngine<MemoryDisk>> {
-    if disk.clock() < calls {
-        return None;
-    }
-    let left = disk.stopped(alloc, calls as usize, fates).ok()?;
-    DurableEngine::new(alloc, Store::open(alloc, left).ok()?).ok()
+) -> Option<E> {
+    E::opened(alloc, disk.left(alloc, calls, fates)?)
 }
 
 /// Whether a stop leaves the state after the Slot, or the one before it if it isn't marked yet.
-fn is_one(
+fn is_one<D: Stopped, E: Engine<D>>(
     alloc: Global,
-    disk: &MemoryDisk,
+    disk: &D,
     calls: u64,
     fates: &[Fate],
     fold: &Fold,
     is_marked: bool,
 ) -> bool {
-    let Some(engine) = left(alloc, disk, calls, fates) else {
-        return false;
-    };
-    let state = engine.store.state();
-    is_state(state, &fold.behind_slot) || (!is_marked && is_state(state, &fold.state))
+    match left::<D, E>(alloc, disk, calls, fates) {
+        Some(engine) => {
+            engine.is_at(&fold.behind_slot) || (!is_marked && engine.is_at(&fold.state))
+        }
+        None => false,
+    }
 }
 
 /// The same of two stops: if this becomes of all that isn't synced, and of the last write, the others kept.
-fn are_ones(
+fn are_ones<D: Stopped, E: Engine<D>>(
     alloc: Global,
-    disk: &MemoryDisk,
+    disk: &D,
     calls: u64,
     fate: Fate,
     fold: &Fold,
@@ -103,25 +91,25 @@ fn are_ones(
 ) -> bool {
     let all = [fate, fate];
     let last = [Fate::Kept, fate];
-    is_one(alloc, disk, calls, &all, fold, is_marked)
-        && is_one(alloc, disk, calls, &last, fold, is_marked)
+    is_one::<D, E>(alloc, disk, calls, &all, fold, is_marked)
+        && is_one::<D, E>(alloc, disk, calls, &last, fold, is_marked)
 }
 
 /// How many stops an opening and the appending of one Slot go through, a stop at each of their calls with each fate; `None`
 /// if one of them leaves anything but the state before the Slot or the one after it, or not the latter once it is marked.
 /// An opening's first call is a sync and the others read, so that a stop after these leaves what one after the sync does.
-fn goes_on(alloc: Global, engine: DurableEngine<MemoryDisk>, fold: &Fold) -> Option<u64> {
+fn goes_on<D: Stopped, E: Engine<D>>(alloc: Global, engine: E, fold: &Fold) -> Option<u64> {
     let mut engine = engine;
-    let opened = engine.store.disk().clock();
-    let (mark, _reply) = engine.execute(alloc, Command::Slot).ok()?;
-    let disk = engine.into_store().into_disk();
+    let opened = engine.calls();
+    let marked = engine.carry_out(alloc, Command::Slot).ok()?;
+    let disk = engine.into_disk();
     let mut stops: u64 = 0;
-    for calls in 0..disk.clock().saturating_add(1) {
+    for calls in 0..disk.calls().saturating_add(1) {
         if calls > 1 && calls < opened {
             continue;
         }
         for fate in FATES {
-            if !are_ones(alloc, &disk, calls, fate, fold, mark.clock <= calls) {
+            if !are_ones::<D, E>(alloc, &disk, calls, fate, fold, marked <= calls) {
                 return None;
             }
             stops = stops.saturating_add(2);
@@ -134,20 +122,25 @@ fn goes_on(alloc: Global, engine: DurableEngine<MemoryDisk>, fold: &Fold) -> Opt
 /// of it, and of the last write, the others kept. There are to be two at the most.
 ///
 /// `None` if one leaves anything but the state after a beginning of the commands with every marked one.
-pub fn stops(alloc: Global, disk: &MemoryDisk, run: &Run<'_>, fate: Fate) -> Option<(u64, u64)> {
+pub fn stops<D: Stopped, E: Engine<D>>(
+    alloc: Global,
+    disk: &D,
+    run: &Run<'_>,
+    fate: Fate,
+) -> Option<(u64, u64)> {
     let mut first: u64 = 0;
     let mut second: u64 = 0;
-    for calls in MADE..disk.clock().saturating_add(1) {
+    for calls in MADE..disk.calls().saturating_add(1) {
         let least = marked_by(run.marks, calls);
         for fates in [[fate, fate], [Fate::Kept, fate]] {
-            let engine = left(alloc, disk, calls, &fates)?;
-            let number = engine.store.state().number();
+            let engine = left::<D, E>(alloc, disk, calls, &fates)?;
+            let number = engine.number();
             let fold = run.folds.get(number as usize)?;
-            if number < least || !is_state(engine.store.state(), &fold.state) {
+            if number < least || !engine.is_at(&fold.state) {
                 return None;
             }
             first = first.saturating_add(1);
-            second = second.saturating_add(goes_on(alloc, engine, fold)?);
+            second = second.saturating_add(goes_on::<D, E>(alloc, engine, fold)?);
         }
     }
     Some((first, second))

@@ -1,12 +1,14 @@
 //! The trials through a front: what its disk's record leaves when it is stopped twice, and each call of its disk that fails.
 
 use crate::check::{check, check_at};
+use crate::courses::Course;
+use crate::engines::{Engine, MemoryEngine, Stopped};
 use crate::failing::holds;
-use crate::folds::{CALLS, COMMANDS, Fold, LONGEST, MADE, WRITTEN, empty, folds};
+use crate::folds::{CALLS, COMMANDS, Fold, MADE, empty, empty_for, folds};
 use crate::fronts::{Outcome, run_failing, run_held, run_in_memory};
 use crate::stopped::{FATES, Run, are_two, stops};
 use crate::twice::{MORE, STOPS};
-use pfx_disk::{Disk, Fate, FaultDisk, MemoryDisk};
+use pfx_disk::{Fate, FaultDisk, MemoryDisk};
 use pfx_fault::Cause;
 use pfx_front::faults::CallFault;
 use std::alloc::Global;
@@ -16,12 +18,12 @@ use std::time::Clock;
 
 /// Whether each command was kept and has its receipt, and the reader saw the last publication.
 fn is_whole(outcome: &Outcome) -> bool {
-    outcome.numbers == (COMMANDS, COMMANDS)
-        && outcome.failure.is_none()
-        && outcome.faults == [None, None]
-        && outcome.receipts.len() as u64 == COMMANDS
-        && outcome.looked
-        && outcome.stay
+    outcome.left.numbers == (COMMANDS, COMMANDS)
+        && outcome.left.failure.is_none()
+        && outcome.asked.faults == [None, None]
+        && outcome.asked.receipts.len() as u64 == COMMANDS
+        && outcome.left.looked
+        && outcome.asked.stay
 }
 
 /// The clocks of receipts, if these are one of each number, from 1 on.
@@ -41,13 +43,13 @@ fn stops_of(alloc: Global, ran: &(Outcome, MemoryDisk), fate: Fate) -> Option<(u
     if !is_whole(&ran.0) {
         return None;
     }
-    let marks = clocks(alloc, &ran.0.receipts)?;
-    let folds = folds(alloc)?;
+    let marks = clocks(alloc, &ran.0.asked.receipts)?;
+    let folds = folds(alloc, Course::Reweighed)?;
     let run = Run {
         folds: &folds,
         marks: &marks,
     };
-    stops(alloc, &ran.1, &run, fate)
+    stops::<MemoryDisk, MemoryEngine>(alloc, &ran.1, &run, fate)
 }
 
 /// Whether the run is stopped so often with this fate, and each stop leaves what it has to, now and one Slot later.
@@ -120,7 +122,7 @@ fn are_many_kept<R: Threads + Wait + Clock + Copy + Drop + Send + Sync + 'static
     alloc: Global,
 ) -> Option<bool> {
     let ran = run_held(rt, alloc, empty(alloc)?)?;
-    let calls = ran.1.clock().saturating_sub(MADE);
+    let calls = ran.1.calls().saturating_sub(MADE);
     let wanted = calls.saturating_add(1).saturating_mul(2);
     for fate in FATES {
         let (first, second) = stops_of(alloc, &ran, fate)?;
@@ -149,11 +151,6 @@ enum Way {
     OfMany,
 }
 
-/// A disk that has room for so many calls: each one after them fails.
-fn full_behind(alloc: Global, calls: u64) -> Option<MemoryDisk> {
-    MemoryDisk::new(alloc, &[], LONGEST, calls as usize, WRITTEN).ok()
-}
-
 /// The run if the call of this number fails so, and the disk after it.
 fn run_where_fails<R: Threads + Wait + Clock + Copy + Drop + Send + Sync + 'static>(
     rt: R,
@@ -164,8 +161,9 @@ fn run_where_fails<R: Threads + Wait + Clock + Copy + Drop + Send + Sync + 'stat
     match way {
         Way::Undone => run_failing(rt, alloc, FaultDisk::new(empty(alloc)?, call)),
         Way::Done => run_failing(rt, alloc, FaultDisk::with_work_done(empty(alloc)?, call)),
-        Way::EverAfter => run_in_memory(rt, alloc, full_behind(alloc, call)?),
-        Way::OfMany => run_held(rt, alloc, full_behind(alloc, call)?),
+        // Each call that has no room fails.
+        Way::EverAfter => run_in_memory(rt, alloc, empty_for(alloc, call as usize)?),
+        Way::OfMany => run_held(rt, alloc, empty_for(alloc, call as usize)?),
     }
 }
 
@@ -183,29 +181,27 @@ fn told(last: u64, marked: u64) -> Option<CallFault> {
 
 /// Whether each client is told that the device failed, and the reader sees what was kept.
 fn is_lost(outcome: &Outcome) -> bool {
-    let (number, marked) = outcome.numbers;
-    outcome.faults == [told(COMMANDS - 1, marked), told(COMMANDS, marked)]
-        && outcome.failure == Some(Cause::Device)
+    let (number, marked) = outcome.left.numbers;
+    outcome.asked.faults == [told(COMMANDS - 1, marked), told(COMMANDS, marked)]
+        && outcome.left.failure == Some(Cause::Device)
         && number == marked
-        && outcome.receipts.len() as u64 == marked
-        && outcome.looked
-        && outcome.stay
+        && outcome.asked.receipts.len() as u64 == marked
+        && outcome.left.looked
+        && outcome.asked.stay
 }
 
 /// Whether the disk opens to each command that has a receipt, and to one more frame's at the most, whatever becomes of what isn't
 /// synced.
-fn is_held(
+fn is_held<D: Stopped, E: Engine<D>>(
     alloc: Global,
-    disk: &MemoryDisk,
+    disk: &D,
     marked: u64,
     most: u64,
     folds: &[Fold],
 ) -> Option<bool> {
     for fate in FATES {
-        let left = disk
-            .stopped(alloc, disk.clock() as usize, &[fate, fate])
-            .ok()?;
-        if !holds(alloc, left, marked, most, folds) {
+        let left = disk.left(alloc, disk.calls(), &[fate, fate])?;
+        if !holds::<D, E>(alloc, left, marked, most, folds) {
             return Some(false);
         }
     }
@@ -219,7 +215,7 @@ fn calls_that_fail<R: Threads + Wait + Clock + Copy + Drop + Send + Sync + 'stat
     alloc: Global,
     way: Way,
 ) -> Option<u64> {
-    let folds = folds(alloc)?;
+    let folds = folds(alloc, Course::Reweighed)?;
     let most = if matches!(way, Way::OfMany) { 16 } else { 1 };
     for calls in 0..1000 {
         let call = MADE + calls;
@@ -227,8 +223,9 @@ fn calls_that_fail<R: Threads + Wait + Clock + Copy + Drop + Send + Sync + 'stat
         if is_whole(&outcome) {
             return Some(calls);
         }
-        let is_last = disk.clock() == call + 1;
-        let is_kept = is_held(alloc, &disk, outcome.numbers.1, most, &folds)?;
+        let is_last = disk.calls() == call + 1;
+        let marked = outcome.left.numbers.1;
+        let is_kept = is_held::<MemoryDisk, MemoryEngine>(alloc, &disk, marked, most, &folds)?;
         if !is_last || !is_kept || !is_lost(&outcome) {
             return None;
         }

@@ -1,34 +1,27 @@
 //! A store on one thread, stopped twice.
 
 use crate::check::check;
-use crate::folds::{CALLS, COMMANDS, SEGMENT, command, empty, folds, thirds};
+use crate::courses::{Course, run_on_disk};
+use crate::engines::MemoryEngine;
+use crate::folds::{CALLS, empty, folds};
 use crate::stopped::{Run, are_two, stops};
 use pfx_disk::{Fate, MemoryDisk};
-use pfx_engine::DurableEngine;
-use pfx_store::Store;
 use std::alloc::Global;
 
 /// The disk after the run, and the clocks of the run's marks.
-fn run_on_disk(alloc: Global) -> Option<(MemoryDisk, Vec<u64>)> {
-    let store = Store::init(alloc, empty(alloc)?, &thirds(alloc)?, SEGMENT).ok()?;
-    let mut engine = DurableEngine::new(alloc, store).ok()?;
-    let mut marks = Vec::new(alloc);
-    for number in 1..COMMANDS + 1 {
-        let (mark, _reply) = engine.execute(alloc, command(alloc, number)?).ok()?;
-        marks.push(mark.clock).ok()?;
-    }
-    Some((engine.into_store().into_disk(), marks))
+fn ran(alloc: Global) -> Option<(MemoryDisk, Vec<u64>)> {
+    run_on_disk::<MemoryDisk, MemoryEngine>(alloc, empty(alloc)?, Course::Reweighed)
 }
 
 /// How many stops the run goes through, and the Slots after them.
 fn stops_of(alloc: Global, fate: Fate) -> Option<(u64, u64)> {
-    let (disk, marks) = run_on_disk(alloc)?;
-    let folds = folds(alloc)?;
+    let (disk, marks) = ran(alloc)?;
+    let folds = folds(alloc, Course::Reweighed)?;
     let run = Run {
         folds: &folds,
         marks: &marks,
     };
-    stops(alloc, &disk, &run, fate)
+    stops::<MemoryDisk, MemoryEngine>(alloc, &disk, &run, fate)
 }
 
 /// How many stops the run goes through: after each of its calls and before the first, in two ways.
@@ -49,7 +42,7 @@ fn is_kept(alloc: Global, fate: Fate) -> bool {
 #[test]
 fn no_sync_waits_for_three_writes(rt: HostRuntime) {
     let alloc = rt.alloc();
-    let holds = match run_on_disk(alloc) {
+    let holds = match ran(alloc) {
         Some((disk, _marks)) => are_two(alloc, &disk),
         None => false,
     };
