@@ -1,18 +1,17 @@
 -- The tasks that run by their levels are PF's row.
-use Rattle.std.proofs.Common.{◌≡◌, ◌≢◌, ℕ, ◌*◌, ◌%◌, ◌<◌, ◌≤◌, ◌==◌, ◌||◌, ◌&&◌, ◌⊎◌, inl, inr, Bool, true, false, if◌then◌else◌, List, ℤ, pos, w32, to_z, of_z, length, slice_index_or, set, length-set, get_or-set_same, get_or-set_other, subst, arith, ap, sym, ◌∙◌, refl}
-use Rattle.std.specs.Prelude.{nat_lt, FitsSigned}
+use Rattle.std.proofs.Common.{◌≡◌, ◌≢◌, ℕ, ◌<◌, ◌≤◌, ◌==◌, ◌||◌, ◌&&◌, ◌⊎◌, inl, inr, Bool, true, false, if◌then◌else◌, List, length, slice_index_or, subst, arith, ap, sym, ◌∙◌, refl}
+use Rattle.std.specs.Prelude.{nat_lt}
 use Rattle.std.specs.declared.cmp.Ordering.{Ordering}
 use Rattle.std.specs.declared.cmp.Ordering.TheVariants.{Less, Equal, Greater}
 use Rattle.std.specs.Ordering.{ordering_reverse, ordering_then}
 use Rattle.std.specs.Cmp.{IsTotalOrder}
 use Rattle.std.specs.Cmp.Lexicographic.{slice_cmp}
 use Rattle.std.proofs.lemmas.Bool.{cases_lt, cases_eq}
-use Rattle.std.proofs.lemmas.Int.{ints, to_z-of_z}
 use Rattle.std.proofs.lemmas.Cmp.{lists_total, tied_itself}
 use Rattle.pfx_symbols.specs.declared.kinds.Symbol.{Symbol}
 use Rattle.pfx_symbols.specs.declared.kinds.Class.{Class}
 use Rattle.pfx_symbols.specs.declared.kinds.Class.TheVariants.{Contending, Urgent, Tnegru}
-use Rattle.pfx_symbols.specs.Symbols.{symbol_cmp, substring_of}
+use Rattle.pfx_symbols.specs.Symbols.{symbol_cmp}
 use Rattle.pfx_symbols.specs.Ranks.{substring, tie_cmp}
 use Rattle.pfx_symbols.specs.RankLaws.{symbols_total}
 use Rattle.pfx_symbols.proofs.Rounds.{number_greater}
@@ -20,15 +19,15 @@ use Rattle.pfx_weights.specs.Rows.{count, members, marked_in}
 use Rattle.pfx_weights.proofs.Counts.{count-same}
 use Rattle.pfx_weights.proofs.RowSets.{members-same}
 use Rattle.pfx_lanes.specs.Laws.{class_number}
-use Rattle.pfx_columns.specs.Ledgers.{Ledger, total, task, class, rank, IsLedger}
-use Rattle.pfx_columns.specs.Columns.{IsColumn, e_in, p_in}
+use Rattle.pfx_columns.specs.Ledgers.{Ledger, total, class, rank, IsLedger}
 use Rattle.pfx_choice.specs.Choices.{IsPf, BeatsIn}
-use Rattle.pfx_choice.specs.Levels.{level_number, string_level, class_level, task_level, AreLevels, AreTold, HaveOneWeight}
+use Rattle.pfx_choice.specs.Kinds.{AreKindsIn, HaveOneWeight}
+use Rattle.pfx_choice.specs.Levels.{level_number, string_level, class_level, task_level, AreLevels, AreShared, AreTold}
 use Rattle.pfx_choice.specs.Picks.{AreClasses, AreMarks}
 use Rattle.pfx_choice.proofs.Best.{rank_order}
+use Rattle.pfx_choice.proofs.OneString.{same_string}
 use Rattle.pfx_choice.proofs.Cutting.{lt_yes, lt_no, eq_yes, eq_no}
 use Rattle.pfx_choice.proofs.Placement.{first_greater}
-use Rattle.pfx_choice.proofs.Sums.{e_fits, p_fits}
 
 strings_total : IsTotalOrder (slice_cmp symbol_cmp)
 strings_total = lists_total symbols_total
@@ -146,15 +145,13 @@ levels_mark g q end levels marks h are long at all =
       };
     }
 
--- tasks of one weight have one string at every slot
-same_string : (g : Ledger) (x y : ℕ) → HaveOneWeight g x y → substring (rank g x) ≡ substring (rank g y)
-same_string g x y h =
-    ap (λ e. substring_of e (task g x).p ((e * g.slot) % (task g x).p)) h.e
-    ∙ ap (λ p. substring_of (task g y).e p (((task g y).e * g.slot) % p)) h.p
+-- tasks of one weight have one level
+pub same_level : (g : Ledger) (q x y : ℕ) → IsLedger g → x < total g → y < total g → HaveOneWeight g x y → string_level g q x ≡ string_level g q y
+same_level g q x y h l m same = ap (λ s. level_number (slice_cmp symbol_cmp s (substring (rank g q)))) (same_string g x y h l m same)
 
--- and one level
-pub same_level : (g : Ledger) (q x y : ℕ) → HaveOneWeight g x y → string_level g q x ≡ string_level g q y
-same_level g q x y h = ap (λ s. level_number (slice_cmp symbol_cmp s (substring (rank g q)))) (same_string g x y h)
+-- a task's own level is 0
+pub own_level : (g : Ledger) (q : ℕ) → string_level g q q ≡ 0
+own_level g q = ap level_number (tied_itself strings_total (substring (rank g q)))
 
 -- the level of a task of this class, whose string has this level
 pub chosen_level : (c : Class) (n : ℕ) → (if class_number c == 0 then n else class_number c) ≡ class_level c n
@@ -167,58 +164,32 @@ alone_level Contending = refl
 alone_level Urgent = refl
 alone_level Tnegru = refl
 
--- if all tasks have one weight, their classes are their levels
-pub classes_level : (g : Ledger) (classes : List ℕ) → AreClasses g classes → ((x : ℕ) → x < total g → HaveOneWeight g x 0) → AreLevels g 0 classes
-classes_level g classes are one = record {
+-- if all tasks have the weight of one, their classes are their levels
+pub classes_level : (g : Ledger) (q : ℕ) (classes : List ℕ) → IsLedger g → q < total g → AreClasses g classes → ((x : ℕ) → x < total g → HaveOneWeight g x q) → AreLevels g q classes
+classes_level g q classes h m are one = record {
   long = are.all;
-  at = λ x l. are.at x l ∙ alone_level (class g x) ∙ ap (class_level (class g x)) (sym (same_level g 0 x 0 (one x l) ∙ ap level_number (tied_itself strings_total (substring (rank g 0)))));
+  at = λ x l. are.at x l ∙ alone_level (class g x) ∙ ap (class_level (class g x)) (sym (same_level g q x q h l m (one x l) ∙ own_level g q));
 }
 
--- numbers of 32 bits that are written alike are one
-same_written : (u v : ℤ) → FitsSigned w32 u → FitsSigned w32 v → of_z w32 u ≡ of_z w32 v → u ≡ v
-same_written u v u_fits v_fits same = sym (to_z-of_z w32 u u_fits) ∙ ap (to_z w32) same ∙ to_z-of_z w32 v v_fits
+-- the same of tasks of one kind
+pub one_kind : (g : Ledger) (q : ℕ) (firsts kinds classes : List ℕ) → IsLedger g → AreKindsIn g firsts kinds → length firsts ≡ 1 → q ≡ slice_index_or firsts 0 0 → AreClasses g classes → (q < total g) × AreLevels g q classes
+one_kind g q firsts kinds classes h of one q_is are =
+    let within : q < total g = (let low = of.first 0 (omega (arith, one)) in omega (arith, low, q_is)) in (
+      within,
+      classes_level g q classes h within are (λ x l.
+          (let w = of.within x l in
+          let P : ℕ → Type 0 = λ k. HaveOneWeight g x (slice_index_or firsts k 0) in
+          let Q : ℕ → Type 0 = λ y. HaveOneWeight g x y in
+          let none : slice_index_or kinds x 0 ≡ 0 = omega (arith, w, one) in
+          subst Q (sym q_is) (subst P none (of.same x l)))),
+    )
 
-same_natural : (a b : ℕ) (u v : ℤ) → u ≡ pos a → v ≡ pos b → u ≡ v → a ≡ b
-same_natural a b u v u_is v_is same = omega (arith, ints, u_is, v_is, same)
-
--- tasks whose columns' numbers are written alike have one weight
-pub one_weight : (g : Ledger) (x y : ℕ) (e f p q : ℤ) → IsLedger g → x < total g → y < total g → e ≡ e_in g x → f ≡ e_in g y → p ≡ p_in g x → q ≡ p_in g y
-    → of_z w32 e ≡ of_z w32 f → of_z w32 p ≡ of_z w32 q → HaveOneWeight g x y
-one_weight g x y e f p q h l m e_is f_is p_is q_is same also = record {
-  e = same_natural _ _ e f e_is f_is (same_written e f (e_fits g x h l e e_is) (e_fits g y h m f f_is) same);
-  p = same_natural _ _ p q p_is q_is (same_written p q (p_fits g x h l p p_is) (p_fits g y h m q q_is) also);
-}
-
--- the same of columns in which all numbers are those of the first task
-pub all_one_weight : (g : Ledger) (es ps : List ℤ) → IsLedger g → IsColumn (total g) (e_in g) es → IsColumn (total g) (p_in g) ps
-    → ((x : ℕ) → x < length es → slice_index_or es x (pos 0) ≡ to_z w32 (of_z w32 (slice_index_or es 0 (pos 0))))
-    → ((x : ℕ) → x < length ps → slice_index_or ps x (pos 0) ≡ to_z w32 (of_z w32 (slice_index_or ps 0 (pos 0))))
-    → (x : ℕ) → x < total g → HaveOneWeight g x 0
-all_one_weight g es ps h e_at p_at e_all p_all x l =
-    let n = e_at.long in
-    let m = p_at.long in
-    let some : 0 < total g = omega (arith, l) in
-    let d = slice_index_or es 0 (pos 0) in
-    let q = slice_index_or ps 0 (pos 0) in
-    let e = e_all x (omega (arith, n, l)) in
-    let p = p_all x (omega (arith, m, l)) in
-    record {
-      e = same_natural _ _ _ d (e_at.at x l) (e_at.at 0 some) (e ∙ to_z-of_z w32 d (e_fits g 0 h some d (e_at.at 0 some)));
-      p = same_natural _ _ _ q (p_at.at x l) (p_at.at 0 some) (p ∙ to_z-of_z w32 q (p_fits g 0 h some q (p_at.at 0 some)));
-    }
-
--- a level more is told
-pub told_set : (g : Ledger) (q x v : ℕ) (levels : List ℕ) → AreTold g q levels → x < length levels → v ≡ string_level g q x → AreTold g q (set levels x v)
-told_set g q x v levels h l is = record {
-  long = length-set levels x v ∙ h.long;
-  at = λ y m known. elim (cases_eq y x) [
-    | inl same ↦
-        (let P : ℕ → Type 0 = λ k. slice_index_or (set levels x v) k 0 ≡ string_level g q k in
-        let here : P x = get_or-set_same levels x v 0 l ∙ is in subst P (sym same) here)
-    | inr other ↦
-        (let kept = get_or-set_other levels x y v 0 other in
-        kept ∙ h.at y m (λ e. known (kept ∙ e)))
-  ];
+-- of kinds whose first tasks' levels are told each task's level is told
+pub shared_level : (g : Ledger) (q : ℕ) (firsts kinds levels : List ℕ) → IsLedger g → AreKindsIn g firsts kinds → AreTold g q firsts levels → AreShared g q kinds levels
+shared_level g q firsts kinds levels h of told = record {
+  long = of.long;
+  within = λ x l. (let w = of.within x l in omega (arith, told.long));
+  at = λ x l. (let w = of.within x l in told.at (slice_index_or kinds x 0) w ∙ sym (same_level g q x (slice_index_or firsts (slice_index_or kinds x 0) 0) h l (of.first (slice_index_or kinds x 0) w) (of.same x l)));
 }
 
 pub from_equal : (n m : ℕ) → (n == m) ≡ true → n ≡ m

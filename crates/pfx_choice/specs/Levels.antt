@@ -1,5 +1,5 @@
 -- Tasks by what their strings are to that of one task.
-use Rattle.std.specs.Prelude.{◌≡◌, ◌≢◌, ℕ, ◌<◌, List, length, slice_index_or}
+use Rattle.std.specs.Prelude.{◌≡◌, ℕ, ◌<◌, List, length, slice_index_or}
 use Rattle.std.specs.declared.cmp.Ordering.{Ordering}
 use Rattle.std.specs.declared.cmp.Ordering.TheVariants.{Less, Equal, Greater}
 use Rattle.std.specs.Cmp.Lexicographic.{slice_cmp}
@@ -7,7 +7,7 @@ use Rattle.pfx_symbols.specs.declared.kinds.Class.{Class}
 use Rattle.pfx_symbols.specs.declared.kinds.Class.TheVariants.{Contending, Urgent, Tnegru}
 use Rattle.pfx_symbols.specs.Symbols.{symbol_cmp}
 use Rattle.pfx_symbols.specs.Ranks.{substring}
-use Rattle.pfx_columns.specs.Ledgers.{Ledger, total, task, class, rank}
+use Rattle.pfx_columns.specs.Ledgers.{Ledger, total, class, rank}
 
 -- 1 for the greater string, 0 for the same and 2 for the smaller one
 abbrev pub level_number : Ordering → ℕ
@@ -33,18 +33,13 @@ pub record AreLevels (g : Ledger) (q : ℕ) (levels : List ℕ) : Type 0 where
   pub long : length levels ≡ total g
   pub at : (x : ℕ) → x < total g → slice_index_or levels x 0 ≡ task_level g q x
 
--- the level of each task's string by that of task q, or 3
-pub record AreTold (g : Ledger) (q : ℕ) (levels : List ℕ) : Type 0 where
-  pub long : length levels ≡ total g
-  pub at : (x : ℕ) → x < total g → slice_index_or levels x 0 ≢ 3 → slice_index_or levels x 0 ≡ string_level g q x
+-- the level of each kind's first task by task q
+pub record AreTold (g : Ledger) (q : ℕ) (firsts levels : List ℕ) : Type 0 where
+  pub long : length levels ≡ length firsts
+  pub at : (k : ℕ) → k < length firsts → slice_index_or levels k 0 ≡ string_level g q (slice_index_or firsts k 0)
 
--- two tasks have one weight
-pub record HaveOneWeight (g : Ledger) (x y : ℕ) : Type 0 where
-  pub e : (task g x).e ≡ (task g y).e
-  pub p : (task g x).p ≡ (task g y).p
-
--- for each task one of its weight
-pub record AreOfOneWeight (g : Ledger) (firsts : List ℕ) : Type 0 where
-  pub long : length firsts ≡ total g
-  pub within : (x : ℕ) → x < total g → slice_index_or firsts x 0 < total g
-  pub same : (x : ℕ) → x < total g → HaveOneWeight g x (slice_index_or firsts x 0)
+-- each task's string has the level of its kind
+pub record AreShared (g : Ledger) (q : ℕ) (kinds levels : List ℕ) : Type 0 where
+  pub long : length kinds ≡ total g
+  pub within : (x : ℕ) → x < total g → slice_index_or kinds x 0 < length levels
+  pub at : (x : ℕ) → x < total g → slice_index_or levels (slice_index_or kinds x 0) 0 ≡ string_level g q x

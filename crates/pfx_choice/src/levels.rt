@@ -7,108 +7,67 @@ ghost use Rattle.std.specs.Prelude.{◌≡◌, ◌≢◌, ℕ, ◌<◌, ◌≤�
 ghost use Rattle.std.specs.Cmp.Lexicographic.{slice_cmp};
 ghost use Rattle.pfx_weights.specs.Rows.{marked_in};
 ghost use Rattle.pfx_symbols.specs.Ranks.{substring};
-ghost use Rattle.pfx_symbols.specs.RankKeys.{rank_key};
 ghost use Rattle.pfx_symbols.specs.Symbols.{symbol_cmp};
-ghost use Rattle.pfx_columns.specs.Ledgers.{total, rank};
-ghost use Rattle.pfx_choice.specs.Levels.{level_number, AreLevels, AreTold, AreOfOneWeight, HaveOneWeight};
+ghost use Rattle.pfx_columns.specs.Ledgers.{rank, total};
+ghost use Rattle.pfx_choice.specs.Kinds.{IsOf};
+ghost use Rattle.pfx_choice.specs.Levels.{level_number, string_level, AreLevels, AreShared, AreTold};
 ghost use Rattle.pfx_choice.specs.Picks.{AreClasses, AreMarks};
+ghost use Rattle.pfx_choice.specs.Renewed.{AreRenewed};
 
 use crate::counts::count_marked;
+use crate::kind::Kind;
 use pfx_columns::Columns;
-use pfx_symbols::{KeptKey, Key, Rank, compare, rank_key};
+use pfx_symbols::{Rank, compare};
 use pfx_weights::first_from;
 use std::cmp::Ordering;
 
-/// What stands for a level that isn't known.
-const UNKNOWN: u8 = 3;
-
-/// The task to whose string those of the others are compared, and what their keys tell best.
-#[derive(Clone, Copy)]
-pub struct Pivot {
-    pub task: usize,
-    /// The length that keys take its first gap for.
-    pub gap: u32,
-    /// How many rounds keys tell.
-    pub rounds: u32,
-}
-
-/// Whether all tasks have the weight of the first one.
-pub fn are_of_one_weight(ledger: &Columns) -> bool
-    ensures some { IsTrue result → 0 < total ledger.now }
-    ensures same { IsTrue result → (x : ℕ) → x < total ledger.now → HaveOneWeight ledger.now x 0 }
-{
-    let total = ledger.total();
-    let (es, ps) = (ledger.es(), ledger.ps());
-    if total == 0 {
-        return false;
-    }
-    if !are_all(es, es[0]) {
-        return false;
-    }
-    are_all(ps, ps[0])
-}
-
-/// Whether all numbers are this one. It looks at each, so that several are compared at a time.
-fn are_all(numbers: &[i32], number: i32) -> bool
-    ensures { IsTrue result → (x : ℕ) → x < length numbers.now → slice_index_or numbers.now x (pos 0) ≡ number }
-{
-    let mut same = true;
-    for x in 0..numbers.len() {
-        same = same & (numbers[x] == number);
-    }
-    same
-}
-
-/// Takes the level of each task's string to the pivot's, as far as it is one of those named; 3 stands for the others.
+/// Takes the level of each kind's string to that of the kind `pivot`.
 pub fn tell_levels(
     levels: &mut [u8],
-    tasks: &[u16],
-    kept: &mut [KeptKey],
+    kinds: &[Kind],
+    firsts: &[u16],
     ledger: &Columns,
-    pivot: Pivot,
+    pivot: usize,
 )
-    requires long { length levels.old ≡ total ledger.now }
-    requires pivot { pivot.task < total ledger.now }
-    ensures { AreTold ledger.now pivot.task levels.new }
+    requires levels { length levels.old ≡ length firsts.now }
+    requires kinds { AreRenewed ledger.now firsts.now kinds.now }
+    requires firsts { (k : ℕ) → k < length firsts.now → slice_index_or firsts.now k 0 < total ledger.now }
+    requires pivot { pivot < length firsts.now }
+    ensures { AreTold ledger.now (slice_index_or firsts.now pivot 0) firsts.now levels.new }
+{
+    let q = usize::from(firsts[pivot]);
+    for k in 0..levels.len() {
+        levels[k] = if k == pivot {
+            0
+        } else {
+            level_of(&kinds[k], &kinds[pivot], ledger, usize::from(firsts[k]), q)
+        };
+    }
+}
+
+/// The level of task x's string to that of task q, by their kinds.
+#[inline(always)]
+fn level_of(kind: &Kind, other: &Kind, ledger: &Columns, x: usize, q: usize) -> u8
+    requires tasks { (x < total ledger.now) × (q < total ledger.now) }
+    requires kind { IsOf (rank ledger.now x) kind.now.gap kind.now.key }
+    requires other { IsOf (rank ledger.now q) other.now.gap other.now.key }
+    ensures { result ≡ string_level ledger.now q x }
 {
     let _total = ledger.total();
-    clear_levels(levels);
-    let to = ledger.rank(pivot.task);
-    let key = rank_key(&to, pivot.gap, pivot.rounds, kept);
-    for task in tasks {
-        let x = usize::from(*task);
-        if x < levels.len() {
-            levels[x] = level_of(&ledger.rank(x), &to, key, pivot.gap, pivot.rounds, kept);
-        }
+    if kind.gap != other.gap {
+        return if kind.gap < other.gap { 1 } else { 2 };
     }
-}
-
-/// No level is known.
-fn clear_levels(levels: &mut [u8])
-    ensures { (x : ℕ) → x < length levels.old → slice_index_or levels.new x 0 ≡ 3 }
-{
-    for x in 0..levels.len() {
-        levels[x] = UNKNOWN;
+    if kind.key.number != other.key.number {
+        return if kind.key.number < other.key.number {
+            1
+        } else {
+            2
+        };
     }
-}
-
-/// The level of one rank's string to that of another, whose key is this one.
-fn level_of(a: &Rank, b: &Rank, key: Key, guess: u32, rounds: u32, kept: &mut [KeptKey]) -> u8
-    requires { key ≡ rank_key guess rounds b.now }
-    ensures { result ≡ level_number (slice_cmp symbol_cmp (substring a.now) (substring b.now)) }
-{
-    let (_a, _b) = (a.phase(), b.phase());
-    let own = rank_key(a, guess, rounds, kept);
-    if own.number < key.number {
-        return 1;
-    }
-    if key.number < own.number {
-        return 2;
-    }
-    if own.whole && key.whole {
+    if kind.key.whole && other.key.whole {
         return 0;
     }
-    level_by_strings(a, b)
+    level_by_strings(&ledger.rank(x), &ledger.rank(q))
 }
 
 /// The same without keys.
@@ -127,28 +86,22 @@ fn level_by_strings(a: &Rank, b: &Rank) -> u8
     0
 }
 
-/// Puts each contending task's level in place of its class, by that of another one of its weight, if it is known.
+/// Puts the level of its kind in place of each contending task's class.
 pub fn level_classes(
     classes: &mut [u8],
     levels: &[u8],
-    firsts: &[u16],
+    of_tasks: &[u16],
     ledger: &Columns,
     q: usize,
-) -> bool
+)
     requires classes { AreClasses ledger.now classes.old }
-    requires levels { AreTold ledger.now q levels.now }
-    requires firsts { AreOfOneWeight ledger.now firsts.now }
-    ensures { IsTrue result → AreLevels ledger.now q classes.new }
+    requires levels { AreShared ledger.now q of_tasks.now levels.now }
+    ensures { AreLevels ledger.now q classes.new }
 {
     let _total = ledger.total();
     for x in 0..classes.len() {
-        let level = levels[usize::from(firsts[x])];
-        if level == UNKNOWN {
-            return false;
-        }
-        classes[x] = level_by(classes[x], level);
+        classes[x] = level_by(classes[x], levels[usize::from(of_tasks[x])]);
     }
-    true
 }
 
 /// The level of a task of this class, whose string has this level.

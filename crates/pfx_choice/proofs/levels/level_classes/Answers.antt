@@ -2,8 +2,8 @@ use Rattle.std.proofs.Common.{◌≡◌, ◌∙◌, ◌<◌, ◌==◌, ℕ, if�
 use Rattle.std.proofs.lemmas.Bool.{cases_eq}
 use Rattle.pfx_lanes.specs.Laws.{class_number}
 use Rattle.pfx_columns.specs.Ledgers.{total, class}
-use Rattle.pfx_choice.specs.Levels.{task_level, string_level, class_level}
-use Rattle.pfx_choice.proofs.Levelling.{chosen_level, same_level}
+use Rattle.pfx_choice.specs.Levels.{task_level, class_level}
+use Rattle.pfx_choice.proofs.Levelling.{chosen_level}
 use Rattle.pfx_choice.proofs.levels.level_classes.Goals as goal
 
 pub loop-x-preserved : goal.loop-x-preserved
@@ -11,18 +11,14 @@ loop-x-preserved c =
     let g = c.args.ledger.now in
     let q = c.args.q in
     let x = c.loop-x.x in
-    let y = slice_index_or c.args.firsts.now x 0 in
     let xs = c.loop-x.classes in
     let v = c.level_by.result in
     let h = c.loop-x.invariant in
     let long = h.long in
     let size = c.requires.classes.all in
     let l : x < total g = omega (arith, c.loop-x-test.true, size) in
-    let from : c.from.result ≡ y = c.from.ensures in
     let level = slice_index_or c.args.levels.now c.from.result 0 in
-    let told : level ≡ string_level g q x =
-    c.requires.levels.at c.from.result (let within = c.requires.firsts.within x l in omega (arith, within, from)) c.if-level-eq-UNKNOWN.false
-    ∙ ap (string_level g q) from ∙ sym (same_level g q x y (c.requires.firsts.same x l)) in
+    let told = ap (λ k. slice_index_or c.args.levels.now k 0) c.from.ensures ∙ c.requires.levels.at x l in
     let own : slice_index_or xs x 0 ≡ class_number (class g x) = h.left x (omega arith) ∙ c.requires.classes.at x l in
     let is : v ≡ task_level g q x =
     c.level_by.ensures ∙ ap (λ k. if k == 0 then level else k) own ∙ chosen_level (class g x) level ∙ ap (class_level (class g x)) told in
