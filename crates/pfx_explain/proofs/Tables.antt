@@ -28,7 +28,7 @@ store_faults =
 
 abbrev pub run_faults : List Fault
 run_faults =
-    fault.NoThread ∷ fault.BadScript 2 ∷ fault.InputFailed ∷ fault.OutputFailed ∷ fault.NoMemory ∷ []
+    fault.NoThread ∷ fault.BadScript 2 ∷ fault.InputFailed ∷ fault.OutputFailed ∷ fault.LogGap 40 97 ∷ fault.NotALog ∷ fault.LogDamaged 4205 ∷ fault.WrongLogVersion 2 ∷ fault.NoMemory ∷ []
 
 pub none_named : (w : List ℕ) → AreSpared w set_faults → AreSpared w store_faults → AreSpared w run_faults → (f : Fault) → names w f ≡ false
 none_named w a b c fault.BadSet = a.0
@@ -70,4 +70,8 @@ none_named w a b c fault.NoThread = c.0
 none_named w a b c (fault.BadScript x) = c.1.0
 none_named w a b c fault.InputFailed = c.1.1.0
 none_named w a b c fault.OutputFailed = c.1.1.1.0
-none_named w a b c fault.NoMemory = c.1.1.1.1.0
+none_named w a b c (fault.LogGap x y) = c.1.1.1.1.0
+none_named w a b c fault.NotALog = c.1.1.1.1.1.0
+none_named w a b c (fault.LogDamaged x) = c.1.1.1.1.1.1.0
+none_named w a b c (fault.WrongLogVersion x) = c.1.1.1.1.1.1.1.0
+none_named w a b c fault.NoMemory = c.1.1.1.1.1.1.1.1.0

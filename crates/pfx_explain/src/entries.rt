@@ -309,7 +309,7 @@ Go on in another run of the same store.",
 ];
 
 /// The faults of runs.
-pub(crate) const OF_RUNS: [Entry; 5] = [
+pub(crate) const OF_RUNS: [Entry; 9] = [
     Entry {
         fault: Fault::NoThread,
         text: "The system gives no thread for a worker, or for what keeps the slots. Nothing was done.
@@ -346,6 +346,32 @@ The lines below the fault say which file it is, and why.",
 
 What was carried out stands, printed or not. Where the output is a pipe that its reader has closed, as of head,
 the program ends with the same status and says nothing.",
+    },
+    Entry {
+        fault: Fault::LogGap { log: 40, file: 97 },
+        text: "The log ends with command 40, and the store's file begins behind command 97: what came in between is in neither. Nothing
+is changed.
+
+No command of this version keeps a log.",
+    },
+    Entry {
+        fault: Fault::NotALog,
+        text: "The file isn't a log: it doesn't begin as one, or the making of it was stopped midway. Nothing is changed.
+
+No command of this version keeps a log.",
+    },
+    Entry {
+        fault: Fault::LogDamaged { at: 4_205 },
+        text: "The part of the log that begins at this byte isn't as it was written, or what stands before it has changed since: the head
+of each block is a sum of all before it. Nothing is changed.
+
+No command of this version keeps a log.",
+    },
+    Entry {
+        fault: Fault::WrongLogVersion { version: 2 },
+        text: "The log is of another version than 1. Nothing is changed.
+
+No command of this version keeps a log.",
     },
     Entry {
         fault: Fault::NoMemory,

@@ -57,3 +57,10 @@ output_ends_with_8 = refl
 
 pub memory_ends_with_5 : status_of fault.NoMemory ≡ 5
 memory_ends_with_5 = refl
+
+pub a_log_ends_with_4 : status_of (fault.LogGap 3 8) ≡ 4
+a_log_ends_with_4 = refl
+
+pub a_gap : fault_text (fault.LogGap 3 8) ≡ codes "74 LogGap log=3 file=8"
+unfolding digits
+a_gap = refl

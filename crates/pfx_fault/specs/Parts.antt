@@ -18,3 +18,4 @@ part_name part.Record = codes "Record"
 abbrev pub cause_name : Cause → List ℕ
 cause_name cause.Device = codes "Device"
 cause_name cause.Memory = codes "Memory"
+cause_name cause.Log = codes "Log"

@@ -68,6 +68,10 @@ refusal fault.NoThread = plain 68 (codes "NoThread")
 refusal (fault.BadScript at) = with (plain 71 (codes "BadScript")) (codes "at") at
 refusal fault.InputFailed = plain 72 (codes "InputFailed")
 refusal fault.OutputFailed = plain 73 (codes "OutputFailed")
+refusal (fault.LogGap log file) = with (with (plain 74 (codes "LogGap")) (codes "log") log) (codes "file") file
+refusal fault.NotALog = plain 75 (codes "NotALog")
+refusal (fault.LogDamaged at) = with (plain 76 (codes "LogDamaged")) (codes "at") at
+refusal (fault.WrongLogVersion version) = with (plain 77 (codes "WrongLogVersion")) (codes "version") version
 refusal fault.NoMemory = plain 90 (codes "NoMemory")
 
 abbrev pub number_of : Fault → ℕ
@@ -76,9 +80,10 @@ number_of f = (refusal f).number
 abbrev pub name_of : Fault → List ℕ
 name_of f = (refusal f).name
 
--- the exit status by the number: a set or a plan up to 26, a command or the store up to 70, a script, a file or an output up to 73, memory
+-- the exit status by the number: a set or a plan up to 26, a command or the store up to 70, a script, a file or an output up to 73, a log up
+-- to 77, memory
 abbrev pub status_by : ℕ → ℕ
-status_by n = if nat_le n 26 then 3 else (if nat_le n 70 then 4 else (if nat_le n 71 then 7 else (if nat_le n 73 then 8 else 5)))
+status_by n = if nat_le n 26 then 3 else (if nat_le n 70 then 4 else (if nat_le n 71 then 7 else (if nat_le n 73 then 8 else (if nat_le n 77 then 4 else 5))))
 
 abbrev pub status_of : Fault → ℕ
 status_of f = status_by (number_of f)

@@ -45,6 +45,8 @@ pub enum Cause {
     Device,
     /// An allocation failed.
     Memory,
+    /// The disk of the log beside the store failed.
+    Log,
 }
 
 impl Display for Cause {
@@ -54,6 +56,7 @@ impl Display for Cause {
         f.write_str(match self {
             Cause::Device => "Device",
             Cause::Memory => "Memory",
+            Cause::Log => "Log",
         })
     }
 }

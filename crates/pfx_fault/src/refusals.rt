@@ -93,6 +93,14 @@ pub enum Fault {
     InputFailed,
     /// The output can't be written.
     OutputFailed,
+    /// The log ends with the first number, and the store's file begins behind the second: the commands in between are in neither.
+    LogGap { log: u64, file: u64 },
+    /// The file isn't a log.
+    NotALog,
+    /// The part of the log at this offset is damaged.
+    LogDamaged { at: u64 },
+    /// The log is of another version than 1.
+    WrongLogVersion { version: u8 },
     /// An allocation failed.
     NoMemory,
 }
@@ -142,6 +150,10 @@ impl Fault {
             Fault::BadScript { .. } => 71,
             Fault::InputFailed => 72,
             Fault::OutputFailed => 73,
+            Fault::LogGap { .. } => 74,
+            Fault::NotALog => 75,
+            Fault::LogDamaged { .. } => 76,
+            Fault::WrongLogVersion { .. } => 77,
             Fault::NoMemory => 90,
         }
     }
@@ -190,13 +202,17 @@ impl Fault {
             Fault::BadScript { .. } => "BadScript",
             Fault::InputFailed => "InputFailed",
             Fault::OutputFailed => "OutputFailed",
+            Fault::LogGap { .. } => "LogGap",
+            Fault::NotALog => "NotALog",
+            Fault::LogDamaged { .. } => "LogDamaged",
+            Fault::WrongLogVersion { .. } => "WrongLogVersion",
             Fault::NoMemory => "NoMemory",
         }
     }
 
     /// The exit status with which the program ends: 3 if a set or a plan is refused, 4 where a
-    /// command or the store is, 7 if the script has no form, 8 if a file or an output failed,
-    /// 5 if memory ran out.
+    /// command, the store or its log is, 7 if the script has no form, 8 if a file or an output
+    /// failed, 5 if memory ran out.
     pub fn status(&self) -> u8
         ensures { result ≡ status_of self.now }
     {
@@ -205,6 +221,7 @@ impl Fault {
             27..=70 => 4,
             71 => 7,
             72..=73 => 8,
+            74..=77 => 4,
             _ => 5,
         }
     }
@@ -253,9 +270,13 @@ impl Display for Fields {
             Fault::TooManyUrgent { urgent, m } => write!(f, " urgent={urgent} m={m}"),
             Fault::TooFewEligible { eligible, m } => write!(f, " eligible={eligible} m={m}"),
             Fault::Damaged { at, what } => write!(f, " at={at} what={what}"),
-            Fault::WrongVersion { version } => write!(f, " version={version}"),
+            Fault::WrongVersion { version } | Fault::WrongLogVersion { version } => write!(
+                f,
+                " version={version}"
+            ),
             Fault::StoreFailed { marked, cause } => write!(f, " marked={marked} cause={cause}"),
-            Fault::BadScript { at } => write!(f, " at={at}"),
+            Fault::BadScript { at } | Fault::LogDamaged { at } => write!(f, " at={at}"),
+            Fault::LogGap { log, file } => write!(f, " log={log} file={file}"),
             _ => Ok(()),
         }
     }

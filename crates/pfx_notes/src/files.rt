@@ -19,6 +19,8 @@ pub enum Named {
     ReadStore,
     /// A store that is to be made.
     NewStore,
+    /// A log.
+    Log,
 }
 
 fn noun(named: Named) -> &'static str {
@@ -26,6 +28,7 @@ fn noun(named: Named) -> &'static str {
         Named::Set => "set",
         Named::Script => "script",
         Named::Store | Named::ReadStore | Named::NewStore => "store",
+        Named::Log => "log",
     }
 }
 
@@ -100,6 +103,8 @@ pub enum Trouble<'a> {
     Current,
     /// The disk has failed, as the system says.
     Device(&'a str),
+    /// The disk of a log has failed, as the system says.
+    LogDevice(&'a str),
     /// There is no thread to work on it.
     Threads,
 }
@@ -119,6 +124,7 @@ fn texts_of(trouble: Trouble<'_>) -> Texts {
         Trouble::Held => texts::HELD,
         Trouble::Current => texts::NO_MIGRATION,
         Trouble::Device(_) => texts::DEVICE,
+        Trouble::LogDevice(_) => texts::LOG_DEVICE,
         Trouble::Threads => texts::THREADS,
     }
 }
@@ -129,6 +135,7 @@ fn word_of<'a>(trouble: Trouble<'a>) -> Word<'a> {
         Trouble::NoDirectory(directory) => Word::Text(directory),
         Trouble::Unmade(why, _) => Word::Text(why),
         Trouble::Device(why) => Word::Text(why),
+        Trouble::LogDevice(why) => Word::Text(why),
         Trouble::NoSpace(len) => Word::Number(len),
         _ => Word::Text(""),
     }
@@ -188,6 +195,36 @@ fn said_of<'a>(path: &'a str, script: Option<&'a str>, fault: Fault) -> Option<S
         Fault::NoJob { task } => say(texts::NO_JOB, &[file, Word::Number(u64::from(task))]),
         _ => None,
     }
+}
+
+// What is said of a fault of a log.
+fn said_of_log<'a>(path: &'a str, fault: Fault) -> Option<Said<'a>> {
+    let file = Word::Text(path);
+    match fault {
+        Fault::LogGap { log, file: begin } => {
+            let texts = if log < begin {
+                texts::LOG_GAP
+            } else {
+                texts::LOG_AHEAD
+            };
+            say(texts, &[file, Word::Number(log), Word::Number(begin)])
+        }
+        Fault::NotALog => say(texts::NO_LOG, &[file]),
+        Fault::Busy => say(texts::LOG_BUSY, &[file]),
+        Fault::LogDamaged { at } => say(texts::DAMAGED_LOG, &[file, Word::Number(at)]),
+        Fault::WrongLogVersion { version } => {
+            say(
+                texts::LOG_VERSION,
+                &[file, Word::Number(u64::from(version))],
+            )
+        }
+        _ => None,
+    }
+}
+
+/// The note of a fault of the log at this path. `None` if the fault is of another kind. Fails only if memory runs out.
+pub fn log_note(alloc: Global, path: &str, fault: Fault) -> Result<Option<Note>, AllocError> {
+    written(alloc, said_of_log(path, fault))
 }
 
 /// The note of a fault of a store's file. `script` is the word behind the store's, if that file is a store. `None` if the fault

@@ -17,7 +17,9 @@ mod warnings;
 mod weights;
 mod words;
 
-pub use files::{Named, Stands, Trouble, input_note, output_note, store_note, trouble_note};
+pub use files::{
+    Named, Stands, Trouble, input_note, log_note, output_note, store_note, trouble_note,
+};
 pub use refusals::{First, refused_note};
 pub use scripts::{record_note, script_note};
 pub use sets::{further_note, set_note};

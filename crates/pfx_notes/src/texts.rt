@@ -433,6 +433,11 @@ pub(crate) const DEVICE: Texts = Texts {
     change: "Look to the disk and to the space on it, and run again; after a failed sync restart the machine first.",
 };
 
+pub(crate) const LOG_DEVICE: Texts = Texts {
+    what: "log {2}: {1}",
+    change: "Look to the disk and to the space on it, and run again: what is printed is kept in the store.",
+};
+
 pub(crate) const THREADS: Texts = Texts {
     what: "the system gives no thread for a worker or for what keeps the slots",
     change: "Ask for fewer by --workers N; with --workers 0 one thread does everything.",
@@ -493,6 +498,36 @@ pub(crate) const VERSION_ONE: Texts = Texts {
 pub(crate) const NO_MIGRATION: Texts = Texts {
     what: "store {2}: it is of version 2, as this program's stores are",
     change: "Use it as it is: only a store of version 1 has to be migrated.",
+};
+
+pub(crate) const LOG_GAP: Texts = Texts {
+    what: "log {0}: it ends with command {1}, and the store's file begins behind command {2}",
+    change: "Name a file that is missing, for a new log; this one stays good for what it has.",
+};
+
+pub(crate) const LOG_AHEAD: Texts = Texts {
+    what: "log {0}: it has the commands up to {1}, and the store's file ends with command {2}",
+    change: "It is another store's log, or the file is an older copy: name the log of this file.",
+};
+
+pub(crate) const LOG_BUSY: Texts = Texts {
+    what: "log {0}: another process has it open",
+    change: "Wait until that ends, or name another file: a log has one writer.",
+};
+
+pub(crate) const NO_LOG: Texts = Texts {
+    what: "log {0}: it doesn't begin as a log",
+    change: "Name a file that is missing, for a new log; delete first what a stopped run left.",
+};
+
+pub(crate) const DAMAGED_LOG: Texts = Texts {
+    what: "log {0}: the part at byte {1} isn't as pfx writes it",
+    change: COPY,
+};
+
+pub(crate) const LOG_VERSION: Texts = Texts {
+    what: "log {0}: it is of version {1}, and this program reads version 1",
+    change: "Use the program that made it. Nothing is changed in it.",
 };
 
 pub(crate) const NOT_EMPTY: Texts = Texts {

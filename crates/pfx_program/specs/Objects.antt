@@ -108,6 +108,9 @@ fault_fields (fault.Damaged at what) = number_at (codes "at") at (text_at (codes
 fault_fields (fault.WrongVersion version) = number_at (codes "version") version no_members
 fault_fields (fault.StoreFailed marked cause) = text_at (codes "cause") (cause_name cause) (number_at (codes "marked") marked no_members)
 fault_fields (fault.BadScript at) = number_at (codes "at") at no_members
+fault_fields (fault.LogGap log file) = number_at (codes "file") file (number_at (codes "log") log no_members)
+fault_fields (fault.LogDamaged at) = number_at (codes "at") at no_members
+fault_fields (fault.WrongLogVersion version) = number_at (codes "version") version no_members
 fault_fields other = no_members
 
 -- a refused command: `{"refused":{"fields":{"task":0},"name":"TaskBusy","number":32}}`

@@ -4,7 +4,7 @@ use pfx_fault::{Cause, Fault, Part, Refused, put_fault};
 use std::alloc::Global;
 
 /// A refusal, the exit status and the text, as the table of refusals has them.
-const ROWS: [(Fault, u8, &str); 37] = [
+const ROWS: [(Fault, u8, &str); 41] = [
     (Fault::BadSet, 3, "10 BadSet"),
     (Fault::NoTasks, 3, "11 NoTasks"),
     (Fault::TooManyTasks, 3, "12 TooManyTasks"),
@@ -74,6 +74,18 @@ const ROWS: [(Fault, u8, &str); 37] = [
     ),
     (Fault::InputFailed, 8, "72 InputFailed"),
     (Fault::OutputFailed, 8, "73 OutputFailed"),
+    (
+        Fault::LogGap { log: 40, file: 97 },
+        4,
+        "74 LogGap log=40 file=97",
+    ),
+    (Fault::NotALog, 4, "75 NotALog"),
+    (Fault::LogDamaged { at: 4205 }, 4, "76 LogDamaged at=4205"),
+    (
+        Fault::WrongLogVersion { version: 2 },
+        4,
+        "77 WrongLogVersion version=2",
+    ),
     (Fault::NoMemory, 5, "90 NoMemory"),
 ];
 
@@ -85,9 +97,10 @@ const DAMAGES: [(u64, Part, &str); 3] = [
 ];
 
 /// What a store that fails has marked, why it fails, and the text. The status is 4.
-const FAILURES: [(u64, Cause, &str); 2] = [
+const FAILURES: [(u64, Cause, &str); 3] = [
     (4, Cause::Device, "61 StoreFailed marked=4 cause=Device"),
     (0, Cause::Memory, "61 StoreFailed marked=0 cause=Memory"),
+    (9, Cause::Log, "61 StoreFailed marked=9 cause=Log"),
 ];
 
 /// Whether a refusal's line is this text after `pfx: error`.
