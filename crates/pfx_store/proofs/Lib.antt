@@ -9,3 +9,4 @@ pub mod Filing
 mod Replies
 pub mod Grouping
 mod Heading
+pub mod Keeping

@@ -6,3 +6,4 @@ pub mod Marks
 pub mod Files
 pub mod Groups
 pub mod Noting
+pub mod Keepers

@@ -70,7 +70,7 @@ IsComing K s m r n records None = IsNext K s m r n records
 IsComing K s m r n records (Some set) = IsRenewal K s m r n records set
 
 -- the records move the state on, unless the call failed, and then it stays
-pub record MovesBy {J T : Type 0} (K : Kind J) (records : List (Recorded J)) (result : Result T StoreFault) (old new : Plain J) : Type 0 where
+pub record MovesBy {J T E : Type 0} (K : Kind J) (records : List (Recorded J)) (result : Result T E) (old new : Plain J) : Type 0 where
   pub moved : OnOk result (applied K old records ≡ Some new)
   pub same : OnErr result (new ≡ old)
 
@@ -104,7 +104,7 @@ pub record IsBody (given : Option (Vec ℕ Global)) (len : ℕ) (body : List ℕ
   pub kept : (v : Vec ℕ Global) → given ≡ Some v → length v.items ≡ len → body ≡ v.items
 
 -- At every moment of a call what survived before survives, with this frame or without; and once it succeeded each image has it.
-pub record Commits {J T : Type 0} (K : Kind J) (s : Plain J) (frame : List ℕ) (result : Result T StoreFault) (old new : View) : Type 0 where
+pub record Commits {J T E : Type 0} (K : Kind J) (s : Plain J) (frame : List ℕ) (result : Result T E) (old new : View) : Type 0 where
   pub keeps : (start : Plain J) → (all : List (List ℕ)) → Replays (format K) start all s → KeepsAll (format K) start all (all ++ frame ∷ []) old new
   pub acknowledged : (start : Plain J) → (all : List (List ℕ)) → Replays (format K) start all s
       → OnOk result ((image : List ℕ) → new.since new.clock image → Survives (format K) start (all ++ frame ∷ []) (length all + 1) image)
@@ -205,7 +205,7 @@ pub record Opens {D J : Type 0} (view : D → View) (K : Kind J) (disk : D) (res
       × (recovered_file K (view disk).contents ≡ Some (store.state, f)) × HasFile K f store.file.places store.spelled)
 
 -- a step of the checkpoint in progress was taken, the one that comes next; frames go where they went
-pub record Tends {D J : Type 0} (old new : PlainStore D J) (result : Result Tended StoreFault) : Type 0 where
+pub record Tends {D J E : Type 0} (old new : PlainStore D J) (result : Result Tended E) : Type 0 where
   pub step : IfOk result (λ tended. tended ≡ next_step old.file.places)
   pub stays : StaysPut old.file.places new.file.places
   pub nothing : old.file.places.checkpoint ≡ Ended → (new.file ≡ old.file) × (new.spelled ≡ old.spelled)
