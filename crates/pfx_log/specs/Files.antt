@@ -61,13 +61,14 @@ IsLeftBy old new Full = new ≡ old
 
 module _ {D T : Type 0} {g : Ghosts D} (old new : LogFile D g) (result : Result T AppendFault) where
   -- A call that appends a block of these numbers, with frames of so many bytes: four calls of the disk where all succeed. It is refused where
-  -- it says so, before any of them; a fault of the device breaks the log; and where it succeeds the numbers go on.
+  -- it says so, before any of them; a fault of the device breaks the log; and where it succeeds the numbers go on, and the log is whole.
   pub record IsAppend (first last long : ℕ) : Type 0 where
     pub takes : Takes 4 (g.view old.disk) (g.view new.disk) result
     pub honest : IsHonest (g.view old.disk) ↔ IsHonest (g.view new.disk)
     pub refused : IfErr result (IsRefused old.place first last long)
     pub left : IfErr result (IsLeftBy old new)
     pub next : OnOk result ((first ≡ old.place.last + 1) × (first ≤ last) × (long ≤ MOST) × (old.broken ≡ false))
+    pub whole : OnOk result (new.broken ≡ false)
 
   -- The block is appended to the log: at every moment an image that held the log holds it, or the log with the block, whole; once the call
   -- succeeded each image that a stop from then on may leave has it.

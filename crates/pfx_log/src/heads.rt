@@ -1,5 +1,5 @@
 // Heads, and the bytes that they are of.
-ghost use Rattle.std.specs.Prelude.{◌≡◌, ◌≤◌, ◌++◌, ◌∷◌, [], length, IfOk};
+ghost use Rattle.std.specs.Prelude.{◌≡◌, ◌≤◌, ◌+◌, ◌++◌, ◌∷◌, [], length, vec_len, vec_capacity, IfOk};
 ghost use Rattle.byteorder.specs.Endian.{little_bytes};
 ghost use Rattle.pfx_log.specs.Logs.{AreBytes, block_of, block_text, first_head, head_of, header_text, new_log, this_version};
 
@@ -82,23 +82,28 @@ pub fn header_and_gate(
     Ok(bytes)
 }
 
-/// A block's bytes behind its gate, its head, and the next gate, closed.
-pub fn block_and_gate(
-    alloc: Global,
-    first: u64,
-    last: u64,
-    frames: &[u8],
-    head: &[u8],
-) -> Result<Vec<u8>, AllocError>
+// Bytes put at the end of a vector that has room for them.
+fn put(room: &mut Vec<u8>, bytes: &[u8])
+    requires { vec_len room.old + length bytes.now ≤ vec_capacity room.old }
+    ensures items { room.new.items ≡ room.old.items ++ bytes.now }
+    ensures len { vec_len room.new ≡ vec_len room.old + length bytes.now }
+    ensures capacity { vec_capacity room.old ≤ vec_capacity room.new }
+{
+    let _ = room.extend_from_slice(bytes);
+}
+
+/// Puts a block's bytes behind its gate, its head, and the next gate, closed, into a vector that has room for them. What was in it goes.
+pub fn put_block(room: &mut Vec<u8>, first: u64, last: u64, frames: &[u8], head: &[u8])
     requires most { length frames.now ≤ MOST }
     requires long { length head.now ≡ 32 }
-    ensures { IfOk result (λ bytes. bytes.items ≡ (block_text (block_of first last frames.now) ++ head.now) ++ 0 ∷ []) }
+    requires room { 57 + length frames.now ≤ vec_capacity room.old }
+    ensures items { room.new.items ≡ (block_text (block_of first last frames.now) ++ head.now) ++ 0 ∷ [] }
+    ensures capacity { vec_capacity room.old ≤ vec_capacity room.new }
 {
     let front = block_front(frames.len() as u64, first, last);
-    let mut bytes = Vec::with_capacity(alloc, 57 + frames.len())?;
-    bytes.extend_from_slice(&front)?;
-    bytes.extend_from_slice(frames)?;
-    bytes.extend_from_slice(head)?;
-    bytes.push(0)?;
-    Ok(bytes)
+    room.clear();
+    put(room, &front);
+    put(room, frames);
+    put(room, head);
+    room.push_reserved(0);
 }

@@ -8,7 +8,7 @@ use Rattle.pfx_recovery.specs.Store.{Numbers}
 use Rattle.pfx_recovery.proofs.Runs.{numbers_rise}
 use Rattle.pfx_store_log.specs.Covering.{in_a_row}
 use Rattle.pfx_store_log.proofs.Gathering.{number_more}
-use Rattle.pfx_store_log.specs.Behind.{IsGap}
+use Rattle.pfx_store_log.specs.Behind.{GoOnBehind, IsGap}
 use Rattle.pfx_store_log.specs.Joining.{AreBehind, Gathering, Gathers, gathered_more, none_behind}
 
 -- before the number that is sought a frame is passed over, and behind it it is gathered
@@ -48,7 +48,7 @@ module _ {H S : Type 0} (K : Codec H S) (last : ℕ) where
   module _ (laws : Laws K) where
     -- what came of it
     abbrev Ends : ℕ → List (List ℕ) → Gathering → Type 0
-    Ends n frames next = ((next.begin ≡ last) × AreBehind K n frames last next.bytes) ⊎ ((next.begin ≢ last) × IsGap K n frames last)
+    Ends n frames next = ((next.begin ≡ last) × AreBehind K n frames last next.bytes) ⊎ ((next.begin ≢ last) × IsGap K n frames last × GoOnBehind K n frames last next.begin)
 
     -- at a frame behind which the number is reached or passed
     crossed : (n k : ℕ) (frame : List ℕ) (frames : List (List ℕ)) (next : Gathering) → n < last → last ≤ k → K.after n frame ≡ Some k → Gathers K last (none_behind k) frames next → Ends n (frame ∷ frames) next
@@ -58,6 +58,7 @@ module _ {H S : Type 0} (K : Codec H S) (last : ℕ) where
         (λ past. inr (
           (λ same. (let begin = end.0 in omega (arith, past, same, begin))),
           (λ rest stand. none stand.front rest past stand.whole stand.reaches),
+          (frames, record { front = frame ∷ []; whole = refl; reaches = (k, after, sym end.0) }, λ before. absurd (let begin = end.0 in omega (arith, past, begin, before))),
         ))
         (λ reached. inl (
           (let begin = end.0 in omega (arith, begin, reached, high)),
@@ -76,6 +77,7 @@ module _ {H S : Type 0} (K : Codec H S) (last : ℕ) where
     ended n [] next low is = inr (
       (λ same. (let begin = ap (λ h. h.begin) is in omega (arith, low, same, begin))),
       (λ rest stand. none stand.front rest stand.whole stand.reaches),
+      ([], record { front = []; whole = refl; reaches = ap (λ h. h.begin) is }, λ before. refl),
     )
       where
         none : (front rest : List (List ℕ)) → [] ≡ front ++ rest → Numbers K n front last → ⊥
@@ -88,8 +90,11 @@ module _ {H S : Type 0} (K : Codec H S) (last : ℕ) where
       where
         further : is.0 < last → Ends is.0 frames next → Ends n (frame ∷ frames) next
         further early (inl there) = inl (there.0, (there.1.0, record { front = frame ∷ there.1.1.front; whole = ap (λ l. frame ∷ l) there.1.1.whole; reaches = (is.0, is.1, there.1.1.reaches) }, there.1.2))
-        further early (inr none) = inr (none.0, (λ rest stand. back stand.front rest stand.whole stand.reaches))
+        further early (inr none) = inr (none.0, (λ rest stand. back stand.front rest stand.whole stand.reaches), on_behind none.2)
           where
+            on_behind : GoOnBehind K is.0 frames last next.begin → GoOnBehind K n (frame ∷ frames) last next.begin
+            on_behind go = (go.0, record { front = frame ∷ go.1.front; whole = ap (λ l. frame ∷ l) go.1.whole; reaches = (is.0, is.1, go.1.reaches) }, go.2)
+
             back : (front rest : List (List ℕ)) → frame ∷ frames ≡ front ++ rest → Numbers K n front last → ⊥
             back [] rest whole reaches = omega (arith, low, reaches)
             back (x ∷ front) rest whole reaches =
@@ -100,11 +105,15 @@ module _ {H S : Type 0} (K : Codec H S) (last : ℕ) where
 
     -- from the first frame on
     pub ends : (n : ℕ) (frames : List (List ℕ)) (next : Gathering) → Gathers K last (none_behind n) frames next
-        → ((next.begin ≡ last) × AreBehind K n frames last next.bytes) ⊎ ((next.begin ≢ last) × IsGap K n frames last)
+        → ((next.begin ≡ last) × AreBehind K n frames last next.bytes) ⊎ ((next.begin ≢ last) × IsGap K n frames last × GoOnBehind K n frames last next.begin)
     ends n frames next is = ⊎_elim (λ low. ended n frames next low is) (λ high. begun high (late (none_behind n) frames next high is)) (cases_lt n last)
       where
         begun : last ≤ n → (next.begin ≡ n) × (next.bytes ≡ in_a_row frames) → Ends n frames next
         begun high end = ⊎_elim
-            (λ past. inr ((λ same. (let begin = end.0 in omega (arith, past, same, begin))), (λ rest stand. (let low = numbers_rise K laws n stand.front last stand.reaches in omega (arith, past, low)))))
+            (λ past. inr (
+              (λ same. (let begin = end.0 in omega (arith, past, same, begin))),
+              (λ rest stand. (let low = numbers_rise K laws n stand.front last stand.reaches in omega (arith, past, low))),
+              (frames, record { front = []; whole = refl; reaches = sym end.0 }, λ before. absurd (let begin = end.0 in omega (arith, past, begin, before))),
+            ))
             (λ reached. inl ((let begin = end.0 in omega (arith, begin, reached, high)), (frames, record { front = []; whole = refl; reaches = omega (arith, reached, high) }, end.1)))
             (cases_lt last n)

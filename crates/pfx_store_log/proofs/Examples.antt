@@ -1,14 +1,16 @@
--- Worked rows: frames in a row, what a log has kept, and the frames behind a number.
-use Rattle.std.proofs.Common.{◌≡◌, ℕ, zero, suc, List, [], ◌∷◌, length, refl, sym, ap, arith}
+-- Worked rows: frames in a row, what a log has kept, the frames behind a number, and what has failed.
+use Rattle.std.proofs.Common.{◌≡◌, ℕ, zero, suc, List, [], ◌∷◌, length, true, false, None, Some, refl, sym, ap, arith}
+use Rattle.pfx_fault.specs.declared.parts.Cause.TheVariants as cause
 use Rattle.pfx_jobs.specs.Kind.{Kind}
 use Rattle.pfx_log.specs.Logs.{block_of, new_log, number_of, with_block}
 use Rattle.pfx_machine.specs.Plain.{Plain}
 use Rattle.pfx_recovery.specs.ToyCodec.{toy}
 use Rattle.pfx_recovery.proofs.Runs.{numbers_rise}
 use Rattle.pfx_recovery.proofs.ToyLaws.{toy_meets}
-use Rattle.pfx_store_log.specs.Behind.{IsGap, StandBehind}
+use Rattle.pfx_store_log.specs.Behind.{GoOnBehind, IsGap, StandBehind}
 use Rattle.pfx_store_log.specs.Covering.{HasKept, frames_in, in_a_row}
 use Rattle.pfx_store_log.specs.Joining.{Gathers, none_behind}
+use Rattle.pfx_store_log.specs.Working.{failure_by}
 
 row : in_a_row ((1 ∷ 2 ∷ []) ∷ [] ∷ (3 ∷ []) ∷ []) ≡ 1 ∷ 2 ∷ 3 ∷ []
 row = refl
@@ -43,3 +45,23 @@ second_gathered = (1, refl, (2, refl, refl))
 -- none are behind the last number of a log that ends before the first frame's
 begins_later : IsGap toy 3 (toy_frame 4 7 ∷ []) 2
 begins_later rest stand = absurd (omega (arith, numbers_rise toy toy_meets 3 stand.front 2 stand.reaches))
+
+-- they go on behind number 3, and no frame is left out there
+goes_on_behind : GoOnBehind toy 3 (toy_frame 4 7 ∷ []) 2 3
+goes_on_behind = (toy_frame 4 7 ∷ [], record { front = []; whole = refl; reaches = refl }, λ before. absurd (omega (arith, before)))
+
+not_behind_the_log : GoOnBehind toy 3 (toy_frame 4 7 ∷ []) 2 2 → ⊥
+not_behind_the_log go = begins_later go.0 go.1
+
+-- the store's disk is told before the log, and a log that stopped as one whose disk failed
+disk_first : failure_by true true false ≡ Some cause.Device
+disk_first = refl
+
+log_failed : failure_by false true false ≡ Some cause.Log
+log_failed = refl
+
+log_stopped : failure_by false false true ≡ Some cause.Log
+log_stopped = refl
+
+none_failed : failure_by false false false ≡ None
+none_failed = refl

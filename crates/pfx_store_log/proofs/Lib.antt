@@ -13,5 +13,7 @@ pub mod Opened
 pub mod Going
 pub mod Beginning
 pub mod Staying
+pub mod Taken
 pub mod Appending
+pub mod Keepings
 mod Examples

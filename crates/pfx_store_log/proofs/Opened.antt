@@ -1,11 +1,13 @@
 -- A store that was opened of what was found before.
 use Rattle.std.proofs.Common.{◌≡◌, ℕ, List, sym, ◌∙◌, ap, subst, false, Result, Ok, Err}
-use Rattle.std.specs.Prelude.{IfOk}
+use Rattle.std.specs.Prelude.{IfErr, IfOk, IsErrAnd}
 use Rattle.pfx_disk.specs.Disk.{View, IsHonest, Only}
+use Rattle.pfx_disk.specs.declared.device.Disk.{Ghosts as DiskGhosts}
 use Rattle.pfx_format.specs.Format.{format}
 use Rattle.pfx_format.proofs.Keeping.{format_laws}
 use Rattle.pfx_header.specs.Headers.{Header}
 use Rattle.pfx_jobs.specs.Kind.{Kind, Laws}
+use Rattle.pfx_log.specs.declared.file.LogFile.{LogFile}
 use Rattle.pfx_machine.specs.Plain.{Plain}
 use Rattle.pfx_recover.specs.Answers.{IsRefusal}
 use Rattle.pfx_recover.specs.Looking.{Looks}
@@ -18,9 +20,9 @@ use Rattle.pfx_recovery.proofs.Answers.{ok_same}
 use Rattle.pfx_recovery.proofs.Recovers.{recovers}
 use Rattle.pfx_recovery.proofs.Stands.{found_stands}
 use Rattle.pfx_store.specs.Stores.{PlainStore}
-use Rattle.pfx_store_log.specs.Behind.{IsGap, all_frames}
-use Rattle.pfx_store_log.specs.Joining.{AreBehind, IsJoinFault}
-use Rattle.pfx_store_log.specs.Opening.{IsOpenBehind, IsOpenFault}
+use Rattle.pfx_store_log.specs.Behind.{GoOnBehind, IsGap, all_frames}
+use Rattle.pfx_store_log.specs.Joining.{AreBehind, IsJoinFault, IsOfFile}
+use Rattle.pfx_store_log.specs.Opening.{IsLeftWith, IsOpenBehind, IsOpenFault}
 use Rattle.pfx_store_log.specs.declared.joining.JoinFault.{JoinFault}
 use Rattle.pfx_store_log.specs.declared.joining.JoinFault.TheVariants as join
 use Rattle.pfx_store_log.proofs.Gathering.{same_bytes}
@@ -49,8 +51,9 @@ module _ {D J : Type 0} (K : Kind J) (laws : Laws K) (view : D → View) (h : He
       }
 
   -- the gap is one of each file that is found there
-  pub gap_of : (last : ℕ) → IsGap (format K) p.base.number (all_frames p) last → (f : Found Header (Plain J)) → found (format K) (view old).contents ≡ Ok f → IsGap (format K) f.parts.base.number (all_frames f.parts) last
-  gap_of last gap f is = subst (λ (t : Found Header (Plain J)). IsGap (format K) t.parts.base.number (all_frames t.parts) last) (ok_same _ _ (sym is_found ∙ is)) gap
+  pub gap_of : (last file : ℕ) → IsGap (format K) p.base.number (all_frames p) last × GoOnBehind (format K) p.base.number (all_frames p) last file → (f : Found Header (Plain J)) → found (format K) (view old).contents ≡ Ok f
+      → IsGap (format K) f.parts.base.number (all_frames f.parts) last × GoOnBehind (format K) f.parts.base.number (all_frames f.parts) last file
+  gap_of last file gap f is = subst (λ (t : Found Header (Plain J)). IsGap (format K) t.parts.base.number (all_frames t.parts) last × GoOnBehind (format K) t.parts.base.number (all_frames t.parts) last file) (ok_same _ _ (sym is_found ∙ is)) gap
 
 unrefused : (e : OpenFault) (P : Refusal → Type 0) → IsRefusal e (λ refusal. ⊥) → IsRefusal e P
 unrefused (fault.Refused r) P none = absurd none
@@ -59,10 +62,21 @@ unrefused fault.NoMemory P none = tt
 
 -- what says that there are no frames says that no store is opened
 pub fault_of : {J : Type 0} (K : Kind J) (bytes : List ℕ) (last n : ℕ) (frames : List (List ℕ)) (e : JoinFault) → IsJoinFault (format K) n frames last e
-    → (IsGap (format K) n frames last → (f : Found Header (Plain J)) → found (format K) bytes ≡ Ok f → IsGap (format K) f.parts.base.number (all_frames f.parts) last) → IsOpenFault K bytes last e
+    → ((file : ℕ) → IsGap (format K) n frames last × GoOnBehind (format K) n frames last file → (f : Found Header (Plain J)) → found (format K) bytes ≡ Ok f
+    → IsGap (format K) f.parts.base.number (all_frames f.parts) last × GoOnBehind (format K) f.parts.base.number (all_frames f.parts) last file) → IsOpenFault K bytes last e
 fault_of K bytes last n frames (join.File e) is gap = unrefused e (λ refusal. recovered (format K) bytes ≡ Err refusal) is
-fault_of K bytes last n frames (join.LogGap log file) is gap = (is.0, gap is.1)
+fault_of K bytes last n frames (join.LogGap log file) is gap = (is.0, gap file (is.1, is.2))
 fault_of K bytes last n frames (join.Log e) is gap = absurd is
+
+-- a fault of the file, which leaves the log
+pub of_file : {T : Type 0} (r : Result T JoinFault) (e : OpenFault) → IsErrAnd r (λ x. x ≡ join.File e) → IfErr r IsOfFile
+of_file (Ok x) e same = absurd same
+of_file (Err x) e same = subst (λ (f : JoinFault). IsOfFile f) (sym same) tt
+
+pub left_of_file : {L : Type 0} {l : DiskGhosts L} (old new : LogFile L l) (e : JoinFault) → IsOfFile e → IsLeftWith old new e
+left_of_file old new (join.File e) is = tt
+left_of_file old new (join.LogGap log file) is = tt
+left_of_file old new (join.Log e) is = absurd is
 
 -- an opened store's state is what its bytes are recovered to
 pub recovered_of : {D J : Type 0} (K : Kind J) (laws : Laws K) (view : D → View) (bytes : List ℕ) (last : ℕ) (store : PlainStore D J) (frames : List ℕ) → IsOpenBehind K view bytes last store frames → recovered (format K) bytes ≡ Ok store.state

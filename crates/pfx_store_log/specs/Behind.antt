@@ -1,5 +1,5 @@
 -- The frames that a file has behind a number.
-use Rattle.std.specs.Prelude.{◌≡◌, ℕ, List, ◌++◌}
+use Rattle.std.specs.Prelude.{◌≡◌, ◌<◌, ℕ, List, [], ◌++◌}
 use Rattle.pfx_recovery.specs.Codec.{Codec}
 use Rattle.pfx_recovery.specs.Store.{Numbers, Parts}
 
@@ -17,3 +17,7 @@ module _ {H S : Type 0} (K : Codec H S) where
   -- There are none such: the frames begin behind that number, or end before it, or one of them has it within.
   abbrev pub IsGap : ℕ → List (List ℕ) → ℕ → Type 0
   IsGap n frames last = (rest : List (List ℕ)) → ¬ StandBehind n frames last rest
+
+  -- Of the frames, those behind this number are the next ones; where it lies before the number that is sought there are none.
+  abbrev pub GoOnBehind : ℕ → List (List ℕ) → ℕ → ℕ → Type 0
+  GoOnBehind n frames last at = (rest : List (List ℕ)) × StandBehind n frames at rest × (at < last → rest ≡ [])

@@ -1,8 +1,8 @@
 -- The frames that a file has behind the last number of a log.
-use Rattle.std.specs.Prelude.{◌≡◌, ℕ, List, [], ◌∷◌, ◌++◌, nat_lt, if◌then◌else◌, Some}
+use Rattle.std.specs.Prelude.{◌≡◌, ℕ, List, [], ◌∷◌, ◌++◌, nat_lt, if◌then◌else◌, Some, ⊤}
 use Rattle.pfx_recover.specs.Answers.{IsRefusal}
 use Rattle.pfx_recovery.specs.Codec.{Codec}
-use Rattle.pfx_store_log.specs.Behind.{IsGap, StandBehind}
+use Rattle.pfx_store_log.specs.Behind.{GoOnBehind, IsGap, StandBehind}
 use Rattle.pfx_store_log.specs.Covering.{in_a_row}
 use Rattle.pfx_store_log.specs.declared.joining.Gathered.{Gathered}
 use Rattle.pfx_store_log.specs.declared.joining.JoinFault.{JoinFault}
@@ -26,6 +26,12 @@ abbrev pub gathered_more : ℕ → ℕ → List ℕ → Gathering → Gathering
 gathered_more last next frame g = if nat_lt g.begin last then record { bytes = g.bytes; begin = next; number = next }
     else record { bytes = g.bytes ++ frame; begin = g.begin; number = next }
 
+-- a fault of the file, and not of the log
+abbrev pub IsOfFile : JoinFault → Type 0
+IsOfFile (File e) = ⊤
+IsOfFile (LogGap log file) = ⊤
+IsOfFile (Log e) = ⊥
+
 module _ {H S : Type 0} (K : Codec H S) where
   -- the frames lead from one gathering to the other
   abbrev pub Gathers : ℕ → Gathering → List (List ℕ) → Gathering → Type 0
@@ -36,8 +42,8 @@ module _ {H S : Type 0} (K : Codec H S) where
   abbrev pub AreBehind : ℕ → List (List ℕ) → ℕ → List ℕ → Type 0
   AreBehind n frames last bytes = (rest : List (List ℕ)) × StandBehind K n frames last rest × (bytes ≡ in_a_row rest)
 
-  -- why they aren't given: there are none such, or no memory, or the disk failed
+  -- why they aren't given: there are none such, and the frames go on behind the number that is told; or no memory, or the disk failed
   abbrev pub IsJoinFault : ℕ → List (List ℕ) → ℕ → JoinFault → Type 0
-  IsJoinFault n frames last (LogGap log file) = (log ≡ last) × IsGap K n frames last
+  IsJoinFault n frames last (LogGap log file) = (log ≡ last) × IsGap K n frames last × GoOnBehind K n frames last file
   IsJoinFault n frames last (File e) = IsRefusal e (λ refusal. ⊥)
   IsJoinFault n frames last (Log e) = ⊥

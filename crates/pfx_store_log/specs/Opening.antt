@@ -1,17 +1,20 @@
 -- A store that is opened beside its log.
 use Rattle.std.specs.Prelude.{◌≡◌, ◌⊎◌, ℕ, List, length, drop, false, Ok, Err, ⊤}
 use Rattle.pfx_disk.specs.Disk.{View, IsHonest, Only}
+use Rattle.pfx_disk.specs.declared.device.Disk.{Ghosts as DiskGhosts}
 use Rattle.pfx_format.specs.Format.{format}
 use Rattle.pfx_header.specs.Headers.{Header}
 use Rattle.pfx_jobs.specs.Kind.{Kind}
+use Rattle.pfx_log.specs.Files.{IsLeftBy}
 use Rattle.pfx_log.specs.Holding.{Holds}
 use Rattle.pfx_log.specs.Logs.{Log, last_number}
+use Rattle.pfx_log.specs.declared.file.LogFile.{LogFile}
 use Rattle.pfx_machine.specs.Plain.{Plain}
 use Rattle.pfx_recover.specs.Answers.{IsRefusal}
 use Rattle.pfx_recovery.specs.Recovery.{Found, found, recovered}
 use Rattle.pfx_recovery.specs.Store.{Replays}
 use Rattle.pfx_store.specs.Stores.{PlainStore}
-use Rattle.pfx_store_log.specs.Behind.{IsGap, all_frames}
+use Rattle.pfx_store_log.specs.Behind.{GoOnBehind, IsGap, all_frames}
 use Rattle.pfx_store_log.specs.Covering.{AreCovered, HasBehind, HasKept}
 use Rattle.pfx_store_log.specs.Joining.{AreBehind}
 use Rattle.pfx_store_log.specs.declared.joining.JoinFault.{JoinFault}
@@ -49,5 +52,12 @@ pub record IsOpenBehind {D J : Type 0} (K : Kind J) (view : D → View) (bytes :
 abbrev pub IsOpenFault : {J : Type 0} → Kind J → List ℕ → ℕ → JoinFault → Type 0
 IsOpenFault K bytes last (fault.File e) = IsRefusal e (λ refusal. recovered (format K) bytes ≡ Err refusal)
 IsOpenFault {J = J} K bytes last (fault.LogGap log file) = (log ≡ last)
-    × ((f : Found Header (Plain J)) → found (format K) bytes ≡ Ok f → IsGap (format K) f.parts.base.number (all_frames f.parts) last)
+    × ((f : Found Header (Plain J)) → found (format K) bytes ≡ Ok f → IsGap (format K) f.parts.base.number (all_frames f.parts) last
+    × GoOnBehind (format K) f.parts.base.number (all_frames f.parts) last file)
 IsOpenFault K bytes last (fault.Log e) = ⊤
+
+-- A fault of the log is an append's, and the log is left as that says: it is broken if its disk failed, now or before, and else as it was.
+abbrev pub IsLeftWith : {L : Type 0} {l : DiskGhosts L} → LogFile L l → LogFile L l → JoinFault → Type 0
+IsLeftWith old new (fault.Log e) = IsLeftBy old new e
+IsLeftWith old new (fault.File e) = ⊤
+IsLeftWith old new (fault.LogGap log file) = ⊤

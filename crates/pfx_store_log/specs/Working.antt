@@ -1,8 +1,10 @@
 -- A store beside its log, and what its calls do.
-use Rattle.std.specs.Prelude.{◌≡◌, ◌≤◌, ◌<◌, ◌⊎◌, ◌+◌, ◌++◌, ℕ, List, [], length, drop, false, Result, OnOk, OnErr, Ok}
+use Rattle.std.specs.Prelude.{◌≡◌, ◌≤◌, ◌<◌, ◌⊎◌, ◌+◌, ◌++◌, ℕ, List, [], length, drop, false, Bool, if◌then◌else◌, Option, None, Some, Result, OnOk, OnErr, Ok}
 use Rattle.pfx_base.specs.Bases.{IsOn, turn_number}
 use Rattle.pfx_disk.specs.Disk.{View, IsHonest, Only}
 use Rattle.pfx_disk.specs.declared.device.Disk.{Ghosts as DiskGhosts}
+use Rattle.pfx_fault.specs.declared.parts.Cause.{Cause}
+use Rattle.pfx_fault.specs.declared.parts.Cause.TheVariants as cause
 use Rattle.pfx_format.specs.Format.{format}
 use Rattle.pfx_header.specs.Headers.{Header}
 use Rattle.pfx_jobs.specs.Kind.{Kind}
@@ -32,6 +34,13 @@ pub record IsBatchOf {J : Type 0} (K : Kind J) (s : Plain J) (H : List (Command 
   pub may : IsBatchable H
   pub accepted : IsAcceptable K s H
   pub are : batch ≡ record { first = s.number + 1; records = records_of K s H }
+
+-- what has failed: the store's disk, or else the log's, or the log couldn't be brought up
+abbrev pub failure_by : Bool → Bool → Bool → Option Cause
+failure_by broken log_broken stopped = if broken then Some cause.Device else (if log_broken then Some cause.Log else (if stopped then Some cause.Log else None))
+
+abbrev pub failure_beside : {D L J : Type 0} {d : DiskGhosts D} {l : DiskGhosts L} {k : JobGhosts J} → LoggedStore D L J d l k → Option Cause
+failure_beside beside = failure_by beside.store.file.broken beside.log.broken beside.stopped
 
 -- a frame of n bytes has room, or all frames up to the last are in the log
 pub record IsUpToDate {D L J : Type 0} {d : DiskGhosts D} {l : DiskGhosts L} {k : JobGhosts J} (beside : LoggedStore D L J d l k) : Type 0 where

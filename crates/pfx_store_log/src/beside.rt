@@ -1,5 +1,5 @@
 // A store, its log, and the frames that the log doesn't have yet.
-ghost use Rattle.std.specs.Prelude.{◌≡◌, ◌≤◌, length, false, vec_capacity};
+ghost use Rattle.std.specs.Prelude.{◌≡◌, ◌≤◌, ◌+◌, length, false, vec_capacity};
 ghost use Rattle.pfx_store_log.specs.Fitting.{FitsIn};
 
 use pfx_disk::Disk;
@@ -8,7 +8,7 @@ use pfx_log::LogFile;
 use pfx_store::Store;
 
 /// A store beside its log, with the frames that the store has and the log hasn't. They are of the segment that frames go to, and have room in memory
-/// up to its end.
+/// up to its end; so has the block that they become.
 #[derive(Drop)]
 pub struct LoggedStore<D: Disk, L: Disk, J: Job> {
     /// The store.
@@ -17,6 +17,12 @@ pub struct LoggedStore<D: Disk, L: Disk, J: Job> {
     pub log: LogFile<L>,
     /// The frames behind the log's last block, one behind the other.
     pub copy: Vec<u8>,
+    /// Room for the block.
+    pub block: Vec<u8>,
+    /// Whether the log couldn't be brought up: then a keeper does nothing any more.
+    pub stopped: bool,
     ghost fits: { store.file.broken ≡ false → FitsIn (length copy.items) store.file.places },
+    ghost short: { length copy.items ≤ store.file.places.sizes.segment },
     ghost room: { store.file.places.sizes.segment ≤ vec_capacity copy },
+    ghost block_room: { 57 + store.file.places.sizes.segment ≤ vec_capacity block },
 }

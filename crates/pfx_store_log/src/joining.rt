@@ -1,5 +1,5 @@
 // The frames that a store's file has behind the last number of a log.
-ghost use Rattle.std.specs.Prelude.{◌≡◌, ◌≤◌, ◌<◌, ◌+◌, ◌^◌, ℕ, List, length, IfOk, MatchResult, Ok, Err, if◌then◌else◌, not};
+ghost use Rattle.std.specs.Prelude.{◌≡◌, ◌≤◌, ◌<◌, ◌+◌, ◌^◌, ℕ, List, length, IfErr, IfOk, MatchResult, Ok, Err, if◌then◌else◌, not};
 ghost use Rattle.pfx_disk.specs.Disk.{HasFailed, IsHonest};
 ghost use Rattle.pfx_format.specs.Format.{format};
 ghost use Rattle.pfx_header.specs.Headers.{Header};
@@ -14,7 +14,7 @@ ghost use Rattle.pfx_store_file.specs.Checkpoints.{in_progress};
 ghost use Rattle.pfx_store_file.specs.Holding.{ArePlaces};
 ghost use Rattle.pfx_store_file.specs.Sizes.{total_len};
 ghost use Rattle.pfx_store_log.specs.Behind.{all_frames};
-ghost use Rattle.pfx_store_log.specs.Joining.{AreBehind, Gathering, Gathers, IsJoinFault, gathered_more, gathering, none_behind};
+ghost use Rattle.pfx_store_log.specs.Joining.{AreBehind, Gathering, Gathers, IsJoinFault, IsOfFile, gathered_more, gathering, none_behind};
 ghost use Rattle.byteorder.specs.Endian.{little_number};
 
 use pfx_disk::Disk;
@@ -188,7 +188,7 @@ fn gather_file<J: Job, D: Disk>(
 /// more, and nothing is written.
 ///
 /// `LogGap` says that there are none: the file begins behind that number or ends before it, or a frame has it within; `file` is the number behind
-/// which the file's next frames begin. `File` comes only if the disk failed, or an allocation.
+/// which the file's next frames begin, or its last number if it ends before. `Log` never comes. `File` comes only if the disk failed, or an allocation.
 pub fn frames_behind<J: Job, D: Disk>(
     alloc: Global,
     file: &mut StoreFile<D>,
@@ -196,6 +196,7 @@ pub fn frames_behind<J: Job, D: Disk>(
 ) -> Result<Vec<u8>, JoinFault>
     ensures looks { Looks (D.view file.old.disk) (D.view file.new.disk) }
     ensures file { (file.new.places ≡ file.old.places) × (file.new.broken ≡ file.old.broken) }
+    ensures filed { IfErr result IsOfFile }
     ensures device { result ≡ Err (JoinFault.File OpenFault.Device) → HasFailed (D.view file.old.disk) (D.view file.new.disk) }
     // They are those of the file that was found, with these places.
     ensures exact { IsHonest (D.view file.old.disk) → (h : Header) → (p : Parts (Plain J)) → (s : Plain J)

@@ -13,8 +13,10 @@
 
 mod beside;
 mod joining;
+mod keeper;
 pub mod laws;
 mod logged;
+mod noted;
 mod opening;
 
 pub use beside::LoggedStore;

@@ -1,9 +1,10 @@
 // What a store beside its log does.
-ghost use Rattle.std.specs.Prelude.{◌≡◌, ◌≤◌, ◌+◌, ◌++◌, ◌∷◌, [], ℕ, List, length, map, vec_capacity, ◌↔◌, OnOk, IfOk, IfErr, IsTrue, false};
+ghost use Rattle.std.specs.Prelude.{◌≡◌, ◌≤◌, ◌+◌, ◌++◌, ◌∷◌, [], ℕ, List, length, map, vec_capacity, ◌↔◌, OnOk, OnErr, IfOk, IfErr, IsErrOf, IsTrue, false, true};
 ghost use Rattle.pfx_disk.specs.Disk.{IsHonest};
 ghost use Rattle.pfx_format.specs.Format.{format};
 ghost use Rattle.pfx_log.specs.Files.{IsLeftBy, IsOpen};
 ghost use Rattle.pfx_log.specs.Logs.{Log};
+ghost use Rattle.pfx_log.specs.declared.faults.AppendFault.TheVariants.{NoMemory};
 ghost use Rattle.pfx_machine.specs.Plain.{Plain};
 ghost use Rattle.pfx_machine.specs.declared.command.Command.{Command};
 ghost use Rattle.pfx_record.specs.Batches.{batch_bytes, batch_of};
@@ -52,26 +53,41 @@ impl<D: Disk, L: Disk, J: Job> LoggedStore<D, L, J> {
         ensures store { IfOk result (λ beside. beside.store ≡ store) }
         ensures log { IfOk result (λ beside. beside.log ≡ log) }
         ensures copy { IfOk result (λ beside. beside.copy.items ≡ frames.now) }
+        ensures fresh { IfOk result (λ beside. beside.stopped ≡ false) }
         ensures given_back { IfErr result (λ e. (e.1 ≡ store) × (e.2 ≡ log)) }
         // If they can go on together the store is logged.
         ensures logged { (start : Plain J) → (all : List (List ℕ)) → (held : Log) → CanJoin J.kind start all held D.view store log frames.now
             → IfOk result (λ beside. IsLogged J.kind start all held beside) }
     {
         let _broken = store.is_broken();
-        match copied(alloc, store.places().sizes.segment, frames) {
-            Ok(copy) => Ok(LoggedStore { store, log, copy }),
+        let segment = store.places().sizes.segment;
+        let copy = match copied(alloc, segment, frames) {
+            Ok(copy) => copy,
+            Err(fault) => return Err((fault, store, log)),
+        };
+        match Vec::with_capacity(alloc, 57 + segment) {
+            Ok(block) => Ok(LoggedStore {
+                store,
+                log,
+                copy,
+                block,
+                stopped: false,
+            }),
             Err(fault) => Err((fault, store, log)),
         }
     }
 
     /// Brings the log up to the store's state: the frames that are copied are appended to it as a block, by four calls of its disk, if there are any.
     ///
-    /// `NoMemory` comes only if an allocation failed, and leaves all as it was; `Device` comes only if the log's disk failed, and breaks the log. Nothing
-    /// is done to the store.
-    pub fn keep_up(&mut self, alloc: Global) -> Result<(), AppendFault>
+    /// It takes no memory, and never answers `NoMemory`. `Device` comes only if the log's disk failed, and breaks the log; after a fault the store is stopped,
+    /// and its frames stay copied. Nothing is done to the store.
+    pub fn keep_up(&mut self) -> Result<(), AppendFault>
         ensures store { self.new.store ≡ self.old.store }
         ensures up { OnOk result (IsUpToDate self.new) }
+        ensures goes_on { OnOk result ((self.new.log.broken ≡ self.old.log.broken) × (self.new.stopped ≡ self.old.stopped)) }
         ensures fault { IfErr result (λ fault. (self.new.copy ≡ self.old.copy) × IsLeftBy self.old.log self.new.log fault) }
+        ensures stopped { OnErr result (self.new.stopped ≡ true) }
+        ensures no_memory { ¬ IsErrOf result NoMemory }
         ensures beside { (start : Plain J) → (all : List (List ℕ)) → (held : Log) → IsLogged J.kind start all held self.old
             → KeepsLogged J.kind start all (length all) self.old self.new result }
     {
@@ -81,9 +97,13 @@ impl<D: Disk, L: Disk, J: Job> LoggedStore<D, L, J> {
             self.copy.clear();
             return Ok(());
         }
-        let result = self.log.append(alloc, kept + 1, last, &self.copy);
+        let result = self
+            .log
+            .append_in(&mut self.block, kept + 1, last, &self.copy);
         if result.is_ok() {
             self.copy.clear();
+        } else {
+            self.stopped = true;
         }
         result
     }
@@ -121,7 +141,7 @@ impl<D: Disk, L: Disk, J: Job> LoggedStore<D, L, J> {
         ensures acts { let frame = batch_bytes J.kind (batch_of batch.now.first batch.now.records.items) in
             Makes D.view self.old.store self.new.store result J.kind (λ f. appending J.kind f self.old.store.state frame)
             (λ f. appended J.kind f self.old.store.state frame) (OnOk result) }
-        ensures log { self.new.log ≡ self.old.log }
+        ensures log { (self.new.log ≡ self.old.log) × (self.new.stopped ≡ self.old.stopped) }
         ensures copy { Copies (batch_bytes J.kind (batch_of batch.now.first batch.now.records.items)) self.old.copy.items self.new.copy.items result }
         ensures beside { (start : Plain J) → (all : List (List ℕ)) → (held : Log) → (H : List (Command J))
             → IsBatchOf J.kind self.old.store.state H (batch_of batch.now.first batch.now.records.items)
@@ -161,7 +181,7 @@ impl<D: Disk, L: Disk, J: Job> LoggedStore<D, L, J> {
         ensures acts { let frame = batch_bytes J.kind (batch_of batch.now.first batch.now.records.items) in
             Makes D.view self.old.store self.new.store result J.kind (λ f. appending J.kind f self.old.store.state frame)
             (λ f. appended J.kind f self.old.store.state frame) (OnOk result) }
-        ensures log { self.new.log ≡ self.old.log }
+        ensures log { (self.new.log ≡ self.old.log) × (self.new.stopped ≡ self.old.stopped) }
         ensures copy { Copies (batch_bytes J.kind (batch_of batch.now.first batch.now.records.items)) self.old.copy.items self.new.copy.items result }
         ensures beside { (start : Plain J) → (all : List (List ℕ)) → (held : Log) → (H : List (Command J))
             → IsBatchOf J.kind self.old.store.state H (batch_of batch.now.first batch.now.records.items)
@@ -189,7 +209,7 @@ impl<D: Disk, L: Disk, J: Job> LoggedStore<D, L, J> {
             → (start : Plain J) → (all : List (List ℕ)) → Replays (format J.kind) start all self.old.store.state
             → KeepsAll (format J.kind) start all all (D.view self.old.store.file.disk) (D.view self.new.store.file.disk) }
         ensures acts { Makes D.view self.old.store self.new.store result J.kind (λ f. tending J.kind f) (λ f. tended_file (format J.kind) f) (OnOk result) }
-        ensures log { (self.new.log ≡ self.old.log) × (self.new.copy ≡ self.old.copy) }
+        ensures log { (self.new.log ≡ self.old.log) × (self.new.copy ≡ self.old.copy) × (self.new.stopped ≡ self.old.stopped) }
         ensures beside { (start : Plain J) → (all : List (List ℕ)) → (held : Log) → IsLogged J.kind start all held self.old
             → KeepsLogged J.kind start all (length all) self.old self.new result }
     {
@@ -206,7 +226,12 @@ impl<D: Disk, L: Disk, J: Job> LoggedStore<D, L, J> {
         ensures beside { (start : Plain J) → (all : List (List ℕ)) → (held : Log) → IsLogged J.kind start all held self
             → IsOpen held result.1 × IsKeptUpTo J.kind start all held result.2.items result.0.state }
     {
-        let LoggedStore { store, log, copy } = self;
+        let LoggedStore {
+            store,
+            log,
+            copy,
+            ..
+        } = self;
         (store, log, copy)
     }
 }

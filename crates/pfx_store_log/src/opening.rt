@@ -11,7 +11,8 @@ ghost use Rattle.pfx_recovery.specs.Recovery.{found, found_of, recovered};
 ghost use Rattle.pfx_recovery.specs.Store.{Parts};
 ghost use Rattle.pfx_store_file.specs.Holding.{ArePlaces};
 ghost use Rattle.pfx_store_log.specs.Fitting.{FitsIn};
-ghost use Rattle.pfx_store_log.specs.Opening.{GoOn, HoldsOn, IsOpenBehind, IsOpenFault, StayCovered};
+ghost use Rattle.pfx_store_log.specs.Joining.{IsOfFile};
+ghost use Rattle.pfx_store_log.specs.Opening.{GoOn, HoldsOn, IsLeftWith, IsOpenBehind, IsOpenFault, StayCovered};
 ghost use Rattle.pfx_store_log.specs.Working.{CanJoin, IsLogged};
 
 use crate::beside::LoggedStore;
@@ -44,6 +45,7 @@ fn with_frames<J: Job, D: Disk>(
     ensures fault { IsHonest (D.view file.disk) → (h : Header) → (p : Parts (Plain J)) → (s : Plain J)
         → found (format J.kind) (D.view file.disk).contents ≡ Ok (found_of h p s) → ArePlaces (format J.kind) h p file.places
         → IfErr result (λ e. IsOpenFault J.kind (D.view file.disk).contents last e.0) }
+    ensures filed { IfErr result (λ e. IsOfFile e.0) }
     ensures looks { MatchResult result (λ opened. Looks (D.view file.disk) (D.view opened.0.file.disk)) (λ e. Looks (D.view file.disk) (D.view e.1)) }
 {
     let mut file = file;
@@ -70,6 +72,7 @@ fn open_behind<J: Job, D: Disk>(
 ) -> Result<(Store<D, J>, Vec<u8>), (JoinFault, D)>
     ensures opened { IsHonest (D.view disk) → IfOk result (λ opened. IsOpenBehind J.kind D.view (D.view disk).contents last opened.0 opened.1.items) }
     ensures fault { IsHonest (D.view disk) → IfErr result (λ e. IsOpenFault J.kind (D.view disk).contents last e.0) }
+    ensures filed { IfErr result (λ e. IsOfFile e.0) }
     ensures looks { MatchResult result (λ opened. Looks (D.view disk) (D.view opened.0.file.disk)) (λ e. Looks (D.view disk) (D.view e.1)) }
 {
     match open::<FileFormat<J>, D>(alloc, disk) {
@@ -112,6 +115,7 @@ fn catch_up<D: Disk, L: Disk, J: Job>(
         MatchResult result (λ beside. HoldsOn held more (L.view log.disk) (L.view beside.log.disk)) (λ e. HoldsOn held more (L.view log.disk) (L.view e.2.disk))) }
     ensures fault { (bytes : List ℕ) → IsOpenBehind J.kind D.view bytes log.place.last store frames.now
         → IfErr result (λ e. IsOpenFault J.kind bytes log.place.last e.0) }
+    ensures left { IfErr result (λ e. IsLeftWith log e.2 e.0) }
     ensures logged { (bytes : List ℕ) → IsOpenBehind J.kind D.view bytes log.place.last store frames.now
         → (start : Plain J) → (all : List (List ℕ)) → (held : Log) → IsOpen held log → GoOn J.kind start all held bytes
         → IfOk result (λ beside. (more : Log) × IsLogged J.kind start all more beside) }
@@ -142,6 +146,7 @@ fn go_on<D: Disk, L: Disk, J: Job>(
         MatchResult result (λ beside. HoldsOn held more (L.view log.disk) (L.view beside.log.disk)) (λ e. HoldsOn held more (L.view log.disk) (L.view e.2.disk))) }
     ensures fault { (bytes : List ℕ) → IsOpenBehind J.kind D.view bytes log.place.last store frames.now
         → IfErr result (λ e. IsOpenFault J.kind bytes log.place.last e.0) }
+    ensures left { IfErr result (λ e. IsLeftWith log e.2 e.0) }
     ensures logged { (bytes : List ℕ) → IsOpenBehind J.kind D.view bytes log.place.last store frames.now
         → (start : Plain J) → (all : List (List ℕ)) → (held : Log) → IsOpen held log → GoOn J.kind start all held bytes
         → IfOk result (λ beside. (more : Log) × IsLogged J.kind start all more beside) }
@@ -157,7 +162,8 @@ impl<D: Disk, L: Disk, J: Job> LoggedStore<D, L, J> {
     /// Opens a store beside its log. The file is synced and read twice, and nothing is written to it. Where the log ends before the last turn it is
     /// brought up by one append. With a fault the disk and the log come back.
     ///
-    /// `LogGap` says that the file has no frames behind the log's end. `File` says what the store's opening says, and `Log` what an append to the log says.
+    /// `LogGap` says that the file has no frames behind the log's end. `File` says what the store's opening says, and `Log` what an append to the log says,
+    /// which comes only where the log ends before the last turn: `Device` and `Broken` leave a broken log, and each other fault one as it was.
     pub fn open(
         alloc: Global,
         disk: D,
@@ -166,6 +172,7 @@ impl<D: Disk, L: Disk, J: Job> LoggedStore<D, L, J> {
         ensures found { IsHonest (D.view disk) → IfOk result (λ beside.
             recovered (format J.kind) (D.view disk).contents ≡ Ok beside.store.state) }
         ensures fault { IsHonest (D.view disk) → IfErr result (λ e. IsOpenFault J.kind (D.view disk).contents log.place.last e.0) }
+        ensures left { IfErr result (λ e. IsLeftWith log e.2 e.0) }
         // At each moment each image left of the log with each one left of the file has every frame, if the two went on together.
         ensures covered { IsHonest (D.view disk) → Only (D.view disk).contents (D.view disk) → (start : Plain J) → (all : List (List ℕ)) → (held : Log)
             → IsOpen held log → GoOn J.kind start all held (D.view disk).contents

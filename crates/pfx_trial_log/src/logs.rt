@@ -82,6 +82,29 @@ fn is_kept_whole(alloc: Global) -> Option<bool> {
     Some(gap && again && back && none && long && is_same && !file.broken)
 }
 
+/// Whether a block that is put together in room that was handed in is the one that `append` writes, with as many calls, and no room is lost.
+fn is_the_same_block(alloc: Global) -> Option<bool> {
+    let mut one = written(alloc, 1)?;
+    let mut other = written(alloc, 1)?;
+    let mut room = Vec::with_capacity(alloc, 60).ok()?;
+    one.append(alloc, 7, 9, &[1, 2, 3]).ok()?;
+    other.append_in(&mut room, 7, 9, &[1, 2, 3]).ok()?;
+    let calls = one.disk.clock() == other.disk.clock();
+    let place = one.place.at == other.place.at && one.place.head == other.place.head;
+    let (mut one, mut other) = (one.into_disk(), other.into_disk());
+    let same = held(alloc, &mut one)?.as_slice() == held(alloc, &mut other)?.as_slice();
+    Some(calls && place && same && room.capacity() >= 60)
+}
+
+#[test]
+fn room_that_is_handed_in_serves(rt: HostRuntime) {
+    check(
+        &rt,
+        is_the_same_block(rt.alloc()) == Some(true),
+        "the block",
+    );
+}
+
 /// Whether a disk that holds a byte gets no log.
 fn is_left_alone(alloc: Global) -> Option<bool> {
     let disk = disk_of(alloc, &[7])?;

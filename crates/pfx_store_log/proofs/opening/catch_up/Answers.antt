@@ -5,8 +5,9 @@ use Rattle.pfx_log.specs.Files.{IsOpen}
 use Rattle.pfx_log.specs.Logs.{block_of, with_block}
 use Rattle.pfx_store_log.proofs.Beginning.{can_catch_up}
 use Rattle.pfx_store_log.specs.Opening.{HoldsOn}
-use Rattle.pfx_store_log.proofs.Opened.{map_ok}
+use Rattle.pfx_store_log.proofs.Opened.{left_of_file, map_ok}
 use Rattle.pfx_store_log.proofs.Staying.{holds_more, holds_still, map_err, match_of}
+use Rattle.pfx_store_log.specs.Joining.{IsOfFile}
 use Rattle.pfx_store_log.proofs.opening.catch_up.Goals as goal
 
 pub returns-in-Ok-clause-logged : goal.returns-in-Ok-clause-logged
@@ -39,3 +40,6 @@ returns-in-Err-clause-log g c held is_open =
     let leaves = subst (λ n. Leaves (Grows held (block_of (c.args.log.place.last + 1) n c.args.frames.now)) (g.L.Disk.view c.args.log.disk) (g.L.Disk.view c.append.new.self.disk)) number (c.in-Err.ensures.appends held is_open).leaves in
     let grown = holds_more g.met.L.Disk.only_now held c.args.log c.append.new.self is_open (block_of (c.args.log.place.last + 1) c.args.store.state.number c.args.frames.now) leaves in
     grown
+
+pub returns-in-Ok-clause-left : goal.returns-in-Ok-clause-left
+returns-in-Ok-clause-left g c = map_err _ _ c.begin.result c.begin.ensures.fault (λ e same. left_of_file c.args.log e.2 e.0 (subst (λ f. IsOfFile f) (sym same) tt))

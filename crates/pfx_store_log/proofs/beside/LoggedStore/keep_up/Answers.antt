@@ -12,11 +12,11 @@ returns-then-kept-last-clause-beside g c start all log is =
 pub returns-then-is_ok-clause-beside : goal.returns-then-is_ok-clause-beside
 returns-then-is_ok-clause-beside g c start all log is =
     let number : c.number-last.result ≡ c.args.self.now.store.state.number = c.number-last.ensures.number ∙ ap (λ u. u.number) c.state.ensures in
-    keeps_block g.J.Job.kind g.met.J.Job.laws g.met.D.Disk.only_now g.met.L.Disk.only_now start all log c.args.self.now _ is refl _ c.number-last.result c.deref.result.now c.append-result.result number c.deref.ensures.value
-    (c.append-result.ensures.appends log is.opened) (on_ok_all c.append-result.result c.clear-then-is_ok.ensures.items)
+    keeps_block g.J.Job.kind g.met.J.Job.laws g.met.D.Disk.only_now g.met.L.Disk.only_now start all log c.args.self.now _ is refl _ c.number-last.result c.deref.result.now c.append_in-result.result number c.deref.ensures.value
+    (c.append_in-result.ensures.appends log is.opened) (on_ok_all c.append_in-result.result c.clear-then-is_ok.ensures.items)
 
 pub returns-else-is_ok-clause-beside : goal.returns-else-is_ok-clause-beside
 returns-else-is_ok-clause-beside g c start all log is =
     let number : c.number-last.result ≡ c.args.self.now.store.state.number = c.number-last.ensures.number ∙ ap (λ u. u.number) c.state.ensures in
-    keeps_block g.J.Job.kind g.met.J.Job.laws g.met.D.Disk.only_now g.met.L.Disk.only_now start all log c.args.self.now _ is refl _ c.number-last.result c.deref.result.now c.append-result.result number c.deref.ensures.value
-    (c.append-result.ensures.appends log is.opened) (on_not_ok _ c.append-result.result (sym c.is_ok.ensures.value ∙ c.if-is_ok.false))
+    keeps_block g.J.Job.kind g.met.J.Job.laws g.met.D.Disk.only_now g.met.L.Disk.only_now start all log c.args.self.now _ is refl _ c.number-last.result c.deref.result.now c.append_in-result.result number c.deref.ensures.value
+    (c.append_in-result.ensures.appends log is.opened) (on_not_ok _ c.append_in-result.result (sym c.is_ok.ensures.value ∙ c.if-is_ok.false))

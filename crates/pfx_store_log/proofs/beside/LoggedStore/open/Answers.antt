@@ -3,7 +3,7 @@ use Rattle.pfx_log.specs.Logs.{block_of, with_block}
 use Rattle.pfx_recover.specs.Looking.{Looks}
 use Rattle.pfx_store_log.specs.Opening.{IsOpenBehind}
 use Rattle.pfx_store_log.proofs.Beginning.{covered_held, covered_more}
-use Rattle.pfx_store_log.proofs.Opened.{map_ok, recovered_of}
+use Rattle.pfx_store_log.proofs.Opened.{left_of_file, map_ok, recovered_of}
 use Rattle.pfx_store_log.proofs.Staying.{holds_still, match_by, stays}
 use Rattle.pfx_store_log.proofs.beside.LoggedStore.open.Goals as goal
 
@@ -36,3 +36,6 @@ returns-in-Ok-clause-covered g c honest only start all held is_open go =
     (subst (λ s. Looks (g.D.Disk.view c.args.disk) (g.D.Disk.view s.file.disk)) (sym same) c.in-Ok.ensures.looks) one other holds)
     (λ e holds same. stays g.D.Disk g.J.Job.kind g.met.D.Disk.only_now start all held more (g.L.Disk.view c.args.log.disk) (g.L.Disk.view e.2.disk) c.args.disk (g.D.Disk.view e.1) honest only
     (subst (λ d. Looks (g.D.Disk.view c.args.disk) (g.D.Disk.view d)) (sym same) c.in-Ok.ensures.looks) one other holds)
+
+pub returns-in-Err-clause-left : goal.returns-in-Err-clause-left
+returns-in-Err-clause-left g c = left_of_file c.args.log c.args.log c.in-Err.fault c.in-Err.ensures.filed
