@@ -1,8 +1,9 @@
 -- What the store and its images have of a session that is closed.
-use Rattle.std.proofs.Common.{◌≡◌, ◌≢◌, ◌⊎◌, ℕ, zero, suc, ◌+◌, ◌≤◌, List, [], ◌∷◌, ◌++◌, length, take, drop, Bool, None, Ok, refl, sym, ap, ◌∙◌, subst, arith, append_assoc, length-append, inl, inr}
+use Rattle.std.proofs.Common.{◌≡◌, ◌≢◌, ◌⊎◌, ℕ, zero, suc, ◌+◌, ◌≤◌, List, [], ◌∷◌, ◌++◌, length, take, drop, Bool, Option, None, Ok, refl, sym, ap, ◌∙◌, subst, arith, append_assoc, length-append, inl, inr}
 use Rattle.std.proofs.lemmas.List.{take-append-drop, length-take-le}
 use Rattle.std.proofs.lemmas.Option.{same_Some}
 use Rattle.pfx_disk.specs.Disk.{View, IsHonest}
+use Rattle.pfx_fault.specs.declared.parts.Cause.{Cause}
 use Rattle.pfx_jobs.specs.Kind.{Kind, Laws}
 use Rattle.pfx_machine.specs.Plain.{Plain, IsState}
 use Rattle.pfx_machine.specs.Outcome.{outcome}
@@ -30,7 +31,7 @@ use Rattle.pfx_redo.proofs.States.{applied_behind}
 use Rattle.pfx_record.specs.Records.{Recorded}
 use Rattle.pfx_record.specs.declared.batch.Batch.{Batch}
 use Rattle.pfx_front.specs.Showing.{IsShown}
-use Rattle.pfx_front.specs.Closing.{Acknowledged, IsSeen, IsStored, IsHeld}
+use Rattle.pfx_front.specs.Closing.{Acknowledged, IsSeen, IsStored, IsHeld, StaysWhole}
 use Rattle.pfx_front.specs.Keeping.{mark_in, marks_of, frames_of, Behind}
 use Rattle.pfx_front.proofs.Groups.{take_joined, front_accepted, IsGrouped, grouped}
 
@@ -122,8 +123,8 @@ seen K L start notes batches last s r shown begins few are =
           ∙ ap (records_of K start) (first_is K L start r.session.accepted r.session.taken few xs (more ++ shown.rest) cut);
     }
 
-module _ {J : Type 0} (K : Kind J) (L : Laws K) (start : Plain J) (failures clock : ℕ) (notes : List (Note J)) (broken : Bool) (s : Plain J) (disk : View)
-    (b : Behind K start failures clock notes broken s disk) (H : List (Command J)) (taken : ℕ) (valid : IsState start) (all : IsAcceptable K start H)
+module _ {J : Type 0} (K : Kind J) (L : Laws K) (start : Plain J) (failures clock : ℕ) (notes : List (Note J)) (gone : Option Cause) (broken : Bool) (s : Plain J) (disk : View)
+    (b : Behind K start failures clock notes gone broken s disk) (H : List (Command J)) (taken : ℕ) (valid : IsState start) (all : IsAcceptable K start H)
     (few : taken ≤ length H) (are : records_in notes ≡ records_of K start (take taken H)) where
   abbrev Before : List (Command J)
   Before = take taken H
@@ -216,6 +217,12 @@ module _ {J : Type 0} (K : Kind J) (L : Laws K) (start : Plain J) (failures cloc
       mark = (let low = b.low (start.number + r.session.marked) r.session.marked_at marked in omega (arith, low, number_is_so));
       settled = settled;
       device = λ is. b.device (subst (λ o. HasFailed o notes) is failed);
+    }
+
+    pub whole_still : HasFailed r.failure notes → StaysWhole r.failure gone broken
+    whole_still failed = record {
+      memory = λ is. b.memory (subst (λ o. HasFailed o notes) is failed);
+      log = λ is. b.log (subst (λ o. HasFailed o notes) is failed);
     }
 
     pub held : AllBacked notes r.history → IsHonest disk → IsHeld K start clock r disk

@@ -1,5 +1,5 @@
 -- What marks keep at each moment since they were given.
-use Rattle.std.proofs.Common.{◌≡◌, ◌⊎◌, ◌+◌, ◌≤◌, ℕ, List, [], ◌∷◌, ◌++◌, length, Bool, refl, sym, ap, ◌∙◌, subst, arith, inl, inr}
+use Rattle.std.proofs.Common.{◌≡◌, ◌⊎◌, ◌+◌, ◌≤◌, ℕ, List, [], ◌∷◌, ◌++◌, length, None, Bool, refl, sym, ap, ◌∙◌, subst, arith, inl, inr}
 use Rattle.std.specs.Prelude.{take}
 use Rattle.pfx_board.specs.Word.{records_of as records_of_batches}
 use Rattle.pfx_book.specs.Notes.{Legal, Noted, commands_of, records_in}
@@ -55,6 +55,6 @@ module _ {J : Type 0} (K : Kind J) (L : Laws K) (start : Plain J) (image : List 
     legal = legal;
     published = (taken, few, shown ∙ are);
     keeps = λ h mark is k after some left stops.
-        (acknowledged K L start failures first notes broken s disk (step_behind K start failures first notes broken s disk step) (commands_of entries) taken valid all few are
+        (acknowledged K L start failures first notes None broken s disk (step_behind K start failures first notes None broken s disk step) (commands_of entries) taken valid all few are
         (honest h) mark.number mark.clock (noted mark is)).images left (since h mark.clock k after some left stops);
   }

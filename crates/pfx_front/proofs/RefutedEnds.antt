@@ -1,5 +1,5 @@
 -- Worked rows of what a closed front has come to: for each field a session, a store or readers for which it doesn't hold.
-use Rattle.std.specs.Prelude.{Bool, take}
+use Rattle.std.specs.Prelude.{Bool, Option, take}
 use Rattle.std.proofs.Common.{◌≡◌, ◌+◌, ◌≤◌, ℕ, List, [], ◌∷◌, length, Some, None, true, false, refl, sym, ap, ◌∙◌, subst, arith, inl, inr}
 use Rattle.std.proofs.lemmas.Bool.{false≢true}
 use Rattle.std.proofs.lemmas.List.{length-take-le}
@@ -14,7 +14,7 @@ use Rattle.pfx_book.specs.declared.note.Note.{Note}
 use Rattle.pfx_book.specs.declared.note.Note.TheVariants.{Lost, Marked, Receipt}
 use Rattle.pfx_disk.specs.Disk.{View, IsSpent}
 use Rattle.pfx_fault.specs.declared.parts.Cause.{Cause}
-use Rattle.pfx_fault.specs.declared.parts.Cause.TheVariants.{Device}
+use Rattle.pfx_fault.specs.declared.parts.Cause.TheVariants.{Device, Memory, Log}
 use Rattle.pfx_header.specs.Headers.{read_header}
 use Rattle.pfx_jobs.specs.Kind.{Kind}
 use Rattle.pfx_machine.specs.Plain.{Plain}
@@ -25,7 +25,7 @@ use Rattle.pfx_record.specs.declared.batch.Batch.{Batch}
 use Rattle.pfx_recovery.specs.Recovery.{found, recovered}
 use Rattle.pfx_redo.specs.Recording.{records_of}
 use Rattle.pfx_store.proofs.Grouping.{length-records}
-use Rattle.pfx_front.specs.Closing.{Acknowledged, AreSeen, IsSeen, IsSession, IsShort, IsStored, IsTold, Survives}
+use Rattle.pfx_front.specs.Closing.{Acknowledged, AreSeen, IsSeen, IsSession, IsShort, IsStored, IsTold, StaysWhole, Survives}
 use Rattle.pfx_front.specs.declared.faults.CloseFault.TheVariants.{PassOut}
 use Rattle.pfx_board.proofs.Refuted.{is_ok}
 
@@ -36,6 +36,18 @@ told_of_none J loss h = none-some loss.cause (h loss refl).0
 -- a client was told of a mark that isn't the last one
 told_behind : (J : Type 0) (cause : Cause) → IsTold {J = J} (Some cause) 1 (1, Lost (record { marked = 0; cause = cause }) ∷ []) → ⊥
 told_behind J cause h = let same : 0 ≡ 1 = (h (record { marked = 0; cause = cause }) refl).1 in omega (arith, same)
+
+-- the flusher gave up for memory, and the store is broken
+broken_for_memory : (failed : Option Cause) → StaysWhole (Some Memory) failed true → ⊥
+broken_for_memory failed h = false≢true (sym (h.memory refl))
+
+-- it gave up for the log, which hasn't failed
+log_unfailed : (broken : Bool) → StaysWhole (Some Log) None broken → ⊥
+log_unfailed broken h = none-some Log (h.log refl).0
+
+-- it gave up for the log, and the store is broken
+broken_for_log : (failed : Option Cause) → StaysWhole (Some Log) failed true → ⊥
+broken_for_log failed h = false≢true (sym (h.log refl).1)
 
 -- where there was no pass none is missing
 none_out : (J : Type 0) → IsShort {J = J} [] (PassOut 0) → ⊥

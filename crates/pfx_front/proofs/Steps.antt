@@ -1,5 +1,5 @@
 -- The flusher's steps: its notes one longer, and its store a call on.
-use Rattle.std.specs.Prelude.{IsErrOf, Result, Err, if◌then◌else◌, IsTrue, Option}
+use Rattle.std.specs.Prelude.{Result, Err, IfErr, if◌then◌else◌, IsTrue, Option}
 use Rattle.std.specs.Global.{Vec}
 use Rattle.std.proofs.Common.{◌≡◌, ◌⊎◌, ℕ, ◌+◌, ◌<◌, ◌≤◌, List, [], ◌∷◌, ◌++◌, length, map, Some, None, Bool, true, false, refl, sym, ap, ◌∙◌, subst, arith, append_assoc, append-nil, length-append, inl, inr}
 use Rattle.std.proofs.lemmas.Bool.{false≢true, ltb-true, leb-true}
@@ -9,7 +9,7 @@ use Rattle.pfx_disk.specs.Disk.{View, IsHonest, HasFailed}
 use Rattle.pfx_redo.specs.Applying.{applied, is_right, after_record}
 use Rattle.pfx_redo.proofs.States.{applied_behind}
 use Rattle.pfx_fault.specs.declared.parts.Cause.{Cause}
-use Rattle.pfx_fault.specs.declared.parts.Cause.TheVariants.{Device, Memory}
+use Rattle.pfx_fault.specs.declared.parts.Cause.TheVariants.{Device, Memory, Log}
 use Rattle.pfx_jobs.specs.Kind.{Kind}
 use Rattle.pfx_machine.specs.Plain.{Plain}
 use Rattle.pfx_record.specs.Batches.{batch_bytes, batch_of, batch_fits, counts_fit, all_fit}
@@ -17,10 +17,9 @@ use Rattle.pfx_record.specs.Records.{form_of, plain, Recorded}
 use Rattle.pfx_record.specs.declared.batch.Batch.{Batch}
 use Rattle.pfx_record.specs.declared.record.Record.{Record}
 use Rattle.pfx_record.proofs.Rising.{both}
-use Rattle.pfx_store_file.specs.Calls.{Works}
-use Rattle.pfx_store_file.specs.declared.faults.StoreFault.{StoreFault}
-use Rattle.pfx_store_file.specs.declared.faults.StoreFault.TheVariants.{Device as DeviceFault, Broken, NoRoom}
+use Rattle.pfx_store.specs.Keepers.{IsKeeping}
 use Rattle.pfx_store.specs.Marks.{AreKept, Covers}
+use Rattle.pfx_store.specs.Stores.{PlainStore}
 use Rattle.pfx_store.specs.declared.store.Mark.{Mark}
 use Rattle.pfx_book.specs.declared.note.Note.{Note}
 use Rattle.pfx_book.specs.declared.note.Note.TheVariants.{Took, Marked, Failed}
@@ -35,11 +34,19 @@ use Rattle.pfx_front.specs.Keeping.{frame_in, frames_of, mark_in, marks_of, IsNe
 use Rattle.pfx_front.specs.Working.{IsTaken}
 use Rattle.pfx_front.specs.Starting.{IsFresh}
 
--- a whole store that refuses a call has seen the disk fail
-pub failed_of : {T : Type 0} (old new : View) (was is : Bool) (r : Result T StoreFault) (fault : StoreFault) → r ≡ Err fault → Works old new was is r → was ≡ false → (IsErrOf r NoRoom → ⊥) → HasFailed old new
-failed_of old new was is r DeviceFault lost works whole room = works.device lost
-failed_of old new was is r Broken lost works whole room = absurd (false≢true (sym whole ∙ works.broken.0 lost))
-failed_of old new was is r NoRoom lost works whole room = absurd (room lost)
+-- what a call that missed says of its cause, where nothing had failed
+pub missed_by : {D J T : Type 0} (view : D → View) (old new : PlainStore D J) (was is : Option Cause) (result : Result T Cause) (calls : ℕ) (cause : Cause)
+    → IsKeeping view old new was is result calls → result ≡ Err cause → was ≡ None → old.file.broken ≡ false
+    → (cause ≡ Device → HasFailed (view old.file.disk) (view new.file.disk)) × (cause ≡ Memory → new.file.broken ≡ false)
+    × (cause ≡ Log → (is ≡ Some Log) × (new.file.broken ≡ false))
+missed_by view old new was is result calls cause h missed none whole = (
+  λ same. h.device none (missed ∙ ap Err same),
+  λ same. absurd (h.no_memory (missed ∙ ap Err same)),
+  λ same. (
+    subst (λ r. IfErr r (λ cause. is ≡ Some cause)) (missed ∙ ap Err same) h.fails,
+    ap (λ (s : PlainStore _ _). s.file.broken) (h.log (missed ∙ ap Err same)) ∙ whole,
+  ),
+)
 
 split_if : {A : Type 0} (b : Bool) (o : Option A) (u : A) → (if b then o else None) ≡ Some u → (b ≡ true) × (o ≡ Some u)
 split_if true o u e = (refl, e)
@@ -91,8 +98,13 @@ module _ {J : Type 0} where
   memory_device : ◌≡◌ {A = Note J} (Failed Memory) (Failed Device) → ⊥
   memory_device e = false≢true (ap is_device e)
 
-  device_memory : ◌≡◌ {A = Note J} (Failed Device) (Failed Memory) → ⊥
-  device_memory e = memory_device (sym e)
+  -- whether it says that the log failed
+  abbrev is_log : Note J → Bool
+  is_log (Failed Log) = true
+  is_log other = false
+
+  memory_log : ◌≡◌ {A = Note J} (Failed Memory) (Failed Log) → ⊥
+  memory_log e = false≢true (ap is_log e)
 
   failed_marked : (cause : Cause) (n d : ℕ) → ◌≡◌ {A = Note J} (Failed cause) (Marked n d) → ⊥
   failed_marked cause n d e = false≢true (ap is_mark e)
@@ -149,9 +161,9 @@ module _ {J : Type 0} where
   }
 
   -- a store in step has what its marks promise
-  pub step_behind : (K : Kind J) (start : Plain J) (failures clock : ℕ) (notes : List (Note J)) (broken : Bool) (s : Plain J) (disk : View)
-      → InStep K start failures clock notes broken s disk → Behind K start failures clock notes broken s disk
-  step_behind K start failures clock notes broken s disk h = record {
+  pub step_behind : (K : Kind J) (start : Plain J) (failures clock : ℕ) (notes : List (Note J)) (failed : Option Cause) (broken : Bool) (s : Plain J) (disk : View)
+      → InStep K start failures clock notes broken s disk → Behind K start failures clock notes failed broken s disk
+  step_behind K start failures clock notes failed broken s disk h = record {
     at = notes;
     rest = [];
     begins = append-nil notes;
@@ -159,34 +171,43 @@ module _ {J : Type 0} where
     counted = h.counted;
     low = h.low;
     began = h.began;
-    device = λ failed. absurd (h.unfailed Device failed);
-    memory = λ failed. absurd (h.unfailed Memory failed);
+    device = λ noted. absurd (h.unfailed Device noted);
+    memory = λ noted. absurd (h.unfailed Memory noted);
+    log = λ noted. absurd (h.unfailed Log noted);
     kept = λ honest. (h.covers honest).marks;
   }
 
-  -- the device failed, which is noted
-  pub failed_behind : (K : Kind J) (start : Plain J) (failures clock : ℕ) (notes after : List (Note J)) (broken is : Bool) (s t : Plain J) (disk new : View)
-      → InStep K start failures clock notes broken s disk → after ≡ notes ++ Failed Device ∷ [] → t ≡ s → HasFailed disk new
-      → (IsHonest new → AreKept K start (frames_of K notes) (marks_of notes) new) → Behind K start failures clock after is t new
-  failed_behind K start failures clock notes after broken is s t disk new h noted same lost kept = record {
+  -- the keeper failed, which is noted
+  pub failed_behind : (K : Kind J) (start : Plain J) (failures clock : ℕ) (notes after : List (Note J)) (cause : Cause) (failed : Option Cause) (broken is : Bool) (s t : Plain J)
+      (disk new : View) → InStep K start failures clock notes broken s disk → after ≡ notes ++ Failed cause ∷ [] → t ≡ s
+      → (cause ≡ Device → HasFailed disk new) × (cause ≡ Memory → is ≡ false) × (cause ≡ Log → (failed ≡ Some Log) × (is ≡ false))
+      → (IsHonest new → AreKept K start (frames_of K notes) (marks_of notes) new) → Behind K start failures clock after failed is t new
+  failed_behind K start failures clock notes after cause failed broken is s t disk new h noted same causes kept = record {
     at = notes;
-    rest = Failed Device ∷ [];
+    rest = Failed cause ∷ [];
     begins = sym noted;
     state = h.state ∙ ap Some (sym same);
-    counted = subst (AreCounted start.number) (sym noted) (counted_more start.number notes (Failed Device) h.counted tt);
-    low = λ n c is. elim (noted_split (Marked n c) notes (Failed Device) (subst (Noted (Marked n c)) noted is)) [
+    counted = subst (AreCounted start.number) (sym noted) (counted_more start.number notes (Failed cause) h.counted tt);
+    low = λ n c is. elim (noted_split (Marked n c) notes (Failed cause) (subst (Noted (Marked n c)) noted is)) [
       | inl before ↦ subst (λ (r : Plain J). n ≤ r.number) (sym same) (h.low n c before)
-      | inr last ↦ absurd (failed_marked Device n c last)
+      | inr last ↦ absurd (failed_marked cause n c last)
     ];
-    began = subst (Noted (Marked start.number clock)) (sym noted) (noted_more (Marked start.number clock) notes (Failed Device ∷ []) h.began);
-    device = λ is. elim lost [ inl more ↦ inl (let since = h.since in omega (arith, since, more)) | inr spent ↦ inr spent ];
-    memory = λ is_noted. elim (noted_split (Failed Memory) notes (Failed Device) (subst (Noted (Failed Memory)) noted is_noted)) [
+    began = subst (Noted (Marked start.number clock)) (sym noted) (noted_more (Marked start.number clock) notes (Failed cause ∷ []) h.began);
+    device = λ is. elim (noted_split (Failed Device) notes (Failed cause) (subst (Noted (Failed Device)) noted is)) [
+      | inl before ↦ absurd (h.unfailed Device before)
+      | inr last ↦ elim (causes.0 (same_cause cause Device last)) [ inl more ↦ inl (let since = h.since in omega (arith, since, more)) | inr spent ↦ inr spent ]
+    ];
+    memory = λ is_noted. elim (noted_split (Failed Memory) notes (Failed cause) (subst (Noted (Failed Memory)) noted is_noted)) [
       | inl before ↦ absurd (h.unfailed Memory before)
-      | inr last ↦ absurd (device_memory last)
+      | inr last ↦ causes.1 (same_cause cause Memory last)
+    ];
+    log = λ is_noted. elim (noted_split (Failed Log) notes (Failed cause) (subst (Noted (Failed Log)) noted is_noted)) [
+      | inl before ↦ absurd (h.unfailed Log before)
+      | inr last ↦ causes.2 (same_cause cause Log last)
     ];
     kept = λ honest.
-        let frames : frames_of K after ≡ frames_of K notes = ap (frames_of K) noted ∙ frames_more K notes (Failed Device) ∙ append-nil (frames_of K notes) in
-        let marks : marks_of after ≡ marks_of notes = ap marks_of noted ∙ marks_more notes (Failed Device) in
+        let frames : frames_of K after ≡ frames_of K notes = ap (frames_of K) noted ∙ frames_more K notes (Failed cause) ∙ append-nil (frames_of K notes) in
+        let marks : marks_of after ≡ marks_of notes = ap marks_of noted ∙ marks_more notes (Failed cause) in
         subst (λ l. AreKept K start l (marks_of after) new) (sym frames) (subst (λ l. AreKept K start (frames_of K notes) l new) (sym marks) (kept honest));
   }
 
@@ -321,11 +342,11 @@ module _ {J : Type 0} where
         }
 
     -- the batch is appended, and memory is refused for the board
-    pub memory_behind : (after : List (Note J)) (mark : Mark) → is ≡ false → after ≡ notes ++ Failed Memory ∷ [] → applied K s (map plain batch.records.items) ≡ Some t → (IsHonest new → IsHonest disk)
+    pub memory_behind : (after : List (Note J)) (failed : Option Cause) (mark : Mark) → is ≡ false → after ≡ notes ++ Failed Memory ∷ [] → applied K s (map plain batch.records.items) ≡ Some t → (IsHonest new → IsHonest disk)
         → (IsHonest disk → (start : Plain J) (all : List (List ℕ)) (marks : List Mark) → Covers K start all marks broken s disk
         → Covers K start (all ++ batch_bytes K (batch_of batch.first batch.records.items) ∷ []) (mark ∷ marks) is t new)
-        → Behind K start failures clock after is t new
-    memory_behind after mark whole lost leads honest appends =
+        → Behind K start failures clock after failed is t new
+    memory_behind after failed mark whole lost leads honest appends =
         let behind = applied_behind K s t (map plain batch.records.items) leads in
         record {
           at = notes;
@@ -343,6 +364,10 @@ module _ {J : Type 0} where
             | inr last ↦ absurd (memory_device last)
           ];
           memory = λ is_noted. whole;
+          log = λ is_noted. elim (noted_split (Failed Log) notes (Failed Memory) (subst (Noted (Failed Log)) lost is_noted)) [
+            | inl before ↦ absurd (unfailed_here Log before)
+            | inr last ↦ absurd (memory_log last)
+          ];
           kept = λ here.
               let frames : frames_of K after ≡ frames_of K h.before ++ batch_bytes K (batch_of batch.first batch.records.items) ∷ [] =
               ap (frames_of K) lost ∙ frames_more K notes (Failed Memory) ∙ append-nil (frames_of K notes) ∙ frames_here in
@@ -352,12 +377,13 @@ module _ {J : Type 0} where
               (subst (λ l. AreKept K start (frames_of K h.before ++ batch_bytes K (batch_of batch.first batch.records.items) ∷ []) l new) (sym marks) held.1);
         }
 
-    -- the batch isn't known to be appended: the device failed, or memory was refused before
-    pub batch_behind : (after : List (Note J)) (cause : Cause) → after ≡ notes ++ Failed cause ∷ [] → t ≡ s → (cause ≡ Device → HasFailed disk new) → (cause ≡ Memory → is ≡ false) → (IsHonest new → IsHonest disk)
+    -- the batch isn't known to be appended: the device or the log failed, or memory was refused before
+    pub batch_behind : (after : List (Note J)) (cause : Cause) (failed : Option Cause) → after ≡ notes ++ Failed cause ∷ [] → t ≡ s
+        → (cause ≡ Device → HasFailed disk new) × (cause ≡ Memory → is ≡ false) × (cause ≡ Log → (failed ≡ Some Log) × (is ≡ false)) → (IsHonest new → IsHonest disk)
         → (IsHonest disk → (start : Plain J) (all : List (List ℕ)) (marks : List Mark) → Covers K start all marks broken s disk
         → AreKept K start (all ++ batch_bytes K (batch_of batch.first batch.records.items) ∷ []) marks new)
-        → Behind K start failures clock after is t new
-    batch_behind after cause lost same device memory honest appends = record {
+        → Behind K start failures clock after failed is t new
+    batch_behind after cause failed lost same causes honest appends = record {
       at = h.before;
       rest = Last ∷ Failed cause ∷ [];
       begins = sym (lost ∙ ap (λ l. l ++ Failed cause ∷ []) h.noted ∙ append_assoc h.before (Last ∷ []) (Failed cause ∷ []));
@@ -370,11 +396,15 @@ module _ {J : Type 0} where
       began = subst (Noted (Marked start.number clock)) (sym lost) (noted_more (Marked start.number clock) notes (Failed cause ∷ []) began_here);
       device = λ is_noted. elim (noted_split (Failed Device) notes (Failed cause) (subst (Noted (Failed Device)) lost is_noted)) [
         | inl before ↦ absurd (unfailed_here Device before)
-        | inr last ↦ elim (device (same_cause cause Device last)) [ inl more ↦ inl (let since = h.step.since in omega (arith, since, more)) | inr spent ↦ inr spent ]
+        | inr last ↦ elim (causes.0 (same_cause cause Device last)) [ inl more ↦ inl (let since = h.step.since in omega (arith, since, more)) | inr spent ↦ inr spent ]
       ];
       memory = λ is_noted. elim (noted_split (Failed Memory) notes (Failed cause) (subst (Noted (Failed Memory)) lost is_noted)) [
         | inl before ↦ absurd (unfailed_here Memory before)
-        | inr last ↦ memory (same_cause cause Memory last)
+        | inr last ↦ causes.1 (same_cause cause Memory last)
+      ];
+      log = λ is_noted. elim (noted_split (Failed Log) notes (Failed cause) (subst (Noted (Failed Log)) lost is_noted)) [
+        | inl before ↦ absurd (unfailed_here Log before)
+        | inr last ↦ causes.2 (same_cause cause Log last)
       ];
       kept = λ here.
           let frames : frames_of K after ≡ frames_of K h.before ++ batch_bytes K (batch_of batch.first batch.records.items) ∷ [] =

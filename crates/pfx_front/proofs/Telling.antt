@@ -1,16 +1,21 @@
 -- What a disk that told its calls says of the disk itself, at the beginning and at the end.
-use Rattle.std.proofs.Common.{◌≡◌, ◌⊎◌, ◌+◌, ℕ, ◌≤◌, ◌<◌, ◌↔◌, List, [], length, Bool, false, Some, Ok, refl, sym, ap, ◌∙◌, subst, arith}
+use Rattle.std.proofs.Common.{◌≡◌, ◌⊎◌, ◌+◌, ℕ, ◌≤◌, ◌<◌, ◌↔◌, List, [], length, Bool, true, false, Option, None, Some, Ok, refl, sym, ap, ◌∙◌, subst, arith}
+use Rattle.std.specs.Prelude.{if◌then◌else◌}
+use Rattle.std.proofs.lemmas.Bool.{false≢true}
 use Rattle.std.proofs.lemmas.List.{length-map}
+use Rattle.std.proofs.lemmas.Option.{none-some, same_Some}
 use Rattle.pfx_book.specs.Register.{Register}
 use Rattle.pfx_chronicle.specs.Chart.{Noted, GoesAlong, acts_of, act_of, charted, charted_honest, last_only, noted_view}
 use Rattle.pfx_chronicle.specs.declared.made.Made.{Made}
 use Rattle.pfx_disk.specs.Disk.{View, IsHonest, IsSpent}
-use Rattle.pfx_fault.specs.declared.parts.Cause.TheVariants.{Device}
+use Rattle.pfx_fault.specs.declared.parts.Cause.{Cause}
+use Rattle.pfx_fault.specs.declared.parts.Cause.TheVariants.{Device, Log}
 use Rattle.pfx_format.specs.Format.{format}
 use Rattle.pfx_jobs.specs.Kind.{Kind}
 use Rattle.pfx_machine.specs.Plain.{Plain}
 use Rattle.pfx_machine.specs.declared.command.Command.{Command}
 use Rattle.pfx_recovery.specs.Recovery.{recovered}
+use Rattle.pfx_store.specs.Keepers.{failure_of}
 use Rattle.pfx_store.specs.Stores.{PlainStore}
 use Rattle.pfx_store_file.specs.declared.places.Places.{Places}
 use Rattle.pfx_front.specs.Closing.{Acknowledged, IsStored, IsHeld}
@@ -87,6 +92,18 @@ told_stored K start failures r s _ disk h device = record {
   settled = h.settled;
   device = device;
 }
+
+abbrev is_log : Cause → Bool
+is_log Log = true
+is_log other = false
+
+device_or_none : (broken : Bool) → (if broken then Some Device else None) ≡ Some Log → ⊥
+device_or_none true is = false≢true (ap is_log (same_Some Device Log is))
+device_or_none false is = none-some Log is
+
+-- a store by itself has no log that fails
+pub no_log : {D J : Type 0} (store : PlainStore D J) → failure_of store ≡ Some Log → ⊥
+no_log store is = device_or_none store.file.broken is
 
 module _ {D J : Type 0} where
   abbrev made_of : D → Places → Bool → Plain J → List ℕ → PlainStore D J

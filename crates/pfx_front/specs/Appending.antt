@@ -1,9 +1,9 @@
 -- What comes of appending a batch that was taken.
-use Rattle.std.specs.Prelude.{◌≡◌, ◌≤◌, ◌+◌, ◌++◌, ℕ, List, [], ◌∷◌, map, Some, false}
+use Rattle.std.specs.Prelude.{◌≡◌, ◌≤◌, ◌+◌, ◌++◌, ℕ, List, [], ◌∷◌, map, Option, None, Some, false}
 use Rattle.pfx_disk.specs.Disk.{View, HasFailed, IsHonest}
 use Rattle.pfx_redo.specs.Applying.{applied}
 use Rattle.pfx_fault.specs.declared.parts.Cause.{Cause}
-use Rattle.pfx_fault.specs.declared.parts.Cause.TheVariants.{Device, Memory}
+use Rattle.pfx_fault.specs.declared.parts.Cause.TheVariants.{Device, Memory, Log}
 use Rattle.pfx_jobs.specs.Kind.{Kind}
 use Rattle.pfx_machine.specs.Plain.{Plain}
 use Rattle.pfx_record.specs.Batches.{batch_bytes, batch_of}
@@ -25,9 +25,10 @@ abbrev pub with_frame : {J : Type 0} → Kind J → Batch J → List (List ℕ) 
 with_frame K batch all = all ++ batch_bytes K (batch_of batch.first batch.records.items) ∷ []
 
 module _ {D J : Type 0} (view : D → View) (K : Kind J) (batch : Batch J) where
-  -- The batch is appended, with this mark: the store is whole, has the state to which the records lead and whose number the mark has, and
-  -- keeps each mark, this one too.
-  pub record IsAppended (mark : Mark) (old new : PlainStore D J) : Type 0 where
+  -- The batch is appended, with this mark: nothing has failed, and the store is whole, has the state to which the records lead and whose number the
+  -- mark has, and keeps each mark, this one too.
+  pub record IsAppended (mark : Mark) (old new : PlainStore D J) (failed : Option Cause) : Type 0 where
+    pub goes_on : failed ≡ None
     pub moved : applied K old.state (map plain batch.records.items) ≡ Some new.state
     pub whole : new.file.broken ≡ false
     pub number : mark.number ≡ new.state.number
@@ -37,12 +38,13 @@ module _ {D J : Type 0} (view : D → View) (K : Kind J) (batch : Batch J) where
         → Covers K start all marks old.file.broken old.state (view old.file.disk)
         → Covers K start (with_frame K batch all) (mark ∷ marks) new.file.broken new.state (view new.file.disk)
 
-  -- The batch isn't known to be appended, for this cause: the store keeps its state and each mark; if memory was refused it is as it was, and
-  -- else the disk has failed.
-  pub record IsMissed (cause : Cause) (old new : PlainStore D J) : Type 0 where
+  -- The batch isn't known to be appended, for this cause: the store keeps its state and each mark; if memory was refused or the log has failed it
+  -- is as it was, and else the disk has failed.
+  pub record IsMissed (cause : Cause) (old new : PlainStore D J) (failed : Option Cause) : Type 0 where
     pub same : new.state ≡ old.state
     pub device : cause ≡ Device → HasFailed (view old.file.disk) (view new.file.disk)
     pub memory : cause ≡ Memory → new ≡ old
+    pub log : cause ≡ Log → (new ≡ old) × (failed ≡ Some Log)
     pub honest : IsHonest (view new.file.disk) → IsHonest (view old.file.disk)
     pub marks : IsHonest (view old.file.disk) → (start : Plain J) (all : List (List ℕ)) (marks : List Mark)
         → Covers K start all marks old.file.broken old.state (view old.file.disk)

@@ -1,11 +1,11 @@
 -- What a front has come to when it is closed.
-use Rattle.std.specs.Prelude.{◌≡◌, ◌≢◌, ◌⊎◌, ◌≤◌, ◌<◌, ℕ, ◌+◌, ◌-◌, List, [], length, map, take, slice_get, Bool, true, Option, None, Some, Ok}
+use Rattle.std.specs.Prelude.{◌≡◌, ◌≢◌, ◌⊎◌, ◌≤◌, ◌<◌, ℕ, ◌+◌, ◌-◌, List, [], length, map, take, slice_get, Bool, true, false, Option, None, Some, Ok}
 use mathlib.Core.List.{IsPrefix}
 use Rattle.pfx_board.specs.Word.{records_of as records_of_batches}
 use Rattle.pfx_disk.specs.Disk.{View, IsSpent}
 use Rattle.pfx_redo.specs.Recording.{records_of}
 use Rattle.pfx_fault.specs.declared.parts.Cause.{Cause}
-use Rattle.pfx_fault.specs.declared.parts.Cause.TheVariants.{Device}
+use Rattle.pfx_fault.specs.declared.parts.Cause.TheVariants.{Device, Memory, Log}
 use Rattle.pfx_format.specs.Format.{format}
 use Rattle.pfx_jobs.specs.Kind.{Kind}
 use Rattle.pfx_machine.specs.Plain.{Plain}
@@ -29,6 +29,11 @@ IsTold failure last pass = (loss : Loss) → lost_in pass.1 ≡ Some loss → (f
 -- each of these passes was told so
 abbrev pub AreTold : {J : Type 0} → Option Cause → ℕ → List (ℕ × List (Note J)) → Type 0
 AreTold failure last passes = (k : ℕ) → (pass : ℕ × List (Note _)) → slice_get passes k ≡ Some pass → IsTold failure last pass
+
+-- where the flusher gave up for memory the store is whole; so it is where it gave up for the log, which has failed then
+pub record StaysWhole (failure failed : Option Cause) (broken : Bool) : Type 0 where
+  pub memory : failure ≡ Some Memory → broken ≡ false
+  pub log : failure ≡ Some Log → (failed ≡ Some Log) × (broken ≡ false)
 
 -- of so many passes that were given out these aren't all, and so many are missing
 abbrev pub IsShort : {J : Type 0} → List (ℕ × List (Note J)) → CloseFault → Type 0

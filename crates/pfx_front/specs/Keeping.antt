@@ -1,9 +1,9 @@
 -- A store that keeps what the flusher's notes say.
-use Rattle.std.specs.Prelude.{◌≡◌, ◌⊎◌, ◌≤◌, ◌<◌, ℕ, ◌+◌, List, [], ◌∷◌, ◌++◌, length, map, Some, Bool, false, ⊤}
+use Rattle.std.specs.Prelude.{◌≡◌, ◌⊎◌, ◌≤◌, ◌<◌, ℕ, ◌+◌, List, [], ◌∷◌, ◌++◌, length, map, Option, Some, Bool, false, ⊤}
 use Rattle.pfx_disk.specs.Disk.{View, IsHonest, IsSpent}
 use Rattle.pfx_redo.specs.Applying.{applied}
 use Rattle.pfx_fault.specs.declared.parts.Cause.{Cause}
-use Rattle.pfx_fault.specs.declared.parts.Cause.TheVariants.{Device, Memory}
+use Rattle.pfx_fault.specs.declared.parts.Cause.TheVariants.{Device, Memory, Log}
 use Rattle.pfx_jobs.specs.Kind.{Kind}
 use Rattle.pfx_machine.specs.Plain.{Plain}
 use Rattle.pfx_record.specs.Batches.{batch_bytes, batch_of}
@@ -59,8 +59,9 @@ module _ {J : Type 0} where
     pub covers : IsHonest disk → Covers K start (frames_of K notes) (marks_of notes) broken s disk
 
   -- the store has a beginning of what was taken, which may be all of it, and keeps each mark; a device that is said to have
-  -- failed has, and where memory is said to have been refused the store is whole
-  pub record Behind (K : Kind J) (start : Plain J) (failures clock : ℕ) (notes : List (Note J)) (broken : Bool) (s : Plain J) (disk : View) : Type 0 where
+  -- failed has; where memory is said to have been refused, or the log to have failed, which has then, the store is whole
+  pub record Behind (K : Kind J) (start : Plain J) (failures clock : ℕ) (notes : List (Note J)) (failed : Option Cause) (broken : Bool) (s : Plain J)
+      (disk : View) : Type 0 where
     pub at : List (Note J)
     pub rest : List (Note J)
     pub begins : at ++ rest ≡ notes
@@ -70,4 +71,5 @@ module _ {J : Type 0} where
     pub began : Noted (Marked start.number clock) notes
     pub device : Noted (Failed Device) notes → (failures < disk.failures) ⊎ IsSpent disk
     pub memory : Noted (Failed Memory) notes → broken ≡ false
+    pub log : Noted (Failed Log) notes → (failed ≡ Some Log) × (broken ≡ false)
     pub kept : IsHonest disk → AreKept K start (frames_of K notes) (marks_of notes) disk

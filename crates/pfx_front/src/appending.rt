@@ -1,5 +1,5 @@
 //! Appending what was taken.
-ghost use Rattle.std.specs.Prelude.{◌≡◌, ◌∷◌, [], ℕ, map, false, IfSome, IfNone, IfOk, IfErr};
+ghost use Rattle.std.specs.Prelude.{◌≡◌, ◌∷◌, [], ℕ, map, None, IfSome, IfNone, IfOk, IfErr};
 ghost use Rattle.pfx_book.specs.Batching.{real_for};
 ghost use Rattle.pfx_record.specs.Records.{plain, reweighed};
 ghost use Rattle.pfx_front.specs.Appending.{ComesNext, IsAppended, IsMissed};
@@ -8,7 +8,7 @@ use pfx_disk::Disk;
 use pfx_fault::Cause;
 use pfx_jobs::job::Job;
 use pfx_record::{Batch, Record};
-use pfx_store::{Mark, Store};
+use pfx_store::{Keeper, Mark};
 use pfx_weights::Weights;
 use std::alloc::Global;
 
@@ -26,28 +26,29 @@ fn new_weights<J: Job>(batch: &Batch<J>) -> Option<(u32, &Weights)>
     }
 }
 
-/// Appends a batch that comes next in the store; what new weights take of memory is taken before. `Memory` leaves the store as it was,
-/// and `Device` breaks it.
-pub(crate) fn append_taken<J: Job, D: Disk>(
+/// Keeps a batch that comes next; what new weights take of memory is taken before. `Memory` and `Log` leave the store as it was, and `Device` breaks it.
+pub(crate) fn append_taken<J: Job, D: Disk, S: Keeper<D, J>>(
     alloc: Global,
-    store: &mut Store<D, J>,
+    keeper: &mut S,
     batch: &Batch<J>,
 ) -> Result<Mark, Cause>
-    requires next { ComesNext J.kind store.old.state batch.now }
-    requires whole { store.old.file.broken ≡ false }
-    ensures done { IfOk result (λ mark. IsAppended D.view J.kind batch.now mark store.old store.new) }
-    ensures missed { IfErr result (λ cause. IsMissed D.view J.kind batch.now cause store.old store.new) }
+    requires next { ComesNext J.kind (S.kept keeper.old).state batch.now }
+    requires goes_on { S.failed keeper.old ≡ None }
+    ensures done { IfOk result (λ mark. IsAppended D.view J.kind batch.now mark (S.kept keeper.old) (S.kept keeper.new) (S.failed keeper.new)) }
+    ensures missed { IfErr result (λ cause. IsMissed D.view J.kind batch.now cause (S.kept keeper.old) (S.kept keeper.new) (S.failed keeper.new)) }
 {
     match new_weights(batch) {
-        None => match store.append(batch) {
-            Ok(mark) => Ok(mark),
-            Err(_fault) => Err(Cause::Device),
-        },
-        Some((workers, weights)) => match store.prepare_reweigh(alloc, workers, weights) {
-            Ok(renewal) => match store.append_reweigh(batch, renewal) {
-                Ok(mark) => Ok(mark),
-                Err(_fault) => Err(Cause::Device),
-            },
+        None => {
+            let result = keeper.keep(batch);
+            let _failure = keeper.failure();
+            result
+        }
+        Some((workers, weights)) => match keeper.stored().prepare_reweigh(alloc, workers, weights) {
+            Ok(renewal) => {
+                let result = keeper.keep_reweigh(batch, renewal);
+                let _failure = keeper.failure();
+                result
+            }
             Err(_fault) => Err(Cause::Memory),
         },
     }

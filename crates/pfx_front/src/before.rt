@@ -13,7 +13,7 @@ const LIMIT: u64 = (1 << 63) - 1;
 
 /// How often the disk had failed. Contracts see the number, which is the name's.
 #[derive(Drop)]
-pub(crate) struct Before<B: Charted> {
+pub struct Before<B: Charted> {
     failures: u64,
     of: PhantomData<B>,
 }
@@ -40,7 +40,7 @@ impl<B: Charted> Before<B> {
     }
 
     /// Whether the disk has failed since, if it is for the device that the flusher gave up.
-    pub(crate) fn backs<D: Disk>(&self, failure: Option<Cause>, disk: &D) -> bool
+    pub fn backs<D: Disk>(&self, failure: Option<Cause>, disk: &D) -> bool
         ensures { IsTrue result → failure ≡ Some Device → (B.failures < (D.view disk.now).failures) ⊎ IsSpent (D.view disk.now) }
     {
         match failure {

@@ -2,11 +2,12 @@
 ghost use Rattle.std.specs.Prelude.{◌≡◌, ◌≢◌, ◌+◌, ◌-◌, [], length, map, Some, true, false, IfOk, IfErr, IfSome, IfNone, IsTrue, IsPermutation};
 ghost use Rattle.pfx_chronicle.specs.Chart.{noted_view};
 ghost use Rattle.pfx_disk.specs.Disk.{IsHonest};
-ghost use Rattle.pfx_fault.specs.declared.parts.Cause.TheVariants.{Memory};
+ghost use Rattle.pfx_fault.specs.declared.parts.Cause.TheVariants.{Memory, Log};
 ghost use Rattle.pfx_book.specs.Merging.{numbers_from};
-ghost use Rattle.pfx_front.specs.Closing.{IsTold, AreTold, AreLooked, AreSeen, IsSession, IsShort, IsStored, IsHeld};
+ghost use Rattle.pfx_front.specs.Closing.{IsTold, AreTold, AreLooked, AreSeen, IsSession, IsShort, IsStored, IsHeld, StaysWhole};
 ghost use Rattle.pfx_front.specs.Keeping.{Behind};
 ghost use Rattle.pfx_front.specs.Showing.{IsShown};
+ghost use Rattle.pfx_store.specs.Keepers.{failure_of};
 ghost use Rattle.pfx_front.specs.declared.faults.CloseFault.TheVariants.{PassOut};
 
 use crate::before::Before;
@@ -15,7 +16,7 @@ use crate::faults::CloseFault;
 use crate::flusher::Flushed;
 use crate::monitor::Monitor;
 use crate::name::Since;
-use crate::start::{Crew, Hands, dismiss};
+use crate::start::{Crew, Hands, KeptCrew, dismiss};
 use pfx_board::publisher::Publisher;
 use pfx_board::reader::Reader;
 use pfx_board::shown::Shown;
@@ -27,7 +28,8 @@ use pfx_disk::Disk;
 use pfx_fault::Cause;
 use pfx_jobs::job::Job;
 use pfx_jobs::quantum::{Done, Quantum};
-use pfx_store::Store;
+use pfx_store::{Keeper, Store};
+use std::marker::PhantomData;
 use std::sync::Wait;
 use std::thread::Threads;
 
@@ -51,6 +53,22 @@ pub struct Closed<J: Job, B: Since<J>, D: Disk> {
     pub given: Given<J, B>,
     /// Of each reader, whether it was told of the last publication and then saw just that.
     pub looked: Vec<bool>,
+}
+
+/// What a front at a keeper leaves.
+#[derive(Drop)]
+pub struct Left<J: Job, B: Since<J>, D: Disk, S: Keeper<D, J> + Drop> {
+    /// What keeps the store, with what became durable.
+    pub keeper: S,
+    /// The session.
+    pub book: Book<J, B>,
+    /// The passes in the order in which they were given out, and the readers.
+    pub given: Given<J, B>,
+    /// Of each reader, whether it was told of the last publication and then saw just that.
+    pub looked: Vec<bool>,
+    /// How often the disk had failed when the front began.
+    pub before: Before<B>,
+    pub(crate) disk: PhantomData<D>,
 }
 
 /// Shuts this book, if these are all its passes; else says how many are missing, and changes nothing.
@@ -134,24 +152,28 @@ fn look_all<J: Job, B: Since<J>>(
 }
 
 /// Looks at the book, all passes and the share together: what session, store and board have come to.
-fn ended<J: Job, B: Since<J>, D: Disk + Drop, R: Wait + Drop>(
+fn ended<J: Job, B: Since<J>, D: Disk, S: Keeper<D, J> + Drop, R: Wait + Drop>(
     book: Book<J, B>,
-    flushed: Flushed<J, B, D, Shown<J, B>, R>,
+    flushed: Flushed<J, B, D, S, Shown<J, B>, R>,
     given: Given<J, B>,
     looked: Vec<bool>,
-) -> Option<Closed<J, B, D>>
+    before: Before<B>,
+) -> Option<Left<J, B, D, S>>
     ensures passes { IfSome result (λ c. c.given.passes.items ≡ given.passes.items) }
     ensures session { IfSome result (λ c. IsSession J.kind B.start c.book c.given.passes.items) }
     ensures told { IfSome result (λ c. AreTold c.book.failure (B.start.number + c.book.session.marked) c.given.passes.items) }
-    ensures store { IfSome result (λ c. IsStored J.kind B.start B.failures c.book c.store.state (D.view c.store.file.disk)) }
-    ensures images { IfSome result (λ c. IsHonest (D.view c.store.file.disk) → IsHeld J.kind B.start B.clock c.book (D.view c.store.file.disk)) }
-    ensures readers { IfSome result (λ c. AreSeen J.kind B.start c.book c.store.state given.readers.items c.given.readers.items c.looked.items) }
+    ensures store { IfSome result (λ c. IsStored J.kind B.start B.failures c.book (S.kept c.keeper).state (D.view (S.kept c.keeper).file.disk)) }
+    ensures images { IfSome result (λ c. IsHonest (D.view (S.kept c.keeper).file.disk)
+        → IsHeld J.kind B.start B.clock c.book (D.view (S.kept c.keeper).file.disk)) }
+    ensures readers { IfSome result (λ c. AreSeen J.kind B.start c.book (S.kept c.keeper).state given.readers.items c.given.readers.items c.looked.items) }
+    ensures whole { IfSome result (λ c. StaysWhole c.book.failure (S.failed c.keeper) (S.kept c.keeper).file.broken) }
 {
     let mut book = book;
     let Flushed {
         mut share,
-        store,
+        keeper,
         publisher,
+        ..
     } = flushed;
     let Given {
         mut passes,
@@ -173,11 +195,13 @@ fn ended<J: Job, B: Since<J>, D: Disk + Drop, R: Wait + Drop>(
     if !look_all(publisher.published(), &mut readers, &mut looked) {
         return None;
     }
-    Some(Closed {
-        store,
+    Some(Left {
+        keeper,
         book,
         given: Given { passes, readers },
         looked,
+        before,
+        disk: PhantomData,
     })
 }
 
@@ -201,10 +225,12 @@ fn told<J: Job, B: Since<J>, D: Disk + Drop>(
     requires store { IsStored J.kind B.start B.failures book.now store.state (noted_view B.held B.image B.clock B.failures store.file.disk) }
     requires images { IsHonest (noted_view B.held B.image B.clock B.failures store.file.disk)
         → IsHeld J.kind B.start B.clock book.now (noted_view B.held B.image B.clock B.failures store.file.disk) }
+    requires whole { StaysWhole book.now.failure (failure_of store) store.file.broken }
     ensures state { IfSome result (λ s. s.state ≡ store.state) }
     ensures store { IfSome result (λ s. IsStored J.kind B.start B.failures book.now s.state (D.view s.file.disk)) }
     ensures images { IfSome result (λ s. IsHonest (D.view s.file.disk) → IsHeld J.kind B.start B.clock book.now (D.view s.file.disk)) }
     ensures whole { IfSome result (λ s. book.now.failure ≡ Some Memory → s.file.broken ≡ false) }
+    ensures no_log { IfSome result (λ s. book.now.failure ≢ Some Log) }
 {
     let store = store.told();
     let failure = book.failure();
@@ -212,42 +238,6 @@ fn told<J: Job, B: Since<J>, D: Disk + Drop>(
         return Some(store);
     }
     None
-}
-
-/// What `ended` finds, on the disk itself.
-fn ended_on_disk<J: Job, B: Since<J>, D: Disk + Drop, R: Wait + Drop>(
-    before: &Before<B>,
-    book: Book<J, B>,
-    flushed: Flushed<J, B, Chronicle<D, B>, Shown<J, B>, R>,
-    given: Given<J, B>,
-    looked: Vec<bool>,
-) -> Option<Closed<J, B, D>>
-    ensures passes { IfSome result (λ c. c.given.passes.items ≡ given.passes.items) }
-    ensures session { IfSome result (λ c. IsSession J.kind B.start c.book c.given.passes.items) }
-    ensures told { IfSome result (λ c. AreTold c.book.failure (B.start.number + c.book.session.marked) c.given.passes.items) }
-    ensures store { IfSome result (λ c. IsStored J.kind B.start B.failures c.book c.store.state (D.view c.store.file.disk)) }
-    ensures images { IfSome result (λ c. IsHonest (D.view c.store.file.disk) → IsHeld J.kind B.start B.clock c.book (D.view c.store.file.disk)) }
-    ensures readers { IfSome result (λ c. AreSeen J.kind B.start c.book c.store.state given.readers.items c.given.readers.items c.looked.items) }
-    ensures whole { IfSome result (λ c. c.book.failure ≡ Some Memory → c.store.file.broken ≡ false) }
-{
-    let Some(closed) = ended(book, flushed, given, looked) else {
-        return None;
-    };
-    let Closed {
-        store,
-        book,
-        given,
-        looked,
-    } = closed;
-    let Some(store) = told(before, &book, store) else {
-        return None;
-    };
-    Some(Closed {
-        store,
-        book,
-        given,
-        looked,
-    })
 }
 
 impl<J: Job, B: Since<J>, K: Desk<Quantum<J>, Done<J>> + Drop> Front<J, B, K>
@@ -282,6 +272,64 @@ where
         ensures images { IfOk result (λ c. IsHonest (D.view c.store.file.disk) → IsHeld J.kind B.start B.clock c.book (D.view c.store.file.disk)) }
         ensures readers { IfOk result (λ c. AreSeen J.kind B.start c.book c.store.state given.readers.items c.given.readers.items c.looked.items) }
         ensures whole { IfOk result (λ c. c.book.failure ≡ Some Memory → c.store.file.broken ≡ false) }
+        ensures no_log { IfOk result (λ c. c.book.failure ≢ Some Log) }
+    {
+        match self.close_kept(rt, crew, given) {
+            Err(open) => Err(open),
+            Ok(left) => {
+                let Left {
+                    keeper,
+                    book,
+                    given,
+                    looked,
+                    before,
+                    ..
+                } = left;
+                if let Some(store) = told(&before, &book, keeper) {
+                    return Ok(Closed {
+                        store,
+                        book,
+                        given,
+                        looked,
+                    });
+                }
+
+                // A device that is said to have failed has, and where memory is said to have been refused no call has failed.
+                for _ in rt.forever() {}
+                unreachable!()
+            }
+        }
+    }
+
+    /// Ends a front at a keeper, as `close` does one at a store.
+    ///
+    /// What keeps the store comes back as it is. Of it and of what comes back with it the same is said; and where the flusher gave up
+    /// for the log, the log has failed, and the store is whole.
+    pub fn close_kept<D: Disk, S: Keeper<D, J> + Drop, R: Threads + Wait + Drop>(
+        self,
+        rt: &R,
+        crew: KeptCrew<J, B, D, S, K, R>,
+        given: Given<J, B>,
+    ) -> Result<
+        Left<J, B, D, S>,
+        (
+            CloseFault,
+            Front<J, B, K>,
+            KeptCrew<J, B, D, S, K, R>,
+            Given<J, B>,
+        ),
+    >
+        ensures passes { IfOk result (λ c. IsPermutation given.passes.items c.given.passes.items) }
+        ensures back { IfErr result (λ e. IsPermutation given.passes.items e.3.passes.items × (e.3.readers.items ≡ given.readers.items)) }
+        ensures unchanged { IfErr result (λ e. (e.1 ≡ self) × (e.2 ≡ crew)) }
+        ensures short { IfErr result (λ e. IsShort e.3.passes.items e.0) }
+        ensures session { IfOk result (λ c. IsSession J.kind B.start c.book c.given.passes.items) }
+        ensures told { IfOk result (λ c. AreTold c.book.failure (B.start.number + c.book.session.marked) c.given.passes.items) }
+        ensures store { IfOk result (λ c. IsStored J.kind B.start B.failures c.book (S.kept c.keeper).state (D.view (S.kept c.keeper).file.disk)) }
+        ensures images { IfOk result (λ c. IsHonest (D.view (S.kept c.keeper).file.disk)
+            → IsHeld J.kind B.start B.clock c.book (D.view (S.kept c.keeper).file.disk)) }
+        ensures readers { IfOk result (λ c. AreSeen J.kind B.start c.book (S.kept c.keeper).state given.readers.items c.given.readers.items c.looked.items) }
+        ensures whole { IfOk result (λ c. StaysWhole c.book.failure (S.failed c.keeper) (S.kept c.keeper).file.broken) }
     {
         let Given {
             mut passes,
@@ -304,8 +352,8 @@ where
         dismiss(rt, shared, workers);
         if let Some(book) = shared.monitor.book.lock(rt).take() {
             let given = Given { passes, readers };
-            if let Some(closed) = ended_on_disk(&before, book, flushed, given, looked) {
-                return Ok(closed);
+            if let Some(left) = ended(book, flushed, given, looked, before) {
+                return Ok(left);
             }
         }
 

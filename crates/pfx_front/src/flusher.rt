@@ -1,5 +1,5 @@
-//! The flusher: it alone owns the store.
-ghost use Rattle.std.specs.Prelude.{◌≡◌, ◌≤◌, ◌+◌, [], ◌∷◌, ◌++◌, length, IsTrue, IfSome, IfNone, Some, false, vec_capacity};
+//! The flusher: it alone owns what keeps the store.
+ghost use Rattle.std.specs.Prelude.{◌≡◌, ◌≤◌, ◌+◌, [], ◌∷◌, ◌++◌, length, IsTrue, IfSome, IfNone, Some, None, false, vec_capacity};
 ghost use Rattle.pfx_board.specs.Word.{records_of};
 ghost use Rattle.pfx_redo.specs.Applying.{applied};
 ghost use Rattle.pfx_fault.specs.declared.parts.Cause.TheVariants.{Memory};
@@ -27,78 +27,94 @@ use pfx_disk::Disk;
 use pfx_fault::Cause;
 use pfx_jobs::job::Job;
 use pfx_record::{Batch, Record};
-use pfx_store::{Mark, Store};
+use pfx_store::{Keeper, Mark, Store};
 use std::alloc::Global;
-use std::marker::Model;
+use std::marker::{Model, PhantomData};
 use std::sync::Wait;
 use std::time::Clock;
 
-/// What the flusher's thread owns: room for the records of a batch, its share of the book, the store, the board's writer, and the marks.
-/// Contracts see it as the share's notes, the store and what is published, which are in step.
+/// What the flusher's thread owns: room for the records of a batch, its share of the book, what keeps the store, the board's writer, and the marks.
+/// Contracts see it as the share's notes, what keeps the store and what is published, which are in step.
 #[derive(Drop)]
 pub struct Flusher<
     J: Job,
     B: Since<J>,
     D: Disk,
+    S: Keeper<D, J> + Drop,
     T: Absorb<T, State = [Batch<J>; 0]> + Drop,
     R: Wait + Drop,
 > {
     pub(crate) room: Vec<Record<J>>,
     pub(crate) share: Share<J, B>,
-    pub(crate) store: Store<D, J>,
+    pub(crate) keeper: S,
     pub(crate) publisher: BoardWriter<J, B, T, R>,
     pub(crate) marking: Marking<J, B>,
+    pub(crate) disk: PhantomData<D>,
 }
 
-impl<J: Job, B: Since<J>, D: Disk, T: Absorb<T, State = [Batch<J>; 0]> + Drop, R: Wait + Drop> Model
-    for Flusher<J, B, D, T, R> {
-    ghost use Rattle.std.specs.Prelude.{◌≡◌, ◌≤◌, List, [], vec_capacity};
-    ghost use Rattle.pfx_store.specs.Stores.{PlainStore};
+impl<
+    J: Job,
+    B: Since<J>,
+    D: Disk,
+    S: Keeper<D, J> + Drop,
+    T: Absorb<T, State = [Batch<J>; 0]> + Drop,
+    R: Wait + Drop,
+> Model for Flusher<J, B, D, S, T, R> {
+    ghost use Rattle.std.specs.Prelude.{◌≡◌, ◌≤◌, List, [], None, vec_capacity};
     ghost use Rattle.pfx_board.specs.Publisher.{Published};
     ghost use Rattle.pfx_book.specs.declared.note.Note.{Note};
     ghost use Rattle.pfx_front.specs.Keeping.{InStep};
     ghost use Rattle.pfx_front.specs.Lasting.{AreNoted};
     ghost use Rattle.pfx_front.specs.Showing.{AreShown};
 
-    ghost Value = { List (Note J) × PlainStore D J × Published J };
+    ghost Value = { List (Note J) × S × Published J };
 
-    ghost view = { λ f. (f.share, f.store, f.publisher) };
+    ghost view = { λ f. (f.share, f.keeper, f.publisher) };
 
-    ghost invariant = { λ f. InStep J.kind B.start B.failures B.clock f.share f.store.file.broken f.store.state (D.view f.store.file.disk)
+    ghost invariant = { λ f. InStep J.kind B.start B.failures B.clock f.share (S.kept f.keeper).file.broken (S.kept f.keeper).state
+        (D.view (S.kept f.keeper).file.disk)
         × AreShown f.share f.publisher.batches × (B.origin ≡ B.start)
-        × (f.room.items ≡ []) × (16 ≤ vec_capacity f.room) × AreNoted f.marking f.share };
+        × (f.room.items ≡ []) × (16 ≤ vec_capacity f.room) × AreNoted f.marking f.share × (S.failed f.keeper ≡ None) };
 }
 
-/// What comes home when the flusher's thread ends. Contracts see it as the share's notes, the store, which has what its marks
+/// What comes home when the flusher's thread ends. Contracts see it as the share's notes, what keeps the store, which has what its marks
 /// promise, and what is published, which is what the store has.
 #[derive(Drop)]
 pub struct Flushed<
     J: Job,
     B: Since<J>,
     D: Disk,
+    S: Keeper<D, J> + Drop,
     T: Absorb<T, State = [Batch<J>; 0]> + Drop,
     R: Wait + Drop,
 > {
     pub(crate) share: Share<J, B>,
-    pub(crate) store: Store<D, J>,
+    pub(crate) keeper: S,
     pub(crate) publisher: BoardWriter<J, B, T, R>,
+    pub(crate) disk: PhantomData<D>,
 }
 
-impl<J: Job, B: Since<J>, D: Disk, T: Absorb<T, State = [Batch<J>; 0]> + Drop, R: Wait + Drop> Model
-    for Flushed<J, B, D, T, R> {
+impl<
+    J: Job,
+    B: Since<J>,
+    D: Disk,
+    S: Keeper<D, J> + Drop,
+    T: Absorb<T, State = [Batch<J>; 0]> + Drop,
+    R: Wait + Drop,
+> Model for Flushed<J, B, D, S, T, R> {
     ghost use Rattle.std.specs.Prelude.{List};
-    ghost use Rattle.pfx_store.specs.Stores.{PlainStore};
     ghost use Rattle.pfx_board.specs.Publisher.{Published};
     ghost use Rattle.pfx_book.specs.declared.note.Note.{Note};
     ghost use Rattle.pfx_front.specs.Keeping.{Behind};
     ghost use Rattle.pfx_front.specs.Showing.{IsShown};
 
-    ghost Value = { List (Note J) × PlainStore D J × Published J };
+    ghost Value = { List (Note J) × S × Published J };
 
-    ghost view = { λ f. (f.share, f.store, f.publisher) };
+    ghost view = { λ f. (f.share, f.keeper, f.publisher) };
 
-    ghost invariant = { λ f. Behind J.kind B.start B.failures B.clock f.share f.store.file.broken f.store.state (D.view f.store.file.disk)
-        × IsShown J.kind B.start f.share f.publisher.batches f.store.state };
+    ghost invariant = { λ f. Behind J.kind B.start B.failures B.clock f.share (S.failed f.keeper) (S.kept f.keeper).file.broken
+        (S.kept f.keeper).state (D.view (S.kept f.keeper).file.disk)
+        × IsShown J.kind B.start f.share f.publisher.batches (S.kept f.keeper).state };
 }
 
 /// What the flusher is to do next.
@@ -272,34 +288,47 @@ fn show<J: Job, B: Since<J>, D: Disk + Logged<B>, R: Wait + Drop, W: Wait>(
     }
 }
 
-/// Appends a batch, publishes and marks it: the room for the next one. `None` if the store has failed, or an allocation fails
+/// Keeps a batch, publishes and marks it: the room for the next one. `None` if the keeper has failed, or an allocation fails
 /// for new weights or for the board; then the book knows.
-fn commit<J: Job, B: Since<J>, D: Disk + Logged<B>, R: Wait + Drop, W: Wait>(
+fn commit<J: Job, B: Since<J>, D: Disk + Logged<B>, S: Keeper<D, J>, R: Wait + Drop, W: Wait>(
     rt: &W,
     alloc: Global,
     monitor: &Monitor<J, B>,
     share: &mut Share<J, B>,
-    store: &mut Store<D, J>,
+    keeper: &mut S,
     publisher: &mut BoardWriter<J, B, Shown<J, B>, R>,
     marking: &mut Marking<J, B>,
     batch: Batch<J>,
 ) -> Option<Vec<Record<J>>>
-    requires taken { IsTaken J.kind B.start B.failures B.clock share.old batch store.old.file.broken store.old.state (D.view store.old.file.disk) }
+    requires taken { IsTaken J.kind B.start B.failures B.clock share.old batch (S.kept keeper.old).file.broken (S.kept keeper.old).state
+        (D.view (S.kept keeper.old).file.disk) }
+    requires goes_on { S.failed keeper.old ≡ None }
     requires shown { IsShownBefore share.old publisher.old.batches batch }
     requires origin { B.origin ≡ B.start }
     requires room { 16 ≤ vec_capacity batch.records }
     requires noted { AreNoted marking.old share.old }
-    ensures step { IfSome result (λ _. InStep J.kind B.start B.failures B.clock share.new store.new.file.broken store.new.state (D.view store.new.file.disk)) }
+    ensures step { IfSome result (λ _. InStep J.kind B.start B.failures B.clock share.new (S.kept keeper.new).file.broken (S.kept keeper.new).state
+        (D.view (S.kept keeper.new).file.disk)) }
+    ensures goes_on { IfSome result (λ _. S.failed keeper.new ≡ None) }
     ensures shown { IfSome result (λ _. AreShown share.new publisher.new.batches) }
     ensures room { IfSome result (λ room. (room.items ≡ []) × (16 ≤ vec_capacity room)) }
     ensures noted { IfSome result (λ _. AreNoted marking.new share.new) }
-    ensures behind { IfNone result (Behind J.kind B.start B.failures B.clock share.new store.new.file.broken store.new.state (D.view store.new.file.disk)) }
-    ensures left { IfNone result (IsShown J.kind B.start share.new publisher.new.batches store.new.state) }
+    ensures behind { IfNone result (Behind J.kind B.start B.failures B.clock share.new (S.failed keeper.new) (S.kept keeper.new).file.broken
+        (S.kept keeper.new).state (D.view (S.kept keeper.new).file.disk)) }
+    ensures left { IfNone result (IsShown J.kind B.start share.new publisher.new.batches (S.kept keeper.new).state) }
 {
-    match append_taken(alloc, store, &batch) {
-        Ok(mark) => match show(rt, alloc, monitor, share, store, publisher, &batch) {
+    match append_taken(alloc, keeper, &batch) {
+        Ok(mark) => match show(
+            rt,
+            alloc,
+            monitor,
+            share,
+            keeper.stored(),
+            publisher,
+            &batch,
+        ) {
             Some(word) => {
-                mark_in(rt, monitor, share, store, marking, word, mark);
+                mark_in(rt, monitor, share, keeper.stored(), marking, word, mark);
                 Some(room_of(batch))
             }
             None => None,
@@ -311,65 +340,82 @@ fn commit<J: Job, B: Since<J>, D: Disk + Logged<B>, R: Wait + Drop, W: Wait>(
     }
 }
 
-/// Takes a step of the checkpoint in progress, if there is one. `false` if the store has failed; then the book knows.
-fn tend<J: Job, B: Since<J>, D: Disk, R: Wait>(
+/// Takes a step of the checkpoint in progress, if there is one. `false` if the keeper has failed; then the book knows.
+fn tend<J: Job, B: Since<J>, D: Disk, S: Keeper<D, J>, R: Wait>(
     rt: &R,
     monitor: &Monitor<J, B>,
     share: &mut Share<J, B>,
-    store: &mut Store<D, J>,
+    keeper: &mut S,
 ) -> bool
-    requires { InStep J.kind B.start B.failures B.clock share.old store.old.file.broken store.old.state (D.view store.old.file.disk) }
-    ensures step { IsTrue result → InStep J.kind B.start B.failures B.clock share.new store.new.file.broken store.new.state (D.view store.new.file.disk) }
+    requires step { InStep J.kind B.start B.failures B.clock share.old (S.kept keeper.old).file.broken (S.kept keeper.old).state
+        (D.view (S.kept keeper.old).file.disk) }
+    requires goes_on { S.failed keeper.old ≡ None }
+    ensures step { IsTrue result → InStep J.kind B.start B.failures B.clock share.new (S.kept keeper.new).file.broken (S.kept keeper.new).state
+        (D.view (S.kept keeper.new).file.disk) }
+    ensures goes_on { IsTrue result → S.failed keeper.new ≡ None }
     ensures kept { IsTrue result → share.new ≡ share.old }
     ensures notes { records_in share.new ≡ records_in share.old }
-    ensures leads { applied J.kind B.start (records_in share.new) ≡ Some store.new.state }
-    ensures behind { result ≡ false → Behind J.kind B.start B.failures B.clock share.new store.new.file.broken store.new.state (D.view store.new.file.disk) }
+    ensures leads { applied J.kind B.start (records_in share.new) ≡ Some (S.kept keeper.new).state }
+    ensures behind { result ≡ false → Behind J.kind B.start B.failures B.clock share.new (S.failed keeper.new) (S.kept keeper.new).file.broken
+        (S.kept keeper.new).state (D.view (S.kept keeper.new).file.disk) }
 {
-    match store.tend() {
+    let tended = keeper.tend_on();
+    let _failure = keeper.failure();
+    match tended {
         Ok(_tended) => true,
-        Err(_fault) => {
-            fail_in(rt, monitor, share, Cause::Device);
+        Err(cause) => {
+            fail_in(rt, monitor, share, cause);
             false
         }
     }
 }
 
 /// What the thread gives back.
-fn home<J: Job, B: Since<J>, D: Disk, R: Wait + Drop>(
+fn home<J: Job, B: Since<J>, D: Disk, S: Keeper<D, J> + Drop, R: Wait + Drop>(
     share: Share<J, B>,
-    store: Store<D, J>,
+    keeper: S,
     publisher: BoardWriter<J, B, Shown<J, B>, R>,
-) -> Flushed<J, B, D, Shown<J, B>, R>
-    requires behind { Behind J.kind B.start B.failures B.clock share store.file.broken store.state (D.view store.file.disk) }
-    requires shown { IsShown J.kind B.start share publisher.batches store.state }
+) -> Flushed<J, B, D, S, Shown<J, B>, R>
+    requires behind { Behind J.kind B.start B.failures B.clock share (S.failed keeper) (S.kept keeper).file.broken (S.kept keeper).state
+        (D.view (S.kept keeper).file.disk) }
+    requires shown { IsShown J.kind B.start share publisher.batches (S.kept keeper).state }
 {
     Flushed {
         share,
-        store,
+        keeper,
         publisher,
+        disk: PhantomData,
     }
 }
 
-/// Keeps the book's commands in the store, batch by batch, until no more is accepted or the store has failed. After each batch
+/// Keeps the book's commands, batch by batch, until no more is accepted or the keeper has failed. After each batch
 /// it takes one step of the checkpoint in progress.
-pub(crate) fn flush<J: Job, B: Since<J>, D: Disk + Logged<B>, R: Wait + Drop, W: Wait + Clock>(
+pub(crate) fn flush<
+    J: Job,
+    B: Since<J>,
+    D: Disk + Logged<B>,
+    S: Keeper<D, J> + Drop,
+    R: Wait + Drop,
+    W: Wait + Clock,
+>(
     rt: &W,
     alloc: Global,
     monitor: &Monitor<J, B>,
-    flusher: Flusher<J, B, D, Shown<J, B>, R>,
-) -> Flushed<J, B, D, Shown<J, B>, R> {
+    flusher: Flusher<J, B, D, S, Shown<J, B>, R>,
+) -> Flushed<J, B, D, S, Shown<J, B>, R> {
     let Flusher {
         mut share,
-        mut store,
+        mut keeper,
         mut publisher,
         mut room,
         mut marking,
+        ..
     } = flusher;
     let mut pace = Pace::new();
     for _ in rt.forever() {
-        let busy = store.places().checkpoint.in_progress();
+        let busy = keeper.stored().places().checkpoint.in_progress();
         match next_work(rt, monitor, &mut share, room, busy, pace) {
-            Work::End => return home(share, store, publisher),
+            Work::End => return home(share, keeper, publisher),
             Work::Tend(back) => {
                 pace = Pace::new();
                 room = back;
@@ -381,18 +427,18 @@ pub(crate) fn flush<J: Job, B: Since<J>, D: Disk + Logged<B>, R: Wait + Drop, W:
                     alloc,
                     monitor,
                     &mut share,
-                    &mut store,
+                    &mut keeper,
                     &mut publisher,
                     &mut marking,
                     batch,
                 ) {
                     Some(back) => room = back,
-                    None => return home(share, store, publisher),
+                    None => return home(share, keeper, publisher),
                 }
             }
         }
-        if !tend(rt, monitor, &mut share, &mut store) {
-            return home(share, store, publisher);
+        if !tend(rt, monitor, &mut share, &mut keeper) {
+            return home(share, keeper, publisher);
         }
     }
     unreachable!()

@@ -1,10 +1,13 @@
-//! The front: many callers at one store, a flusher that alone owns it, and workers that run quanta.
+//! The front: many callers at one store, a flusher that alone owns what keeps it, and workers that run quanta.
 //!
 //! Under one lock lies a book: the session of the store's clients. A call takes the lock, asks the book, and is answered before
 //! anything is durable; the reply isn't an acknowledgement. The flusher takes the next commands as a batch, appends it to the
 //! store with no lock held, publishes the board after it, and marks it; `settled` waits for the mark, and its receipt is the
 //! acknowledgement: a reader of the board that is told of it shows that command at least. A Slot's quanta
 //! are run between two lockings, by the workers or by the thread that called.
+//!
+//! What keeps the store is a `Keeper`: the store itself, at which `start` begins a front and `close` ends one, or one beside a log, for
+//! which there are `start_kept` and `close_kept`.
 //!
 //! - `name`: whose front it is, its lists, and what it began with.
 //! - `faults`: why calls fail.
@@ -27,7 +30,7 @@
 #![tactic(auto)]
 
 mod appending;
-mod before;
+pub mod before;
 pub mod calls;
 pub mod closing;
 pub mod durable;

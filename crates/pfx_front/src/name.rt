@@ -1,4 +1,6 @@
 //! Whose front it is, and what it began with.
+ghost use Rattle.std.specs.Prelude.{◌≡◌};
+
 use pfx_board::name::Begun;
 use pfx_book::name::Named;
 use pfx_book::note::Note;
@@ -33,6 +35,14 @@ pub struct Names<J: Job> {
     pub(crate) marks: past::Opened<Mark>,
 }
 
+/// The lists of a front but that of its disk's calls.
+#[derive(Drop)]
+pub struct Lists<J: Job> {
+    pub(crate) tokens: tokens::Opened<Note<J>>,
+    pub(crate) list: past::Opened<Batch<J>>,
+    pub(crate) marks: past::Opened<Mark>,
+}
+
 impl<J: Job> Names<J> {
     /// Lists of their own. `AllocError` if an allocation fails.
     pub fn new(alloc: Global) -> Result<Names<J>, AllocError> {
@@ -43,5 +53,26 @@ impl<J: Job> Names<J> {
             calls: list::Opened::new(),
             marks: past::Opened::new(),
         })
+    }
+
+    /// The list of the disk's calls by itself: for a disk that is to tell them before a front begins at it.
+    pub fn split(self) -> (Lists<J>, list::Opened)
+        ensures lists { (result.0.tokens ≡ self.tokens) × (result.0.list ≡ self.list) × (result.0.marks ≡ self.marks) }
+        ensures calls { result.1 ≡ self.calls }
+    {
+        let Names {
+            tokens,
+            list,
+            calls,
+            marks,
+        } = self;
+        (
+            Lists {
+                tokens,
+                list,
+                marks,
+            },
+            calls,
+        )
     }
 }

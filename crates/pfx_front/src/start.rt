@@ -1,5 +1,5 @@
 //! A front with its threads.
-ghost use Rattle.std.specs.Prelude.{◌≡◌, ◌<◌, ◌≤◌, ◌∷◌, [], replicate, Some, false, IfOk, IfErr, IsTrue, vec_len, vec_capacity};
+ghost use Rattle.std.specs.Prelude.{◌≡◌, ◌<◌, ◌≤◌, ◌∷◌, [], replicate, Some, None, false, IfOk, IfErr, IsTrue, vec_len, vec_capacity};
 ghost use Rattle.pfx_board.specs.Word.{records_of};
 ghost use Rattle.pfx_chronicle.specs.Chart.{noted_view};
 ghost use Rattle.pfx_book.specs.declared.note.Note.TheVariants.{Marked};
@@ -13,7 +13,7 @@ use crate::faults::StartFault;
 use crate::flusher::{Flushed, Flusher, flush};
 use crate::marking::Marking;
 use crate::monitor::Monitor;
-use crate::name::{Names, Since};
+use crate::name::{Lists, Names, Since};
 use left_right::Absorb;
 use pfx_board::publisher::{BoardWriter, Publisher};
 use pfx_board::reader::Reader;
@@ -28,70 +28,76 @@ use pfx_disk::Disk;
 use pfx_jobs::job::Job;
 use pfx_jobs::quantum::{Done, Quantum};
 use pfx_record::{Batch, Record};
-use pfx_store::{Mark, Store};
+use pfx_store::{Keeper, Store};
 use pfx_token::past;
 use pfx_token::tokens::Opened;
 use std::alloc::{AllocError, Global};
+use std::marker::PhantomData;
 use std::sync::{Arc, Condvar, Mutex, Wait};
 use std::thread::{self, JoinHandle, Threads};
 use std::time::Clock;
 
-/// The threads of a front. `Front::close` joins them.
-pub type Crew<J, B, D, K, R> = Hands<J, B, Chronicle<D, B>, K, Shown<J, B>, R>;
+/// The threads of a front at a store. `Front::close` joins them.
+pub type Crew<J, B, D, K, R> = KeptCrew<J, B, Chronicle<D, B>, Store<Chronicle<D, B>, J>, K, R>;
 
-/// A `Crew`, over what each copy of the board holds: `Shown`.
+/// The threads of a front at what keeps a store. `Front::close_kept` joins them.
+pub type KeptCrew<J, B, D, S, K, R> = Hands<J, B, D, S, K, Shown<J, B>, R>;
+
+/// A `KeptCrew`, over what each copy of the board holds: `Shown`.
 #[derive(Drop)]
 pub struct Hands<
     J: Job,
     B: Since<J>,
     D: Disk,
+    S: Keeper<D, J> + Drop,
     K: Desk<Quantum<J>, Done<J>>,
     T: Absorb<T, State = [Batch<J>; 0]> + Drop,
     R: Wait + Drop,
 > {
-    pub(crate) flusher: JoinHandle<Flushed<J, B, D, T, R>>,
+    pub(crate) flusher: JoinHandle<Flushed<J, B, D, S, T, R>>,
     pub(crate) workers: Vec<JoinHandle<K::Seat>>,
     // Room for one answer a reader, empty.
     pub(crate) looked: Vec<bool>,
     pub(crate) before: Before<B>,
 }
 
-/// Where the flusher's thread finds what it owns. It is put in once all threads have started: until then the store can be given
-/// back.
+/// Where the flusher's thread finds what it owns. It is put in once all threads have started: until then what keeps the store can be
+/// given back.
 #[derive(Drop)]
 struct Mailbox<
     J: Job,
     B: Since<J>,
     D: Disk,
+    S: Keeper<D, J> + Drop,
     T: Absorb<T, State = [Batch<J>; 0]> + Drop,
     R: Wait + Drop,
 > {
-    flusher: Mutex<Option<Flusher<J, B, D, T, R>>>,
+    flusher: Mutex<Option<Flusher<J, B, D, S, T, R>>>,
     here: Condvar,
 }
 
 /// A mailbox that two share.
-type Post<J, B, D, R> = Arc<Mailbox<J, B, D, Shown<J, B>, R>, Global>;
+type Post<J, B, D, S, R> = Arc<Mailbox<J, B, D, S, Shown<J, B>, R>, Global>;
 
 /// A front, its threads and its readers.
-type Started<J, B, D, K, R> = (
+type Started<J, B, D, S, K, R> = (
     Front<J, B, K>,
-    Hands<J, B, D, K, Shown<J, B>, R>,
+    KeptCrew<J, B, D, S, K, R>,
     Vec<Reader<J, B>>,
 );
 
 /// The mailbox, the flusher's thread and the workers'.
-type Manned<J, B, D, K, R> = (
-    Post<J, B, D, R>,
-    JoinHandle<Flushed<J, B, D, Shown<J, B>, R>>,
+type Manned<J, B, D, S, K, R> = (
+    Post<J, B, D, S, R>,
+    JoinHandle<Flushed<J, B, D, S, Shown<J, B>, R>>,
     Vec<JoinHandle<<K as Desk<Quantum<J>, Done<J>>>::Seat>>,
 );
 
 /// Waits for what is put into the mailbox.
-fn fetch<J: Job, B: Since<J>, D: Disk + Drop, R: Wait + Drop, W: Wait>(
+fn fetch<J: Job, B: Since<J>, D: Disk, S: Keeper<D, J> + Drop, R: Wait + Drop, W: Wait>(
     rt: &W,
-    mailbox: &Mailbox<J, B, D, Shown<J, B>, R>,
-) -> Flusher<J, B, D, Shown<J, B>, R> {
+    mailbox: &Mailbox<J, B, D, S, Shown<J, B>, R>,
+) -> Flusher<J, B, D, S, Shown<J, B>, R> {
     for _ in rt.forever() {
         let mut guard = mailbox
             .here
@@ -104,10 +110,10 @@ fn fetch<J: Job, B: Since<J>, D: Disk + Drop, R: Wait + Drop, W: Wait>(
 }
 
 /// Puts the flusher into the mailbox.
-fn post<J: Job, B: Since<J>, D: Disk + Drop, R: Wait + Drop, W: Wait>(
+fn post<J: Job, B: Since<J>, D: Disk, S: Keeper<D, J> + Drop, R: Wait + Drop, W: Wait>(
     rt: &W,
-    mailbox: &Mailbox<J, B, D, Shown<J, B>, R>,
-    flusher: Flusher<J, B, D, Shown<J, B>, R>,
+    mailbox: &Mailbox<J, B, D, S, Shown<J, B>, R>,
+    flusher: Flusher<J, B, D, S, Shown<J, B>, R>,
 ) {
     *mailbox.flusher.lock(rt) = Some(flusher);
     mailbox.here.notify_one();
@@ -117,15 +123,16 @@ fn post<J: Job, B: Since<J>, D: Disk + Drop, R: Wait + Drop, W: Wait>(
 fn flush_there<
     J: Job,
     B: Since<J>,
-    D: Disk + Logged<B> + Drop,
+    D: Disk + Logged<B>,
+    S: Keeper<D, J> + Drop,
     K: Desk<Quantum<J>, Done<J>> + Drop,
     R: Wait + Clock + Drop,
 >(
     rt: R,
     alloc: Global,
     shared: Arc<Shared<J, B, K>, Global>,
-    mailbox: Arc<Mailbox<J, B, D, Shown<J, B>, R>, Global>,
-) -> Flushed<J, B, D, Shown<J, B>, R>
+    mailbox: Arc<Mailbox<J, B, D, S, Shown<J, B>, R>, Global>,
+) -> Flushed<J, B, D, S, Shown<J, B>, R>
 where
     K::Seat: Drop,
 {
@@ -263,9 +270,9 @@ where
 }
 
 /// An empty mailbox, for the one who puts in and for the one who takes out.
-fn mailboxes<J: Job, B: Since<J>, D: Disk + Drop, R: Wait + Drop>(
+fn mailboxes<J: Job, B: Since<J>, D: Disk, S: Keeper<D, J> + Drop, R: Wait + Drop>(
     alloc: Global,
-) -> Result<(Post<J, B, D, R>, Post<J, B, D, R>), AllocError> {
+) -> Result<(Post<J, B, D, S, R>, Post<J, B, D, S, R>), AllocError> {
     let mailbox = Arc::new(
         alloc,
         Mailbox {
@@ -282,6 +289,7 @@ fn man<
     J: Job + Drop + Send + Sync + 'static,
     B: Since<J> + Send + Sync + 'static,
     D: Disk + Logged<B> + Drop + Send + 'static,
+    S: Keeper<D, J> + Drop + Send + 'static,
     K: Desk<Quantum<J>, Done<J>> + Drop + Send + Sync + 'static,
     R: Threads + Wait + Clock + Copy + Drop + Send + Sync + 'static,
 >(
@@ -289,11 +297,11 @@ fn man<
     alloc: Global,
     shared: &Arc<Shared<J, B, K>, Global>,
     workers: u32,
-) -> Result<Manned<J, B, D, K, R>, StartFault>
+) -> Result<Manned<J, B, D, S, K, R>, StartFault>
 where
     K::Seat: Drop + Send + 'static,
 {
-    let Ok((mailbox, letters)) = mailboxes::<J, B, D, R>(alloc) else {
+    let Ok((mailbox, letters)) = mailboxes::<J, B, D, S, R>(alloc) else {
         return Err(StartFault::NoMemory);
     };
     let Ok(theirs) = Arc::try_clone(shared) else {
@@ -313,54 +321,73 @@ where
     }
 }
 
-/// A front at a store whose disk tells its calls. With a fault the store comes back as it was.
+/// A front at what keeps a store whose disk tells its calls. With a fault it comes back as it was.
 fn manned<
     J: Job + Drop + Send + Sync + 'static,
     B: Since<J> + Send + Sync + 'static,
     D: Disk + Logged<B> + Drop + Send + 'static,
+    S: Keeper<D, J> + Drop + Send + 'static,
     K: Desk<Quantum<J>, Done<J>> + Drop + Send + Sync + 'static,
     R: Threads + Wait + Clock + Copy + Drop + Send + Sync + 'static,
 >(
     rt: R,
     alloc: Global,
-    lists: (Opened<Note<J>>, past::Opened<Batch<J>>, past::Opened<Mark>),
-    store: Store<D, J>,
-    before: Before<B>,
+    lists: Lists<J>,
+    keeper: S,
     desk: K,
     workers: u32,
     readers: u8,
-) -> Result<Started<J, B, D, K, R>, (StartFault, Store<D, J>)>
+) -> Result<Started<J, B, D, S, K, R>, (StartFault, S)>
 where
     K::Seat: Drop + Send + 'static,
-    requires named { (lists.0.table.shared.table_id ≡ B.table) × (lists.1.seen.book ≡ B.book) × (B.origin ≡ B.start) }
-    requires marks { lists.2.seen.book ≡ B.marks }
+    requires named { (lists.tokens.table.shared.table_id ≡ B.table) × (lists.list.seen.book ≡ B.book) × (B.origin ≡ B.start) }
+    requires marks { lists.marks.seen.book ≡ B.marks }
     requires readers { 0 < readers }
-    requires fresh { IsFresh J.kind B.start B.failures B.clock store.file.broken store.state (D.view store.file.disk) }
+    requires fresh { IsFresh J.kind B.start B.failures B.clock (S.kept keeper).file.broken (S.kept keeper).state (D.view (S.kept keeper).file.disk) }
+    requires goes_on { S.failed keeper ≡ None }
     ensures readers { IfOk result (λ r. r.2.items ≡ replicate readers []) }
-    ensures given_back { IfErr result (λ e. e.1 ≡ store) }
+    ensures given_back { IfErr result (λ e. e.1 ≡ keeper) }
 {
-    let (tokens, list, marks) = lists;
-    let Ok((publisher, given, looked)) = show_first::<J, B, D, R>(rt, alloc, list, &store, readers)
-    else {
-        return Err((StartFault::NoMemory, store));
+    let Lists {
+        tokens,
+        list,
+        marks,
+    } = lists;
+    let before = Before::of(keeper.stored().disk());
+    let Ok((publisher, given, looked)) = show_first::<J, B, D, R>(
+        rt,
+        alloc,
+        list,
+        keeper.stored(),
+        readers,
+    ) else {
+        return Err((StartFault::NoMemory, keeper));
     };
     let word = publisher.published().again();
     let marking = Marking::new(marks);
     let Ok((shared, share, room)) = furnish::<J, B, D, K, R>(
-        &rt, alloc, tokens, &store, word, &marking, desk, workers,
+        &rt,
+        alloc,
+        tokens,
+        keeper.stored(),
+        word,
+        &marking,
+        desk,
+        workers,
     ) else {
-        return Err((StartFault::NoMemory, store));
+        return Err((StartFault::NoMemory, keeper));
     };
-    let (mailbox, flusher, workers) = match man::<J, B, D, K, R>(rt, alloc, &shared, workers) {
+    let (mailbox, flusher, workers) = match man::<J, B, D, S, K, R>(rt, alloc, &shared, workers) {
         Ok(manned) => manned,
-        Err(fault) => return Err((fault, store)),
+        Err(fault) => return Err((fault, keeper)),
     };
     let owned = Flusher {
         share,
-        store,
+        keeper,
         publisher,
         room,
         marking,
+        disk: PhantomData,
     };
     post(&rt, &*mailbox, owned);
     let crew = Hands {
@@ -407,27 +434,49 @@ where
         ensures readers { IfOk result (λ r. r.2.items ≡ replicate readers []) }
         ensures given_back { IfErr result (λ e. e.1 ≡ store) }
     {
-        let Names {
-            tokens,
-            list,
-            calls,
-            marks,
-        } = names;
-        let before = Before::of(store.disk());
+        let (lists, calls) = names.split();
         let noted = store.noted::<B>(calls);
         let _broken = noted.is_broken();
-        match manned::<J, B, Chronicle<D, B>, K, R>(
-            rt,
-            alloc,
-            (tokens, list, marks),
-            noted,
-            before,
-            desk,
-            workers,
-            readers,
+        match Front::<J, B, K>::start_kept::<Chronicle<D, B>, Store<Chronicle<D, B>, J>, R>(
+            rt, alloc, lists, noted, desk, workers, readers,
         ) {
             Ok(begun) => Ok(begun),
             Err((fault, back)) => Err((fault, back.told())),
         }
+    }
+
+    /// A front at what keeps a store whose disk tells its calls already, in the list of `names` that `split` gave: a store, or one beside
+    /// a log. In all else it is `start`.
+    ///
+    /// `NoThread` and `NoMemory` give it back as it was, with all threads joined that had been started.
+    pub fn start_kept<
+        D: Disk + Logged<B> + Drop + Send + 'static,
+        S: Keeper<D, J> + Drop + Send + 'static,
+        R: Threads + Wait + Clock + Copy + Drop + Send + Sync + 'static,
+    >(
+        rt: R,
+        alloc: Global,
+        lists: Lists<J>,
+        keeper: S,
+        desk: K,
+        workers: u32,
+        readers: u8,
+    ) -> Result<
+        (
+            Front<J, B, K>,
+            KeptCrew<J, B, D, S, K, R>,
+            Vec<Reader<J, B>>,
+        ),
+        (StartFault, S),
+    >
+        requires named { (lists.tokens.table.shared.table_id ≡ B.table) × (lists.list.seen.book ≡ B.book) × (B.origin ≡ B.start) }
+        requires marks { lists.marks.seen.book ≡ B.marks }
+        requires readers { 0 < readers }
+        requires fresh { IsFresh J.kind B.start B.failures B.clock (S.kept keeper).file.broken (S.kept keeper).state (D.view (S.kept keeper).file.disk) }
+        requires goes_on { S.failed keeper ≡ None }
+        ensures readers { IfOk result (λ r. r.2.items ≡ replicate readers []) }
+        ensures given_back { IfErr result (λ e. e.1 ≡ keeper) }
+    {
+        manned::<J, B, D, S, K, R>(rt, alloc, lists, keeper, desk, workers, readers)
     }
 }

@@ -315,6 +315,7 @@ fn left<B: Since<AnyJob>, D: Disk + Drop, R: Print>(rt: &R, closed: Closed<AnyJo
         None => "none",
         Some(Cause::Memory) => "Memory",
         Some(Cause::Device) => "Device",
+        Some(Cause::Log) => "Log",
     };
     let has_looked = closed.looked.len() == 1 && closed.looked[0];
     let number = closed.store.state().number();

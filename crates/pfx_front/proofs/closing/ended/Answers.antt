@@ -13,7 +13,7 @@ use Rattle.pfx_book.specs.declared.note.Note.TheVariants.{Marked}
 use Rattle.pfx_book.specs.Register.{Register}
 use mathlib.Core.List.{IsPrefix}
 use Rattle.pfx_front.specs.Closing.{AreTold, IsSeen}
-use Rattle.pfx_front.proofs.Ends.{seen, stored, held}
+use Rattle.pfx_front.proofs.Ends.{seen, stored, held, whole_still}
 use Rattle.pfx_front.proofs.closing.ended.Goals.{else-is_none-via-then-is_none+else-not-is_settled, else-is_none-via-else-is_none}
 use Rattle.pfx_front.proofs.closing.ended.Goals as goal
 
@@ -45,6 +45,7 @@ pub returns-clause-store : goal.returns-clause-store
 returns-clause-store g c =
     let K = g.J.Job.kind in
     let start = g.B.Named.start in
+    let store = g.S.Keeper.kept c.flushed.inside.keeper in
     let r = c.settled.new.self in
     let same = sym c.settled.ensures.same.0 in
     let over : (r.session.marked ≡ length r.session.accepted) ⊎ (r.failure ≢ None) =
@@ -53,7 +54,8 @@ returns-clause-store g c =
       | else-is_none-via-then-is_none+else-not-is_settled w ↦ inl (w.if-not-is_settled.ensures.0 refl)
       | else-is_none-via-else-is_none w ↦ inr (λ none. false≢true (sym (ap is_some (c.failure.ensures ∙ none)) ∙ w.if-is_none.ensures))
     ]) in
-    stored K g.met.J.Job.laws start g.B.Charted.failures g.B.Charted.clock c.flushed.inside.share c.flushed.inside.store.file.broken c.flushed.inside.store.state (g.D.Disk.view c.flushed.inside.store.file.disk) c.flushed.invariant.0
+    stored K g.met.J.Job.laws start g.B.Charted.failures g.B.Charted.clock c.flushed.inside.share (g.S.Keeper.failed c.flushed.inside.keeper) store.file.broken store.state (g.D.Disk.view store.file.disk)
+    c.flushed.invariant.0
     r.session.accepted r.session.taken c.legal.ensures.start c.legal.ensures.accepted c.legal.ensures.taken
     (c.settled.ensures.records ∙ ap (λ q. records_of K start (take q.session.taken q.session.accepted)) same)
     r refl (subst (λ q. Noted (Marked (start.number + q.session.marked) q.session.marked_at) c.flushed.inside.share) same c.settled.ensures.mark) over
@@ -64,12 +66,27 @@ pub returns-clause-images : goal.returns-clause-images
 returns-clause-images g c = λ honest.
     let K = g.J.Job.kind in
     let start = g.B.Named.start in
+    let store = g.S.Keeper.kept c.flushed.inside.keeper in
     let r = c.settled.new.self in
     let same = sym c.settled.ensures.same.0 in
-    held K g.met.J.Job.laws start g.B.Charted.failures g.B.Charted.clock c.flushed.inside.share c.flushed.inside.store.file.broken c.flushed.inside.store.state (g.D.Disk.view c.flushed.inside.store.file.disk) c.flushed.invariant.0
+    held K g.met.J.Job.laws start g.B.Charted.failures g.B.Charted.clock c.flushed.inside.share (g.S.Keeper.failed c.flushed.inside.keeper) store.file.broken store.state (g.D.Disk.view store.file.disk)
+    c.flushed.invariant.0
     r.session.accepted r.session.taken c.legal.ensures.start c.legal.ensures.accepted c.legal.ensures.taken
     (c.settled.ensures.records ∙ ap (λ q. records_of K start (take q.session.taken q.session.accepted)) same)
     r refl (subst (λ q. AllBacked c.flushed.inside.share q.history) same c.settled.ensures.backed) honest
+
+pub returns-clause-whole : goal.returns-clause-whole
+returns-clause-whole g c =
+    let K = g.J.Job.kind in
+    let start = g.B.Named.start in
+    let store = g.S.Keeper.kept c.flushed.inside.keeper in
+    let r = c.settled.new.self in
+    let same = sym c.settled.ensures.same.0 in
+    whole_still K g.met.J.Job.laws start g.B.Charted.failures g.B.Charted.clock c.flushed.inside.share (g.S.Keeper.failed c.flushed.inside.keeper) store.file.broken store.state
+    (g.D.Disk.view store.file.disk) c.flushed.invariant.0
+    r.session.accepted r.session.taken c.legal.ensures.start c.legal.ensures.accepted c.legal.ensures.taken
+    (c.settled.ensures.records ∙ ap (λ q. records_of K start (take q.session.taken q.session.accepted)) same)
+    r refl (subst (λ q. HasFailed q.failure c.flushed.inside.share) same c.settled.ensures.failed)
 
 pub returns-clause-readers : goal.returns-clause-readers
 returns-clause-readers g c =
@@ -81,7 +98,7 @@ returns-clause-readers g c =
           let K = g.J.Job.kind in
           let start = g.B.Named.start in
           let r = c.settled.new.self in
-          let s = c.flushed.inside.store.state in
+          let s = (g.S.Keeper.kept c.flushed.inside.keeper).state in
           let h = looked.2 k was is before now in
           let begins = subst (λ w. IsPrefix w c.flushed.inside.publisher.batches) (sym c.published.ensures.shown) c.published.ensures.durable in
           let same = sym c.settled.ensures.same.0 in (

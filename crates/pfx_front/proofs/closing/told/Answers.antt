@@ -1,7 +1,7 @@
 use Rattle.std.proofs.Common.{◌≡◌, ◌⊎◌, ◌<◌, refl, sym, subst, ◌∙◌}
 use Rattle.pfx_disk.specs.Disk.{IsSpent}
 use Rattle.pfx_front.specs.Closing.{IsStored}
-use Rattle.pfx_front.proofs.Telling.{told_held, told_stored}
+use Rattle.pfx_front.proofs.Telling.{no_log, told_held, told_stored}
 use Rattle.pfx_chronicle.specs.Chart.{noted_view}
 use Rattle.pfx_front.proofs.closing.told.Goals as goal
 
@@ -25,3 +25,6 @@ returns-then-is_whole_for-clause-images g c =
 
 pub returns-then-is_whole_for-clause-whole : goal.returns-then-is_whole_for-clause-whole
 returns-then-is_whole_for-clause-whole g c = λ is. c.if-is_whole_for.ensures refl (c.failure-failure.ensures ∙ is)
+
+pub returns-then-is_whole_for-clause-no_log : goal.returns-then-is_whole_for-clause-no_log
+returns-then-is_whole_for-clause-no_log g c = λ is. no_log c.args.store (c.requires.whole.log is).0

@@ -16,13 +16,16 @@ pub home-requires : goal.home-requires
 home-requires g c =
     let K = g.J.Job.kind in
     let start = g.B.Named.start in
+    let store = g.S.Keeper.kept c.loop.keeper in
     record {
       behind =
-          subst (λ n. Behind K start g.B.Charted.failures g.B.Charted.clock n c.loop.store.file.broken c.loop.store.state (g.D.Disk.view c.loop.store.file.disk)) (sym c.in-End.ensures)
-          (step_behind K start g.B.Charted.failures g.B.Charted.clock c.loop.share c.loop.store.file.broken c.loop.store.state (g.D.Disk.view c.loop.store.file.disk) c.loop.invariant.0);
+          subst (λ n. Behind K start g.B.Charted.failures g.B.Charted.clock n (g.S.Keeper.failed c.loop.keeper) store.file.broken store.state (g.D.Disk.view store.file.disk))
+          (sym c.in-End.ensures)
+          (step_behind K start g.B.Charted.failures g.B.Charted.clock c.loop.share (g.S.Keeper.failed c.loop.keeper) store.file.broken store.state (g.D.Disk.view store.file.disk)
+          c.loop.invariant.0);
       shown =
-          subst (λ n. IsShown K start n c.loop.publisher.batches c.loop.store.state) (sym c.in-End.ensures)
-          (step_shown K start c.loop.share c.loop.publisher.batches c.loop.store.state c.loop.invariant.1 c.loop.invariant.0.state);
+          subst (λ n. IsShown K start n c.loop.publisher.batches store.state) (sym c.in-End.ensures)
+          (step_shown K start c.loop.share c.loop.publisher.batches store.state c.loop.invariant.1 c.loop.invariant.0.state);
     }
 
 pub next_work-requires-clause-rested : goal.next_work-requires-clause-rested
@@ -39,16 +42,25 @@ pub tend-requires : goal.tend-requires
 tend-requires g c =
     let K = g.J.Job.kind in
     let start = g.B.Named.start in
-    elim c.match-next_work.branch [
-      | in-Tend w ↦
-          subst (λ n. InStep K start g.B.Charted.failures g.B.Charted.clock n c.match-next_work.store.file.broken c.match-next_work.store.state (g.D.Disk.view c.match-next_work.store.file.disk))
-          (sym (w.share-is ∙ w.in-Tend.ensures.0))
-          (subst (λ st. InStep K start g.B.Charted.failures g.B.Charted.clock c.loop.share st.file.broken st.state (g.D.Disk.view st.file.disk)) (sym w.store-is) c.loop.invariant.0)
-      | in-Append+in-Some-commit w ↦
-          subst (λ n. InStep K start g.B.Charted.failures g.B.Charted.clock n c.match-next_work.store.file.broken c.match-next_work.store.state (g.D.Disk.view c.match-next_work.store.file.disk))
-          (sym w.share-is)
-          (subst (λ st. InStep K start g.B.Charted.failures g.B.Charted.clock w.commit.new.share st.file.broken st.state (g.D.Disk.view st.file.disk)) (sym w.store-is) w.in-Some-commit.ensures.step)
-    ]
+    let store = g.S.Keeper.kept c.match-next_work.keeper in
+    record {
+      step = elim c.match-next_work.branch [
+        | in-Tend w ↦
+            subst (λ n. InStep K start g.B.Charted.failures g.B.Charted.clock n store.file.broken store.state (g.D.Disk.view store.file.disk))
+            (sym (w.share-is ∙ w.in-Tend.ensures.0))
+            (subst (λ k. InStep K start g.B.Charted.failures g.B.Charted.clock c.loop.share (g.S.Keeper.kept k).file.broken (g.S.Keeper.kept k).state
+            (g.D.Disk.view (g.S.Keeper.kept k).file.disk)) (sym w.keeper-is) c.loop.invariant.0)
+        | in-Append+in-Some-commit w ↦
+            subst (λ n. InStep K start g.B.Charted.failures g.B.Charted.clock n store.file.broken store.state (g.D.Disk.view store.file.disk))
+            (sym w.share-is)
+            (subst (λ k. InStep K start g.B.Charted.failures g.B.Charted.clock w.commit.new.share (g.S.Keeper.kept k).file.broken (g.S.Keeper.kept k).state
+            (g.D.Disk.view (g.S.Keeper.kept k).file.disk)) (sym w.keeper-is) w.in-Some-commit.ensures.step)
+      ];
+      goes_on = elim c.match-next_work.branch [
+        | in-Tend w ↦ ap g.S.Keeper.failed w.keeper-is ∙ c.loop.invariant.6
+        | in-Append+in-Some-commit w ↦ ap g.S.Keeper.failed w.keeper-is ∙ w.in-Some-commit.ensures.goes_on
+      ];
+    }
 
 pub home-requires-then-not-tend-clause-behind : goal.home-requires-then-not-tend-clause-behind
 home-requires-then-not-tend-clause-behind g c = c.if-not-tend.ensures.behind refl
@@ -61,7 +73,7 @@ home-requires-then-not-tend-clause-shown g c =
       | in-Append+in-Some-commit w ↦
           ap (λ (p : Published g.row.J.Denot). records_of p.batches) w.publisher-is ∙ w.in-Some-commit.ensures.shown ∙ ap records_in (sym w.share-is)
     ] in
-    step_shown g.J.Job.kind g.B.Named.start c.tend.new.share c.match-next_work.publisher.batches c.tend.new.store.state (shown ∙ sym c.tend.ensures.notes) c.tend.ensures.leads
+    step_shown g.J.Job.kind g.B.Named.start c.tend.new.share c.match-next_work.publisher.batches (g.S.Keeper.kept c.tend.new.keeper).state (shown ∙ sym c.tend.ensures.notes) c.tend.ensures.leads
 
 pub loop-preserved : goal.loop-preserved
 loop-preserved g c =
@@ -87,4 +99,5 @@ loop-preserved g c =
       room.0,
       room.1,
       subst (AreNoted c.match-next_work.marking) (sym (c.if-not-tend.ensures.kept refl)) noted,
+      c.if-not-tend.ensures.goes_on refl,
     )

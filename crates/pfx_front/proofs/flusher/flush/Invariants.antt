@@ -1,4 +1,4 @@
-use Rattle.std.proofs.Common.{◌≡◌, ◌≤◌, []}
+use Rattle.std.proofs.Common.{◌≡◌, ◌≤◌, [], None}
 use Rattle.std.specs.Prelude.{vec_capacity}
 use Rattle.pfx_front.specs.Keeping.{InStep}
 use Rattle.pfx_front.specs.Lasting.{AreNoted}
@@ -7,6 +7,7 @@ use Rattle.pfx_front.proofs.flusher.flush.Given as goal
 
 abbrev pub invariant-loop : goal.invariant-loop
 invariant-loop g l =
-    InStep g.J.Job.kind g.B.Named.start g.B.Charted.failures g.B.Charted.clock l.share l.store.file.broken l.store.state (g.D.Disk.view l.store.file.disk)
+    InStep g.J.Job.kind g.B.Named.start g.B.Charted.failures g.B.Charted.clock l.share (g.S.Keeper.kept l.keeper).file.broken (g.S.Keeper.kept l.keeper).state
+    (g.D.Disk.view (g.S.Keeper.kept l.keeper).file.disk)
     × AreShown l.share l.publisher.batches × (g.B.Begun.origin ≡ g.B.Named.start)
-    × (l.room.items ≡ []) × (16 ≤ vec_capacity l.room) × AreNoted l.marking l.share
+    × (l.room.items ≡ []) × (16 ≤ vec_capacity l.room) × AreNoted l.marking l.share × (g.S.Keeper.failed l.keeper ≡ None)
