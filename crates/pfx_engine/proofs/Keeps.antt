@@ -1,17 +1,18 @@
 -- What survives of frames, as commands.
-use Rattle.std.specs.Prelude.{◌≡◌, ◌<◌, ◌≤◌, ℕ, ◌+◌, List, [], ◌∷◌, ◌++◌, length, take, Some, Ok, Err, Result, OnOk, OnErr, IfOk, IsErrOf, IsErrAnd, Bool, true, false, refl}
+use Rattle.std.specs.Prelude.{◌≡◌, ◌<◌, ◌≤◌, ℕ, ◌+◌, List, [], ◌∷◌, ◌++◌, length, take, Option, None, Some, Ok, Err, Result, OnOk, OnErr, IfOk, IfErr, IsErrAnd, refl}
 use Rattle.std.proofs.Common.{inl, inr, sym, ◌∙◌, ap, arith, length-append, subst}
-use Rattle.std.proofs.lemmas.Bool.{true≢false}
 use Rattle.std.proofs.lemmas.List.{take-append-le}
 use Rattle.pfx_disk.specs.Disk.{View, HasFailed, IsHonest}
+use Rattle.pfx_fault.specs.declared.parts.Cause.{Cause}
+use Rattle.pfx_fault.specs.declared.parts.Cause.TheVariants.{Device}
 use Rattle.pfx_redo.specs.Applying.{applied}
 use Rattle.pfx_format.specs.Format.{format}
 use Rattle.pfx_format.specs.Frames.{state_after}
 use Rattle.pfx_format.proofs.Batches.{some_same}
 use Rattle.pfx_store.specs.Groups.{AreKeptAs, AreRecordsOf, alone, frame_of}
 use Rattle.pfx_store.specs.Groups as groups
+use Rattle.pfx_store.specs.Keepers.{IsKeeping, Keeps}
 use Rattle.pfx_store.specs.Stores.{PlainStore}
-use Rattle.pfx_store.specs.Working.{IsCall, MovesBy}
 use Rattle.pfx_store.specs.Working as working
 use Rattle.pfx_store.specs.declared.store.Mark.{Mark}
 use Rattle.pfx_store.proofs.Grouping.{alone_small, batch_led, joined_alone, keeps_groups, length-alone, length-records, records_lead, replays_same, to_frames, to_groups}
@@ -26,13 +27,11 @@ use Rattle.pfx_machine.specs.declared.command.Command.{Command}
 use Rattle.pfx_record.specs.Batches.{batch_bytes}
 use Rattle.pfx_record.specs.Records as recorded
 use Rattle.pfx_recovery.specs.Recovery.{recovered}
+use Rattle.pfx_recovery.proofs.Answers.{err_same}
 use Rattle.pfx_recovery.specs.Store.{Replays}
-use Rattle.pfx_store_file.specs.Calls.{Works}
 use Rattle.pfx_store_file.specs.Holding as frames
 use Rattle.pfx_store_file.specs.Tending.{append_calls}
-use Rattle.pfx_store_file.specs.declared.faults.StoreFault.{StoreFault}
-use Rattle.pfx_store_file.specs.declared.faults.StoreFault.TheVariants.{Device, Broken, NoRoom}
-use Rattle.pfx_engine.specs.Executing.{IsPut}
+use Rattle.pfx_engine.specs.Executing.{IsCommit, IsPut}
 use Rattle.pfx_engine.specs.Surviving.{Survives, KeepsAll, frames_of}
 use Rattle.pfx_engine.specs.KeepingLaws.{acceptable_both}
 use Rattle.pfx_engine.proofs.Commands.{all_in, replays_commands, with_accepted, with_frames, with_group, with_small, with_survives}
@@ -105,20 +104,18 @@ pub on_ok_then : {T E P Q : Type 0} (r : Result T E) → (P → Q) → OnOk r P 
 on_ok_then (Ok x) f p = f p
 on_ok_then (Err e) f p = tt
 
--- their batch, appended to a store, is an append of the commands' frame
-pub put_as : {D : Type 0} (view : D → View) (old : PlainStore D AnyJob) (G : List (Command AnyJob)) (new : PlainStore D AnyJob) (result : Result Mark StoreFault) (first : ℕ) (records : List (recorded.Recorded AnyJob)) →
+-- their batch, kept in a store, is an append of the commands' frame
+pub put_as : {D : Type 0} (view : D → View) (old : PlainStore D AnyJob) (G : List (Command AnyJob)) (new : PlainStore D AnyJob) (was is : Option Cause) (result : Result Mark Cause) (first : ℕ) (records : List (recorded.Recorded AnyJob)) →
     IsState old.state → AreKeptAs any_kind old.state G records → first ≡ old.state.number + 1 →
-    IsCall view old new result (append_calls (length (batch_bytes any_kind (record { first = first; records = records }))) old.file.places) → MovesBy any_kind records result old.state new.state →
-    IfOk result (λ mark. (mark.number ≡ new.state.number) × (mark.clock ≡ (view new.file.disk).clock)) →
-    (IsHonest (view old.file.disk) → working.Commits any_kind old.state (batch_bytes any_kind (record { first = first; records = records })) result (view old.file.disk) (view new.file.disk)) → IsPut view old G new result
-put_as view old G new result first records h is next call moves mark commits =
-    let frame = frame_is old.state G records first h is next in
+    Keeps view any_kind records (batch_bytes any_kind (record { first = first; records = records })) old new was is result → IsPut view old G new was is result
+put_as view old G new was is result first records h are next kept =
+    let frame = frame_is old.state G records first h are next in
     record {
-      call = subst (λ (f : List ℕ). IsCall view old new result (append_calls (length f) old.file.places)) frame call;
-      state = on_ok_then result (λ taken. state_with old.state G records new.state h is taken) moves.moved;
-      same = moves.same;
-      mark = mark;
-      commits = λ honest. subst (λ (f : List ℕ). working.Commits any_kind old.state f result (view old.file.disk) (view new.file.disk)) frame (commits honest);
+      call = subst (λ (f : List ℕ). IsKeeping view old new was is result (append_calls (length f) old.file.places)) frame kept.call;
+      state = on_ok_then result (λ taken. state_with old.state G records new.state h are taken) kept.state.moved;
+      same = kept.state.same;
+      mark = kept.mark;
+      commits = λ honest. subst (λ (f : List ℕ). working.Commits any_kind old.state f result (view old.file.disk) (view new.file.disk)) frame (kept.commits honest);
     }
 
 -- how many commands the records are of
@@ -136,12 +133,10 @@ pub on_ok_two : {T E P Q R : Type 0} (r : Result T E) → (P → Q → R) → On
 on_ok_two (Ok x) f p q = f p q
 on_ok_two (Err e) f p q = tt
 
--- a call on a whole store that leaves it whole has answered
-pub worked : {T P : Type 0} (r : Result T StoreFault) (old new : View) (was is : Bool) → Works old new was is r → ¬ IsErrOf r NoRoom → was ≡ false → is ≡ false → OnOk r P → P
-worked (Ok x) old new was is works room before after p = p
-worked (Err Device) old new was is works room before after p = absurd (true≢false (sym (works.breaks refl) ∙ after))
-worked (Err Broken) old new was is works room before after p = absurd (true≢false (sym (works.broken.0 refl) ∙ before))
-worked (Err NoRoom) old new was is works room before after p = absurd (room refl)
+-- a call behind which nothing has failed has answered
+pub worked : {T P : Type 0} (r : Result T Cause) (is : Option Cause) → IfErr r (λ cause. is ≡ Some cause) → is ≡ None → OnOk r P → P
+worked (Ok x) is fails whole p = p
+worked (Err cause) is fails whole p = absurd (let e = sym fails ∙ whole in cc)
 
 -- what is said of a success, after a fault, and of a fault, whatever was answered
 pub if_ok_none : {T E : Type 0} (P : T → Type 0) (Q : E → Type 0) (r : Result T E) → IsErrAnd r Q → IfOk r P
@@ -157,18 +152,43 @@ on_err_then (Ok x) f p = tt
 on_err_then (Err e) f p = f p
 
 -- a call behind one that answered
-pub was_whole : {T : Type 0} (a b : View) (was is : Bool) (r : Result T StoreFault) (x : T) → r ≡ Ok x → Works a b was is r → was ≡ false
-was_whole a b false is r x answered works = refl
-was_whole a b true is r x answered works = absurd (let e = sym answered ∙ works.broken.1 refl in cc)
-
 failed_since : (a b c : View) → a.failures ≤ b.failures → HasFailed b c → HasFailed a c
 failed_since a b c fewer (inl less) = inl (omega (arith, fewer, less))
 failed_since a b c fewer (inr spent) = inr spent
 
-pub works_later : {T : Type 0} (a b c : View) (was between is : Bool) (r : Result T StoreFault) → was ≡ false → between ≡ false → a.failures ≤ b.failures → Works b c between is r → Works a c was is r
-works_later a b c was between is r whole still fewer works = record {
-  whole = works.whole;
-  device = λ here. failed_since a b c fewer (works.device here);
-  breaks = works.breaks;
-  broken = (λ here. absurd (true≢false (sym (works.broken.0 here) ∙ still)), λ here. absurd (true≢false (sym here ∙ whole)));
-}
+-- a step that failed, handed on
+pub commit_failed : {D S : Type 0} (view : D → View) (old new : PlainStore D AnyJob) (was is : Option Cause) (calls : ℕ) (first : Result S Cause) (result : Result Mark Cause) (cause : Cause) → first ≡ Err cause → IsErrAnd result (λ e. e ≡ cause)
+    → IsKeeping view old new was is first calls → new.state ≡ old.state → IsCommit view old new was is result
+commit_failed view old new was is calls first (Ok mark) cause at same call stays = absurd same
+commit_failed view old new was is calls first (Err e) cause at same call stays =
+    let both : first ≡ Err e = at ∙ ap Err (sym same) in
+    record {
+      whole = tt;
+      fails = subst (λ r. IfErr r (λ why. is ≡ Some why)) both call.fails;
+      device = λ none err. call.device none (both ∙ (ap Err (err_same e Device err)));
+      follows = record { goes = record { later = call.takes.later; no_fewer = call.takes.no_fewer }; honest = call.honest };
+      same = stays;
+      mark = tt;
+    }
+
+-- an append behind a step
+pub commit_both : {D S : Type 0} (view : D → View) (old mid new : PlainStore D AnyJob) (was between is : Option Cause) (steps calls : ℕ) (first : Result S Cause) (step : S) (result : Result Mark Cause) → first ≡ Ok step
+    → IsKeeping view old mid was between first steps → IsKeeping view mid new between is result calls → OnErr result (new.state ≡ old.state)
+    → IfOk result (λ mark. (mark.number ≡ new.state.number) × (mark.clock ≡ (view new.file.disk).clock)) → IsCommit view old new was is result
+commit_both view old mid new was between is steps calls first step result at one two same mark =
+    let nothing : (was ≡ None) × (between ≡ None) = subst (λ r. OnOk r ((was ≡ None) × (between ≡ None))) at one.whole in
+    let later = one.takes.later in
+    let later_2 = two.takes.later in
+    let fewer = one.takes.no_fewer in
+    let fewer_2 = two.takes.no_fewer in
+    record {
+      whole = on_ok_then result (λ ends. (nothing.0, ends.1)) two.whole;
+      fails = two.fails;
+      device = λ none err. failed_since (view old.file.disk) (view mid.file.disk) (view new.file.disk) fewer (two.device nothing.1 err);
+      follows = record {
+        goes = record { later = omega (arith, later, later_2); no_fewer = omega (arith, fewer, fewer_2) };
+        honest = (λ h. two.honest.0 (one.honest.0 h), λ h. one.honest.1 (two.honest.1 h));
+      };
+      same = same;
+      mark = mark;
+    }

@@ -1,10 +1,11 @@
 pub mod EndingLemmas
 mod RunningLemmas
-mod NotingLemmas
+pub mod NotingLemmas
 pub mod Promising
 mod Commands
 pub mod Keeps
 mod Serving
+mod RefutedFailing
 mod RefutedNoting
 mod RefutedSessions
 mod SessionLemmas

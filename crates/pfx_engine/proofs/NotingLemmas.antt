@@ -1,9 +1,12 @@
 -- What a run on a disk whose calls are noted leaves.
-use Rattle.std.proofs.Common.{◌≡◌, ◌⊎◌, ℕ, ◌+◌, Bool, true, false, List, [], ◌++◌, length, Option, Result, Ok, Err, IfSome, refl, sym, ap, subst, ◌∙◌, arith, append_assoc, append-nil, inl, inr}
+use Rattle.std.specs.Prelude.{if◌then◌else◌}
+use Rattle.std.proofs.Common.{◌≡◌, ◌⊎◌, ℕ, ◌+◌, Bool, true, false, List, [], ◌++◌, length, Option, None, Some, Result, Ok, Err, IfSome, refl, sym, ap, subst, ◌∙◌, arith, append_assoc, append-nil, inl, inr}
 use Rattle.pfx_chronicle.specs.Chart.{acts_of}
 use Rattle.pfx_chronicle.specs.declared.made.Made.{Made}
 use Rattle.pfx_disk.specs.Disk.{View, IsHonest}
 use Rattle.pfx_disk.specs.Stop.{Left}
+use Rattle.pfx_fault.specs.declared.parts.Cause.{Cause}
+use Rattle.pfx_fault.specs.declared.parts.Cause.TheVariants as cause
 use Rattle.pfx_fault.specs.declared.refusals.Fault.{Fault}
 use Rattle.pfx_fault.specs.declared.refusals.Fault.TheVariants as fault
 use Rattle.pfx_format.specs.Format.{format}
@@ -20,14 +23,25 @@ use Rattle.pfx_program.specs.Script.{Step, at_start, commands_of, course_from, t
 use Rattle.pfx_program.specs.declared.report.AtRefusal.{AtRefusal}
 use Rattle.pfx_program.specs.declared.report.Report.{Report}
 use Rattle.pfx_recovery.specs.Recovery.{recovered}
+use Rattle.pfx_store.specs.Keepers.{failure_of}
+use Rattle.pfx_store.specs.Stores.{PlainStore}
 use Rattle.pfx_script.specs.Records.{Fields, Records}
 use Rattle.pfx_engine.proofs.EndingLemmas.{begun, known_rest, nothing_more}
 use Rattle.pfx_engine.proofs.Keeps.{survives_more}
 use Rattle.pfx_engine.proofs.Promising.{promise}
 use Rattle.pfx_engine.specs.Ending.{EndsBehind}
+use Rattle.pfx_engine.specs.Failing.{MayFail}
 use Rattle.pfx_engine.specs.Keeping.{Anchors}
 use Rattle.pfx_engine.specs.Noting.{IsAloneFault, IsNotedRun}
 use Rattle.pfx_engine.specs.Surviving.{Survives}
+
+-- a store fails by its disk alone
+pub device_only : {D J : Type 0} (why : Cause) → MayFail {K = PlainStore D J} (λ store. failure_of store) why → why ≡ cause.Device
+device_only why (store, failed) = by store.file.broken failed
+  where
+    by : (broken : Bool) → (if broken then Some cause.Device else None) ≡ Some why → why ≡ cause.Device
+    by true is = cc
+    by false is = cc
 
 -- a run that stops is at the state after what it printed, or after all that it tried
 reached : (reading : Type 0) (faults : Plain AnyJob → Fault → Type 0) (s : Plain AnyJob) (text : List ℕ) (tried : List Step) (t : Plain AnyJob) (was is : Option (List ℕ)) (f : Fault) → Halts reading faults s text tried t was is f
@@ -64,13 +78,13 @@ stands s printed tried rest t (inr at) = record {
   state = then_state s (outcome any_kind s (commands_of printed)) t printed tried refl at;
 }
 
-module _ (held : Type 0) (image : List ℕ) (made : List Made) (disk : View) (premise : IsHonest disk → held) where
-  module _ {E : Type 0} (view : E → View) (broken : E → Bool) (kept : E → Plain AnyJob) (form : Form) (at_refusal : AtRefusal) (script : Records) (records : List Fields)
+module _ (may meant : Cause → Type 0) (could : (cause : Cause) → may cause → meant cause) (held : Type 0) (image : List ℕ) (made : List Made) (disk : View) (premise : IsHonest disk → held) where
+  module _ {E : Type 0} (view : E → View) (failed_by : E → Option Cause) (kept : E → Plain AnyJob) (form : Form) (at_refusal : AtRefusal) (script : Records) (records : List Fields)
       (a b : E) (known : IfSome script.left (λ all. taken at_refusal (at_start form (kept a)) all ≡ records))
-      (failed : Bool) (was is : Option (List ℕ)) (whole : broken a ≡ false) (honest : held → IsHonest (view a)) (anchors : held → Anchors (view a) (kept a))
+      (failed : Bool) (was is : Option (List ℕ)) (whole : failed_by a ≡ None) (honest : held → IsHonest (view a)) (anchors : held → Anchors (view a) (kept a))
       (leaves : held → (left : List ℕ) → Left image (acts_of made) left → (view b).now left) (follows : IsHonest disk → (left : List ℕ) → disk.now left → (view b).now left) where
-    went : (result : Result Report Fault) → EndsBehind (IsAloneFault (kept a)) (course_from (script.place + 1) (at_start form (kept a)) records).steps [] (course_from (script.place + 1) (at_start form (kept a)) records) failed was is result
-        → Carried (promise view broken kept) (course_from (script.place + 1) (at_start form (kept a)) records).steps a b was is → IsNotedRun form at_refusal (kept a) script failed was is held image made disk (kept b) result
+    went : (result : Result Report Fault) → EndsBehind (IsAloneFault meant (kept a)) (course_from (script.place + 1) (at_start form (kept a)) records).steps [] (course_from (script.place + 1) (at_start form (kept a)) records) failed was is result
+        → Carried (promise view failed_by kept may) (course_from (script.place + 1) (at_start form (kept a)) records).steps a b was is → IsNotedRun meant form at_refusal (kept a) script failed was is held image made disk (kept b) result
     went result ends h =
         let steps : List Step = (course_from (script.place + 1) (at_start form (kept a)) records).steps in
         let all : steps ≡ steps ++ [] = sym (append-nil steps) in
@@ -93,10 +107,10 @@ module _ (held : Type 0) (image : List ℕ) (made : List Made) (disk : View) (pr
           on_disk = λ sure left here. survive (premise sure) left (follows sure left here);
         }
 
-    stopped : (most : ℕ) (f : Fault) → Stopped (promise view broken kept) most (failed ≡ true) (course_from (script.place + 1) (at_start form (kept a)) records).steps a b was is f
-        → ((printed tried rest : List Step) (t : Plain AnyJob) → Halts (failed ≡ true) (λ s g. (promise view broken kept).faults s g) (outcome any_kind (kept a) (commands_of printed)) (text_of printed) tried t was is f
-        → EndsBehind (IsAloneFault (kept a)) printed (tried ++ rest) (course_from (script.place + 1) (at_start form (kept a)) records) failed was is (Err f))
-        → IsNotedRun form at_refusal (kept a) script failed was is held image made disk (kept b) (Err f)
+    stopped : (most : ℕ) (f : Fault) → Stopped (promise view failed_by kept may) most (failed ≡ true) (course_from (script.place + 1) (at_start form (kept a)) records).steps a b was is f
+        → ((printed tried rest : List Step) (t : Plain AnyJob) → Halts (failed ≡ true) (λ s g. (promise view failed_by kept may).faults s g) (outcome any_kind (kept a) (commands_of printed)) (text_of printed) tried t was is f
+        → EndsBehind (IsAloneFault meant (kept a)) printed (tried ++ rest) (course_from (script.place + 1) (at_start form (kept a)) records) failed was is (Err f))
+        → IsNotedRun meant form at_refusal (kept a) script failed was is held image made disk (kept b) (Err f)
     stopped most f h ends =
         let split : (commands_of h.printed ++ commands_of h.tried) ++ commands_of h.rest ≡ commands_of (h.printed ++ (h.tried ++ h.rest)) =
         append_assoc (commands_of h.printed) (commands_of h.tried) (commands_of h.rest)
@@ -105,7 +119,7 @@ module _ (held : Type 0) (image : List ℕ) (made : List Made) (disk : View) (pr
         subst (λ (l : List (Command AnyJob)). Survives (kept a) l (length (commands_of h.printed)) left) split
         (survives_more (kept a) (commands_of h.printed ++ commands_of h.tried) (commands_of h.rest) (length (commands_of h.printed)) left ((h.keeps.kept whole (honest so) (anchors so)).survive left here)) in
         let at = stands (kept a) h.printed h.tried h.rest (kept b)
-        (reached (failed ≡ true) (λ s g. (promise view broken kept).faults s g) (outcome any_kind (kept a) (commands_of h.printed)) (text_of h.printed) h.tried (kept b) was is f h.why) in
+        (reached (failed ≡ true) (λ s g. (promise view failed_by kept may).faults s g) (outcome any_kind (kept a) (commands_of h.printed)) (text_of h.printed) h.tried (kept b) was is f h.why) in
         record {
           records = records;
           known = known;
@@ -122,28 +136,28 @@ module _ (held : Type 0) (image : List ℕ) (made : List Made) (disk : View) (pr
           on_disk = λ sure left here. survive (premise sure) left (follows sure left here);
         }
 
-    by_end : (most : ℕ) (result : Result Report Fault) → Ends (promise view broken kept) most (failed ≡ true) (course_from (script.place + 1) (at_start form (kept a)) records) a b was is result
-        → IsNotedRun form at_refusal (kept a) script failed was is held image made disk (kept b) result
+    by_end : (most : ℕ) (result : Result Report Fault) → Ends (promise view failed_by kept may) most (failed ≡ true) (course_from (script.place + 1) (at_start form (kept a)) records) a b was is result
+        → IsNotedRun meant form at_refusal (kept a) script failed was is held image made disk (kept b) result
     by_end most (Ok report) h = went (Ok report) (h.0, refl, h.1.text, h.3) h.1
     by_end most (Err (fault.BadScript at)) h = went (Err (fault.BadScript at)) (h.0, refl, h.1.text) h.1
     by_end most (Err fault.OutputFailed) h = stopped most fault.OutputFailed h (λ printed tried rest t why. (why.1, (begun tried rest why.1 why.2 why.3).0, (begun tried rest why.1 why.2 why.3).1, why.4))
     by_end most (Err fault.InputFailed) h = stopped most fault.InputFailed h (λ printed tried rest t why. (why.0, why.2))
     by_end most (Err fault.NoMemory) h = stopped most fault.NoMemory h (λ printed tried rest t why. (tt, why.1))
-    by_end most (Err other) h = stopped most other h (λ printed tried rest t why. (why.0, why.2))
+    by_end most (Err other) h = stopped most other h (λ printed tried rest t why. ((why.0.0, could why.0.0 why.0.1, why.0.2), why.2))
 
-  module _ {E : Type 0} (view : E → View) (broken : E → Bool) (kept : E → Plain AnyJob) (form : Form) (at_refusal : AtRefusal) where
-    pub noted_run : (most : ℕ) (script : Records) (failed : Bool) (a b : E) (was is : Option (List ℕ)) (result : Result Report Fault) → Runs (promise view broken kept) form at_refusal most script failed a b was is result
-        → broken a ≡ false → (held → IsHonest (view a)) → (held → Anchors (view a) (kept a)) → (held → (left : List ℕ) → Left image (acts_of made) left → (view b).now left)
-        → (IsHonest disk → (left : List ℕ) → disk.now left → (view b).now left) → IsNotedRun form at_refusal (kept a) script failed was is held image made disk (kept b) result
+  module _ {E : Type 0} (view : E → View) (failed_by : E → Option Cause) (kept : E → Plain AnyJob) (form : Form) (at_refusal : AtRefusal) where
+    pub noted_run : (most : ℕ) (script : Records) (failed : Bool) (a b : E) (was is : Option (List ℕ)) (result : Result Report Fault) → Runs (promise view failed_by kept may) form at_refusal most script failed a b was is result
+        → failed_by a ≡ None → (held → IsHonest (view a)) → (held → Anchors (view a) (kept a)) → (held → (left : List ℕ) → Left image (acts_of made) left → (view b).now left)
+        → (IsHonest disk → (left : List ℕ) → disk.now left → (view b).now left) → IsNotedRun meant form at_refusal (kept a) script failed was is held image made disk (kept b) result
     noted_run most script failed a b was is result h whole honest anchors leaves follows =
-        by_end view broken kept form at_refusal script h.records a b h.known failed was is whole honest anchors leaves follows most result h.ends
+        by_end view failed_by kept form at_refusal script h.records a b h.known failed was is whole honest anchors leaves follows most result h.ends
 
 -- a run for which there was no memory
-pub noted_none : (form : Form) (at_refusal : AtRefusal) (s : Plain AnyJob) (script : Records) (failed : Bool) (was : Option (List ℕ)) (held : Type 0) (image : List ℕ) (made : List Made) (disk : View) (here : List ℕ → Type 0) → (IsHonest disk → held)
+pub noted_none : (may : Cause → Type 0) (form : Form) (at_refusal : AtRefusal) (s : Plain AnyJob) (script : Records) (failed : Bool) (was : Option (List ℕ)) (held : Type 0) (image : List ℕ) (made : List Made) (disk : View) (here : List ℕ → Type 0) → (IsHonest disk → held)
     → (held → (left : List ℕ) → Left image (acts_of made) left → here left) → (IsHonest disk → (left : List ℕ) → disk.now left → here left)
     → (held → (left : List ℕ) → here left → recovered (format any_kind) left ≡ Ok s)
-    → IsNotedRun form at_refusal s script failed was was held image made disk s (Err fault.NoMemory)
-noted_none form at_refusal s script failed was held image made disk here premise leaves follows recovers = record {
+    → IsNotedRun may form at_refusal s script failed was was held image made disk s (Err fault.NoMemory)
+noted_none may form at_refusal s script failed was held image made disk here premise leaves follows recovers = record {
   records = rest.0;
   known = rest.1;
   printed = [];

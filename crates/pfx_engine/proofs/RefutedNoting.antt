@@ -6,6 +6,7 @@ use Rattle.std.proofs.lemmas.Bool.{false≢true}
 use Rattle.std.proofs.lemmas.Option.{none-some}
 use Rattle.pfx_chronicle.specs.declared.made.Made.{Made}
 use Rattle.pfx_disk.specs.Disk.{View, IsHonest}
+use Rattle.pfx_fault.specs.declared.parts.Cause.{Cause}
 use Rattle.pfx_fault.specs.declared.parts.Cause.TheVariants as cause
 use Rattle.pfx_fault.specs.declared.refusals.Fault.{Fault}
 use Rattle.pfx_fault.specs.declared.refusals.Fault.TheVariants as fault
@@ -57,43 +58,51 @@ unfolding recovered found read_header
 not_in_nothing s H n h = false≢true (ap is_ok h.recovered)
 
 -- where nothing was printed no command was kept, so a failed disk's answer doesn't name the next one
-kept_of_nothing : (s : Plain AnyJob) → IsAloneFault s [] (fault.StoreFailed (s.number + 1) cause.Device) → ⊥
-kept_of_nothing s h =
-    let same = ap marked_in h ∙ ap (λ (t : Plain AnyJob). t.number) (outcome-none any_kind s) in
+kept_of_nothing : (may : Cause → Type 0) (s : Plain AnyJob) → IsAloneFault may s [] (fault.StoreFailed (s.number + 1) cause.Device) → ⊥
+kept_of_nothing may s h =
+    let same = ap marked_in h.2 ∙ ap (λ (t : Plain AnyJob). t.number) (outcome-none any_kind s) in
     omega (arith, same)
   where
     marked_in : Fault → ℕ
     marked_in (fault.StoreFailed marked why) = marked
     marked_in other = 0
 
-module _ (form : Form) (at_refusal : AtRefusal) (s : Plain AnyJob) (script : Records) (none : script.left ≡ Some []) (failed : Bool) (was is : Option (List ℕ)) (held : Type 0) (made : List Made) (disk : View) (t : Plain AnyJob) where
-  records_none : (image : List ℕ) (result : Result Report Fault) (h : IsNotedRun form at_refusal s script failed was is held image made disk t result) → h.records ≡ []
+-- and its cause is one of those that may be
+cause_of_another : (s : Plain AnyJob) (marked : ℕ) → IsAloneFault (λ why. why ≡ cause.Device) s [] (fault.StoreFailed marked cause.Log) → ⊥
+cause_of_another s marked h = let (why, is, same) = h in let log = ap cause_in same ∙ is in cc
+  where
+    cause_in : Fault → Cause
+    cause_in (fault.StoreFailed marked why) = why
+    cause_in other = cause.Device
+
+module _ (may : Cause → Type 0) (form : Form) (at_refusal : AtRefusal) (s : Plain AnyJob) (script : Records) (none : script.left ≡ Some []) (failed : Bool) (was is : Option (List ℕ)) (held : Type 0) (made : List Made) (disk : View) (t : Plain AnyJob) where
+  records_none : (image : List ℕ) (result : Result Report Fault) (h : IsNotedRun may form at_refusal s script failed was is held image made disk t result) → h.records ≡ []
   records_none image result h = sym (subst (λ (left : Option (List Fields)). IfSome left (λ all. taken at_refusal (at_start form s) all ≡ h.records)) none h.known) ∙ taken_none at_refusal (at_start form s)
 
   -- nothing was left to run, and no record was without form
-  ends_nowhere : (image : List ℕ) (at : ℕ) → IsNotedRun form at_refusal s script failed was is held image made disk t (Err (fault.BadScript at)) → ⊥
+  ends_nowhere : (image : List ℕ) (at : ℕ) → IsNotedRun may form at_refusal s script failed was is held image made disk t (Err (fault.BadScript at)) → ⊥
   ends_nowhere image at h =
       none-some at (sym (no_end (script.place + 1) form s) ∙ ap (λ (l : List Fields). (course_from (script.place + 1) (at_start form s) l).ends_at) (sym (records_none image _ h)) ∙ h.ends.0)
 
   -- nothing is reported of it
-  report_lost : (image : List ℕ) (report : Report) → report.accepted ≡ 1 → IsNotedRun form at_refusal s script failed was is held image made disk t (Ok report) → ⊥
+  report_lost : (image : List ℕ) (report : Report) → report.accepted ≡ 1 → IsNotedRun may form at_refusal s script failed was is held image made disk t (Ok report) → ⊥
   report_lost image report one h =
       let none : report.accepted ≡ 0 =
       h.ends.3.accepted ∙ ap (λ (l : List Fields). length (commands_of (course_from (script.place + 1) (at_start form s) l).steps)) (records_none image _ h) ∙ ap length (no_commands (script.place + 1) form s) in
       omega (arith, one, none)
 
-  refusal_lost : (image : List ℕ) (report : Report) → report.refused ≡ 1 → IsNotedRun form at_refusal s script failed was is held image made disk t (Ok report) → ⊥
+  refusal_lost : (image : List ℕ) (report : Report) → report.refused ≡ 1 → IsNotedRun may form at_refusal s script failed was is held image made disk t (Ok report) → ⊥
   refusal_lost image report one h =
       let none : report.refused ≡ 0 =
       h.ends.3.refused ∙ ap (λ (l : List Fields). length (course_from (script.place + 1) (at_start form s) l).refusals) (records_none image _ h) ∙ ap length (no_refusals (script.place + 1) form s) in
       omega (arith, one, none)
 
-  first_lost : (image : List ℕ) (report : Report) (x : RefusedRecord) → report.first ≡ Some x → IsNotedRun form at_refusal s script failed was is held image made disk t (Ok report) → ⊥
+  first_lost : (image : List ℕ) (report : Report) (x : RefusedRecord) → report.first ≡ Some x → IsNotedRun may form at_refusal s script failed was is held image made disk t (Ok report) → ⊥
   first_lost image report x some h =
       none-some x (sym (h.ends.3.first ∙ ap (λ (l : List Fields). first_of (course_from (script.place + 1) (at_start form s) l).refusals) (records_none image _ h) ∙ ap first_of (no_refusals (script.place + 1) form s)) ∙ some)
 
   -- a script without commands leaves the store where it was
-  state_lost : (image : List ℕ) (result : Result Report Fault) → t.number ≡ s.number + 1 → IsNotedRun form at_refusal s script failed was is held image made disk t result → ⊥
+  state_lost : (image : List ℕ) (result : Result Report Fault) → t.number ≡ s.number + 1 → IsNotedRun may form at_refusal s script failed was is held image made disk t result → ⊥
   state_lost image result next h =
       let whole : (h.printed ++ h.tried) ++ h.back ≡ (course_from (script.place + 1) (at_start form s) []).steps =
       append_assoc h.printed h.tried h.back ∙ ap (λ (l : List Step). h.printed ++ l) (sym h.untold) ∙ sym h.course
@@ -105,14 +114,14 @@ module _ (form : Form) (at_refusal : AtRefusal) (s : Plain AnyJob) (script : Rec
       omega (arith, next, same)
 
   -- the disk held nothing, no call was made, and a stop leaves nothing
-  kept_nowhere : (result : Result Report Fault) → held → IsNotedRun form at_refusal s script failed was is held [] [] disk t result → ⊥
+  kept_nowhere : (result : Result Report Fault) → held → IsNotedRun may form at_refusal s script failed was is held [] [] disk t result → ⊥
   kept_nowhere result so h = not_in_nothing s _ _ (h.kept so [] refl)
 
   -- an honest disk that may hold nothing after a stop
-  on_disk_nowhere : (image : List ℕ) (result : Result Report Fault) → IsHonest disk → disk.now [] → IsNotedRun form at_refusal s script failed was is held image made disk t result → ⊥
+  on_disk_nowhere : (image : List ℕ) (result : Result Report Fault) → IsHonest disk → disk.now [] → IsNotedRun may form at_refusal s script failed was is held image made disk t result → ⊥
   on_disk_nowhere image result honest here h = not_in_nothing s _ _ (h.on_disk honest [] here)
 
 -- an honest disk, and bytes that it didn't hold
-premise_lost : (form : Form) (at_refusal : AtRefusal) (s : Plain AnyJob) (script : Records) (failed : Bool) (was is : Option (List ℕ)) (image : List ℕ) (made : List Made) (disk : View) (t : Plain AnyJob) (result : Result Report Fault)
-    → IsHonest disk → IsNotedRun form at_refusal s script failed was is ⊥ image made disk t result → ⊥
-premise_lost form at_refusal s script failed was is image made disk t result honest h = h.premise honest
+premise_lost : (may : Cause → Type 0) (form : Form) (at_refusal : AtRefusal) (s : Plain AnyJob) (script : Records) (failed : Bool) (was is : Option (List ℕ)) (image : List ℕ) (made : List Made) (disk : View) (t : Plain AnyJob) (result : Result Report Fault)
+    → IsHonest disk → IsNotedRun may form at_refusal s script failed was is ⊥ image made disk t result → ⊥
+premise_lost may form at_refusal s script failed was is image made disk t result honest h = h.premise honest

@@ -1,6 +1,8 @@
 -- What comes of a command that an engine carries out over its store.
-use Rattle.std.specs.Prelude.{◌≡◌, ◌⊎◌, ◌↔◌, ◌≤◌, ◌+◌, ◌++◌, ℕ, min, List, [], ◌∷◌, length, Bool, true, false, Result, Ok, Err, OnOk, OnErr, IfOk, IsErrOf}
-use Rattle.pfx_disk.specs.Disk.{View, IsHonest}
+use Rattle.std.specs.Prelude.{◌≡◌, ◌⊎◌, ◌↔◌, ◌≤◌, ◌+◌, ◌++◌, ℕ, min, List, [], ◌∷◌, length, Bool, true, Option, None, Some, Result, Ok, Err, OnOk, OnErr, IfOk, IfErr}
+use Rattle.pfx_disk.specs.Disk.{View, HasFailed, IsHonest}
+use Rattle.pfx_fault.specs.declared.parts.Cause.{Cause}
+use Rattle.pfx_fault.specs.declared.parts.Cause.TheVariants.{Device}
 use Rattle.pfx_format.specs.Format.{format}
 use Rattle.pfx_kinds.specs.AnyKind.{any_kind}
 use Rattle.pfx_kinds.specs.declared.any.AnyJob.{AnyJob}
@@ -16,32 +18,30 @@ use Rattle.pfx_program.specs.Promises.{AreAnswered, slots_for}
 use Rattle.pfx_recovery.specs.Recovery.{recovered}
 use Rattle.pfx_segment.specs.Segment.{Takes}
 use Rattle.pfx_store.specs.Groups.{frame_of}
+use Rattle.pfx_store.specs.Keepers.{IsKeeping}
 use Rattle.pfx_store.specs.Stores.{PlainStore}
-use Rattle.pfx_store.specs.Working.{IsCall}
 use Rattle.pfx_store.specs.Working as working
 use Rattle.pfx_store.specs.declared.store.Mark.{Mark}
-use Rattle.pfx_store_file.specs.Calls.{GoesOn, Works}
+use Rattle.pfx_store_file.specs.Calls.{GoesOn}
 use Rattle.pfx_store_file.specs.Tending.{append_calls}
-use Rattle.pfx_store_file.specs.declared.faults.StoreFault.{StoreFault}
-use Rattle.pfx_store_file.specs.declared.faults.StoreFault.TheVariants.{NoRoom}
 use Rattle.pfx_engine.specs.Keeping.{Anchors}
 use Rattle.pfx_engine.specs.Stepping.{frame_len}
 use Rattle.pfx_engine.specs.Surviving.{KeepsAll}
 
 -- a command was accepted at a state: the mark has the next number and the disk's clock, the reply is the machine's, and the state is
--- the one after the command, over a store that isn't broken
-pub record IsExecuted (s : Plain AnyJob) (c : Command AnyJob) (t : Plain AnyJob) (clock : ℕ) (broken : Bool) (r : Mark × Reply) : Type 0 where
+-- the one after the command, and nothing has failed
+pub record IsExecuted (s : Plain AnyJob) (c : Command AnyJob) (t : Plain AnyJob) (clock : ℕ) (failed : Option Cause) (r : Mark × Reply) : Type 0 where
   pub number : r.0.number ≡ s.number + 1
   pub clock_now : r.0.clock ≡ clock
   pub reply : answer any_kind s c ≡ Ok r.1
   pub state : t ≡ outcome any_kind s (c ∷ [])
-  pub whole : broken ≡ false
+  pub whole : failed ≡ None
 
--- a command was accepted at a state: the reply is the machine's, and the state is the one after the command, over a store that isn't broken
-pub record IsCarriedOut (s : Plain AnyJob) (c : Command AnyJob) (t : Plain AnyJob) (broken : Bool) (reply_given : Reply) : Type 0 where
+-- a command was accepted at a state: the reply is the machine's, and the state is the one after the command, and nothing has failed
+pub record IsCarriedOut (s : Plain AnyJob) (c : Command AnyJob) (t : Plain AnyJob) (failed : Option Cause) (reply_given : Reply) : Type 0 where
   pub reply : answer any_kind s c ≡ Ok reply_given
   pub moves : t ≡ outcome any_kind s (c ∷ [])
-  pub whole : broken ≡ false
+  pub whole : failed ≡ None
 
 -- So many Slots were asked for, and these were run, up to this state: all of them, unless the machine refuses the next one, or there was
 -- no memory for it, and then the engine is starved.
@@ -49,13 +49,13 @@ abbrev pub Fills : ℕ → List (ℕ × Reply) → Plain AnyJob → Bool → Typ
 Fills count said t starved = (length said ≡ count) ⊎ (((f : MachineFault) × (answer any_kind t Slot ≡ Err f)) ⊎ (starved ≡ true))
 
 -- So many Slots were asked for, and these were accepted one after the other from a state on, in one frame, which has 16 if it isn't the
--- last one: their numbers and replies are the machine's, and the state is the one after them, over a store that isn't broken.
-pub record AreCarriedOut (s t : Plain AnyJob) (count : ℕ) (broken starved : Bool) (said : List (ℕ × Reply)) : Type 0 where
+-- last one: their numbers and replies are the machine's, and the state is the one after them, and nothing has failed.
+pub record AreCarriedOut (s t : Plain AnyJob) (count : ℕ) (failed : Option Cause) (starved : Bool) (said : List (ℕ × Reply)) : Type 0 where
   pub fills : Fills (min count 16) said t starved
   pub few : length said ≤ 16
   pub answered : AreAnswered s said
   pub moves : t ≡ outcome any_kind s (slots_for said)
-  pub whole : broken ≡ false
+  pub whole : failed ≡ None
 
 -- the disk after a call is the one before: time went on, failures stayed, and it is honest if and only if it was
 pub record Follows (old new : View) : Type 0 where
@@ -69,19 +69,21 @@ pub record Commits {T E : Type 0} (s : Plain AnyJob) (group : List (Command AnyJ
       → KeepsAll start H (H ++ group) old new
   pub acknowledged : OnOk result (Anchors new t)
 
--- A call of a store that keeps commands. It fails only if the disk does or the store was broken before, never for lack of room, and
--- then the state stays; once it succeeded the mark has the state's number and the disk's clock.
-pub record IsKeeping {D : Type 0} (view : D → View) (old new : PlainStore D AnyJob) (result : Result Mark StoreFault) : Type 0 where
-  pub works : Works (view old.file.disk) (view new.file.disk) old.file.broken new.file.broken result
+-- A call that keeps commands in this store. It goes well only where nothing has failed, and else answers what has; then the state stays.
+-- Once it succeeded the mark has the state's number and the disk's clock.
+pub record IsCommit {D : Type 0} (view : D → View) (old new : PlainStore D AnyJob) (was is : Option Cause) (result : Result Mark Cause) : Type 0 where
+  pub whole : OnOk result ((was ≡ None) × (is ≡ None))
+  pub fails : IfErr result (λ cause. is ≡ Some cause)
+  pub device : was ≡ None → result ≡ Err Device → HasFailed (view old.file.disk) (view new.file.disk)
   pub follows : Follows (view old.file.disk) (view new.file.disk)
-  pub roomy : ¬ IsErrOf result NoRoom
   pub same : OnErr result (new.state ≡ old.state)
   pub mark : IfOk result (λ mark. (mark.number ≡ new.state.number) × (mark.clock ≡ (view new.file.disk).clock))
 
--- A call of a store that appends the frame of commands: it is such a call, the state is the one after them unless it failed, the mark has the
+-- A call of a keeper that keeps the frame of commands: it is such a call, the state is the one after them unless it failed, the mark has the
 -- last number and the disk's clock, and at every moment what survived before survives, with the frame or without.
-pub record IsPut {D : Type 0} (view : D → View) (old : PlainStore D AnyJob) (group : List (Command AnyJob)) (new : PlainStore D AnyJob) (result : Result Mark StoreFault) : Type 0 where
-  pub call : IsCall view old new result (append_calls (frame_len old.state group) old.file.places)
+pub record IsPut {D : Type 0} (view : D → View) (old : PlainStore D AnyJob) (group : List (Command AnyJob)) (new : PlainStore D AnyJob) (was is : Option Cause)
+    (result : Result Mark Cause) : Type 0 where
+  pub call : IsKeeping view old new was is result (append_calls (frame_len old.state group) old.file.places)
   pub state : OnOk result (new.state ≡ outcome any_kind old.state group)
   pub same : OnErr result (new.state ≡ old.state)
   pub mark : IfOk result (λ mark. (mark.number ≡ new.state.number) × (mark.clock ≡ (view new.file.disk).clock))

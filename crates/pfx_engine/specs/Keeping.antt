@@ -1,6 +1,7 @@
 -- What an engine of a store keeps of commands, from one of its moments to a later one.
-use Rattle.std.specs.Prelude.{◌≡◌, ℕ, ◌≤◌, Bool, false, List, length, Ok}
+use Rattle.std.specs.Prelude.{◌≡◌, ℕ, ◌≤◌, List, length, Option, None, Ok}
 use Rattle.pfx_disk.specs.Disk.{View, IsHonest}
+use Rattle.pfx_fault.specs.declared.parts.Cause.{Cause}
 use Rattle.pfx_format.specs.Format.{format}
 use Rattle.pfx_kinds.specs.AnyKind.{any_kind}
 use Rattle.pfx_kinds.specs.declared.any.AnyJob.{AnyJob}
@@ -24,12 +25,12 @@ pub record Kept (s : Plain AnyJob) (H : List (Command AnyJob)) (n : ℕ) (new : 
   pub anchored : length H ≤ n → Anchors new t
   pub survive : (image : List ℕ) → new.now image → Survives s H n image
 
--- Between a moment of a store and a later one these commands were accepted from the state on, and n of them are kept, if the
--- store was whole and held its state on an honest disk.
-pub record KeepsFrom (old : View) (broken : Bool) (s : Plain AnyJob) (H : List (Command AnyJob)) (n : ℕ) (new : View) (t : Plain AnyJob) : Type 0 where
+-- Between a moment of a store and a later one these commands were accepted from the state on, and n of them are kept, if
+-- nothing had failed and the store held its state on an honest disk.
+pub record KeepsFrom (old : View) (was : Option Cause) (s : Plain AnyJob) (H : List (Command AnyJob)) (n : ℕ) (new : View) (t : Plain AnyJob) : Type 0 where
   pub accepted : IsAcceptable any_kind s H
   pub state : length H ≤ n → t ≡ outcome any_kind s H
-  pub kept : broken ≡ false → IsHonest old → Anchors old s → Kept s H n new t
+  pub kept : was ≡ None → IsHonest old → Anchors old s → Kept s H n new t
 
 -- the machine accepts the command
 abbrev pub IsAccepted : Plain AnyJob → Command AnyJob → Type 0

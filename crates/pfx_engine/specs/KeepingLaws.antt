@@ -1,8 +1,9 @@
 -- What is kept of no command, of some commands and then of more: that it is.
-use Rattle.std.proofs.Common.{◌≡◌, ◌≤◌, ℕ, ◌+◌, Bool, false, List, [], ◌∷◌, ◌++◌, length, length-append, take, Option, Some, None, Ok, refl, sym, ap, subst}
+use Rattle.std.proofs.Common.{◌≡◌, ◌≤◌, ℕ, ◌+◌, List, [], ◌∷◌, ◌++◌, length, length-append, take, Option, Some, None, Ok, refl, sym, ap, subst}
 use Rattle.std.proofs.Common.{◌∙◌, arith}
 use Rattle.std.proofs.Math.Seq.{take-append-add}
 use Rattle.pfx_disk.specs.Disk.{View}
+use Rattle.pfx_fault.specs.declared.parts.Cause.{Cause}
 use Rattle.pfx_store.specs.Groups.{alone, joined}
 use Rattle.pfx_store.proofs.Grouping.{joined_alone, length-alone}
 use Rattle.pfx_kinds.specs.AnyKind.{any_kind, any_laws}
@@ -68,8 +69,8 @@ one_accepted s c (said, h) =
 
 -- ---- what is kept
 
-pub keeps_none : (disk : View) (broken : Bool) (s : Plain AnyJob) → KeepsFrom disk broken s [] 0 disk s
-keeps_none disk broken s = record {
+pub keeps_none : (disk : View) (was : Option Cause) (s : Plain AnyJob) → KeepsFrom disk was s [] 0 disk s
+keeps_none disk was s = record {
   accepted = tt;
   state = λ all. sym (outcome-none any_kind s);
   kept = λ whole honest anchors. record {
@@ -84,8 +85,8 @@ keeps_none disk broken s = record {
   };
 }
 
-pub keeps_more : (a b c : View) (was is : Bool) (s t u : Plain AnyJob) (H G : List (Command AnyJob)) (n : ℕ)
-    → (was ≡ false → is ≡ false) → KeepsFrom a was s H (length H) b t → KeepsFrom b is t G n c u
+pub keeps_more : (a b c : View) (was is : Option Cause) (s t u : Plain AnyJob) (H G : List (Command AnyJob)) (n : ℕ)
+    → (was ≡ None → is ≡ None) → KeepsFrom a was s H (length H) b t → KeepsFrom b is t G n c u
     → KeepsFrom a was s (H ++ G) (length H + n) c u
 keeps_more a b c was is s t u H G n settled one two =
     let at : t ≡ outcome any_kind s H = one.state (omega arith) in
@@ -120,7 +121,7 @@ keeps_more a b c was is s t u H G n settled one two =
               ∙ ap (outcome any_kind s) (sym split));
         }
 
-pub keeps_fewer : (a : View) (was : Bool) (s : Plain AnyJob) (H : List (Command AnyJob)) (n m : ℕ) (b : View) (t : Plain AnyJob)
+pub keeps_fewer : (a : View) (was : Option Cause) (s : Plain AnyJob) (H : List (Command AnyJob)) (n m : ℕ) (b : View) (t : Plain AnyJob)
     → m ≤ n → KeepsFrom a was s H n b t → KeepsFrom a was s H m b t
 keeps_fewer a was s H n m b t le h = record {
   accepted = h.accepted;

@@ -1,7 +1,8 @@
-//! The engine that keeps each command in a store before it answers it.
+//! The engine that has each command kept before it answers it.
 
-ghost use Rattle.std.specs.Prelude.{◌≡◌, ◌<◌, ◌≤◌, ◌∷◌, [], List, ℕ, length, true, false, Ok, IfOk, IfErr, OnOk, OnErr};
+ghost use Rattle.std.specs.Prelude.{◌≡◌, ◌<◌, ◌≤◌, ◌∷◌, [], List, ℕ, length, true, false, None, Some, Ok, IfOk, IfErr, OnOk, OnErr};
 ghost use Rattle.pfx_disk.specs.Disk.{IsHonest, HasFailed};
+ghost use Rattle.pfx_fault.specs.declared.parts.Cause.TheVariants.{Device};
 ghost use Rattle.pfx_feasible.specs.Endless.{IsEndless};
 ghost use Rattle.pfx_format.specs.Format.{format};
 ghost use Rattle.pfx_kinds.specs.AnyKind.{any_kind};
@@ -11,7 +12,7 @@ ghost use Rattle.pfx_program.specs.Promises.{Promise, Laws, AreDone, AreNotDone,
 ghost use Rattle.pfx_program.specs.Sharing.{AreChanges, AreAllDone, AreAllLeft};
 ghost use Rattle.pfx_recovery.specs.Recovery.{recovered};
 ghost use Rattle.pfx_engine.specs.Executing.{AreCarriedOut, Commits, CommitsOne, Follows, IsCarriedOut, IsExecuted, TakesCalls};
-ghost use Rattle.pfx_engine.specs.Failing.{IsInDoubt, IsLook, IsServed, NotAccepted, Stops, StopsSlots, last_kept, stopped_at};
+ghost use Rattle.pfx_engine.specs.Failing.{IsInDoubt, IsLook, IsServed, IsStop, MayFail, NotAccepted, Stops, StopsSlots, last_kept, stopped_at};
 ghost use Rattle.pfx_engine.specs.Keeping.{Anchors, KeepsFrom};
 ghost use Rattle.pfx_engine.specs.KeepingLaws.{keeps_none, keeps_more, keeps_fewer};
 ghost use Rattle.pfx_engine.specs.Stepping.{command_calls, frame_len};
@@ -24,75 +25,79 @@ use pfx_kinds::any::AnyJob;
 use pfx_machine::{Board, Command, Reply, State};
 use pfx_program::{CallFault, Engine, Place, Told, place_of};
 use pfx_redo::Recorded;
-use pfx_store::{Mark, Store};
+use pfx_store::{Keeper, Mark, Store};
 use std::alloc::{AllocError, Global};
+use std::marker::PhantomData;
 
-/// A store, and a state that commands are run on, which is the store's own while the store isn't broken.
+/// What keeps commands in a store, and a state that they are run on, which is the store's own while nothing has failed.
 ///
 /// An engine that had no memory within a window of Slots is starved: it keeps what was run of them, and to the next call for Slots
 /// it answers `NoMemory`.
 #[derive(Drop)]
-pub struct DurableEngine<D: Disk> {
-    /// The store.
-    pub store: Store<D, AnyJob>,
+pub struct DurableEngine<D: Disk, K: Keeper<D, AnyJob>> {
+    /// What keeps the commands: a store, or one beside a log.
+    pub keeper: K,
     /// The state that commands are run on.
     pub state: State<AnyJob>,
     starved: bool,
-    pub ghost same: { store.file.broken ≡ false → state ≡ store.state },
+    on: PhantomData<D>,
+    pub ghost same: { K.failed keeper ≡ None → state ≡ (K.kept keeper).state },
 }
 
-// The fault of a store whose disk has failed.
-fn stopped<D: Disk>(store: &Store<D, AnyJob>) -> Fault
-    ensures { result ≡ stopped_at store.now.state.number }
+/// The engine over a store without a log.
+pub type StoreEngine<D> = DurableEngine<D, Store<D, AnyJob>>;
+
+// The fault of an engine whose keeper has failed so.
+fn stopped<D: Disk, K: Keeper<D, AnyJob>>(keeper: &K, cause: Cause) -> Fault
+    ensures { result ≡ stopped_at (K.kept keeper.now).state.number cause }
 {
     Fault::StoreFailed {
-        marked: store.state().number(),
-        cause: Cause::Device,
+        marked: keeper.stored().state().number(),
+        cause,
     }
 }
 
-impl<D: Disk> DurableEngine<D> {
-    /// The engine over a store, at the store's state. If an allocation failed, the store is given back.
-    pub fn new(
-        alloc: Global,
-        store: Store<D, AnyJob>,
-    ) -> Result<DurableEngine<D>, (AllocError, Store<D, AnyJob>)>
-        ensures store { IfOk result (λ engine. engine.store ≡ store) }
-        ensures state { IfOk result (λ engine. engine.state ≡ store.state) }
+impl<D: Disk, K: Keeper<D, AnyJob>> DurableEngine<D, K> {
+    /// The engine over what keeps its commands, at the state of the store. If an allocation failed, it is given back.
+    pub fn new(alloc: Global, keeper: K) -> Result<DurableEngine<D, K>, (AllocError, K)>
+        ensures keeper { IfOk result (λ engine. engine.keeper ≡ keeper) }
+        ensures state { IfOk result (λ engine. engine.state ≡ (K.kept keeper).state) }
         ensures fed { IfOk result (λ engine. engine.starved ≡ false) }
-        ensures given_back { IfErr result (λ e. e.1 ≡ store) }
+        ensures given_back { IfErr result (λ e. e.1 ≡ keeper) }
     {
-        match store.state().copy_of(alloc) {
+        match keeper.stored().state().copy_of(alloc) {
             Ok(state) => Ok(DurableEngine {
-                store,
+                keeper,
                 state,
                 starved: false,
+                on: PhantomData,
             }),
-            Err(fault) => Err((fault, store)),
+            Err(fault) => Err((fault, keeper)),
         }
     }
 
-    /// The store.
-    pub fn into_store(self) -> Store<D, AnyJob>
-        ensures { result ≡ self.store }
+    /// What keeps the commands.
+    pub fn into_keeper(self) -> K
+        ensures { result ≡ self.keeper }
     {
-        self.store
+        self.keeper
     }
 
-    /// The number of the last command, which is durable as all before it are. If the disk has failed in an earlier
-    /// call it is `StoreFailed`, with the number of the last command that is known to be durable: the store has to be
-    /// opened again.
+    /// The number of the last command, which is durable as all before it are. If something has failed in an earlier
+    /// call it is `StoreFailed`, with the number of the last command that is known to be durable, and what failed: the
+    /// store has to be opened again.
     pub fn last_kept(&self) -> Result<u64, Fault>
-        ensures answer { result ≡ last_kept self.now.store.file.broken self.now.store.state.number }
+        ensures answer { result ≡ last_kept (K.failed self.now.keeper) (K.kept self.now.keeper).state.number }
         ensures number { IfOk result (λ n. n ≡ self.now.state.number) }
 
         // Each image that a stop now may leave is recovered to the state.
-        ensures durable { IsHonest (D.view self.now.store.file.disk)
-            → OnOk result ((image : List ℕ) → (D.view self.now.store.file.disk).now image → recovered (format any_kind) image ≡ Ok self.now.state) }
+        ensures durable { IsHonest (D.view (K.kept self.now.keeper).file.disk)
+            → OnOk result ((image : List ℕ) → (D.view (K.kept self.now.keeper).file.disk).now image → recovered (format any_kind) image ≡ Ok self.now.state) }
     {
-        if self.store.is_broken() {
-            return Err(stopped(&self.store));
+        if let Some(cause) = self.keeper.failure() {
+            return Err(stopped(&self.keeper, cause));
         }
+        let _broken = self.keeper.stored().is_broken();
         Ok(self.state.number())
     }
 
@@ -107,60 +112,61 @@ impl<D: Disk> DurableEngine<D> {
         command: Command<AnyJob>,
     ) -> Result<(Mark, Reply), CallFault>
         ensures done { IfOk result (IsExecuted self.old.state command self.new.state
-            (D.view self.new.store.file.disk).clock self.new.store.file.broken) }
+            (D.view (K.kept self.new.keeper).file.disk).clock (K.failed self.new.keeper)) }
         ensures refused { IfErr result (λ e. NotAccepted self.old.state command self.new.state e
-            × (self.new.store.state ≡ self.old.store.state)) }
+            × ((K.kept self.new.keeper).state ≡ (K.kept self.old.keeper).state)) }
 
         // What the store fails on is a command that the machine accepts.
-        ensures doubt { self.old.store.file.broken ≡ false → IfErr result (IsInDoubt self.old.state command) }
+        ensures doubt { K.failed self.old.keeper ≡ None → IfErr result (IsInDoubt self.old.state command) }
 
         // If fair schedules of every length go on from the state, as in each store that `init` made, the limits alone refuse
         // a Slot, and such schedules go on from the new state.
         ensures serves { IsEndless self.old.state.ledger
             → IfErr result (IsServed self.old.state command) × OnOk result (IsEndless self.new.state.ledger) }
-        ensures stops { Stops self.old.store.state.number self.old.store.file.broken
-            ((self.new.store.file.broken ≡ true)
-            × (self.old.store.file.broken ≡ false → HasFailed (D.view self.old.store.file.disk) (D.view self.new.store.file.disk)))
-            ((self.new.state ≡ self.old.state) × (self.new.store ≡ self.old.store)) result }
+        ensures stops { Stops (K.kept self.old.keeper).state.number (K.failed self.old.keeper)
+            (λ cause. (K.failed self.new.keeper ≡ Some cause) × (K.failed self.old.keeper ≡ None → cause ≡ Device
+            → HasFailed (D.view (K.kept self.old.keeper).file.disk) (D.view (K.kept self.new.keeper).file.disk)))
+            ((self.new.state ≡ self.old.state) × (self.new.keeper ≡ self.old.keeper)) result }
 
         // A step of the checkpoint in progress, if there is one, and the command: so many calls of the disk.
-        ensures calls { TakesCalls (command_calls (frame_len self.old.state (command ∷ [])) self.old.store.file.places)
-            (D.view self.old.store.file.disk) (D.view self.new.store.file.disk) result }
+        ensures calls { TakesCalls (command_calls (frame_len self.old.state (command ∷ [])) (K.kept self.old.keeper).file.places)
+            (D.view (K.kept self.old.keeper).file.disk) (D.view (K.kept self.new.keeper).file.disk) result }
 
         // At every moment what survived before survives, with the command or without; from the mark on each image has it.
-        ensures commits { IsHonest (D.view self.old.store.file.disk)
-            → CommitsOne self.old.store.state command self.new.state (D.view self.old.store.file.disk) (D.view self.new.store.file.disk) result }
+        ensures commits { IsHonest (D.view (K.kept self.old.keeper).file.disk)
+            → CommitsOne (K.kept self.old.keeper).state command self.new.state (D.view (K.kept self.old.keeper).file.disk) (D.view (K.kept self.new.keeper).file.disk) result }
     {
-        if self.store.is_broken() {
-            return Err(CallFault::Failed(stopped(&self.store)));
+        if let Some(cause) = self.keeper.failure() {
+            return Err(CallFault::Failed(stopped(&self.keeper, cause)));
         }
         let _number = self.state.number();
         // The allocations come first: once the state has moved, only the disk can fail.
         let Ok(mut records) = Vec::with_capacity(alloc, 1) else {
             return Err(CallFault::Failed(Fault::NoMemory));
         };
-        match run_prepared(alloc, &self.store, &mut self.state, command) {
+        match run_prepared(alloc, self.keeper.stored(), &mut self.state, command) {
             Err(fault) if fault.is_memory() => Err(CallFault::Failed(Fault::NoMemory)),
             Err(fault) => Err(CallFault::Refused(fault)),
             Ok(Prepared { done, renewal }) => {
                 let Recorded { reply, entry } = done;
                 records.push_reserved(entry);
-                match commit(&mut self.store, records, renewal) {
+                match commit(&mut self.keeper, records, renewal) {
                     Ok(mark) => Ok((mark, reply)),
-                    Err(_) => Err(CallFault::Failed(stopped(&self.store))),
+                    Err(cause) => Err(CallFault::Failed(stopped(&self.keeper, cause))),
                 }
             }
         }
     }
 }
 
-impl<D: Disk> Engine for DurableEngine<D> {
+impl<D: Disk, K: Keeper<D, AnyJob>> Engine for DurableEngine<D, K> {
     // The state is that of the store: the one after the commands that are known to be durable.
     ghost promise = { record {
-      state = λ engine. engine.store.state;
-      faults = λ s f. f ≡ stopped_at s.number;
-      settled = λ engine. engine.store.file.broken ≡ false;
-      keeps = λ a H n b. KeepsFrom (D.view a.store.file.disk) a.store.file.broken a.store.state H n (D.view b.store.file.disk) b.store.state;
+      state = λ engine. (K.kept engine.keeper).state;
+      faults = λ s f. IsStop (MayFail K.failed) s.number f;
+      settled = λ engine. K.failed engine.keeper ≡ None;
+      keeps = λ a H n b. KeepsFrom (D.view (K.kept a.keeper).file.disk) (K.failed a.keeper) (K.kept a.keeper).state H n
+          (D.view (K.kept b.keeper).file.disk) (K.kept b.keeper).state;
     } };
 
     /// Carries a command out: its number and its reply, and it is done; or it isn't, as every engine says.
@@ -173,19 +179,19 @@ impl<D: Disk> Engine for DurableEngine<D> {
     /// call if and only if it was before. At every moment of the call, whatever it answers, the commands that survived before
     /// survive, with this one or without; from the return on each image is recovered to the state after it.
     fn call(&mut self, alloc: Global, command: Command<AnyJob>) -> Result<(u64, Reply), CallFault>
-        ensures done { IfOk result (λ r. IsDone ⟦<DurableEngine<D> as Engine>⟧.promise command r.0 r.1 self.old self.new) }
-        ensures not_done { IfErr result (IsNotDone ⟦<DurableEngine<D> as Engine>⟧.promise command self.old self.new) }
-        ensures accepted { IfOk result (λ r. IsCarriedOut self.old.state command self.new.state self.new.store.file.broken r.1) }
+        ensures done { IfOk result (λ r. IsDone ⟦<DurableEngine<D, K> as Engine>⟧.promise command r.0 r.1 self.old self.new) }
+        ensures not_done { IfErr result (IsNotDone ⟦<DurableEngine<D, K> as Engine>⟧.promise command self.old self.new) }
+        ensures accepted { IfOk result (λ r. IsCarriedOut self.old.state command self.new.state (K.failed self.new.keeper) r.1) }
         ensures refused { IfErr result (NotAccepted self.old.state command self.new.state) }
         ensures serves { IsEndless self.old.state.ledger
             → IfErr result (IsServed self.old.state command) × OnOk result (IsEndless self.new.state.ledger) }
-        ensures stops { Stops self.old.store.state.number self.old.store.file.broken (self.new.store.file.broken ≡ true)
-            ((self.new.state ≡ self.old.state) × (self.new.store ≡ self.old.store)) result }
-        ensures calls { Follows (D.view self.old.store.file.disk) (D.view self.new.store.file.disk) }
-        ensures commits { IsHonest (D.view self.old.store.file.disk)
-            → Commits self.old.store.state (command ∷ []) self.new.state (D.view self.old.store.file.disk) (D.view self.new.store.file.disk) result }
+        ensures stops { Stops (K.kept self.old.keeper).state.number (K.failed self.old.keeper) (λ cause. K.failed self.new.keeper ≡ Some cause)
+            ((self.new.state ≡ self.old.state) × (self.new.keeper ≡ self.old.keeper)) result }
+        ensures calls { Follows (D.view (K.kept self.old.keeper).file.disk) (D.view (K.kept self.new.keeper).file.disk) }
+        ensures commits { IsHonest (D.view (K.kept self.old.keeper).file.disk)
+            → Commits (K.kept self.old.keeper).state (command ∷ []) self.new.state (D.view (K.kept self.old.keeper).file.disk) (D.view (K.kept self.new.keeper).file.disk) result }
     {
-        let _number = self.store.state().number();
+        let _number = self.keeper.stored().state().number();
         match self.execute(alloc, command) {
             Ok((mark, reply)) => Ok((mark.number, reply)),
             Err(fault) => Err(fault),
@@ -203,18 +209,19 @@ impl<D: Disk> Engine for DurableEngine<D> {
     /// call if and only if it was before. From the return on each image is recovered to the state after the Slots.
     fn slots(&mut self, alloc: Global, count: u32) -> Result<Vec<(u64, Reply)>, CallFault>
         requires some { 0 < count }
-        ensures done { IfOk result (λ said. AreDone ⟦<DurableEngine<D> as Engine>⟧.promise count said.items self.old self.new) }
-        ensures not_done { IfErr result (AreNotDone ⟦<DurableEngine<D> as Engine>⟧.promise count self.old self.new) }
-        ensures accepted { IfOk result (λ said. AreCarriedOut self.old.state self.new.state count self.new.store.file.broken self.new.starved said.items) }
+        ensures done { IfOk result (λ said. AreDone ⟦<DurableEngine<D, K> as Engine>⟧.promise count said.items self.old self.new) }
+        ensures not_done { IfErr result (AreNotDone ⟦<DurableEngine<D, K> as Engine>⟧.promise count self.old self.new) }
+        ensures accepted { IfOk result (λ said. AreCarriedOut self.old.state self.new.state count (K.failed self.new.keeper) self.new.starved said.items) }
         ensures refused { IfErr result (NotAccepted self.old.state Command.Slot self.new.state) }
-        ensures stops { StopsSlots self.old.store.state.number self.old.store.file.broken self.old.starved (self.new.store.file.broken ≡ true)
-            ((self.new.state ≡ self.old.state) × (self.new.store ≡ self.old.store)) result }
-        ensures calls { Follows (D.view self.old.store.file.disk) (D.view self.new.store.file.disk) }
-        ensures acknowledged { IsHonest (D.view self.old.store.file.disk)
-            → OnOk result (Anchors (D.view self.new.store.file.disk) self.new.state) }
+        ensures stops { StopsSlots (K.kept self.old.keeper).state.number (K.failed self.old.keeper) self.old.starved
+            (λ cause. K.failed self.new.keeper ≡ Some cause)
+            ((self.new.state ≡ self.old.state) × (self.new.keeper ≡ self.old.keeper)) result }
+        ensures calls { Follows (D.view (K.kept self.old.keeper).file.disk) (D.view (K.kept self.new.keeper).file.disk) }
+        ensures acknowledged { IsHonest (D.view (K.kept self.old.keeper).file.disk)
+            → OnOk result (Anchors (D.view (K.kept self.new.keeper).file.disk) self.new.state) }
     {
-        if self.store.is_broken() {
-            return Err(CallFault::Failed(stopped(&self.store)));
+        if let Some(cause) = self.keeper.failure() {
+            return Err(CallFault::Failed(stopped(&self.keeper, cause)));
         }
         if self.starved {
             return Err(CallFault::Failed(Fault::NoMemory));
@@ -222,9 +229,9 @@ impl<D: Disk> Engine for DurableEngine<D> {
         let _number = self.state.number();
         match run_slots(alloc, &mut self.state, &mut self.starved, count.min(16)) {
             Err(why) => Err(why),
-            Ok(Window { said, records }) => match commit(&mut self.store, records, None) {
+            Ok(Window { said, records }) => match commit(&mut self.keeper, records, None) {
                 Ok(_) => Ok(said),
-                Err(_) => Err(CallFault::Failed(stopped(&self.store))),
+                Err(cause) => Err(CallFault::Failed(stopped(&self.keeper, cause))),
             },
         }
     }
@@ -237,13 +244,13 @@ impl<D: Disk> Engine for DurableEngine<D> {
     fn all(&mut self, alloc: Global, commands: Vec<Command<AnyJob>>) -> Result<Vec<Told>, Fault>
         requires changes { AreChanges commands.items }
         requires few { length commands.items ≤ 16 }
-        ensures done { IfOk result (λ told. AreAllDone ⟦<DurableEngine<D> as Engine>⟧.promise commands.items told.items self.old self.new) }
-        ensures fails { IfErr result (IsEngineFault ⟦<DurableEngine<D> as Engine>⟧.promise.faults self.old.store.state) }
-        ensures left { OnErr result (AreAllLeft ⟦<DurableEngine<D> as Engine>⟧.promise commands.items self.old self.new) }
-        ensures calls { Follows (D.view self.old.store.file.disk) (D.view self.new.store.file.disk) }
+        ensures done { IfOk result (λ told. AreAllDone ⟦<DurableEngine<D, K> as Engine>⟧.promise commands.items told.items self.old self.new) }
+        ensures fails { IfErr result (IsEngineFault ⟦<DurableEngine<D, K> as Engine>⟧.promise.faults (K.kept self.old.keeper).state) }
+        ensures left { OnErr result (AreAllLeft ⟦<DurableEngine<D, K> as Engine>⟧.promise commands.items self.old self.new) }
+        ensures calls { Follows (D.view (K.kept self.old.keeper).file.disk) (D.view (K.kept self.new.keeper).file.disk) }
     {
-        if self.store.is_broken() {
-            return Err(stopped(&self.store));
+        if let Some(cause) = self.keeper.failure() {
+            return Err(stopped(&self.keeper, cause));
         }
         let _number = self.state.number();
         let Ok(Changes { told, records }) = run_changes(alloc, &mut self.state, commands) else {
@@ -252,29 +259,29 @@ impl<D: Disk> Engine for DurableEngine<D> {
         if records.is_empty() {
             return Ok(told);
         }
-        match commit(&mut self.store, records, None) {
+        match commit(&mut self.keeper, records, None) {
             Ok(_) => Ok(told),
-            Err(_) => Err(stopped(&self.store)),
+            Err(cause) => Err(stopped(&self.keeper, cause)),
         }
     }
 
     fn settled(&mut self, _alloc: Global) -> Result<u64, Fault>
-        ensures number { IfOk result (λ n. n ≡ self.old.store.state.number) }
-        ensures settled { OnOk result (self.new.store.file.broken ≡ false) }
-        ensures same { IsSame ⟦<DurableEngine<D> as Engine>⟧.promise self.old self.new }
-        ensures fails { IfErr result (IsEngineFault ⟦<DurableEngine<D> as Engine>⟧.promise.faults self.old.store.state) }
-        ensures answer { result ≡ last_kept self.old.store.file.broken self.old.store.state.number }
+        ensures number { IfOk result (λ n. n ≡ (K.kept self.old.keeper).state.number) }
+        ensures settled { OnOk result (K.failed self.new.keeper ≡ None) }
+        ensures same { IsSame ⟦<DurableEngine<D, K> as Engine>⟧.promise self.old self.new }
+        ensures fails { IfErr result (IsEngineFault ⟦<DurableEngine<D, K> as Engine>⟧.promise.faults (K.kept self.old.keeper).state) }
+        ensures answer { result ≡ last_kept (K.failed self.old.keeper) (K.kept self.old.keeper).state.number }
         ensures stays { self.new ≡ self.old }
     {
         self.last_kept()
     }
 
     fn status(&mut self, alloc: Global) -> Result<Board, Fault>
-        ensures shows { IfOk result (Shows self.old.store.state) }
-        ensures settled { OnOk result (self.new.store.file.broken ≡ false) }
-        ensures same { IsSame ⟦<DurableEngine<D> as Engine>⟧.promise self.old self.new }
-        ensures fails { IfErr result (IsEngineFault ⟦<DurableEngine<D> as Engine>⟧.promise.faults self.old.store.state) }
-        ensures look { IsLook self.old.store.state.number self.old.store.file.broken self.old self.new result }
+        ensures shows { IfOk result (Shows (K.kept self.old.keeper).state) }
+        ensures settled { OnOk result (K.failed self.new.keeper ≡ None) }
+        ensures same { IsSame ⟦<DurableEngine<D, K> as Engine>⟧.promise self.old self.new }
+        ensures fails { IfErr result (IsEngineFault ⟦<DurableEngine<D, K> as Engine>⟧.promise.faults (K.kept self.old.keeper).state) }
+        ensures look { IsLook (K.kept self.old.keeper).state.number (K.failed self.old.keeper) self.old self.new result }
     {
         if let Err(fault) = self.last_kept() {
             return Err(fault);
@@ -286,28 +293,28 @@ impl<D: Disk> Engine for DurableEngine<D> {
     }
 
     fn state(&mut self, alloc: Global) -> Result<State<AnyJob>, Fault>
-        ensures copies { IfOk result (λ copy. copy ≡ self.old.store.state) }
-        ensures settled { OnOk result (self.new.store.file.broken ≡ false) }
-        ensures same { IsSame ⟦<DurableEngine<D> as Engine>⟧.promise self.old self.new }
-        ensures fails { IfErr result (IsEngineFault ⟦<DurableEngine<D> as Engine>⟧.promise.faults self.old.store.state) }
-        ensures look { IsLook self.old.store.state.number self.old.store.file.broken self.old self.new result }
+        ensures copies { IfOk result (λ copy. copy ≡ (K.kept self.old.keeper).state) }
+        ensures settled { OnOk result (K.failed self.new.keeper ≡ None) }
+        ensures same { IsSame ⟦<DurableEngine<D, K> as Engine>⟧.promise self.old self.new }
+        ensures fails { IfErr result (IsEngineFault ⟦<DurableEngine<D, K> as Engine>⟧.promise.faults (K.kept self.old.keeper).state) }
+        ensures look { IsLook (K.kept self.old.keeper).state.number (K.failed self.old.keeper) self.old self.new result }
     {
         let _number = self.last_kept()?;
-        match self.store.state().copy_of(alloc) {
+        match self.keeper.stored().state().copy_of(alloc) {
             Ok(copy) => Ok(copy),
             Err(_) => Err(Fault::NoMemory),
         }
     }
 
     fn place(&mut self, _alloc: Global, task: u16) -> Result<Option<Place>, Fault>
-        ensures copies { IfOk result (IsPlace self.old.store.state task) }
-        ensures settled { OnOk result (self.new.store.file.broken ≡ false) }
-        ensures same { IsSame ⟦<DurableEngine<D> as Engine>⟧.promise self.old self.new }
-        ensures fails { IfErr result (IsEngineFault ⟦<DurableEngine<D> as Engine>⟧.promise.faults self.old.store.state) }
-        ensures look { IsLook self.old.store.state.number self.old.store.file.broken self.old self.new result }
+        ensures copies { IfOk result (IsPlace (K.kept self.old.keeper).state task) }
+        ensures settled { OnOk result (K.failed self.new.keeper ≡ None) }
+        ensures same { IsSame ⟦<DurableEngine<D, K> as Engine>⟧.promise self.old self.new }
+        ensures fails { IfErr result (IsEngineFault ⟦<DurableEngine<D, K> as Engine>⟧.promise.faults (K.kept self.old.keeper).state) }
+        ensures look { IsLook (K.kept self.old.keeper).state.number (K.failed self.old.keeper) self.old self.new result }
     {
         let _kept = self.last_kept()?;
-        Ok(place_of(self.store.state(), task))
+        Ok(place_of(self.keeper.stored().state(), task))
     }
 
     ghost laws = { record {

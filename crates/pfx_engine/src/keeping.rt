@@ -13,19 +13,19 @@ ghost use Rattle.pfx_machine.specs.declared.command.Command.{Command};
 ghost use Rattle.pfx_record.specs.Records.{plain};
 ghost use Rattle.pfx_redo.specs.Recording.{record_of};
 ghost use Rattle.pfx_segment.specs.Segment.{Takes};
-ghost use Rattle.pfx_engine.specs.Executing.{IsKeeping, IsPut};
+ghost use Rattle.pfx_engine.specs.Executing.{IsCommit, IsPut};
 ghost use Rattle.pfx_engine.specs.Keeping.{Anchors};
 ghost use Rattle.pfx_engine.specs.Renewing.{IsKeepable, IsRenewalFor};
 ghost use Rattle.pfx_engine.specs.Stepping.{command_calls, frame_len};
 ghost use Rattle.pfx_engine.specs.Surviving.{KeepsAll};
 
 use pfx_disk::Disk;
+use pfx_fault::Cause;
 use pfx_kinds::any::AnyJob;
 use pfx_machine::{Command, MachineFault, State};
 use pfx_record::Record;
 use pfx_redo::{Recorded, run_recorded};
-use pfx_store::{Mark, Renewal, Store, batch_of, reweigh_of};
-use pfx_store_file::StoreFault;
+use pfx_store::{Keeper, Mark, Renewal, Store, batch_of, reweigh_of};
 use std::alloc::Global;
 
 /// What a store prepares for a command: the set of a Reweigh, and nothing for others.
@@ -81,61 +81,62 @@ pub(crate) fn run_prepared<D: Disk>(
     Ok(Prepared { done, renewal })
 }
 
-/// Appends the records of commands in one batch, or that of new weights with what was prepared for them.
-fn put<D: Disk>(
-    store: &mut Store<D, AnyJob>,
+/// Keeps the records of commands in one batch, or that of new weights with what was prepared for them.
+fn put<D: Disk, K: Keeper<D, AnyJob>>(
+    keeper: &mut K,
     records: Vec<Record<AnyJob>>,
     renewal: Option<Renewal>,
-) -> Result<Mark, StoreFault>
+) -> Result<Mark, Cause>
     requires some { 0 < length records.items }
     requires few { length records.items ≤ 16 }
-    requires right { IsKeepable store.old.state (map plain records.items) renewal }
-    ensures put { (G : List (Command AnyJob)) → AreKeptAs any_kind store.old.state G (map plain records.items)
-        → IsPut D.view store.old G store.new result }
-    ensures state { IsState store.old.state }
+    requires right { IsKeepable (K.kept keeper.old).state (map plain records.items) renewal }
+    ensures put { (G : List (Command AnyJob)) → AreKeptAs any_kind (K.kept keeper.old).state G (map plain records.items)
+        → IsPut D.view (K.kept keeper.old) G (K.kept keeper.new) (K.failed keeper.old) (K.failed keeper.new) result }
+    ensures state { IsState (K.kept keeper.old).state }
 {
     match renewal {
         None => {
-            let batch = batch_of(store.state(), records);
-            store.append(&batch)
+            let batch = batch_of(keeper.stored().state(), records);
+            keeper.keep(&batch)
         }
         Some(renewal) => {
-            let batch = reweigh_of(store.state(), records);
-            store.append_reweigh(&batch, renewal)
+            let batch = reweigh_of(keeper.stored().state(), records);
+            keeper.keep_reweigh(&batch, renewal)
         }
     }
 }
 
-/// Takes a step of the checkpoint in progress, if there is one, and then appends the records of 1 to 16 commands that the
+/// Takes a step of the checkpoint in progress, if there is one, and then keeps the records of 1 to 16 commands that the
 /// store's state accepts one after the other, in one batch; or that of a Reweigh, with the set that the store prepared for it. The
 /// step comes first, so that no reply waits after it.
-pub(crate) fn commit<D: Disk>(
-    store: &mut Store<D, AnyJob>,
+pub(crate) fn commit<D: Disk, K: Keeper<D, AnyJob>>(
+    keeper: &mut K,
     records: Vec<Record<AnyJob>>,
     renewal: Option<Renewal>,
-) -> Result<Mark, StoreFault>
+) -> Result<Mark, Cause>
     requires some { 0 < length records.items }
     requires few { length records.items ≤ 16 }
-    requires right { IsKeepable store.old.state (map plain records.items) renewal }
-    ensures call { IsKeeping D.view store.old store.new result }
-    ensures state { (G : List (Command AnyJob)) → AreKeptAs any_kind store.old.state G (map plain records.items)
-        → OnOk result (store.new.state ≡ outcome any_kind store.old.state G) }
+    requires right { IsKeepable (K.kept keeper.old).state (map plain records.items) renewal }
+    ensures call { IsCommit D.view (K.kept keeper.old) (K.kept keeper.new) (K.failed keeper.old) (K.failed keeper.new) result }
+    ensures state { (G : List (Command AnyJob)) → AreKeptAs any_kind (K.kept keeper.old).state G (map plain records.items)
+        → OnOk result ((K.kept keeper.new).state ≡ outcome any_kind (K.kept keeper.old).state G) }
 
     // A step of the checkpoint in progress, and then the records.
-    ensures calls { (G : List (Command AnyJob)) → AreKeptAs any_kind store.old.state G (map plain records.items)
-        → Takes (command_calls (frame_len store.old.state G) store.old.file.places) (D.view store.old.file.disk) (D.view store.new.file.disk) result }
+    ensures calls { (G : List (Command AnyJob)) → AreKeptAs any_kind (K.kept keeper.old).state G (map plain records.items)
+        → Takes (command_calls (frame_len (K.kept keeper.old).state G) (K.kept keeper.old).file.places)
+        (D.view (K.kept keeper.old).file.disk) (D.view (K.kept keeper.new).file.disk) result }
 
     // At every moment of the call, whatever it answers, what survived before survives, with these commands or without.
-    ensures keeps { IsHonest (D.view store.old.file.disk)
+    ensures keeps { IsHonest (D.view (K.kept keeper.old).file.disk)
         → (start : Plain AnyJob) → (H : List (Command AnyJob)) → (G : List (Command AnyJob))
-        → IsState start → IsAcceptable any_kind start H → store.old.state ≡ outcome any_kind start H
-        → AreKeptAs any_kind store.old.state G (map plain records.items)
-        → KeepsAll start H (H ++ G) (D.view store.old.file.disk) (D.view store.new.file.disk) }
+        → IsState start → IsAcceptable any_kind start H → (K.kept keeper.old).state ≡ outcome any_kind start H
+        → AreKeptAs any_kind (K.kept keeper.old).state G (map plain records.items)
+        → KeepsAll start H (H ++ G) (D.view (K.kept keeper.old).file.disk) (D.view (K.kept keeper.new).file.disk) }
 
     // From the return on, each image is recovered to the state after the commands.
-    ensures acknowledged { IsHonest (D.view store.old.file.disk)
-        → OnOk result (Anchors (D.view store.new.file.disk) store.new.state) }
+    ensures acknowledged { IsHonest (D.view (K.kept keeper.old).file.disk)
+        → OnOk result (Anchors (D.view (K.kept keeper.new).file.disk) (K.kept keeper.new).state) }
 {
-    let _tended = store.tend()?;
-    put(store, records, renewal)
+    let _tended = keeper.tend_on()?;
+    put(keeper, records, renewal)
 }

@@ -1,14 +1,14 @@
 //! The engine of a store: commands that are durable before they are answered.
 //!
-//! A `DurableEngine` has a store of jobs of any kind, and a state of its own that commands are run on. For every disk that
-//! behaves as its model says, at every moment and through repeated stops:
+//! A `DurableEngine` has a keeper of a store of jobs of any kind, the store itself or one beside a log, and a state of its own that
+//! commands are run on. For every disk that behaves as its model says, at every moment and through repeated stops:
 //! 1. a command that is answered is durable: from its mark on, each image that a stop may leave is recovered to the state
 //!    after it;
 //! 2. whatever a call answers, the commands that survived before it survive, with the call's commands or without them: what
 //!    is recovered is the outcome of a beginning of the accepted commands, with every answered one;
 //! 3. a refused command changes neither the state nor the store; nor does a command for which there is no memory;
-//! 4. once the disk has failed, nothing is done and every answer is `StoreFailed`, with the number of the last command
-//!    that is known to be durable.
+//! 4. once the disk has failed, or the log beside the store, nothing is done and every answer is `StoreFailed`, with the
+//!    number of the last command that is known to be durable.
 //!
 //! A command has a frame of its own; Slots of one call share one, 16 at the most, and none is answered before it is kept.
 //!
@@ -28,6 +28,6 @@ mod noting;
 mod scripts;
 mod windows;
 
-pub use durable::DurableEngine;
+pub use durable::{DurableEngine, StoreEngine};
 pub use noting::{NotedRun, run_noted};
 pub use scripts::run_durable;

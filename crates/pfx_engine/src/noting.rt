@@ -2,6 +2,7 @@
 
 ghost use Rattle.std.specs.Prelude.{◌≡◌, ◌<◌, ◌≤◌, false};
 ghost use Rattle.pfx_disk.specs.Disk.{IsHonest, Only};
+ghost use Rattle.pfx_fault.specs.declared.parts.Cause.TheVariants.{Device};
 ghost use Rattle.pfx_kinds.specs.AnyKind.{any_kind};
 ghost use Rattle.pfx_store.specs.Noting.{IsHeldBy};
 ghost use Rattle.pfx_engine.specs.Noting.{IsNotedRun};
@@ -56,7 +57,7 @@ pub fn run_noted<R: Read + Drop, W: Write, D: Disk, B: Charted>(
     requires honest { IsHonest (D.view store.file.disk)
         → B.held × ((D.view store.file.disk).contents ≡ B.image) × Only B.image (D.view store.file.disk) }
     requires held { B.held → IsHeldBy any_kind store B.image }
-    ensures ran { IsNotedRun form at_refusal store.state script.old script.new.failed (W.contents output.old) (W.contents output.new)
+    ensures ran { IsNotedRun (λ cause. cause ≡ Device) form at_refusal store.state script.old script.new.failed (W.contents output.old) (W.contents output.new)
         B.held B.image result.moment (D.view result.store.file.disk) result.store.state result.result }
 {
     let noted = store.noted::<B>(list);
@@ -78,7 +79,7 @@ pub fn run_noted<R: Read + Drop, W: Write, D: Disk, B: Charted>(
                 output,
                 &mut engine,
             );
-            let after = engine.into_store();
+            let after = engine.into_keeper();
             NotedRun {
                 moment: after.disk().moment(),
                 store: after.told(),

@@ -1,7 +1,8 @@
 //! Running a script on a store.
 
-ghost use Rattle.std.specs.Prelude.{◌≡◌, ◌<◌, ◌≤◌, max, List, false, IfSome};
+ghost use Rattle.std.specs.Prelude.{◌≡◌, ◌<◌, ◌≤◌, max, List, None, IfSome};
 ghost use Rattle.pfx_disk.specs.Disk.{IsHonest};
+ghost use Rattle.pfx_kinds.specs.declared.any.AnyJob.{AnyJob};
 ghost use Rattle.pfx_engine.specs.Keeping.{Anchors};
 ghost use Rattle.pfx_engine.specs.Running.{IsKeptAsPrinted};
 ghost use Rattle.pfx_program.specs.Running.{Runs};
@@ -11,8 +12,10 @@ ghost use Rattle.pfx_script.specs.Records.{Fields};
 use crate::durable::DurableEngine;
 use pfx_disk::Disk;
 use pfx_fault::Fault;
+use pfx_kinds::any::AnyJob;
 use pfx_program::{AtRefusal, Engine, Form, Report, run_script};
 use pfx_script::Script;
+use pfx_store::Keeper;
 use std::alloc::Global;
 use std::io::{Read, Write};
 
@@ -24,7 +27,7 @@ use std::io::{Read, Write};
 /// A printed line is a receipt: whatever the run answers, each image that a stop may leave after it is recovered to the
 /// outcome of a beginning of the script's accepted commands which holds every command whose line was printed. It takes an
 /// honest disk, and a store that was whole and all of whose images were those of its state, as `init` and `open` leave it.
-pub fn run_durable<R: Read + Drop, W: Write, D: Disk>(
+pub fn run_durable<R: Read + Drop, W: Write, D: Disk, K: Keeper<D, AnyJob>>(
     alloc: Global,
     script: &mut Script<R>,
     window: u32,
@@ -32,16 +35,16 @@ pub fn run_durable<R: Read + Drop, W: Write, D: Disk>(
     at_refusal: AtRefusal,
     form: Form,
     output: &mut W,
-    engine: &mut DurableEngine<D>,
+    engine: &mut DurableEngine<D, K>,
 ) -> Result<Report, Fault>
     requires some { 0 < window }
     requires few { group ≤ 16 }
-    ensures runs { Runs ⟦<DurableEngine<D> as Engine>⟧.promise form at_refusal (max window group) script.old script.new.failed engine.old engine.new
+    ensures runs { Runs ⟦<DurableEngine<D, K> as Engine>⟧.promise form at_refusal (max window group) script.old script.new.failed engine.old engine.new
         (W.contents output.old) (W.contents output.new) result }
-    ensures printed { engine.old.store.file.broken ≡ false → IsHonest (D.view engine.old.store.file.disk)
-        → Anchors (D.view engine.old.store.file.disk) engine.old.store.state
-        → (records : List Fields) × IfSome script.old.left (λ all. taken at_refusal (at_start form engine.old.store.state) all ≡ records)
-        × IsKeptAsPrinted form engine.old.store.state script.old records (W.contents output.old) (W.contents output.new) (D.view engine.new.store.file.disk) }
+    ensures printed { K.failed engine.old.keeper ≡ None → IsHonest (D.view (K.kept engine.old.keeper).file.disk)
+        → Anchors (D.view (K.kept engine.old.keeper).file.disk) (K.kept engine.old.keeper).state
+        → (records : List Fields) × IfSome script.old.left (λ all. taken at_refusal (at_start form (K.kept engine.old.keeper).state) all ≡ records)
+        × IsKeptAsPrinted form (K.kept engine.old.keeper).state script.old records (W.contents output.old) (W.contents output.new) (D.view (K.kept engine.new.keeper).file.disk) }
 {
     run_script(
         alloc, script, window, group, at_refusal, form, output, engine,

@@ -45,7 +45,7 @@ pub(crate) fn run_slots(
     ensures stays { OnErr result (state.new ≡ state.old) }
 
     // It is refused by the machine, or for want of memory.
-    ensures why { IfErr result (Fails 0 ⊥ (state.new ≡ state.old)) }
+    ensures why { IfErr result (Fails 0 (λ cause. ⊥) (state.new ≡ state.old)) }
 {
     let Ok(mut said) = Vec::with_capacity(alloc, count as usize) else {
         return Err(CallFault::Failed(Fault::NoMemory));

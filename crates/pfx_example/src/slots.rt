@@ -2,7 +2,7 @@
 
 use crate::failure::Failure;
 use pfx_disk::FileDisk;
-use pfx_engine::DurableEngine;
+use pfx_engine::StoreEngine;
 use pfx_fault::Fault;
 use pfx_kinds::any::AnyJob;
 use pfx_machine::{Command, JobStatus, Reply};
@@ -25,7 +25,7 @@ fn failure_of(fault: CallFault) -> Failure {
 }
 
 /// Gives a count to each task that has no job.
-pub fn submit_all(alloc: Global, engine: &mut DurableEngine<FileDisk>) -> Result<(), Failure> {
+pub fn submit_all(alloc: Global, engine: &mut StoreEngine<FileDisk>) -> Result<(), Failure> {
     let Ok(board) = engine.state.board(alloc) else {
         return Err(Failure::NoMemory);
     };
@@ -51,7 +51,7 @@ pub fn submit_all(alloc: Global, engine: &mut DurableEngine<FileDisk>) -> Result
 pub fn run_slots(
     rt: &HostRuntime,
     alloc: Global,
-    engine: &mut DurableEngine<FileDisk>,
+    engine: &mut StoreEngine<FileDisk>,
 ) -> Result<(), Failure> {
     for _more in 0..SLOTS {
         let (number, slot, row) = match engine.execute(alloc, Command::Slot) {
@@ -71,7 +71,7 @@ pub fn run_slots(
 pub fn print_tasks(
     rt: &HostRuntime,
     alloc: Global,
-    engine: &DurableEngine<FileDisk>,
+    engine: &StoreEngine<FileDisk>,
 ) -> Result<(), Failure> {
     let Ok(board) = engine.state.board(alloc) else {
         return Err(Failure::NoMemory);

@@ -2,7 +2,7 @@
 
 use crate::check::{check, check_at};
 use pfx_disk::{Disk, MemoryDisk};
-use pfx_engine::DurableEngine;
+use pfx_engine::{DurableEngine, StoreEngine};
 use pfx_fault::Part;
 use pfx_kinds::any::AnyJob;
 use pfx_kit::frames::{LEVEL, new_weights, put_all, row_of_one};
@@ -24,14 +24,14 @@ fn disk_of(alloc: Global, bytes: &[u8]) -> Option<MemoryDisk> {
 }
 
 /// The engine over a new store.
-fn begun(alloc: Global) -> Option<DurableEngine<MemoryDisk>> {
+fn begun(alloc: Global) -> Option<StoreEngine<MemoryDisk>> {
     let set = TaskSet::new(alloc, 2, &[(2, 3), (2, 3), (2, 3)]).ok()?;
     let store = Store::init(alloc, disk_of(alloc, &[])?, &set, 8192).ok()?;
     DurableEngine::new(alloc, store).ok()
 }
 
 /// The engine after so many slots.
-fn behind_slots(alloc: Global, count: u32) -> Option<DurableEngine<MemoryDisk>> {
+fn behind_slots(alloc: Global, count: u32) -> Option<StoreEngine<MemoryDisk>> {
     let mut engine = begun(alloc)?;
     for _ in 0..count {
         engine.execute(alloc, Command::Slot).ok()?;
@@ -59,7 +59,7 @@ fn worked(alloc: Global) -> Option<Vec<u8>> {
     for _ in 0..5 {
         engine.execute(alloc, Command::Slot).ok()?;
     }
-    file_of(alloc, engine.into_store())
+    file_of(alloc, engine.into_keeper())
 }
 
 /// The answer of a unit of task 0.
@@ -76,7 +76,7 @@ fn answered(alloc: Global, units: &[u64]) -> Option<Vec<u8>> {
     for unit in units {
         engine.execute(alloc, answer(*unit)?).ok()?;
     }
-    file_of(alloc, engine.into_store())
+    file_of(alloc, engine.into_keeper())
 }
 
 /// The answer of a unit of task 0, counted in the weights that are in force from this slot on.
@@ -109,17 +109,17 @@ fn answered_anew(alloc: Global, units: &[(u32, u64)]) -> Option<Vec<u8>> {
         let command = answer_since(*since, *unit)?;
         engine.execute(alloc, command).ok()?;
     }
-    file_of(alloc, engine.into_store())
+    file_of(alloc, engine.into_keeper())
 }
 
 /// The file after so many slots.
 fn slots(alloc: Global, count: u32) -> Option<Vec<u8>> {
-    file_of(alloc, behind_slots(alloc, count)?.into_store())
+    file_of(alloc, behind_slots(alloc, count)?.into_keeper())
 }
 
 /// The file after ten slots, a turn and a whole checkpoint.
 fn checkpointed(alloc: Global) -> Option<Vec<u8>> {
-    let mut store = behind_slots(alloc, 10)?.into_store();
+    let mut store = behind_slots(alloc, 10)?.into_keeper();
     let is_ended = store.turn() == Ok(true)
         && store.tend() == Ok(Tended::Closed)
         && store.tend() == Ok(Tended::Piece)
@@ -133,7 +133,7 @@ fn checkpointed(alloc: Global) -> Option<Vec<u8>> {
 
 /// The file after ten slots and a turn, whose checkpoint hasn't begun.
 fn turned(alloc: Global) -> Option<Vec<u8>> {
-    let mut store = behind_slots(alloc, 10)?.into_store();
+    let mut store = behind_slots(alloc, 10)?.into_keeper();
     if store.turn() == Ok(true) {
         file_of(alloc, store)
     } else {
@@ -318,7 +318,7 @@ fn with_slots(
     for _ in 0..count {
         engine.execute(alloc, Command::Slot).ok()?;
     }
-    Some(engine.into_store())
+    Some(engine.into_keeper())
 }
 
 /// The file after two slots more, a second checkpoint and a slot: both areas hold another set than the header.

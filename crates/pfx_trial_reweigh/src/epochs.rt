@@ -2,7 +2,7 @@
 
 use crate::check::{check, check_at, check_pair};
 use pfx_disk::{Disk, Fate, MemoryDisk};
-use pfx_engine::DurableEngine;
+use pfx_engine::{DurableEngine, StoreEngine};
 use pfx_jobs::job::Job;
 use pfx_kinds::any::AnyJob;
 use pfx_machine::{Command, MachineFault, Reply};
@@ -19,7 +19,7 @@ fn begun(
     segment: u32,
     len: usize,
     room: usize,
-) -> Option<DurableEngine<MemoryDisk>> {
+) -> Option<StoreEngine<MemoryDisk>> {
     let disk = MemoryDisk::new(alloc, &[], len, 1000, room).ok()?;
     let set = TaskSet::new(alloc, workers, weights).ok()?;
     let store = Store::init(alloc, disk, &set, segment).ok()?;
@@ -33,12 +33,12 @@ const SINGLE: [(u32, u32); 3] = [(1, 3), (1, 3), (1, 3)];
 const DOUBLE: [(u32, u32); 3] = [(2, 3), (2, 3), (2, 3)];
 
 /// The engine over the store of three tasks of 2/3 on two workers, with segments of 8,192 bytes.
-fn thirds(alloc: Global) -> Option<DurableEngine<MemoryDisk>> {
+fn thirds(alloc: Global) -> Option<StoreEngine<MemoryDisk>> {
     begun(alloc, 2, &DOUBLE, 8192, 19395, 60_000)
 }
 
 /// The engine over the store that a disk holds.
-fn opened(alloc: Global, disk: MemoryDisk) -> Option<DurableEngine<MemoryDisk>> {
+fn opened(alloc: Global, disk: MemoryDisk) -> Option<StoreEngine<MemoryDisk>> {
     DurableEngine::new(alloc, Store::open(alloc, disk).ok()?).ok()
 }
 
@@ -52,7 +52,7 @@ fn reweigh(alloc: Global, workers: u32, weights: &[(u32, u32)]) -> Option<Comman
 }
 
 /// Whether so many slots are carried out.
-fn runs(alloc: Global, slots: u32, engine: &mut DurableEngine<MemoryDisk>) -> bool {
+fn runs(alloc: Global, slots: u32, engine: &mut StoreEngine<MemoryDisk>) -> bool {
     for _slot in 0..slots {
         if engine.execute(alloc, Command::Slot).is_err() {
             return false;
@@ -62,7 +62,7 @@ fn runs(alloc: Global, slots: u32, engine: &mut DurableEngine<MemoryDisk>) -> bo
 }
 
 /// Whether the next slot is this one, with this row.
-fn ran(alloc: Global, slot: u64, row: &[u16], engine: &mut DurableEngine<MemoryDisk>) -> bool {
+fn ran(alloc: Global, slot: u64, row: &[u16], engine: &mut StoreEngine<MemoryDisk>) -> bool {
     match engine.execute(alloc, Command::Slot) {
         Ok(
             (
@@ -87,8 +87,8 @@ struct Kept {
 }
 
 /// Whether the last command is this one, with the set of so many workers in force from its slot on.
-fn is_in_force(engine: &DurableEngine<MemoryDisk>, workers: u32, kept: &Kept) -> bool {
-    let store = engine.store.state();
+fn is_in_force(engine: &StoreEngine<MemoryDisk>, workers: u32, kept: &Kept) -> bool {
+    let store = engine.keeper.state();
     store.number() == kept.number
         && store.from() == kept.from
         && store.columns().workers() == workers
@@ -102,9 +102,9 @@ fn takes(
     workers: u32,
     weights: &[(u32, u32)],
     kept: &Kept,
-    engine: &mut DurableEngine<MemoryDisk>,
+    engine: &mut StoreEngine<MemoryDisk>,
 ) -> bool {
-    let wanted = engine.store.disk().clock().saturating_add(kept.calls);
+    let wanted = engine.keeper.disk().clock().saturating_add(kept.calls);
     let Some(command) = reweigh(alloc, workers, weights) else {
         return false;
     };
@@ -125,9 +125,9 @@ fn refuses(
     workers: u32,
     weights: &[(u32, u32)],
     fault: MachineFault,
-    engine: &mut DurableEngine<MemoryDisk>,
+    engine: &mut StoreEngine<MemoryDisk>,
 ) -> bool {
-    let clock = engine.store.disk().clock();
+    let clock = engine.keeper.disk().clock();
     let number = engine.state.number();
     let Some(command) = reweigh(alloc, workers, weights) else {
         return false;
@@ -135,8 +135,8 @@ fn refuses(
     match engine.execute(alloc, command) {
         Err(CallFault::Refused(got)) => {
             got == fault
-                && engine.store.disk().clock() == clock
-                && engine.store.state().number() == number
+                && engine.keeper.disk().clock() == clock
+                && engine.keeper.state().number() == number
                 && engine.state.number() == number
         }
         _ => false,
@@ -162,7 +162,7 @@ fn has_frame(disk: &mut MemoryDisk) -> bool {
 }
 
 /// Whether the first slots are run, and new weights come into force behind the third, and not before.
-fn begins(alloc: Global, engine: &mut DurableEngine<MemoryDisk>) -> bool {
+fn begins(alloc: Global, engine: &mut StoreEngine<MemoryDisk>) -> bool {
     let unlevel = MachineFault::NotLevel { task: 0 };
     let kept = Kept {
         number: 4,
@@ -178,14 +178,14 @@ fn begins(alloc: Global, engine: &mut DurableEngine<MemoryDisk>) -> bool {
 }
 
 /// Whether it goes on so, with the old weights again from the sixth slot on.
-fn goes_on(alloc: Global, engine: &mut DurableEngine<MemoryDisk>) -> bool {
+fn goes_on(alloc: Global, engine: &mut StoreEngine<MemoryDisk>) -> bool {
     let kept = Kept {
         number: 8,
         from: 6,
         calls: 4,
     };
     engine.last_kept() == Ok(5)
-        && engine.store.state().from() == 3
+        && engine.keeper.state().from() == 3
         && ran(alloc, 4, &[1], engine)
         && ran(alloc, 5, &[2], engine)
         && takes(alloc, 2, &DOUBLE, &kept, engine)
@@ -199,7 +199,7 @@ fn new_weights_come_into_force(rt: HostRuntime) {
         return check(&rt, false, "an engine");
     };
     check(&rt, begins(alloc, &mut engine), "begins");
-    let mut disk = engine.into_store().into_disk();
+    let mut disk = engine.into_keeper().into_disk();
     check(&rt, has_frame(&mut disk), "frame");
     let Some(mut again) = opened(alloc, disk) else {
         return check(&rt, false, "opened");
@@ -208,7 +208,7 @@ fn new_weights_come_into_force(rt: HostRuntime) {
 }
 
 /// Whether the tests come in their order, each with the disk left alone.
-fn refuses_in_order(alloc: Global, engine: &mut DurableEngine<MemoryDisk>) -> bool {
+fn refuses_in_order(alloc: Global, engine: &mut StoreEngine<MemoryDisk>) -> bool {
     let count = MachineFault::WrongCount;
     let unlevel = MachineFault::NotLevel { task: 0 };
     let workers = MachineFault::NoSet(SetFault::BadWorkers);
@@ -238,7 +238,7 @@ fn left(alloc: Global, disk: &MemoryDisk, after: u64, fate: Fate) -> Option<(u64
     }
     let left = disk.stopped(alloc, after as usize, &[fate, fate]).ok()?;
     let engine = opened(alloc, left)?;
-    let state = engine.store.state();
+    let state = engine.keeper.state();
     Some((state.number(), state.from(), state.columns().workers()))
 }
 
@@ -258,7 +258,7 @@ fn left_by(number: u64) -> (u64, u64, u32) {
 }
 
 /// Three slots, two Reweighs at one slot, and a slot.
-fn six_commands(alloc: Global) -> Option<DurableEngine<MemoryDisk>> {
+fn six_commands(alloc: Global) -> Option<StoreEngine<MemoryDisk>> {
     let mut engine = thirds(alloc)?;
     let one = Kept {
         number: 4,
@@ -283,7 +283,7 @@ fn stops_after_each_call(rt: HostRuntime) {
     let Some(engine) = six_commands(alloc) else {
         return check(&rt, false, "an engine");
     };
-    let disk = engine.into_store().into_disk();
+    let disk = engine.into_keeper().into_disk();
     let Some(made) = disk.clock().checked_sub(24) else {
         return check(&rt, false, "calls");
     };
@@ -308,7 +308,7 @@ fn count(steps: u64) -> Option<AnyJob> {
 }
 
 /// Whether a job is given to the first task.
-fn submit(alloc: Global, steps: u64, engine: &mut DurableEngine<MemoryDisk>) -> bool {
+fn submit(alloc: Global, steps: u64, engine: &mut StoreEngine<MemoryDisk>) -> bool {
     match count(steps) {
         Some(job) => engine
             .execute(alloc, Command::Submit { task: 0, job })
@@ -318,7 +318,7 @@ fn submit(alloc: Global, steps: u64, engine: &mut DurableEngine<MemoryDisk>) -> 
 }
 
 /// The engine at a level slot over the least segments, one of which has so few bytes left that the frame of new weights doesn't fit.
-fn nearly_full(alloc: Global) -> Option<DurableEngine<MemoryDisk>> {
+fn nearly_full(alloc: Global) -> Option<StoreEngine<MemoryDisk>> {
     let mut engine = begun(alloc, 2, &DOUBLE, 4233, 11477, 60_000)?;
     let holds = submit(alloc, 1, &mut engine)
         && engine.execute(alloc, Command::Withdraw { task: 0 }).is_ok()
@@ -342,17 +342,17 @@ fn new_weights_turn_a_store(rt: HostRuntime) {
     let Some(mut engine) = nearly_full(alloc) else {
         return check(&rt, false, "an engine");
     };
-    let made = engine.store.disk().clock();
+    let made = engine.keeper.disk().clock();
     let kept = Kept {
         number: 186,
         from: 183,
         calls: 10,
     };
-    check(&rt, !engine.store.places().segment, "the first segment");
+    check(&rt, !engine.keeper.places().segment, "the first segment");
     check(&rt, takes(alloc, 1, &SINGLE, &kept, &mut engine), "turned");
-    check(&rt, engine.store.places().segment, "the second segment");
+    check(&rt, engine.keeper.places().segment, "the second segment");
     check(&rt, runs(alloc, 1, &mut engine), "a slot, and a step");
-    let disk = engine.into_store().into_disk();
+    let disk = engine.into_keeper().into_disk();
     let fates = [Fate::Kept, Fate::Dropped];
     for calls in 0..17 {
         for (number, fate) in fates.iter().enumerate() {
@@ -377,7 +377,7 @@ fn over_many(
     alloc: Global,
     weights: &[(u32, u32)],
     is_longer: bool,
-) -> Option<DurableEngine<MemoryDisk>> {
+) -> Option<StoreEngine<MemoryDisk>> {
     if is_longer {
         return begun(alloc, 1, weights, 8219, 323707, 1_500_000);
     }
@@ -401,7 +401,7 @@ fn just_fits(alloc: Global, weights: &[(u32, u32)]) -> bool {
     };
     let holds = takes(alloc, 1, weights, &one, &mut engine)
         && takes(alloc, 1, weights, &two, &mut engine);
-    match opened(alloc, engine.into_store().into_disk()) {
+    match opened(alloc, engine.into_keeper().into_disk()) {
         Some(again) => holds && again.last_kept() == Ok(2),
         None => false,
     }
@@ -423,8 +423,8 @@ fn many_tasks_of_one_worker(rt: HostRuntime) {
 }
 
 /// How many steps the first task's job has left.
-fn steps_left(engine: &DurableEngine<MemoryDisk>) -> Option<u32> {
-    let state = engine.store.state();
+fn steps_left(engine: &StoreEngine<MemoryDisk>) -> Option<u32> {
+    let state = engine.keeper.state();
     if state.jobs().is_empty() {
         return None;
     }
@@ -452,7 +452,7 @@ fn jobs_go_on_over_new_weights(rt: HostRuntime) {
         takes(alloc, 1, &SINGLE, &kept, &mut engine),
         "one worker",
     );
-    let Some(mut again) = opened(alloc, engine.into_store().into_disk()) else {
+    let Some(mut again) = opened(alloc, engine.into_keeper().into_disk()) else {
         return check(&rt, false, "opened");
     };
     check(&rt, steps_left(&again) == Some(3), "three steps left");

@@ -3,7 +3,7 @@
 
 use crate::folds::{SEGMENT, is_state, thirds};
 use pfx_disk::{Disk, Fate, MemoryDisk};
-use pfx_engine::DurableEngine;
+use pfx_engine::{DurableEngine, StoreEngine};
 use pfx_kinds::any::AnyJob;
 use pfx_machine::Command;
 use pfx_program::CallFault;
@@ -13,7 +13,7 @@ use pfx_store_file::StoreFault;
 use std::alloc::Global;
 
 /// The engine over a store in memory.
-pub type MemoryEngine = DurableEngine<MemoryDisk>;
+pub type MemoryEngine = StoreEngine<MemoryDisk>;
 
 /// A disk that may be stopped.
 pub trait Stopped: Drop {
@@ -76,26 +76,26 @@ pub trait Engine<D>: Drop {
     fn broken(self, calls: u64) -> (bool, D);
 }
 
-impl<D: Disk + Drop> Engine<D> for DurableEngine<D> {
-    fn begun(alloc: Global, disk: D) -> Option<DurableEngine<D>> {
+impl<D: Disk + Drop> Engine<D> for StoreEngine<D> {
+    fn begun(alloc: Global, disk: D) -> Option<StoreEngine<D>> {
         let store = Store::init(alloc, disk, &thirds(alloc)?, SEGMENT).ok()?;
         DurableEngine::new(alloc, store).ok()
     }
 
-    fn opened(alloc: Global, disk: D) -> Option<DurableEngine<D>> {
+    fn opened(alloc: Global, disk: D) -> Option<StoreEngine<D>> {
         DurableEngine::new(alloc, Store::open(alloc, disk).ok()?).ok()
     }
 
     fn calls(&self) -> u64 {
-        self.store.disk().clock()
+        self.keeper.disk().clock()
     }
 
     fn number(&self) -> u64 {
-        self.store.state().number()
+        self.keeper.state().number()
     }
 
     fn is_at(&self, state: &PlainState<AnyJob>) -> bool {
-        is_state(self.store.state(), state)
+        is_state(self.keeper.state(), state)
     }
 
     fn carry_out(&mut self, alloc: Global, command: Command<AnyJob>) -> Result<u64, CallFault> {
@@ -106,11 +106,11 @@ impl<D: Disk + Drop> Engine<D> for DurableEngine<D> {
     }
 
     fn into_disk(self) -> D {
-        self.into_store().into_disk()
+        self.into_keeper().into_disk()
     }
 
     fn broken(self, calls: u64) -> (bool, D) {
-        let mut store = self.into_store();
+        let mut store = self.into_keeper();
         let tended = store.tend() == Err(StoreFault::Broken);
         let turned = store.turn() == Err(StoreFault::Broken);
         let same = store.is_broken() && store.disk().clock() == calls;

@@ -5,7 +5,7 @@ use crate::courses::Course;
 use crate::engines::{Engine, MemoryEngine, Stopped};
 use crate::folds::{CALLS, COMMANDS, Fold, MADE, command, empty, folds};
 use pfx_disk::{Disk, FaultDisk, MemoryDisk};
-use pfx_engine::DurableEngine;
+use pfx_engine::StoreEngine;
 use pfx_fault::{Cause, Fault};
 use pfx_kinds::any::AnyJob;
 use pfx_machine::Command;
@@ -15,7 +15,7 @@ use pfx_store::Store;
 use std::alloc::Global;
 
 /// The engine over a store on a disk that fails.
-type FaultEngine = DurableEngine<FaultDisk<MemoryDisk>>;
+type FaultEngine = StoreEngine<FaultDisk<MemoryDisk>>;
 
 /// How many calls an opening of the disk after the run takes.
 const OPENING: u64 = 9;

@@ -1,7 +1,7 @@
 //! Engines over stores of three tasks of weight 2/3 on two workers.
 
 use pfx_disk::{Disk, MemoryDisk};
-use pfx_engine::DurableEngine;
+use pfx_engine::{DurableEngine, StoreEngine};
 use pfx_kinds::any::AnyJob;
 use pfx_kit::places::END;
 use pfx_store::Store;
@@ -20,22 +20,22 @@ pub fn new_store<D: Disk + Drop>(alloc: Global, disk: D, segment: u32) -> Option
 }
 
 /// The engine over a store.
-pub fn over<D: Disk + Drop>(alloc: Global, store: Store<D, AnyJob>) -> Option<DurableEngine<D>> {
+pub fn over<D: Disk + Drop>(alloc: Global, store: Store<D, AnyJob>) -> Option<StoreEngine<D>> {
     DurableEngine::new(alloc, store).ok()
 }
 
 /// The engine over a new store with segments of 8,192 bytes.
-pub fn begun<D: Disk + Drop>(alloc: Global, disk: D) -> Option<DurableEngine<D>> {
+pub fn begun<D: Disk + Drop>(alloc: Global, disk: D) -> Option<StoreEngine<D>> {
     over(alloc, new_store(alloc, disk, 8192)?)
 }
 
 /// The engine over a new store on a disk in memory, with room for so many calls.
-pub fn in_memory(alloc: Global, calls: usize) -> Option<DurableEngine<MemoryDisk>> {
+pub fn in_memory(alloc: Global, calls: usize) -> Option<StoreEngine<MemoryDisk>> {
     begun(alloc, empty(alloc, calls)?)
 }
 
 /// The engine over the store that a disk holds.
-pub fn opened<D: Disk + Drop>(alloc: Global, disk: D) -> Option<DurableEngine<D>> {
+pub fn opened<D: Disk + Drop>(alloc: Global, disk: D) -> Option<StoreEngine<D>> {
     over(alloc, Store::open(alloc, disk).ok()?)
 }
 

@@ -3,7 +3,7 @@
 use crate::check::{check, check_pair};
 use crate::engines::{begun, empty, in_memory, opened};
 use pfx_disk::{Disk, FaultDisk, FileDisk, MemoryDisk};
-use pfx_engine::{DurableEngine, laws};
+use pfx_engine::{StoreEngine, laws};
 use pfx_fault::{Cause, Fault};
 use pfx_kit::places::END;
 use pfx_kit::week::{FIRST_WEEK, SECOND_WEEK, WEEK};
@@ -19,7 +19,7 @@ use std::{env, fs, process};
 fn prints<D: Disk>(
     alloc: Global,
     script: &str,
-    engine: &mut DurableEngine<D>,
+    engine: &mut StoreEngine<D>,
     wanted: &str,
     end: Option<Fault>,
 ) -> bool {
@@ -67,7 +67,7 @@ fn a_run_goes_on_after_the_store_is_opened_again(rt: HostRuntime) {
         prints(alloc, WEEK, &mut engine, FIRST_WEEK, None),
         "first",
     );
-    let Some(mut again) = opened(alloc, engine.into_store().into_disk()) else {
+    let Some(mut again) = opened(alloc, engine.into_keeper().into_disk()) else {
         return check(&rt, false, "opened again");
     };
     check(
@@ -105,7 +105,7 @@ fn jobs_are_shown_and_again_after_the_store_is_opened(rt: HostRuntime) {
         return check(&rt, false, "an engine");
     };
     check(&rt, prints(alloc, SHOW, &mut engine, SHOWN, None), "first");
-    let Some(mut again) = opened(alloc, engine.into_store().into_disk()) else {
+    let Some(mut again) = opened(alloc, engine.into_keeper().into_disk()) else {
         return check(&rt, false, "opened again");
     };
     check(
@@ -188,17 +188,17 @@ fn segments_are_turned(rt: HostRuntime) {
         &mut engine,
     );
     check(&rt, end.is_ok(), "800 slots");
-    let disk = engine.into_store().into_disk();
+    let disk = engine.into_keeper().into_disk();
     check(&rt, stands_at(alloc, disk, 800), "opened again");
 }
 
 /// Whether a slot's mark has the number 1 and the disk's clock, and its reply is of slot 0.
-fn slot_is_marked(alloc: Global, mut engine: DurableEngine<MemoryDisk>) -> bool {
+fn slot_is_marked(alloc: Global, mut engine: StoreEngine<MemoryDisk>) -> bool {
     match engine.execute(alloc, Command::Slot) {
         Ok((mark, Reply::Ran { slot: 0, row: _ })) => {
             engine.last_kept() == Ok(1)
                 && mark.number == 1
-                && mark.clock == engine.into_store().into_disk().clock()
+                && mark.clock == engine.into_keeper().into_disk().clock()
         }
         _ => false,
     }
@@ -227,7 +227,7 @@ const MADE: u64 = 11;
 const APPENDED: u64 = 4;
 
 /// The engine on a disk whose call k after the making fails, with its work done or not.
-fn faulty(alloc: Global, k: u64, works: bool) -> Option<DurableEngine<FaultDisk<MemoryDisk>>> {
+fn faulty(alloc: Global, k: u64, works: bool) -> Option<StoreEngine<FaultDisk<MemoryDisk>>> {
     let call = MADE.saturating_add(k);
     let memory = empty(alloc, 200)?;
     let disk = match works {
@@ -240,7 +240,7 @@ fn faulty(alloc: Global, k: u64, works: bool) -> Option<DurableEngine<FaultDisk<
 /// Whether the engine has failed so, whatever is asked.
 fn stays_failed(
     alloc: Global,
-    engine: &mut DurableEngine<FaultDisk<MemoryDisk>>,
+    engine: &mut StoreEngine<FaultDisk<MemoryDisk>>,
     fault: Fault,
 ) -> bool {
     let is_settled = engine.settled(alloc) == Err(fault);
@@ -253,8 +253,8 @@ fn stays_failed(
 }
 
 /// Whether what was answered survives, and at most the command that failed with it.
-fn keeps(alloc: Global, engine: DurableEngine<FaultDisk<MemoryDisk>>, marked: u64) -> bool {
-    match opened(alloc, engine.into_store().into_disk().into_inner()) {
+fn keeps(alloc: Global, engine: StoreEngine<FaultDisk<MemoryDisk>>, marked: u64) -> bool {
+    match opened(alloc, engine.into_keeper().into_disk().into_inner()) {
         Some(again) => match again.last_kept() {
             Ok(kept) => marked <= kept && kept - marked <= 1,
             Err(_) => false,

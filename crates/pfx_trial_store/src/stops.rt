@@ -3,7 +3,7 @@
 use crate::check::{check, check_at, check_pair};
 use crate::engines::{in_memory, last_of, new_store, opened, over};
 use pfx_disk::{Disk, Fate, MemoryDisk};
-use pfx_engine::DurableEngine;
+use pfx_engine::StoreEngine;
 use pfx_jobs::job::Job;
 use pfx_kinds::any::AnyJob;
 use pfx_kit::places::FIRST_SEGMENT;
@@ -11,7 +11,7 @@ use pfx_machine::Command;
 use std::alloc::Global;
 
 /// Whether so many slots are carried out.
-fn run_slots(alloc: Global, count: u32, engine: &mut DurableEngine<MemoryDisk>) -> bool {
+fn run_slots(alloc: Global, count: u32, engine: &mut StoreEngine<MemoryDisk>) -> bool {
     for _ in 0..count {
         if engine.execute(alloc, Command::Slot).is_err() {
             return false;
@@ -25,7 +25,7 @@ fn submit(
     alloc: Global,
     task: u16,
     job: Option<AnyJob>,
-    engine: &mut DurableEngine<MemoryDisk>,
+    engine: &mut StoreEngine<MemoryDisk>,
 ) -> bool {
     match job {
         Some(job) => engine.execute(alloc, Command::Submit { task, job }).is_ok(),
@@ -34,8 +34,8 @@ fn submit(
 }
 
 /// Whether the first task's job has these first cells, and so many steps left.
-fn has_first_job(engine: &DurableEngine<MemoryDisk>, cells: u8, left: u32) -> bool {
-    let state = engine.store.state();
+fn has_first_job(engine: &StoreEngine<MemoryDisk>, cells: u8, left: u32) -> bool {
+    let state = engine.keeper.state();
     if state.jobs().is_empty() {
         return false;
     }
@@ -76,9 +76,9 @@ fn three_slots_are_twelve_calls(rt: HostRuntime) {
     let Some(mut engine) = in_memory(alloc, 200) else {
         return check(&rt, false, "an engine");
     };
-    let made = engine.store.disk().clock();
+    let made = engine.keeper.disk().clock();
     check(&rt, run_slots(alloc, 3, &mut engine), "three slots");
-    let disk = engine.into_store().into_disk();
+    let disk = engine.into_keeper().into_disk();
     check(&rt, disk.clock() == made.saturating_add(12), "twelve calls");
     let fates = [
         Fate::Kept,
@@ -99,13 +99,13 @@ fn three_slots_are_twelve_calls(rt: HostRuntime) {
 const ROWS: [(u32, u8, u32); 4] = [(1, 0b11, 2), (1, 0b111, 1), (2, 0b1101, 0), (1, 0b1101, 0)];
 
 /// How many rows hold, with the store opened again after each, up to the first that doesn't.
-fn rows_that_hold(alloc: Global, engine: DurableEngine<MemoryDisk>) -> usize {
+fn rows_that_hold(alloc: Global, engine: StoreEngine<MemoryDisk>) -> usize {
     let mut engine = engine;
     for (number, row) in ROWS.iter().enumerate() {
         if !run_slots(alloc, row.0, &mut engine) {
             return number;
         }
-        let Some(again) = opened(alloc, engine.into_store().into_disk()) else {
+        let Some(again) = opened(alloc, engine.into_keeper().into_disk()) else {
             return number;
         };
         if !has_first_job(&again, row.1, row.2) {
@@ -129,14 +129,14 @@ fn the_file_holds_the_states_of_jobs(rt: HostRuntime) {
 }
 
 /// The engine over a store with the least segments of two workers.
-fn over_least_segments(alloc: Global) -> Option<DurableEngine<MemoryDisk>> {
+fn over_least_segments(alloc: Global) -> Option<StoreEngine<MemoryDisk>> {
     let disk = MemoryDisk::new(alloc, &[], SECOND + 4233, 1000, 60_000).ok()?;
     over(alloc, new_store(alloc, disk, 4233)?)
 }
 
 /// Whether the second segment is in use or the first, and its frames end at this gate.
-fn is_at(engine: &DurableEngine<MemoryDisk>, segment: bool, gate: usize) -> bool {
-    let places = engine.store.places();
+fn is_at(engine: &StoreEngine<MemoryDisk>, segment: bool, gate: usize) -> bool {
+    let places = engine.keeper.places();
     places.segment == segment && places.gate == gate
 }
 
@@ -161,13 +161,13 @@ fn a_full_segment_is_left(rt: HostRuntime) {
     let is_full = is_at(&engine, false, FIRST_SEGMENT + 4197);
     check(&rt, is_full, "the first is full");
     check(&rt, run_slots(alloc, 1, &mut engine), "21 slots");
-    check(&rt, engine.store.places().segment, "the second");
+    check(&rt, engine.keeper.places().segment, "the second");
     check(&rt, run_slots(alloc, 21, &mut engine), "42 slots");
     let is_full = is_at(&engine, true, SECOND + 4205);
     check(&rt, is_full, "the second is full");
     check(&rt, run_slots(alloc, 1, &mut engine), "43 slots");
-    check(&rt, !engine.store.places().segment, "the first again");
+    check(&rt, !engine.keeper.places().segment, "the first again");
     check(&rt, run_slots(alloc, 17, &mut engine), "60 slots");
-    let last = last_of(alloc, engine.into_store().into_disk());
+    let last = last_of(alloc, engine.into_keeper().into_disk());
     check(&rt, last == Some(62), "opened again");
 }

@@ -4,7 +4,7 @@ use crate::check::{check, check_at};
 use crate::engines::{empty, new_store, opened, over};
 use crate::held::held;
 use pfx_disk::{Disk, Fate, MemoryDisk};
-use pfx_engine::DurableEngine;
+use pfx_engine::StoreEngine;
 use pfx_jobs::job::Job;
 use pfx_kinds::any::AnyJob;
 use pfx_kit::places::{END, FIRST_FRAME, FIRST_SEGMENT, SECOND_AREA};
@@ -95,7 +95,7 @@ fn byte_at(bytes: &[u8], at: usize) -> u8 {
 }
 
 /// Whether the last command has this number, and each task of three has got so many slots.
-fn stands_at(engine: &DurableEngine<MemoryDisk>, number: u64, got: u64) -> bool {
+fn stands_at(engine: &StoreEngine<MemoryDisk>, number: u64, got: u64) -> bool {
     let ledger = engine.state.columns();
     engine.last_kept() == Ok(number)
         && ledger.total() == 3
@@ -142,13 +142,13 @@ fn a_second_turn_leads_back(rt: HostRuntime) {
         return check(&rt, false, "opened again");
     };
     check(&rt, stands_at(&again, 12, 8), "state");
-    let places = again.store.places();
+    let places = again.keeper.places();
     let leads_back = places.area && places.checkpoint.in_progress() && !places.segment;
     check(&rt, leads_back, "places");
 }
 
 /// The engine over the store as a stop now leaves it.
-fn reopened(alloc: Global, store: &Store<MemoryDisk, AnyJob>) -> Option<DurableEngine<MemoryDisk>> {
+fn reopened(alloc: Global, store: &Store<MemoryDisk, AnyJob>) -> Option<StoreEngine<MemoryDisk>> {
     opened(alloc, left(alloc, store)?)
 }
 
@@ -195,8 +195,8 @@ fn turned_once(alloc: Global) -> Option<Store<MemoryDisk, AnyJob>> {
 }
 
 /// Whether the store takes the steps of a checkpoint, and stands as before when it is opened then.
-fn begins_anew(alloc: Global, engine: DurableEngine<MemoryDisk>) -> bool {
-    let mut store = engine.into_store();
+fn begins_anew(alloc: Global, engine: StoreEngine<MemoryDisk>) -> bool {
+    let mut store = engine.into_keeper();
     if !are_steps(&mut store, &STEPS) {
         return false;
     }
@@ -230,7 +230,7 @@ fn a_checkpoint_ends_between_slots(rt: HostRuntime) {
         return check(&rt, false, "opened again");
     };
     check(&rt, stands_at(&after, 45, 30), "state");
-    let places = after.store.places();
+    let places = after.keeper.places();
     check(
         &rt,
         places.area && !places.checkpoint.in_progress(),
@@ -239,7 +239,7 @@ fn a_checkpoint_ends_between_slots(rt: HostRuntime) {
 }
 
 /// The engine after five slots and a turn.
-fn with_a_checkpoint(alloc: Global) -> Option<DurableEngine<MemoryDisk>> {
+fn with_a_checkpoint(alloc: Global) -> Option<StoreEngine<MemoryDisk>> {
     let mut store = thirds(alloc, 200)?;
     if append_slots(alloc, 5, &mut store) && store.turn() == Ok(true) {
         over(alloc, store)
@@ -249,8 +249,8 @@ fn with_a_checkpoint(alloc: Global) -> Option<DurableEngine<MemoryDisk>> {
 }
 
 /// Whether a slot takes so many calls, up to its mark.
-fn takes_calls(alloc: Global, engine: &mut DurableEngine<MemoryDisk>, calls: u64) -> bool {
-    let before = engine.store.disk().clock();
+fn takes_calls(alloc: Global, engine: &mut StoreEngine<MemoryDisk>, calls: u64) -> bool {
+    let before = engine.keeper.disk().clock();
     match engine.execute(alloc, Command::Slot) {
         Ok((mark, _reply)) => mark.clock >= before && mark.clock - before == calls,
         Err(_) => false,
@@ -275,7 +275,7 @@ fn marked(
     alloc: Global,
     command: Command<AnyJob>,
     marks: &mut Vec<u64>,
-    engine: &mut DurableEngine<MemoryDisk>,
+    engine: &mut StoreEngine<MemoryDisk>,
 ) -> bool {
     match engine.execute(alloc, command) {
         Ok((mark, _reply)) => marks.push(mark.clock).is_ok(),
@@ -284,7 +284,7 @@ fn marked(
 }
 
 /// Whether the task's job of 1,000 steps, if there is one, has stepped as often as its task was chosen.
-fn has_stepped(engine: &DurableEngine<MemoryDisk>, task: u16) -> bool {
+fn has_stepped(engine: &StoreEngine<MemoryDisk>, task: u16) -> bool {
     if engine.state.columns().total() != 3 || engine.state.jobs().len() != 3 || task >= 3 {
         return false;
     }
@@ -296,7 +296,7 @@ fn has_stepped(engine: &DurableEngine<MemoryDisk>, task: u16) -> bool {
 }
 
 /// The number of the last command, if each job has stepped as often as its task was chosen.
-fn kept_whole(engine: &DurableEngine<MemoryDisk>) -> Option<u64> {
+fn kept_whole(engine: &StoreEngine<MemoryDisk>) -> Option<u64> {
     let number = engine.last_kept().ok()?;
     let is_whole = engine.state.columns().slot() == number.saturating_sub(2)
         && has_stepped(engine, 0)
@@ -305,7 +305,7 @@ fn kept_whole(engine: &DurableEngine<MemoryDisk>) -> Option<u64> {
 }
 
 /// The engine over a new store with segments of the least length.
-fn over_least_segments(alloc: Global) -> Option<DurableEngine<MemoryDisk>> {
+fn over_least_segments(alloc: Global) -> Option<StoreEngine<MemoryDisk>> {
     let disk = MemoryDisk::new(alloc, &[], FIRST_SEGMENT + 2 * 4233, 1000, 60_000).ok()?;
     over(alloc, new_store(alloc, disk, 4233)?)
 }
@@ -315,7 +315,7 @@ fn marked_job(
     alloc: Global,
     task: u16,
     marks: &mut Vec<u64>,
-    engine: &mut DurableEngine<MemoryDisk>,
+    engine: &mut StoreEngine<MemoryDisk>,
 ) -> bool {
     match AnyJob::start("count", 1000, b"") {
         Ok(job) => marked(alloc, Command::Submit { task, job }, marks, engine),
@@ -324,7 +324,7 @@ fn marked_job(
 }
 
 /// Whether two jobs are given and sixty slots run, the clocks of whose marks are noted.
-fn run_62(alloc: Global, marks: &mut Vec<u64>, engine: &mut DurableEngine<MemoryDisk>) -> bool {
+fn run_62(alloc: Global, marks: &mut Vec<u64>, engine: &mut StoreEngine<MemoryDisk>) -> bool {
     if !marked_job(alloc, 0, marks, engine) || !marked_job(alloc, 1, marks, engine) {
         return false;
     }
@@ -381,10 +381,10 @@ fn first_loss(
 /// Tells whether marks survive stops after each call of 62 commands over segments of the least length.
 fn marks_survive(alloc: Global, fate: Fate) -> Option<bool> {
     let mut engine = over_least_segments(alloc)?;
-    let made = engine.store.disk().clock();
+    let made = engine.keeper.disk().clock();
     let mut marks = Vec::new(alloc);
     let is_run = run_62(alloc, &mut marks, &mut engine);
-    let disk = engine.into_store().into_disk();
+    let disk = engine.into_keeper().into_disk();
     let is_marked = marked_by(&marks, disk.clock()) == 62;
     Some(is_run && is_marked && first_loss(alloc, &disk, made, &marks, fate).is_none())
 }

@@ -4,7 +4,7 @@ use crate::check::{check, check_at, check_pair};
 use crate::engines::{begun, empty, in_memory, last_of, opened};
 use crate::stops::{kept_by, survivors};
 use pfx_disk::{Disk, Fate, FaultDisk, MemoryDisk};
-use pfx_engine::{DurableEngine, run_durable};
+use pfx_engine::{StoreEngine, run_durable};
 use pfx_fault::{Cause, Fault};
 use pfx_program::{AtRefusal, Form};
 use pfx_script::Script;
@@ -16,7 +16,7 @@ fn run<D: Disk>(
     alloc: Global,
     script: &str,
     window: u32,
-    engine: &mut DurableEngine<D>,
+    engine: &mut StoreEngine<D>,
 ) -> (Vec<u8>, Result<(), Fault>) {
     let mut written = Vec::new(alloc);
     let end = run_durable(
@@ -55,7 +55,7 @@ fn prints(alloc: Global, window: u32, wanted: &[u8], last: u64) -> bool {
     };
     let (written, end) = run(alloc, MIXED, window, &mut engine);
     let is_printed = end.is_ok() && written.as_slice() == wanted;
-    let kept = last_of(alloc, engine.into_store().into_disk());
+    let kept = last_of(alloc, engine.into_keeper().into_disk());
     is_printed && kept == Some(last)
 }
 
@@ -83,10 +83,10 @@ fn each_window_prints_the_same_lines(rt: HostRuntime) {
 /// How many calls of the disk 32 slots take.
 fn calls_of(alloc: Global, window: u32) -> Option<u64> {
     let mut engine = in_memory(alloc, 300)?;
-    let before = engine.store.disk().clock();
+    let before = engine.keeper.disk().clock();
     let (_written, end) = run(alloc, "slot,,,32,\n", window, &mut engine);
     end.ok()?;
-    engine.store.disk().clock().checked_sub(before)
+    engine.keeper.disk().clock().checked_sub(before)
 }
 
 #[test]
@@ -113,10 +113,10 @@ submit,1,own,0,b
 /// How many calls of the disk a script takes of which up to so many records share a frame.
 fn calls_of_group(alloc: Global, script: &str, group: u32) -> Option<u64> {
     let mut engine = in_memory(alloc, 300)?;
-    let before = engine.store.disk().clock();
+    let before = engine.keeper.disk().clock();
     let (_written, end) = run(alloc, script, group, &mut engine);
     end.ok()?;
-    engine.store.disk().clock().checked_sub(before)
+    engine.keeper.disk().clock().checked_sub(before)
 }
 
 #[test]
@@ -152,7 +152,7 @@ const MADE: u64 = 11;
 const APPENDED: u64 = 4;
 
 /// The engine on a disk whose call k after the making fails, with its work done or not.
-fn faulty(alloc: Global, k: u64, works: bool) -> Option<DurableEngine<FaultDisk<MemoryDisk>>> {
+fn faulty(alloc: Global, k: u64, works: bool) -> Option<StoreEngine<FaultDisk<MemoryDisk>>> {
     let call = MADE.saturating_add(k);
     let memory = empty(alloc, 300)?;
     let disk = match works {
@@ -172,7 +172,7 @@ fn is_ended(alloc: Global, window: u32, k: u64, works: bool) -> Option<bool> {
     let cause = Cause::Device;
     let is_told = end == Err(Fault::StoreFailed { marked, cause });
     let is_printed = written.as_slice() == wanted.as_slice();
-    let disk = engine.into_store().into_disk().into_inner();
+    let disk = engine.into_keeper().into_disk().into_inner();
     let again = opened(alloc, disk)?;
     let kept = again.last_kept().ok()?;
     let next = marked.saturating_add(u64::from(window)).min(40);
@@ -204,10 +204,10 @@ fn a_frame_survives_whole_or_not_at_all(rt: HostRuntime) {
     let Some(mut engine) = in_memory(alloc, 300) else {
         return check(&rt, false, "an engine");
     };
-    let made = engine.store.disk().clock();
+    let made = engine.keeper.disk().clock();
     let (_written, end) = run(alloc, "slot,,,48,\n", 16, &mut engine);
     check(&rt, end.is_ok(), "48 slots");
-    let disk = engine.into_store().into_disk();
+    let disk = engine.into_keeper().into_disk();
     let fates = [
         Fate::Kept,
         Fate::Dropped,
@@ -229,7 +229,7 @@ fn turns(alloc: Global, window: u32, slots: u64) -> Option<bool> {
     let script = format!(in alloc; "slot,,,{slots},\n").ok()?;
     let (_written, end) = run(alloc, script.as_str(), window, &mut engine);
     end.ok()?;
-    let kept = last_of(alloc, engine.into_store().into_disk());
+    let kept = last_of(alloc, engine.into_keeper().into_disk());
     Some(kept == Some(slots))
 }
 

@@ -11,49 +11,52 @@ use Rattle.pfx_store.proofs.Grouping.{batch_led}
 use Rattle.pfx_engine.specs.Renewing.{IsKeepable}
 use Rattle.pfx_engine.specs.Surviving.{frames_of}
 use Rattle.pfx_engine.proofs.Commands.{keepable_kept}
-use Rattle.pfx_engine.proofs.Keeps.{if_ok_none, keeps_behind, keeps_commands, keeps_more, kept_length, on_err_so, on_err_then, on_ok_then, on_ok_two, one_recovered, replays_to, was_whole, works_later}
+use Rattle.pfx_engine.proofs.Keeps.{commit_both, commit_failed, keeps_behind, keeps_commands, keeps_more, kept_length, on_err_then, on_ok_then, on_ok_two, one_recovered, replays_to}
 use Rattle.pfx_engine.specs.Stepping.{frame_len}
 use Rattle.pfx_engine.proofs.Stepping.{takes_both, takes_step_alone}
-use Rattle.pfx_store_file.specs.declared.faults.StoreFault.TheVariants.{NoRoom}
-use Rattle.pfx_store_file.proofs.Calling.{fault_back, works_handed}
 use Rattle.pfx_engine.proofs.keeping.commit.Goals as goal
 
 pub returns-in_err-_tended-clause-keeps : goal.returns-in_err-_tended-clause-keeps
 returns-in_err-_tended-clause-keeps g c honest start H done h all at given =
+    let kept = g.K.Keeper.kept in
     let V = g.D.Disk.view in
-    keeps_behind start H (H ++ done) (V c.args.store.now.file.disk) (V c.tend.new.self.file.disk) (V c.tend.new.self.file.disk) h all c.tend.ensures.call.takes.later
-    (c.tend.ensures.keeps honest start (frames_of start H) (replays_to start c.args.store.now.state H h all at)) (keeps_more start H done (V c.tend.new.self.file.disk))
+    keeps_behind start H (H ++ done) (V (kept c.args.keeper.now).file.disk) (V (kept c.tend_on.new.self).file.disk) (V (kept c.tend_on.new.self).file.disk) h all c.tend_on.ensures.call.takes.later
+    (c.tend_on.ensures.keeps honest start (frames_of start H) (replays_to start (kept c.args.keeper.now).state H h all at)) (keeps_more start H done (V (kept c.tend_on.new.self).file.disk))
 
 pub put-requires-clause-right : goal.put-requires-clause-right
 put-requires-clause-right g c =
-    subst (λ (t : Plain AnyJob). IsKeepable t (map plain c.args.records.items) c.args.renewal) (sym c.tend.ensures.state) c.requires.right
+    let kept = g.K.Keeper.kept in
+    subst (λ (t : Plain AnyJob). IsKeepable t (map plain c.args.records.items) c.args.renewal) (sym c.tend_on.ensures.state) c.requires.right
 
 pub returns-clause-state : goal.returns-clause-state
 returns-clause-state g c done given =
-    let s = c.tend.new.self.state in
-    let same : s ≡ c.args.store.now.state = c.tend.ensures.state in
+    let kept = g.K.Keeper.kept in
+    let s = (kept c.tend_on.new.self).state in
+    let same : s ≡ (kept c.args.keeper.now).state = c.tend_on.ensures.state in
     let put = c.put.ensures.put done (subst (λ (t : Plain AnyJob). AreKeptAs any_kind t done (map plain c.args.records.items)) (sym same) given) in
     on_ok_then c.put.result (λ taken. taken ∙ ap (λ (t : Plain AnyJob). outcome any_kind t done) same) put.state
 
 pub returns-clause-keeps : goal.returns-clause-keeps
 returns-clause-keeps g c honest start H done h all at given =
+    let kept = g.K.Keeper.kept in
     let V = g.D.Disk.view in
-    let s = c.tend.new.self.state in
-    let same : s ≡ c.args.store.now.state = c.tend.ensures.state in
+    let s = (kept c.tend_on.new.self).state in
+    let same : s ≡ (kept c.args.keeper.now).state = c.tend_on.ensures.state in
     let is = subst (λ (t : Plain AnyJob). AreKeptAs any_kind t done (map plain c.args.records.items)) (sym same) given in
     let put = c.put.ensures.put done is in
     let long = kept_length s done (map plain c.args.records.items) is in
     let same_long = length-map c.args.records.items plain in
-    keeps_behind start H (H ++ done) (V c.args.store.now.file.disk) (V c.tend.new.self.file.disk) (V c.put.new.store.file.disk) h all c.tend.ensures.call.takes.later
-    (c.tend.ensures.keeps honest start (frames_of start H) (replays_to start c.args.store.now.state H h all at))
-    (keeps_commands start s H done (frame_of any_kind s done) (V c.tend.new.self.file.disk) (V c.put.new.store.file.disk) h all (same ∙ at) is.accepted is.may (omega (arith, long, same_long, c.requires.some)) (omega (arith, long, same_long, c.requires.few)) refl
-    ((put.commits (c.tend.ensures.call.honest.0 honest)).keeps start (frames_of start H) (replays_to start s H h all (same ∙ at))))
+    keeps_behind start H (H ++ done) (V (kept c.args.keeper.now).file.disk) (V (kept c.tend_on.new.self).file.disk) (V (kept c.put.new.keeper).file.disk) h all c.tend_on.ensures.call.takes.later
+    (c.tend_on.ensures.keeps honest start (frames_of start H) (replays_to start (kept c.args.keeper.now).state H h all at))
+    (keeps_commands start s H done (frame_of any_kind s done) (V (kept c.tend_on.new.self).file.disk) (V (kept c.put.new.keeper).file.disk) h all (same ∙ at) is.accepted is.may (omega (arith, long, same_long, c.requires.some)) (omega (arith, long, same_long, c.requires.few)) refl
+    ((put.commits (c.tend_on.ensures.call.honest.0 honest)).keeps start (frames_of start H) (replays_to start s H h all (same ∙ at))))
 
 pub returns-clause-acknowledged : goal.returns-clause-acknowledged
 returns-clause-acknowledged g c honest =
-    let s = c.tend.new.self.state in
-    let t = c.put.new.store.state in
-    let keepable = subst (λ (u : Plain AnyJob). IsKeepable u (map plain c.args.records.items) c.args.renewal) (sym c.tend.ensures.state) c.requires.right in
+    let kept = g.K.Keeper.kept in
+    let s = (kept c.tend_on.new.self).state in
+    let t = (kept c.put.new.keeper).state in
+    let keepable = subst (λ (u : Plain AnyJob). IsKeepable u (map plain c.args.records.items) c.args.renewal) (sym c.tend_on.ensures.state) c.requires.right in
     let (done, is) = keepable_kept s (map plain c.args.records.items) c.args.renewal keepable in
     let put = c.put.ensures.put done is in
     let long = kept_length s done (map plain c.args.records.items) is in
@@ -61,51 +64,35 @@ returns-clause-acknowledged g c honest =
     on_ok_two c.put.result
     (λ at survives image here. one_recovered s t (frame_of any_kind s done) image
     (batch_led any_kind any_laws s done c.put.ensures.state is.accepted (omega (arith, long, same_long, c.requires.some)) (omega (arith, long, same_long, c.requires.few)) is.may ∙ ap Some (sym at)) (survives image here))
-    put.state ((put.commits (c.tend.ensures.call.honest.0 honest)).acknowledged s [] refl)
+    put.state ((put.commits (c.tend_on.ensures.call.honest.0 honest)).acknowledged s [] refl)
 
 pub returns-in_err-_tended-clause-calls : goal.returns-in_err-_tended-clause-calls
-returns-in_err-_tended-clause-calls g c = λ done given.
+returns-in_err-_tended-clause-calls g c =
+    let kept = g.K.Keeper.kept in
+    λ done given.
     (let V = g.D.Disk.view in
-    takes_step_alone (frame_len c.args.store.now.state done) c.args.store.now.file.places (V c.args.store.now.file.disk) (V c.tend.new.self.file.disk) c.tend.result c.from_residual.result _ c.from_residual.ensures.1 c.tend.ensures.call.takes)
+    takes_step_alone (frame_len (kept c.args.keeper.now).state done) (kept c.args.keeper.now).file.places (V (kept c.args.keeper.now).file.disk) (V (kept c.tend_on.new.self).file.disk) c.tend_on.result c.from_residual.result _ c.from_residual.ensures.1 c.tend_on.ensures.call.takes)
 
 pub returns-clause-calls : goal.returns-clause-calls
-returns-clause-calls g c = λ done given.
+returns-clause-calls g c =
+    let kept = g.K.Keeper.kept in
+    λ done given.
     (let V = g.D.Disk.view in
-    let old = c.args.store.now.state in
-    let put = c.put.ensures.put done (subst (λ (t : Plain AnyJob). AreKeptAs any_kind t done (map plain c.args.records.items)) (sym c.tend.ensures.state) given) in
-    takes_both _ (frame_len old done) c.args.store.now.file.places c.tend.new.self.file.places (V c.args.store.now.file.disk) (V c.tend.new.self.file.disk) (V c.put.new.store.file.disk) c.in_ok-_tended._tended c.put.result
-    (ap (λ (t : Plain AnyJob). frame_len t done) c.tend.ensures.state)
-    c.tend.ensures.tends.stays c.in_ok-_tended.ensures.tends.fewer c.in_ok-_tended.ensures.call.takes put.call.takes)
+    let old = (kept c.args.keeper.now).state in
+    let put = c.put.ensures.put done (subst (λ (t : Plain AnyJob). AreKeptAs any_kind t done (map plain c.args.records.items)) (sym c.tend_on.ensures.state) given) in
+    takes_both _ (frame_len old done) (kept c.args.keeper.now).file.places (kept c.tend_on.new.self).file.places (V (kept c.args.keeper.now).file.disk) (V (kept c.tend_on.new.self).file.disk) (V (kept c.put.new.keeper).file.disk) c.in_ok-_tended._tended c.put.result
+    (ap (λ (t : Plain AnyJob). frame_len t done) c.tend_on.ensures.state)
+    c.tend_on.ensures.tends.stays c.in_ok-_tended.ensures.tends.fewer c.in_ok-_tended.ensures.call.takes put.call.takes)
 
 pub returns-in_err-_tended-clause-call : goal.returns-in_err-_tended-clause-call
 returns-in_err-_tended-clause-call g c =
-    let call = c.tend.ensures.call in
-    record {
-      works = works_handed _ _ _ _ c.tend.result c.from_residual.result _ c.in_err-_tended.was c.from_residual.ensures.1 call.works;
-      follows = record { goes = record { later = call.takes.later; no_fewer = call.takes.no_fewer }; honest = call.honest };
-      roomy = λ is. call.roomy (fault_back _ c.tend.result c.from_residual.result NoRoom c.in_err-_tended.was c.from_residual.ensures.1 is);
-      same = on_err_so c.from_residual.result c.tend.ensures.state;
-      mark = if_ok_none _ _ c.from_residual.result c.from_residual.ensures.1;
-    }
+    commit_failed g.D.Disk.view _ _ _ _ _ c.tend_on.result c.from_residual.result _ c.in_err-_tended.was c.from_residual.ensures.1 c.tend_on.ensures.call c.tend_on.ensures.state
 
 pub returns-clause-call : goal.returns-clause-call
 returns-clause-call g c =
-    let V = g.D.Disk.view in
-    let a = V c.args.store.now.file.disk in
-    let b = V c.tend.new.self.file.disk in
-    let s = c.tend.new.self.state in
-    let tended = c.tend.ensures.call in
-    let keepable = subst (λ (u : Plain AnyJob). IsKeepable u (map plain c.args.records.items) c.args.renewal) (sym c.tend.ensures.state) c.requires.right in
-    let (done, is) = keepable_kept s (map plain c.args.records.items) c.args.renewal keepable in
+    let kept = g.K.Keeper.kept in
+    let keepable = subst (λ (u : Plain AnyJob). IsKeepable u (map plain c.args.records.items) c.args.renewal) (sym c.tend_on.ensures.state) c.requires.right in
+    let (done, is) = keepable_kept (kept c.tend_on.new.self).state (map plain c.args.records.items) c.args.renewal keepable in
     let put = c.put.ensures.put done is in
-    record {
-      works = works_later a b (V c.put.new.store.file.disk) c.args.store.now.file.broken c.tend.new.self.file.broken c.put.new.store.file.broken c.put.result
-          (was_whole a b _ _ c.tend.result _ c.in_ok-_tended.was tended.works) (c.in_ok-_tended.ensures.call.works.whole refl) tended.takes.no_fewer put.call.works;
-      follows = record {
-        goes = record { later = omega (arith, tended.takes.later, put.call.takes.later); no_fewer = omega (arith, tended.takes.no_fewer, put.call.takes.no_fewer) };
-        honest = (λ h. put.call.honest.0 (tended.honest.0 h), λ h. tended.honest.1 (put.call.honest.1 h));
-      };
-      roomy = put.call.roomy;
-      same = on_err_then c.put.result (λ same. same ∙ c.tend.ensures.state) put.same;
-      mark = put.mark;
-    }
+    commit_both g.D.Disk.view _ (kept c.tend_on.new.self) _ _ _ _ _ _ c.tend_on.result _ c.put.result c.in_ok-_tended.was c.tend_on.ensures.call put.call
+    (on_err_then c.put.result (λ same. same ∙ c.tend_on.ensures.state) put.same) put.mark

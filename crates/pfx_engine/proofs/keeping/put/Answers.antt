@@ -12,24 +12,26 @@ use Rattle.pfx_engine.specs.Renewing.{IsKeepable}
 use Rattle.pfx_engine.proofs.Keeps.{put_as}
 use Rattle.pfx_engine.proofs.keeping.put.Goals as goal
 
-pub append_reweigh-requires : goal.append_reweigh-requires
-append_reweigh-requires g c =
-    let s = c.args.store.now.state in
+pub keep_reweigh-requires : goal.keep_reweigh-requires
+keep_reweigh-requires g c =
+    let s = (g.K.Keeper.kept c.args.keeper.now).state in
     let batch = c.reweigh_of-batch.result in
     let records = map plain c.args.records.items in
     let (m, weights, are, new) = subst (λ r. IsKeepable s records r) c.in-Some.is c.requires.right in
-    let there = subst (λ (t : Plain AnyJob). AreKeptAs any_kind t (Reweigh m weights ∷ []) records) (sym c.state-in-Some.ensures) are in
-    let next = subst (λ (t : Plain AnyJob). IsRenewal any_kind t batch.workers batch.real batch.first (map plain batch.records.items) (new_set t.ledger.set m weights)) c.state-in-Some.ensures (c.reweigh_of-batch.ensures.next m weights there) in
+    let read : c.state-in-Some.result.now ≡ s = c.state-in-Some.ensures ∙ ap (λ k. k.state) c.stored-in-Some.ensures in
+    let there = subst (λ (t : Plain AnyJob). AreKeptAs any_kind t (Reweigh m weights ∷ []) records) (sym read) are in
+    let next = subst (λ (t : Plain AnyJob). IsRenewal any_kind t batch.workers batch.real batch.first (map plain batch.records.items) (new_set t.ledger.set m weights)) read (c.reweigh_of-batch.ensures.next m weights there) in
     record { next = subst (λ (set : FilledSet). IsRenewal any_kind s batch.workers batch.real batch.first (map plain batch.records.items) set) (sym new) next }
 
 pub returns-in-Some-clause-put : goal.returns-in-Some-clause-put
 returns-in-Some-clause-put g c G kept =
-    let old = c.args.store.now in
+    let old = g.K.Keeper.kept c.args.keeper.now in
     let batch = c.reweigh_of-batch.result in
     let records = map plain c.args.records.items in
     let (m, weights, are, new) = subst (λ r. IsKeepable old.state records r) c.in-Some.is c.requires.right in
-    let there = subst (λ (t : Plain AnyJob). AreKeptAs any_kind t (Reweigh m weights ∷ []) records) (sym c.state-in-Some.ensures) are in
-    let h : IsState old.state = subst (λ (t : Plain AnyJob). IsState t) c.state-in-Some.ensures c.reweigh_of-batch.ensures.state in
+    let read : c.state-in-Some.result.now ≡ old.state = c.state-in-Some.ensures ∙ ap (λ k. k.state) c.stored-in-Some.ensures in
+    let there = subst (λ (t : Plain AnyJob). AreKeptAs any_kind t (Reweigh m weights ∷ []) records) (sym read) are in
+    let h : IsState old.state = subst (λ (t : Plain AnyJob). IsState t) read c.reweigh_of-batch.ensures.state in
     let is : AreKeptAs any_kind old.state G (map plain batch.records.items) = rw c.reweigh_of-batch.ensures.records kept in
-    let next : batch.first ≡ old.state.number + 1 = (c.reweigh_of-batch.ensures.next m weights there).first ∙ ap (λ (t : Plain AnyJob). t.number + 1) c.state-in-Some.ensures in
-    put_as g.D.Disk.view old G c.append_reweigh.new.self c.append_reweigh.result batch.first (map plain batch.records.items) h is next c.append_reweigh.ensures.call c.append_reweigh.ensures.state c.append_reweigh.ensures.mark c.append_reweigh.ensures.commits
+    let next : batch.first ≡ old.state.number + 1 = (c.reweigh_of-batch.ensures.next m weights there).first ∙ ap (λ (t : Plain AnyJob). t.number + 1) read in
+    put_as g.D.Disk.view old G _ _ _ c.keep_reweigh.result batch.first (map plain batch.records.items) h is next c.keep_reweigh.ensures

@@ -1,4 +1,4 @@
-use Rattle.std.proofs.Common.{◌≡◌, ◌+◌, refl, [], ◌∷◌, map, false, Ok, None, Some, sym, ◌∙◌, ap, subst}
+use Rattle.std.proofs.Common.{◌≡◌, ◌+◌, refl, [], ◌∷◌, map, Ok, Err, None, Some, sym, ◌∙◌, ap, subst}
 use Rattle.std.proofs.lemmas.Bool.{true≢false}
 use Rattle.pfx_redo.specs.Recording.{record_of}
 use Rattle.pfx_kinds.specs.AnyKind.{any_kind}
@@ -20,44 +20,57 @@ use Rattle.pfx_engine.proofs.Serving.{endless_after, limits_refuse}
 use Rattle.pfx_engine.proofs.Stepping.{takes_as, takes_no_call}
 use Rattle.pfx_segment.specs.Segment.{Takes}
 use Rattle.std.specs.Prelude.{IsOk}
+use Rattle.pfx_engine.specs.Failing.{stopped_at}
+use Rattle.pfx_engine.proofs.Promising.{stops_failed, stops_failing, stops_ok}
 use Rattle.pfx_engine.proofs.durable.DurableEngine.execute.Goals as goal
 
-pub returns-then-is_broken-clause-commits : goal.returns-then-is_broken-clause-commits
-returns-then-is_broken-clause-commits g c = λ honest. record { keeps = λ start H h all at. keeps_more start H (c.args.command ∷ []) (g.D.Disk.view c.args.self.now.store.file.disk); acknowledged = tt }
+pub returns-in-Some-clause-commits : goal.returns-in-Some-clause-commits
+returns-in-Some-clause-commits g c =
+    let kept = g.K.Keeper.kept in
+    λ honest. record { keeps = λ start H h all at. keeps_more start H (c.args.command ∷ []) (g.D.Disk.view (kept c.args.self.now.keeper).file.disk); acknowledged = tt }
 
-pub returns-in_default-clause-commits : goal.returns-in_default-clause-commits
-returns-in_default-clause-commits g c = λ honest. record { keeps = λ start H h all at. keeps_more start H (c.args.command ∷ []) (g.D.Disk.view c.args.self.now.store.file.disk); acknowledged = tt }
+pub returns-in_default-with_capacity-clause-commits : goal.returns-in_default-with_capacity-clause-commits
+returns-in_default-with_capacity-clause-commits g c =
+    let kept = g.K.Keeper.kept in
+    λ honest. record { keeps = λ start H h all at. keeps_more start H (c.args.command ∷ []) (g.D.Disk.view (kept c.args.self.now.keeper).file.disk); acknowledged = tt }
 
 pub returns-in-Err-clause-commits : goal.returns-in-Err-clause-commits
-returns-in-Err-clause-commits g c = λ honest. record { keeps = λ start H h all at. keeps_more start H (c.args.command ∷ []) (g.D.Disk.view c.args.self.now.store.file.disk); acknowledged = tt }
+returns-in-Err-clause-commits g c =
+    let kept = g.K.Keeper.kept in
+    λ honest. record { keeps = λ start H h all at. keeps_more start H (c.args.command ∷ []) (g.D.Disk.view (kept c.args.self.now.keeper).file.disk); acknowledged = tt }
 
 pub returns-in-Err-2-clause-commits : goal.returns-in-Err-2-clause-commits
-returns-in-Err-2-clause-commits g c = λ honest. record { keeps = λ start H h all at. keeps_more start H (c.args.command ∷ []) (g.D.Disk.view c.args.self.now.store.file.disk); acknowledged = tt }
+returns-in-Err-2-clause-commits g c =
+    let kept = g.K.Keeper.kept in
+    λ honest. record { keeps = λ start H h all at. keeps_more start H (c.args.command ∷ []) (g.D.Disk.view (kept c.args.self.now.keeper).file.disk); acknowledged = tt }
 
 pub invariant_of-self-in-Ok-run_prepared : goal.invariant_of-self-in-Ok-run_prepared
-invariant_of-self-in-Ok-run_prepared g c = record {
-  same = λ whole.
-      let before = sym c.is_broken.ensures.broken ∙ c.if-is_broken.false in
-      let at = c.args.self.now.same before in
-      let done = c.in-Ok-run_prepared.ensures in
-      let mine : AreKeptAs any_kind c.args.self.now.store.state (c.args.command ∷ []) (map plain c.push_reserved.new.self.items) =
-      one_kept c.args.self.now.store.state c.args.command (map plain c.push_reserved.new.self.items) (subst (λ (t : Plain AnyJob). refusal any_kind t c.args.command ≡ None) at done.exact)
-      (rw (c.push_reserved.ensures.items, c.in-Ok.ensures.items) (ap (λ r. r ∷ []) (done.kept_as ∙ ap (λ (t : Plain AnyJob). record_of any_kind t c.args.command) at))) in
-      done.outcome c.args.self.now.state [] (sym (outcome-none any_kind c.args.self.now.state))
-      ∙ (ap (λ (t : Plain AnyJob). outcome any_kind t (c.args.command ∷ [])) at
-      ∙ sym (worked c.commit.result _ _ _ _ c.commit.ensures.call.works c.commit.ensures.call.roomy before whole (c.commit.ensures.state (c.args.command ∷ []) mine)));
-}
+invariant_of-self-in-Ok-run_prepared g c =
+    let kept = g.K.Keeper.kept in
+    record {
+      same = λ whole.
+          let before = sym c.in_default.ensures.answer in
+          let at = c.args.self.now.same before in
+          let done = c.in-Ok-run_prepared.ensures in
+          let mine : AreKeptAs any_kind (kept c.args.self.now.keeper).state (c.args.command ∷ []) (map plain c.push_reserved.new.self.items) =
+          one_kept (kept c.args.self.now.keeper).state c.args.command (map plain c.push_reserved.new.self.items) (subst (λ (t : Plain AnyJob). refusal any_kind t c.args.command ≡ None) at done.exact)
+          (rw (c.push_reserved.ensures.items, c.in-Ok.ensures.items) (ap (λ r. r ∷ []) (done.kept_as ∙ ap (λ (t : Plain AnyJob). record_of any_kind t c.args.command) at))) in
+          done.outcome c.args.self.now.state [] (sym (outcome-none any_kind c.args.self.now.state))
+          ∙ (ap (λ (t : Plain AnyJob). outcome any_kind t (c.args.command ∷ [])) at
+          ∙ sym (worked c.commit.result _ c.commit.ensures.call.fails whole (c.commit.ensures.state (c.args.command ∷ []) mine)));
+    }
 
 pub returns-in-Ok-commit-clause-commits : goal.returns-in-Ok-commit-clause-commits
-returns-in-Ok-commit-clause-commits g c = λ honest.
+returns-in-Ok-commit-clause-commits g c =
+    let kept = g.K.Keeper.kept in
+    λ honest.
     (let V = g.D.Disk.view in
-    let at = c.args.self.now.same (sym c.is_broken.ensures.broken ∙ c.if-is_broken.false) in
+    let at = c.args.self.now.same (sym c.in_default.ensures.answer) in
     let done = c.in-Ok-run_prepared.ensures in
-    let mine : AreKeptAs any_kind c.args.self.now.store.state (c.args.command ∷ []) (map plain c.push_reserved.new.self.items) =
-    one_kept c.args.self.now.store.state c.args.command (map plain c.push_reserved.new.self.items) (subst (λ (t : Plain AnyJob). refusal any_kind t c.args.command ≡ None) at done.exact)
+    let mine : AreKeptAs any_kind (kept c.args.self.now.keeper).state (c.args.command ∷ []) (map plain c.push_reserved.new.self.items) =
+    one_kept (kept c.args.self.now.keeper).state c.args.command (map plain c.push_reserved.new.self.items) (subst (λ (t : Plain AnyJob). refusal any_kind t c.args.command ≡ None) at done.exact)
     (rw (c.push_reserved.ensures.items, c.in-Ok.ensures.items) (ap (λ r. r ∷ []) (done.kept_as ∙ ap (λ (t : Plain AnyJob). record_of any_kind t c.args.command) at))) in
-    let new = c.commit.new.store in
-    let whole : new.file.broken ≡ false = c.in-Ok-commit.ensures.call.works.whole refl in
+    let new = kept c.commit.new.keeper in
     record {
       keeps = λ start H h all there. c.commit.ensures.keeps honest start H (c.args.command ∷ []) h all there mine;
       acknowledged = λ image here. c.in-Ok-commit.ensures.acknowledged honest image (subst (λ n. (V new.file.disk).since n image) c.in-Ok-commit.ensures.call.mark.1 here)
@@ -65,11 +78,13 @@ returns-in-Ok-commit-clause-commits g c = λ honest.
     })
 
 pub returns-clause-commits : goal.returns-clause-commits
-returns-clause-commits g c = λ honest.
-    (let at = c.args.self.now.same (sym c.is_broken.ensures.broken ∙ c.if-is_broken.false) in
+returns-clause-commits g c =
+    let kept = g.K.Keeper.kept in
+    λ honest.
+    (let at = c.args.self.now.same (sym c.in_default.ensures.answer) in
     let done = c.in-Ok-run_prepared.ensures in
-    let mine : AreKeptAs any_kind c.args.self.now.store.state (c.args.command ∷ []) (map plain c.push_reserved.new.self.items) =
-    one_kept c.args.self.now.store.state c.args.command (map plain c.push_reserved.new.self.items) (subst (λ (t : Plain AnyJob). refusal any_kind t c.args.command ≡ None) at done.exact)
+    let mine : AreKeptAs any_kind (kept c.args.self.now.keeper).state (c.args.command ∷ []) (map plain c.push_reserved.new.self.items) =
+    one_kept (kept c.args.self.now.keeper).state c.args.command (map plain c.push_reserved.new.self.items) (subst (λ (t : Plain AnyJob). refusal any_kind t c.args.command ≡ None) at done.exact)
     (rw (c.push_reserved.ensures.items, c.in-Ok.ensures.items) (ap (λ r. r ∷ []) (done.kept_as ∙ ap (λ (t : Plain AnyJob). record_of any_kind t c.args.command) at))) in
     record {
       keeps = λ start H h all there. c.commit.ensures.keeps honest start H (c.args.command ∷ []) h all there mine;
@@ -91,52 +106,63 @@ returns-in-Err-2-clause-serves g c = λ endless. (
   tt,
 )
 
-pub returns-then-is_broken-clause-calls : goal.returns-then-is_broken-clause-calls
-returns-then-is_broken-clause-calls g c = record { takes = takes_no_call (command_calls (frame_len c.args.self.now.state (c.args.command ∷ [])) c.args.self.now.store.file.places) (g.D.Disk.view c.args.self.now.store.file.disk) _; honest = (λ h. h, λ h. h) }
+pub returns-in-Some-clause-calls : goal.returns-in-Some-clause-calls
+returns-in-Some-clause-calls g c =
+    let kept = g.K.Keeper.kept in
+    record { takes = takes_no_call (command_calls (frame_len c.args.self.now.state (c.args.command ∷ [])) (kept c.args.self.now.keeper).file.places) (g.D.Disk.view (kept c.args.self.now.keeper).file.disk) _; honest = (λ h. h, λ h. h) }
 
-pub returns-in_default-clause-calls : goal.returns-in_default-clause-calls
-returns-in_default-clause-calls g c = record { takes = takes_no_call (command_calls (frame_len c.args.self.now.state (c.args.command ∷ [])) c.args.self.now.store.file.places) (g.D.Disk.view c.args.self.now.store.file.disk) _; honest = (λ h. h, λ h. h) }
+pub returns-in_default-with_capacity-clause-calls : goal.returns-in_default-with_capacity-clause-calls
+returns-in_default-with_capacity-clause-calls g c =
+    let kept = g.K.Keeper.kept in
+    record { takes = takes_no_call (command_calls (frame_len c.args.self.now.state (c.args.command ∷ [])) (kept c.args.self.now.keeper).file.places) (g.D.Disk.view (kept c.args.self.now.keeper).file.disk) _; honest = (λ h. h, λ h. h) }
 
 pub returns-in-Err-clause-calls : goal.returns-in-Err-clause-calls
-returns-in-Err-clause-calls g c = record { takes = takes_no_call (command_calls (frame_len c.args.self.now.state (c.args.command ∷ [])) c.args.self.now.store.file.places) (g.D.Disk.view c.args.self.now.store.file.disk) _; honest = (λ h. h, λ h. h) }
+returns-in-Err-clause-calls g c =
+    let kept = g.K.Keeper.kept in
+    record { takes = takes_no_call (command_calls (frame_len c.args.self.now.state (c.args.command ∷ [])) (kept c.args.self.now.keeper).file.places) (g.D.Disk.view (kept c.args.self.now.keeper).file.disk) _; honest = (λ h. h, λ h. h) }
 
 pub returns-in-Err-2-clause-calls : goal.returns-in-Err-2-clause-calls
-returns-in-Err-2-clause-calls g c = record { takes = takes_no_call (command_calls (frame_len c.args.self.now.state (c.args.command ∷ [])) c.args.self.now.store.file.places) (g.D.Disk.view c.args.self.now.store.file.disk) _; honest = (λ h. h, λ h. h) }
+returns-in-Err-2-clause-calls g c =
+    let kept = g.K.Keeper.kept in
+    record { takes = takes_no_call (command_calls (frame_len c.args.self.now.state (c.args.command ∷ [])) (kept c.args.self.now.keeper).file.places) (g.D.Disk.view (kept c.args.self.now.keeper).file.disk) _; honest = (λ h. h, λ h. h) }
 
 pub returns-in-Ok-commit-clause-calls : goal.returns-in-Ok-commit-clause-calls
 returns-in-Ok-commit-clause-calls g c =
+    let kept = g.K.Keeper.kept in
     let V = g.D.Disk.view in
-    let at = c.args.self.now.same (sym c.is_broken.ensures.broken ∙ c.if-is_broken.false) in
+    let at = c.args.self.now.same (sym c.in_default.ensures.answer) in
     let done = c.in-Ok-run_prepared.ensures in
-    let mine : AreKeptAs any_kind c.args.self.now.store.state (c.args.command ∷ []) (map plain c.push_reserved.new.self.items) =
-    one_kept c.args.self.now.store.state c.args.command (map plain c.push_reserved.new.self.items) (subst (λ (t : Plain AnyJob). refusal any_kind t c.args.command ≡ None) at done.exact)
+    let mine : AreKeptAs any_kind (kept c.args.self.now.keeper).state (c.args.command ∷ []) (map plain c.push_reserved.new.self.items) =
+    one_kept (kept c.args.self.now.keeper).state c.args.command (map plain c.push_reserved.new.self.items) (subst (λ (t : Plain AnyJob). refusal any_kind t c.args.command ≡ None) at done.exact)
     (rw (c.push_reserved.ensures.items, c.in-Ok.ensures.items) (ap (λ r. r ∷ []) (done.kept_as ∙ ap (λ (t : Plain AnyJob). record_of any_kind t c.args.command) at))) in
     record {
-      takes = takes_as (command_calls (frame_len c.args.self.now.state (c.args.command ∷ [])) c.args.self.now.store.file.places) (V c.args.self.now.store.file.disk) (V c.commit.new.store.file.disk) c.commit.result _ (λ _. subst (λ r. IsOk r) (sym c.in-Ok-commit.is) refl)
-          (subst (λ (t : Plain AnyJob). Takes (command_calls (frame_len t (c.args.command ∷ [])) c.args.self.now.store.file.places) (V c.args.self.now.store.file.disk) (V c.commit.new.store.file.disk) c.commit.result) (sym at) (c.commit.ensures.calls (c.args.command ∷ []) mine));
+      takes = takes_as (command_calls (frame_len c.args.self.now.state (c.args.command ∷ [])) (kept c.args.self.now.keeper).file.places) (V (kept c.args.self.now.keeper).file.disk) (V (kept c.commit.new.keeper).file.disk) c.commit.result _ (λ _. subst (λ r. IsOk r) (sym c.in-Ok-commit.is) refl)
+          (subst (λ (t : Plain AnyJob). Takes (command_calls (frame_len t (c.args.command ∷ [])) (kept c.args.self.now.keeper).file.places) (V (kept c.args.self.now.keeper).file.disk) (V (kept c.commit.new.keeper).file.disk) c.commit.result) (sym at) (c.commit.ensures.calls (c.args.command ∷ []) mine));
       honest = c.commit.ensures.call.follows.honest;
     }
 
 pub returns-clause-calls : goal.returns-clause-calls
 returns-clause-calls g c =
+    let kept = g.K.Keeper.kept in
     let V = g.D.Disk.view in
-    let at = c.args.self.now.same (sym c.is_broken.ensures.broken ∙ c.if-is_broken.false) in
+    let at = c.args.self.now.same (sym c.in_default.ensures.answer) in
     let done = c.in-Ok-run_prepared.ensures in
-    let mine : AreKeptAs any_kind c.args.self.now.store.state (c.args.command ∷ []) (map plain c.push_reserved.new.self.items) =
-    one_kept c.args.self.now.store.state c.args.command (map plain c.push_reserved.new.self.items) (subst (λ (t : Plain AnyJob). refusal any_kind t c.args.command ≡ None) at done.exact)
+    let mine : AreKeptAs any_kind (kept c.args.self.now.keeper).state (c.args.command ∷ []) (map plain c.push_reserved.new.self.items) =
+    one_kept (kept c.args.self.now.keeper).state c.args.command (map plain c.push_reserved.new.self.items) (subst (λ (t : Plain AnyJob). refusal any_kind t c.args.command ≡ None) at done.exact)
     (rw (c.push_reserved.ensures.items, c.in-Ok.ensures.items) (ap (λ r. r ∷ []) (done.kept_as ∙ ap (λ (t : Plain AnyJob). record_of any_kind t c.args.command) at))) in
     record {
-      takes = takes_as (command_calls (frame_len c.args.self.now.state (c.args.command ∷ [])) c.args.self.now.store.file.places) (V c.args.self.now.store.file.disk) (V c.commit.new.store.file.disk) c.commit.result _ (λ is. absurd (true≢false (sym is)))
-          (subst (λ (t : Plain AnyJob). Takes (command_calls (frame_len t (c.args.command ∷ [])) c.args.self.now.store.file.places) (V c.args.self.now.store.file.disk) (V c.commit.new.store.file.disk) c.commit.result) (sym at) (c.commit.ensures.calls (c.args.command ∷ []) mine));
+      takes = takes_as (command_calls (frame_len c.args.self.now.state (c.args.command ∷ [])) (kept c.args.self.now.keeper).file.places) (V (kept c.args.self.now.keeper).file.disk) (V (kept c.commit.new.keeper).file.disk) c.commit.result _ (λ is. absurd (true≢false (sym is)))
+          (subst (λ (t : Plain AnyJob). Takes (command_calls (frame_len t (c.args.command ∷ [])) (kept c.args.self.now.keeper).file.places) (V (kept c.args.self.now.keeper).file.disk) (V (kept c.commit.new.keeper).file.disk) c.commit.result) (sym at) (c.commit.ensures.calls (c.args.command ∷ []) mine));
       honest = c.commit.ensures.call.follows.honest;
     }
 
 pub commit-requires-clause-right : goal.commit-requires-clause-right
 commit-requires-clause-right g c =
-    let at = c.args.self.now.same (sym c.is_broken.ensures.broken ∙ c.if-is_broken.false) in
+    let kept = g.K.Keeper.kept in
+    let at = c.args.self.now.same (sym c.in_default.ensures.answer) in
     let done = c.in-Ok-run_prepared.ensures in
     let renewal = c.in-Ok-run_prepared.field-0.renewal in
-    keepable_one c.args.self.now.store.state c.args.command (map plain c.push_reserved.new.self.items) renewal (subst (λ (t : Plain AnyJob). IsRenewalFor t c.args.command renewal) at done.renews)
+    keepable_one (kept c.args.self.now.keeper).state c.args.command (map plain c.push_reserved.new.self.items) renewal (subst (λ (t : Plain AnyJob). IsRenewalFor t c.args.command renewal) at done.renews)
     (subst (λ (t : Plain AnyJob). refusal any_kind t c.args.command ≡ None) at done.exact)
     (rw (c.push_reserved.ensures.items, c.in-Ok.ensures.items) (ap (λ r. r ∷ []) (done.kept_as ∙ ap (λ (t : Plain AnyJob). record_of any_kind t c.args.command) at)))
 
@@ -147,15 +173,50 @@ returns-clause-doubt g c = λ whole.
 
 pub returns-in-Ok-commit-clause-done : goal.returns-in-Ok-commit-clause-done
 returns-in-Ok-commit-clause-done g c =
-    let at = c.args.self.now.same (sym c.is_broken.ensures.broken ∙ c.if-is_broken.false) in
+    let kept = g.K.Keeper.kept in
+    let at = c.args.self.now.same (sym c.in_default.ensures.answer) in
     let done = c.in-Ok-run_prepared.ensures in
-    let mine : AreKeptAs any_kind c.args.self.now.store.state (c.args.command ∷ []) (map plain c.push_reserved.new.self.items) =
-    one_kept c.args.self.now.store.state c.args.command (map plain c.push_reserved.new.self.items) (subst (λ (t : Plain AnyJob). refusal any_kind t c.args.command ≡ None) at done.exact)
+    let mine : AreKeptAs any_kind (kept c.args.self.now.keeper).state (c.args.command ∷ []) (map plain c.push_reserved.new.self.items) =
+    one_kept (kept c.args.self.now.keeper).state c.args.command (map plain c.push_reserved.new.self.items) (subst (λ (t : Plain AnyJob). refusal any_kind t c.args.command ≡ None) at done.exact)
     (rw (c.push_reserved.ensures.items, c.in-Ok.ensures.items) (ap (λ r. r ∷ []) (done.kept_as ∙ ap (λ (t : Plain AnyJob). record_of any_kind t c.args.command) at))) in
     record {
       number = c.in-Ok-commit.ensures.call.mark.0 ∙ ap (λ (t : Plain AnyJob). t.number) (c.in-Ok-commit.ensures.state (c.args.command ∷ []) mine) ∙ ap (λ (t : Plain AnyJob). t.number + 1) (sym at);
       clock_now = c.in-Ok-commit.ensures.call.mark.1;
       reply = rw done.exact (ap Ok (sym done.reply));
       state = done.outcome c.args.self.now.state [] (sym (outcome-none any_kind c.args.self.now.state));
-      whole = c.in-Ok-commit.ensures.call.works.whole refl;
+      whole = c.in-Ok-commit.ensures.call.whole.1;
     }
+
+pub returns-in-Some-clause-doubt : goal.returns-in-Some-clause-doubt
+returns-in-Some-clause-doubt g c = λ none. absurd (let e = c.in-Some.ensures.answer ∙ none in cc)
+
+pub returns-in-Some-clause-stops : goal.returns-in-Some-clause-stops
+returns-in-Some-clause-stops g c =
+    let kept = g.K.Keeper.kept in
+    let failed = g.K.Keeper.failed in
+    let old = c.args.self.now in
+    let was = failed old.keeper in
+    let n = (kept old.keeper).state.number in
+    stops_failed n was _ _ c.stopped.result c.in-Some.cause c.in-Some.ensures.answer c.stopped.ensures (sym c.in-Some.ensures.answer, λ none. absurd (let e = c.in-Some.ensures.answer ∙ none in cc)) (refl, refl)
+
+pub returns-in-Ok-commit-clause-stops : goal.returns-in-Ok-commit-clause-stops
+returns-in-Ok-commit-clause-stops g c =
+    let kept = g.K.Keeper.kept in
+    let failed = g.K.Keeper.failed in
+    let old = c.args.self.now in
+    let was = failed old.keeper in
+    let n = (kept old.keeper).state.number in
+    stops_ok n was _ _ _ c.in_default.ensures.answer
+
+pub returns-clause-stops : goal.returns-clause-stops
+returns-clause-stops g c =
+    let kept = g.K.Keeper.kept in
+    let failed = g.K.Keeper.failed in
+    let old = c.args.self.now in
+    let was = failed old.keeper in
+    let n = (kept old.keeper).state.number in
+    let call = c.commit.ensures.call in
+    let h = c.in-Err-commit.ensures.call in
+    stops_failing n was _ _ c.stopped-in-Err-commit.result c.in-Err-commit.cause c.in_default.ensures.answer
+    (c.stopped-in-Err-commit.ensures ∙ ap (λ (s : Plain AnyJob). stopped_at s.number c.in-Err-commit.cause) h.same)
+    (h.fails, λ none disk. h.device none (ap Err disk))

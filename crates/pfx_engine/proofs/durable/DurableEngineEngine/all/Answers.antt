@@ -11,13 +11,17 @@ use Rattle.pfx_machine.proofs.Compose.{outcome-none}
 use Rattle.pfx_program.specs.Sharing.{AreTold, accepted_of}
 use Rattle.pfx_record.specs.Records.{plain}
 use Rattle.pfx_engine.specs.Keeping.{KeepsFrom}
+use Rattle.pfx_engine.specs.Failing.{stopped_at}
 use Rattle.pfx_engine.specs.KeepingLaws.{keeps_none}
+use Rattle.pfx_engine.proofs.Keeps.{worked}
 use Rattle.pfx_engine.proofs.Promising.{keeps_all, keeps_some}
 use Rattle.pfx_engine.proofs.WindowLemmas.{accepted_few, no_records, records_long}
 use Rattle.pfx_engine.proofs.durable.DurableEngineEngine.all.Goals as goal
 
-pub returns-then-is_broken-clause-left : goal.returns-then-is_broken-clause-left
-returns-then-is_broken-clause-left g c =
+pub returns-in-Some-clause-left : goal.returns-in-Some-clause-left
+returns-in-Some-clause-left g c =
+    let kept = g.K.Keeper.kept in
+    let failed = g.K.Keeper.failed in
     let old = c.args.self.now in
     record {
       took = [];
@@ -26,11 +30,13 @@ returns-then-is_broken-clause-left g c =
       said = [];
       answered = tt;
       state = inl refl;
-      keeps = keeps_none (g.D.Disk.view old.store.file.disk) old.store.file.broken old.store.state;
+      keeps = keeps_none (g.D.Disk.view (kept old.keeper).file.disk) (failed old.keeper) (kept old.keeper).state;
     }
 
-pub returns-in_default-clause-left : goal.returns-in_default-clause-left
-returns-in_default-clause-left g c =
+pub returns-in_default-run_changes-clause-left : goal.returns-in_default-run_changes-clause-left
+returns-in_default-run_changes-clause-left g c =
+    let kept = g.K.Keeper.kept in
+    let failed = g.K.Keeper.failed in
     let old = c.args.self.now in
     record {
       took = [];
@@ -39,24 +45,26 @@ returns-in_default-clause-left g c =
       said = [];
       answered = tt;
       state = inl refl;
-      keeps = keeps_none (g.D.Disk.view old.store.file.disk) old.store.file.broken old.store.state;
+      keeps = keeps_none (g.D.Disk.view (kept old.keeper).file.disk) (failed old.keeper) (kept old.keeper).state;
     }
 
 pub returns-then-is_empty-clause-done : goal.returns-then-is_empty-clause-done
 returns-then-is_empty-clause-done g c =
+    let kept = g.K.Keeper.kept in
+    let failed = g.K.Keeper.failed in
     let V = g.D.Disk.view in
     let old = c.args.self.now in
-    let at = old.same (sym c.is_broken.ensures.broken ∙ c.if-is_broken.false) in
+    let at = old.same (sym c.in_default.ensures.answer) in
     let told = c.in-Ok.field-0.told.items in
     let G : List (Command AnyJob) = accepted_of c.args.commands.items told in
-    let mine : AreRecordsOf any_kind old.store.state G (map plain c.in-Ok.field-0.records.items) = subst (λ (s : Plain AnyJob). AreRecordsOf any_kind s G (map plain c.in-Ok.field-0.records.items)) at c.in-Ok.ensures.recorded in
+    let mine : AreRecordsOf any_kind (kept old.keeper).state G (map plain c.in-Ok.field-0.records.items) = subst (λ (s : Plain AnyJob). AreRecordsOf any_kind s G (map plain c.in-Ok.field-0.records.items)) at c.in-Ok.ensures.recorded in
     let none : length c.in-Ok.field-0.records.items ≡ 0 = search rules in
-    let empty : G ≡ [] = no_records old.store.state G (map plain c.in-Ok.field-0.records.items) mine (length-map c.in-Ok.field-0.records.items plain ∙ none) in
+    let empty : G ≡ [] = no_records (kept old.keeper).state G (map plain c.in-Ok.field-0.records.items) mine (length-map c.in-Ok.field-0.records.items plain ∙ none) in
     record {
       answered = subst (λ (s : Plain AnyJob). AreTold s c.args.commands.items told) at c.in-Ok.ensures.told;
-      state = sym (ap (outcome any_kind old.store.state) empty ∙ outcome-none any_kind old.store.state);
-      keeps = subst (λ (l : List (Command AnyJob)). KeepsFrom (V old.store.file.disk) old.store.file.broken old.store.state l (length l) (V old.store.file.disk) old.store.state) (sym empty)
-          (keeps_none (V old.store.file.disk) old.store.file.broken old.store.state);
+      state = sym (ap (outcome any_kind (kept old.keeper).state) empty ∙ outcome-none any_kind (kept old.keeper).state);
+      keeps = subst (λ (l : List (Command AnyJob)). KeepsFrom (V (kept old.keeper).file.disk) (failed old.keeper) (kept old.keeper).state l (length l) (V (kept old.keeper).file.disk) (kept old.keeper).state) (sym empty)
+          (keeps_none (V (kept old.keeper).file.disk) (failed old.keeper) (kept old.keeper).state);
       settled = search rules;
     }
 
@@ -70,32 +78,36 @@ commit-requires-clause-few g c =
 
 pub returns-in-Ok-commit-clause-done : goal.returns-in-Ok-commit-clause-done
 returns-in-Ok-commit-clause-done g c =
+    let kept = g.K.Keeper.kept in
+    let failed = g.K.Keeper.failed in
     let V = g.D.Disk.view in
     let old = c.args.self.now in
-    let at = old.same (sym c.is_broken.ensures.broken ∙ c.if-is_broken.false) in
+    let at = old.same (sym c.in_default.ensures.answer) in
     let told = c.in-Ok.field-0.told.items in
     let G : List (Command AnyJob) = accepted_of c.args.commands.items told in
-    let mine : AreRecordsOf any_kind old.store.state G (map plain c.in-Ok.field-0.records.items) = subst (λ (s : Plain AnyJob). AreRecordsOf any_kind s G (map plain c.in-Ok.field-0.records.items)) at c.in-Ok.ensures.recorded in
-    let moved : c.commit.new.store.state ≡ outcome any_kind old.store.state G = c.in-Ok-commit.ensures.state G (common_kept _ _ _ _ mine) in
+    let mine : AreRecordsOf any_kind (kept old.keeper).state G (map plain c.in-Ok.field-0.records.items) = subst (λ (s : Plain AnyJob). AreRecordsOf any_kind s G (map plain c.in-Ok.field-0.records.items)) at c.in-Ok.ensures.recorded in
+    let moved : (kept c.commit.new.keeper).state ≡ outcome any_kind (kept old.keeper).state G = c.in-Ok-commit.ensures.state G (common_kept _ _ _ _ mine) in
     record {
       answered = subst (λ (s : Plain AnyJob). AreTold s c.args.commands.items told) at c.in-Ok.ensures.told;
       state = moved;
-      keeps = keeps_all (V old.store.file.disk) (V c.commit.new.store.file.disk) old.store.file.broken old.store.state c.commit.new.store.state G mine.accepted moved c.in-Ok-commit.ensures.call.follows.honest.0
+      keeps = keeps_all (V (kept old.keeper).file.disk) (V (kept c.commit.new.keeper).file.disk) (failed old.keeper) (kept old.keeper).state (kept c.commit.new.keeper).state G mine.accepted moved c.in-Ok-commit.ensures.call.follows.honest.0
           c.in-Ok-commit.ensures.acknowledged;
       settled = search rules;
     }
 
 pub returns-in-Err-clause-left : goal.returns-in-Err-clause-left
 returns-in-Err-clause-left g c =
+    let kept = g.K.Keeper.kept in
+    let failed = g.K.Keeper.failed in
     let V = g.D.Disk.view in
     let old = c.args.self.now in
-    let at = old.same (sym c.is_broken.ensures.broken ∙ c.if-is_broken.false) in
+    let at = old.same (sym c.in_default.ensures.answer) in
     let told = c.in-Ok.field-0.told.items in
     let G : List (Command AnyJob) = accepted_of c.args.commands.items told in
-    let mine : AreRecordsOf any_kind old.store.state G (map plain c.in-Ok.field-0.records.items) = subst (λ (s : Plain AnyJob). AreRecordsOf any_kind s G (map plain c.in-Ok.field-0.records.items)) at c.in-Ok.ensures.recorded in
-    let long = records_long plain old.store.state G c.in-Ok.field-0.records.items mine in
+    let mine : AreRecordsOf any_kind (kept old.keeper).state G (map plain c.in-Ok.field-0.records.items) = subst (λ (s : Plain AnyJob). AreRecordsOf any_kind s G (map plain c.in-Ok.field-0.records.items)) at c.in-Ok.ensures.recorded in
+    let long = records_long plain (kept old.keeper).state G c.in-Ok.field-0.records.items mine in
     let some : 0 < length c.in-Ok.field-0.records.items = search rules in
-    let same : c.commit.new.store.state ≡ old.store.state = c.in-Err.ensures.call.same in
+    let same : (kept c.commit.new.keeper).state ≡ (kept old.keeper).state = c.in-Err.ensures.call.same in
     record {
       took = c.args.commands.items;
       rest = [];
@@ -103,7 +115,7 @@ returns-in-Err-clause-left g c =
       said = told;
       answered = subst (λ (s : Plain AnyJob). AreTold s c.args.commands.items told) at c.in-Ok.ensures.told;
       state = inl same;
-      keeps = keeps_some (V old.store.file.disk) (V c.commit.new.store.file.disk) old.store.file.broken old.store.state c.commit.new.store.state G (subst IsState at c.number-number.ensures.state) mine.accepted
+      keeps = keeps_some (V (kept old.keeper).file.disk) (V (kept c.commit.new.keeper).file.disk) (failed old.keeper) (kept old.keeper).state (kept c.commit.new.keeper).state G (subst IsState at c.number-number.ensures.state) mine.accepted
           (omega (arith, some, long)) c.in-Err.ensures.call.follows.goes.later c.in-Err.ensures.call.follows.honest.0 (λ honest start H h all there. c.in-Err.ensures.keeps honest start H G h all there (common_kept _ _ _ _ mine));
     }
 
@@ -115,4 +127,24 @@ invariant_of-self-then-is_empty g c = record {
       let none : length c.in-Ok.field-0.records.items ≡ 0 = search rules in
       let empty : G ≡ [] = no_records old.state G (map plain c.in-Ok.field-0.records.items) c.in-Ok.ensures.recorded (length-map c.in-Ok.field-0.records.items plain ∙ none) in
       c.in-Ok.ensures.moves ∙ ap (outcome any_kind old.state) empty ∙ outcome-none any_kind old.state ∙ old.same whole;
+}
+
+pub returns-in-Some-clause-fails : goal.returns-in-Some-clause-fails
+returns-in-Some-clause-fails g c = rw c.stopped.ensures (c.in-Some.cause, (c.args.self.now.keeper, sym c.in-Some.ensures.answer), refl)
+
+pub returns-in-Err-clause-fails : goal.returns-in-Err-clause-fails
+returns-in-Err-clause-fails g c =
+    rw c.stopped-in-Err.ensures (c.in-Err.cause, (c.commit.new.keeper, c.in-Err.ensures.call.fails), ap (λ (s : Plain AnyJob). stopped_at s.number c.in-Err.cause) c.in-Err.ensures.call.same)
+
+pub invariant_of-self-2 : goal.invariant_of-self-2
+invariant_of-self-2 g c = record {
+  same = λ whole.
+      let kept = g.K.Keeper.kept in
+      let old = c.args.self.now in
+      let at = old.same (sym c.in_default.ensures.answer) in
+      let ran = c.in-Ok.ensures in
+      let G : List (Command AnyJob) = accepted_of c.args.commands.items c.in-Ok.field-0.told.items in
+      let mine : AreRecordsOf any_kind (kept old.keeper).state G (map plain c.in-Ok.field-0.records.items) = subst (λ (s : Plain AnyJob). AreRecordsOf any_kind s G (map plain c.in-Ok.field-0.records.items)) at ran.recorded in
+      ran.moves ∙ (ap (λ (s : Plain AnyJob). outcome any_kind s G) at
+      ∙ sym (worked c.commit.result _ c.commit.ensures.call.fails whole (c.commit.ensures.state G (common_kept _ _ _ _ mine))));
 }
