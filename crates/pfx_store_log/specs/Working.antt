@@ -100,3 +100,12 @@ pub record KeepsLogged {D L J T E : Type 0} {d : DiskGhosts D} {l : DiskGhosts L
     (old new : LoggedStore D L J d l k) (result : Result T E) : Type 0 where
   pub logged : OnOk result ((log : Log) × IsLogged K start all log new)
   pub covered : Covers K start all n old new
+
+-- A call that brings the log up, on its disk alone, and then keeps a frame, on the store's disk alone: at each moment of the one, and of the other, all
+-- these frames were covered. If it isn't brought up nothing more is done.
+pub record KeepsBoth {D L J T E : Type 0} {d : DiskGhosts D} {l : DiskGhosts L} {k : JobGhosts J} (K : Kind J) (start : Plain J) (all more : List (List ℕ))
+    (old new : LoggedStore D L J d l k) (result : Result T E) : Type 0 where
+  pub middle : LoggedStore D L J d l k
+  pub log_alone : middle.store ≡ old.store
+  pub brought_up : Covers K start all (length all) old middle
+  pub kept : (OnOk result ⊥ × (new ≡ middle)) ⊎ ((new.log ≡ middle.log) × KeepsLogged K start more (length all) middle new result)

@@ -1,10 +1,15 @@
 // A store beside its log is a keeper.
-ghost use Rattle.std.specs.Prelude.{◌≡◌, ◌⊎◌, ℕ, List, length, None, Some, OnOk, IfErr};
+ghost use Rattle.std.specs.Prelude.{◌≡◌, ◌⊎◌, ◌++◌, ◌∷◌, [], ℕ, List, length, map, None, Some, OnOk, IfErr};
 ghost use Rattle.pfx_fault.specs.declared.parts.Cause.TheVariants.{Log as LogCause};
 ghost use Rattle.pfx_log.specs.Logs.{Log};
 ghost use Rattle.pfx_machine.specs.Plain.{Plain};
+ghost use Rattle.pfx_machine.specs.declared.command.Command.{Command};
 ghost use Rattle.pfx_record.specs.Batches.{batch_bytes, batch_of};
-ghost use Rattle.pfx_store_log.specs.Working.{IsLogged, IsReady, KeepsLogged, failure_beside};
+ghost use Rattle.pfx_record.specs.Records.{plain};
+ghost use Rattle.pfx_store.specs.Groups.{frame_of};
+ghost use Rattle.pfx_store.specs.Keepers.{Keeps, KeepsTending};
+ghost use Rattle.pfx_store.specs.Working.{IsNext, IsRenewal};
+ghost use Rattle.pfx_store_log.specs.Working.{IsBatchOf, IsLogged, IsReady, KeepsBoth, KeepsLogged, failure_beside};
 
 use crate::beside::LoggedStore;
 use pfx_disk::Disk;
@@ -66,7 +71,17 @@ impl<D: Disk, L: Disk, J: Job> Keeper<D, J> for LoggedStore<D, L, J> {
     }
 
     /// Keeps a batch. Where its frame has no room the log is brought up first, and then the store turns.
-    fn keep(&mut self, batch: &Batch<J>) -> Result<Mark, Cause> {
+    fn keep(&mut self, batch: &Batch<J>) -> Result<Mark, Cause>
+        requires next { IsNext J.kind self.old.store.state batch.now.workers batch.now.real batch.now.first
+            (map plain batch.now.records.items) }
+        ensures kept { Keeps D.view J.kind (map plain batch.now.records.items) (batch_bytes J.kind (batch_of batch.now.first batch.now.records.items))
+            self.old.store self.new.store (failure_beside self.old) (failure_beside self.new) result }
+        // At each moment of both what a stop may leave of the log and of the file has every frame, without a gap.
+        ensures beside { (start : Plain J) → (all : List (List ℕ)) → (held : Log) → (H : List (Command J))
+            → IsBatchOf J.kind self.old.store.state H (batch_of batch.now.first batch.now.records.items)
+            → IsLogged J.kind start all held self.old
+            → KeepsBoth J.kind start all (all ++ frame_of J.kind self.old.store.state H ∷ []) self.old self.new result }
+    {
         match self.make_ready(batch) {
             Err(cause) => Err(cause),
             Ok(()) => match self.append(batch) {
@@ -76,7 +91,18 @@ impl<D: Disk, L: Disk, J: Job> Keeper<D, J> for LoggedStore<D, L, J> {
         }
     }
 
-    fn keep_reweigh(&mut self, batch: &Batch<J>, renewal: Renewal) -> Result<Mark, Cause> {
+    /// Keeps the record of new weights, as `keep` keeps a batch.
+    fn keep_reweigh(&mut self, batch: &Batch<J>, renewal: Renewal) -> Result<Mark, Cause>
+        requires next { IsRenewal J.kind self.old.store.state batch.now.workers batch.now.real batch.now.first
+            (map plain batch.now.records.items) renewal }
+        ensures kept { Keeps D.view J.kind (map plain batch.now.records.items) (batch_bytes J.kind (batch_of batch.now.first batch.now.records.items))
+            self.old.store self.new.store (failure_beside self.old) (failure_beside self.new) result }
+        // At each moment of both what a stop may leave of the log and of the file has every frame, without a gap.
+        ensures beside { (start : Plain J) → (all : List (List ℕ)) → (held : Log) → (H : List (Command J))
+            → IsBatchOf J.kind self.old.store.state H (batch_of batch.now.first batch.now.records.items)
+            → IsLogged J.kind start all held self.old
+            → KeepsBoth J.kind start all (all ++ frame_of J.kind self.old.store.state H ∷ []) self.old self.new result }
+    {
         match self.make_ready(batch) {
             Err(cause) => Err(cause),
             Ok(()) => match self.append_reweigh(batch, renewal) {
@@ -86,7 +112,12 @@ impl<D: Disk, L: Disk, J: Job> Keeper<D, J> for LoggedStore<D, L, J> {
         }
     }
 
-    fn tend_on(&mut self) -> Result<Tended, Cause> {
+    /// Takes one step of the checkpoint in progress, if there is one. Nothing is asked of the log.
+    fn tend_on(&mut self) -> Result<Tended, Cause>
+        ensures kept { KeepsTending D.view J.kind self.old.store self.new.store (failure_beside self.old) (failure_beside self.new) result }
+        ensures beside { (start : Plain J) → (all : List (List ℕ)) → (held : Log) → IsLogged J.kind start all held self.old
+            → KeepsLogged J.kind start all (length all) self.old self.new result }
+    {
         if let Some(cause) = what_failed(self) {
             return Err(cause);
         }
