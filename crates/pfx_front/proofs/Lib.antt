@@ -5,6 +5,6 @@ mod Ends
 mod Looking
 mod Losses
 mod Lasting
-mod Telling
+pub mod Telling
 mod Refuted
 mod RefutedEnds

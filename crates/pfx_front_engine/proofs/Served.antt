@@ -11,6 +11,8 @@ use Rattle.pfx_book.specs.Notes.{Noted, alone, commands_of}
 use Rattle.pfx_book.specs.Register.{Register}
 use Rattle.pfx_book.specs.declared.note.Note.{Note}
 use Rattle.pfx_book.specs.declared.note.Note.TheVariants.{Receipt}
+use Rattle.pfx_chronicle.specs.Chart.{GoesAlong, charted, charted_honest}
+use Rattle.pfx_chronicle.specs.declared.made.Made.{Made}
 use Rattle.pfx_disk.specs.Disk.{View, IsHonest}
 use Rattle.pfx_engine.proofs.EndingLemmas.{begun, known_rest, nothing_more}
 use Rattle.pfx_engine.proofs.Keeps.{survives_more}
@@ -21,6 +23,7 @@ use Rattle.pfx_fault.specs.declared.refusals.Fault.TheVariants as fault
 use Rattle.pfx_format.specs.Format.{format}
 use Rattle.pfx_front.specs.Closing.{IsHeld, IsSession, Survives}
 use Rattle.pfx_front.specs.Sole.{state_of}
+use Rattle.pfx_front.specs.Starting.{IsFresh}
 use Rattle.pfx_store.proofs.Grouping.{joined_alone, length-alone}
 use Rattle.pfx_kinds.specs.AnyKind.{any_kind}
 use Rattle.pfx_kinds.specs.declared.any.AnyJob.{AnyJob}
@@ -208,3 +211,27 @@ unserved form at_refusal B disk lines failed was f why images = record {
     by : (f ≡ fault.NoThread) ⊎ (f ≡ fault.NoMemory) → Ends_so f
     by (inl is) = subst Ends_so (sym is) (refl, nothing_more was)
     by (inr is) = subst Ends_so (sym is) (tt, nothing_more was)
+
+-- what a stop leaves of a disk on which nothing was done yet
+pub fresh_images : (start s : Plain AnyJob) (failed now : ℕ) (broken : Bool) (disk : View) → IsFresh any_kind start failed now broken s disk
+    → IsHonest disk → (image : List ℕ) → disk.now image → recovered (format any_kind) image ≡ Ok start
+fresh_images start s failed now broken disk fresh honest image here =
+    fresh.images honest image (honest.counted disk.clock image (omega arith) here) ∙ ap Ok fresh.state
+
+-- a run on a disk that told its calls was one on the disk itself
+pub told_run : (held : Type 0) (image : List ℕ) (first before : ℕ) (made : List Made) (late : ℕ) (failed : Bool) (disk : View)
+    → GoesAlong held image first before made late failed disk → (form : Form) (at_refusal : AtRefusal) (B : Plain AnyJob) (lines : Records) (stopped : Bool)
+    (was is : Option (List ℕ)) (result : Result Report Fault)
+    → IsServedRun form at_refusal B lines stopped was is (charted held image first before made late failed) result
+    → IsServedRun form at_refusal B lines stopped was is disk result
+told_run held image first before made late failed disk along form at_refusal B lines stopped was is result h = record {
+  records = h.records;
+  known = h.known;
+  printed = h.printed;
+  rest = h.rest;
+  course = h.course;
+  ends = h.ends;
+  kept = λ honest left here.
+      let follows = along.follows honest in
+      h.kept (charted_honest held image first before made late failed follows.premise) left (follows.premise, follows.images left here);
+}

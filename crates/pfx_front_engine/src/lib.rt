@@ -8,10 +8,12 @@
 //! - `client`: the only client of a front, and how far it has come.
 //! - `asking`: a command of the only client, and why it has no answer.
 //! - `engine`: the engine.
-//! - `scripts`: running a script.
+//! - `kept`: running a script over what keeps a store.
+//! - `scripts`: running a script over a store.
 #![tactic(auto)]
 
 mod asking;
 mod client;
 pub mod engine;
+pub mod kept;
 pub mod scripts;

@@ -1,22 +1,19 @@
 //! Running a script over a front.
-ghost use Rattle.std.specs.Prelude.{◌≡◌, ◌⊎◌, ◌<◌, ◌≤◌};
+ghost use Rattle.std.specs.Prelude.{◌≡◌, ◌<◌, ◌≤◌};
 ghost use Rattle.pfx_front.specs.Starting.{Begins};
 ghost use Rattle.pfx_kinds.specs.AnyKind.{any_kind};
 ghost use Rattle.pfx_front_engine.specs.Running.{IsServedRun};
 
-use crate::client::Client;
-use crate::engine::FrontEngine;
+use crate::kept::{Kept, serve_kept};
+use pfx_chronicle::chronicle::Chronicle;
 use pfx_chronicle::name::Charted;
 use pfx_crew::desk::Desk;
 use pfx_disk::Disk;
 use pfx_fault::Fault;
-use pfx_front::calls::Front;
-use pfx_front::closing::Given;
-use pfx_front::faults::StartFault;
 use pfx_front::name::{Names, Since};
 use pfx_jobs::quantum::{Done, Quantum};
 use pfx_kinds::any::AnyJob;
-use pfx_program::{AtRefusal, Form, Report, run_script};
+use pfx_program::{AtRefusal, Form, Report};
 use pfx_script::Script;
 use pfx_store::Store;
 use std::alloc::Global;
@@ -33,24 +30,6 @@ pub struct Served<D: Disk> {
     pub store: Store<D, AnyJob>,
     /// What the run answered.
     pub result: Result<Report, Fault>,
-}
-
-/// Why a front doesn't start, as a run's fault.
-fn start_fault(fault: StartFault) -> Fault
-    ensures { (result ≡ Fault.NoThread) ⊎ (result ≡ Fault.NoMemory) }
-{
-    match fault {
-        StartFault::NoThread => Fault::NoThread,
-        StartFault::NoMemory => Fault::NoMemory,
-    }
-}
-
-/// Never returns.
-fn never<D: Disk, R: Wait>(rt: &R) -> Served<D>
-    ensures { ⊥ }
-{
-    for _ in rt.forever() {}
-    unreachable!()
 }
 
 /// Runs a script through a front of this name, which is started for it and ended after it.
@@ -85,46 +64,16 @@ where
     ensures { IsServedRun form at_refusal B.start script.old script.new.failed (W.contents output.old) (W.contents output.new)
         (D.view result.store.file.disk) result.result }
 {
-    let number = store.state().number();
-    let _broken = store.is_broken();
-    let Ok(mut passes) = Vec::with_capacity(alloc, 1) else {
-        return Served {
-            store,
-            result: Err(Fault::NoMemory),
-        };
-    };
-    match Front::<AnyJob, B, K>::start::<D, R>(rt, alloc, names, store, desk, workers, 1) {
-        Err((fault, store)) => Served {
-            store,
-            result: Err(start_fault(fault)),
-        },
-        Ok((front, crew, readers)) => {
-            if let Some(pass) = front.pass(&rt) {
-                let client = Client::new(pass, number);
-                let mut engine = FrontEngine { rt, front, client };
-                let result = run_script(
-                    alloc,
-                    script,
-                    window,
-                    group,
-                    at_refusal,
-                    form,
-                    output,
-                    &mut engine,
-                );
-                let FrontEngine { front, client, .. } = engine;
-                passes.push_reserved(client.into_pass());
-                if let Ok(closed) = front.close(&rt, crew, Given { passes, readers }) {
-                    return Served {
-                        store: closed.store,
-                        result,
-                    };
-                }
-            }
-
-            // A new front gives its first pass out, and ends with it.
-            never(&rt)
-        }
+    let (lists, calls) = names.split();
+    let noted = store.noted::<B>(calls);
+    let _broken = noted.is_broken();
+    let ran = serve_kept::<I, W, Chronicle<D, B>, B, Store<Chronicle<D, B>, AnyJob>, K, R>(
+        rt, alloc, lists, noted, desk, workers, script, window, group, at_refusal, form, output,
+    );
+    let Kept { keeper, result, .. } = ran;
+    Served {
+        store: keeper.told(),
+        result,
     }
 }
 
