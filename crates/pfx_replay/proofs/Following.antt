@@ -29,24 +29,24 @@ use Rattle.pfx_replay.proofs.Sessions as sessions
 module _ {J : Type 0} (K : Kind J) (L : Laws K) (unit : J → Option Unit) where
   -- what is known of one record at a state
   module _ (s : machine.Plain J) (one : Recorded J) (is_accepted : refusal K s (command_of one) ≡ None) (is_recorded : one ≡ record_of K s (command_of one)) (follows : is_next unit s one ≡ true) where
-    abbrev next : machine.Plain J
+    abbrev pub next : machine.Plain J
     next = outcome K s (command_of one ∷ [])
 
     next-cons : (records : List (Recorded J)) → AreNext K unit next records → AreNext K unit s (one ∷ records)
     unfolding AreNext
     next-cons records h = (follows, h)
 
-    follow-cons : (records : List (Recorded J)) → Follow K unit next records → Follow K unit s (one ∷ records)
+    pub follow-cons : (records : List (Recorded J)) → Follow K unit next records → Follow K unit s (one ∷ records)
     follow-cons records h = record {
       acceptable = sessions.acceptable-cons K L s (command_of one) (commands_of records) is_accepted h.acceptable;
       recorded = ap₂ (λ x xs. x ∷ xs) is_recorded h.recorded;
       next = next-cons records h.next;
     }
 
-    outcome-cons : (H : List (Command J)) → outcome K next H ≡ outcome K s (command_of one ∷ H)
+    pub outcome-cons : (H : List (Command J)) → outcome K next H ≡ outcome K s (command_of one ∷ H)
     outcome-cons H = outcome-outcome K L s (command_of one ∷ []) H
 
-    number-next : next.number ≡ s.number + 1
+    pub number-next : next.number ≡ s.number + 1
     number-next = ap (λ (t : machine.Plain J). t.number) (outcome-one K L s (command_of one))
 
     first-cons : (what : Difference) (records : List (Recorded J)) (n : ℕ) → IsFirst K unit what next records n → IsFirst K unit what s (one ∷ records) n
@@ -71,7 +71,7 @@ module _ {J : Type 0} (K : Kind J) (L : Laws K) (unit : J → Option Unit) where
   unfolding AreNext
   next-none s = tt
 
-  follow-none : (s : machine.Plain J) → Follow K unit s []
+  pub follow-none : (s : machine.Plain J) → Follow K unit s []
   follow-none s = record { acceptable = tt; recorded = refl; next = next-none s }
 
   pub gives-none : (s : machine.Plain J) (t : PlainState J) → plain_of t ≡ s → GivesAll K unit s [] (Agrees t)

@@ -51,9 +51,9 @@ fn add_segment<J: Job>(
     }
 }
 
-// The frames of the segment that frames go to, and before them those of the other, if it was read first. `None` comes if a frame
-// doesn't fit.
-fn file_frames<J: Job>(
+/// The frames of the segment that frames go to, and before them those of the other, if it was read first. `None` comes if a frame
+/// doesn't fit.
+pub fn file_frames<J: Job>(
     alloc: Global,
     header: &FileHeader,
     image: &[u8],
@@ -80,8 +80,8 @@ fn file_frames<J: Job>(
     Ok(Some(all))
 }
 
-// Takes over records, each of which is right after those before it. If one isn't, the answer is `false`.
-fn apply_all<J: Job>(
+/// Takes over records, each of which is right after those before it. If one isn't, the answer is `false`.
+pub fn apply_all<J: Job>(
     alloc: Global,
     state: &mut State<J>,
     records: &[Record<J>],

@@ -71,8 +71,8 @@ fn are_sets(one: &PlainLedger, other: &PlainLedger) -> bool
     are_weights(&one.weights, &other.weights)
 }
 
-// Whether two states are the same.
-fn are_states<J: Job>(one: &PlainState<J>, other: &PlainState<J>) -> bool
+/// Whether two states are the same.
+pub fn are_states<J: Job>(one: &PlainState<J>, other: &PlainState<J>) -> bool
     ensures { IsTrue result ↔ (plain_of one.now ≡ plain_of other.now) }
 {
     if !are_sets(&one.ledger, &other.ledger) {

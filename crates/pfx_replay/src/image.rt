@@ -33,7 +33,7 @@ fn copy_of(alloc: Global, image: &[u8], at: usize, len: usize) -> Result<Vec<u8>
 
 /// The frames from this gate on, each with its gate, up to the first closed gate, or `None` if one doesn't end before
 /// the end.
-pub(crate) fn frames_in(
+pub fn frames_in(
     alloc: Global,
     image: &[u8],
     first: usize,
@@ -61,7 +61,7 @@ pub(crate) fn frames_in(
 }
 
 /// The state in the body of a checkpoint area at this place, or `None` if it holds none.
-pub(crate) fn state_in<F: Format>(
+pub fn state_in<F: Format>(
     alloc: Global,
     header: &F::Header,
     image: &[u8],

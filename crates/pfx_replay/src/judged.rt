@@ -4,7 +4,7 @@ use crate::verdict::Difference;
 
 /// The state after records that are what their commands do, or the first that isn't.
 #[derive(Drop)]
-pub(crate) enum Judged<J> {
+pub enum Judged<J> {
     /// All are, and this is the state after them.
     Agrees(PlainState<J>),
     /// The one of this number isn't.

@@ -171,8 +171,9 @@ fn is_next<J: Job + Units>(state: &PlainState<J>, task: u16, job: &J) -> bool
     }
 }
 
-// One record.
-fn judge_one<J: Job + Units>(
+/// The verdict on one record at a state, at which it is right: the state after it, or what differs. An error comes only if an allocation
+/// failed.
+pub fn judge_one<J: Job + Units>(
     alloc: Global,
     state: PlainState<J>,
     entry: &Record<J>,

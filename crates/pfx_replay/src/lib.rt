@@ -11,7 +11,7 @@
 //! The state is kept as plain numbers, one task after the other. PF's row is found by counting who goes before whom, by symbols
 //! that are worked out anew: no code of the chooser, the lanes or the machine runs here, so an error there doesn't hide itself.
 //!
-//! `plain_state` is that fold over commands alone.
+//! `plain_state` is that fold over commands alone. Its parts, as `judge_one`, the verdict on one record, serve other readers of records too.
 #![tactic(auto)]
 
 mod file;
@@ -30,8 +30,15 @@ mod symbols;
 mod verdict;
 mod way;
 
+pub use file::{apply_all, file_frames};
 pub use folding::plain_state;
+pub use history::are_states;
+pub use image::{frames_in, state_in};
 pub use jobs::PlainState;
+pub use judged::Judged;
+pub use judging::judge_one;
 pub use numbers::PlainLedger;
-pub use replaying::replay;
+pub use records::records_behind;
+pub use replaying::{read_image, replay};
 pub use verdict::{Difference, Verdict, put_verdict, verdict_object};
+pub use way::lead;

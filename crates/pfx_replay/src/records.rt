@@ -36,7 +36,7 @@ fn records_of<J: Job>(
 
 /// The records of frames behind a state, each frame read by the set that is in force where it comes, up to one that isn't right
 /// there. An error comes only if an allocation failed.
-pub(crate) fn records_behind<J: Job>(
+pub fn records_behind<J: Job>(
     alloc: Global,
     state: &State<J>,
     frames: &[Vec<u8>],

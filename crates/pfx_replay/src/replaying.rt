@@ -18,8 +18,8 @@ use pfx_recover::{OpenFault, Opened, Refusal, open};
 use pfx_store::FileFormat;
 use std::alloc::Global;
 
-// All bytes of a disk, of which there are so many.
-fn read_image<D: Disk>(alloc: Global, disk: &mut D, len: usize) -> Result<Vec<u8>, OpenFault>
+/// All bytes of a disk, of which there are so many.
+pub fn read_image<D: Disk>(alloc: Global, disk: &mut D, len: usize) -> Result<Vec<u8>, OpenFault>
     requires inside { Reaches len (D.view disk.old) }
     ensures looks { Looks (D.view disk.old) (D.view disk.new) }
     ensures device { IsErrOf result OpenFault.Device → HasFailed (D.view disk.old) (D.view disk.new) }

@@ -38,7 +38,7 @@ fn step_all<J: Job>(jobs: &mut Vec<Option<J>>, row: &[u16])
 
 impl<J: Job> PlainState<J> {
     /// The numbers of a state.
-    pub(crate) fn of(alloc: Global, state: &State<J>) -> Result<PlainState<J>, AllocError>
+    pub fn of(alloc: Global, state: &State<J>) -> Result<PlainState<J>, AllocError>
         ensures { IfOk result (λ s. plain_of s ≡ state.now) }
     {
         Ok(PlainState {

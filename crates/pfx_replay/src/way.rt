@@ -11,8 +11,8 @@ use pfx_disk::GATE_OPEN;
 use pfx_recover::Format;
 use std::alloc::{AllocError, Global};
 
-// The state that frames lead to, or `None` where one isn't right at the state that it comes to.
-fn lead<F: Format>(
+/// The state that frames lead to, or `None` where one isn't right at the state that it comes to.
+pub fn lead<F: Format>(
     alloc: Global,
     state: F::State,
     frames: &[Vec<u8>],
