@@ -1,0 +1,13 @@
+pub mod Audits
+pub mod Behind
+pub mod Blocks
+pub mod Files
+pub mod Finding
+pub mod Folds
+pub mod Heads
+pub mod Histories
+pub mod Logs
+pub mod Marks
+pub mod Reads
+pub mod Starts
+pub mod Watches
