@@ -1,0 +1,9 @@
+pub mod Adding
+pub mod Choices
+pub mod Figures
+pub mod Kept
+pub mod Laws
+pub mod Lines
+pub mod Slots
+pub mod States
+pub mod Windows
