@@ -5,8 +5,9 @@ use Rattle.clap.specs.Takes.{takes}
 use Rattle.clap.specs.Faults.{fault_of}
 use Rattle.clap.specs.declared.error.kind.ErrorKind.TheVariants as kind
 use Rattle.clap.proofs.OnLiterals.{clap_on_literals}
+use Rattle.pfx_args.specs.declared.request.AuditForm.TheVariants as form
 use Rattle.pfx_args.specs.Commands.{pfx_app}
-use Rattle.pfx_args.specs.Requests.{plan, init, migrate, run, status, replay, show, asked}
+use Rattle.pfx_args.specs.Requests.{plan, init, migrate, run, status, replay, show, audit, head, asked}
 
 -- `pfx` and these words
 abbrev pfx : List Text → List Text
@@ -94,7 +95,7 @@ takes_a_store_of_this_version = refl
 abbrev run_script : List Text
 run_script = pfx (codes "run" ∷ codes "a.pfx" ∷ codes "a.csv" ∷ [])
 
-pub asks_for_a_run : asked run_script ≡ Some (run (codes "a.pfx") (codes "a.csv") None None false false)
+pub asks_for_a_run : asked run_script ≡ Some (run (codes "a.pfx") (codes "a.csv") None None None None false false)
 unfolding clap_on_literals asked
 asks_for_a_run = refl
 
@@ -106,7 +107,7 @@ takes_a_run = refl
 abbrev run_by_none : List Text
 run_by_none = pfx (codes "run" ∷ codes "a.pfx" ∷ codes "a.csv" ∷ codes "--workers" ∷ codes "0" ∷ [])
 
-pub asks_for_no_workers : asked run_by_none ≡ Some (run (codes "a.pfx") (codes "a.csv") (Some 0) None false false)
+pub asks_for_no_workers : asked run_by_none ≡ Some (run (codes "a.pfx") (codes "a.csv") (Some 0) None None None false false)
 unfolding clap_on_literals asked
 asks_for_no_workers = refl
 
@@ -114,7 +115,7 @@ pub takes_no_workers : takes pfx_app run_by_none ≡ true
 unfolding clap_on_literals
 takes_no_workers = refl
 
-pub asks_for_most_workers : asked (pfx (codes "run" ∷ codes "--workers=64" ∷ codes "a.pfx" ∷ codes "a.csv" ∷ [])) ≡ Some (run (codes "a.pfx") (codes "a.csv") (Some 64) None false false)
+pub asks_for_most_workers : asked (pfx (codes "run" ∷ codes "--workers=64" ∷ codes "a.pfx" ∷ codes "a.csv" ∷ [])) ≡ Some (run (codes "a.pfx") (codes "a.csv") (Some 64) None None None false false)
 unfolding clap_on_literals asked
 asks_for_most_workers = refl
 
@@ -122,7 +123,7 @@ asks_for_most_workers = refl
 abbrev run_in_batches : List Text
 run_in_batches = pfx (codes "run" ∷ codes "a.pfx" ∷ codes "a.csv" ∷ codes "--workers" ∷ codes "0" ∷ codes "--batch" ∷ codes "16" ∷ [])
 
-pub asks_for_batches : asked run_in_batches ≡ Some (run (codes "a.pfx") (codes "a.csv") (Some 0) (Some 16) false false)
+pub asks_for_batches : asked run_in_batches ≡ Some (run (codes "a.pfx") (codes "a.csv") (Some 0) (Some 16) None None false false)
 unfolding clap_on_literals asked
 asks_for_batches = refl
 
@@ -130,13 +131,26 @@ pub takes_batches : takes pfx_app run_in_batches ≡ true
 unfolding clap_on_literals
 takes_batches = refl
 
-pub asks_for_a_strict_run : asked (pfx (codes "run" ∷ codes "--strict" ∷ codes "a.pfx" ∷ codes "a.csv" ∷ codes "--batch=1" ∷ [])) ≡ Some (run (codes "a.pfx") (codes "a.csv") None (Some 1) true false)
+pub asks_for_a_strict_run : asked (pfx (codes "run" ∷ codes "--strict" ∷ codes "a.pfx" ∷ codes "a.csv" ∷ codes "--batch=1" ∷ [])) ≡ Some (run (codes "a.pfx") (codes "a.csv") None (Some 1) None None true false)
 unfolding clap_on_literals asked
 asks_for_a_strict_run = refl
 
-pub asks_for_least_batch : asked (pfx (codes "run" ∷ codes "--batch=1" ∷ codes "a.pfx" ∷ codes "a.csv" ∷ [])) ≡ Some (run (codes "a.pfx") (codes "a.csv") None (Some 1) false false)
+pub asks_for_least_batch : asked (pfx (codes "run" ∷ codes "--batch=1" ∷ codes "a.pfx" ∷ codes "a.csv" ∷ [])) ≡ Some (run (codes "a.pfx") (codes "a.csv") None (Some 1) None None false false)
 unfolding clap_on_literals asked
 asks_for_least_batch = refl
+
+-- with a log, and the one that it goes on from
+abbrev run_on_from : List Text
+run_on_from = pfx (codes "run" ∷ codes "a.pfx" ∷ codes "a.csv" ∷ codes "--log" ∷ codes "b.log" ∷ codes "--after" ∷ codes "a.log" ∷ [])
+
+pub asks_for_a_later_log : asked run_on_from
+    ≡ Some (run (codes "a.pfx") (codes "a.csv") None None (Some (codes "b.log")) (Some (codes "a.log")) false false)
+unfolding clap_on_literals asked
+asks_for_a_later_log = refl
+
+pub takes_a_later_log : takes pfx_app run_on_from ≡ true
+unfolding clap_on_literals
+takes_a_later_log = refl
 
 abbrev show_store : List Text
 show_store = pfx (codes "status" ∷ codes "a.pfx" ∷ [])
@@ -176,7 +190,65 @@ pub asks_for_one_job : asked (pfx (codes "show" ∷ codes "a.pfx" ∷ codes "2" 
 unfolding clap_on_literals asked
 asks_for_one_job = refl
 
+-- ---- histories
+
+-- one log or several, with paths behind an option too
+pub asks_for_an_audit : asked (pfx (codes "audit" ∷ codes "a.log" ∷ [])) ≡ Some (audit (codes "a.log" ∷ []) None None None None form.Text)
+unfolding clap_on_literals asked
+asks_for_an_audit = refl
+
+abbrev audit_all : List Text
+audit_all = pfx (codes "audit" ∷ codes "a.log" ∷ codes "b.log" ∷ codes "--every" ∷ codes "1440" ∷ codes "a.pfx" ∷ codes "--csv" ∷ [])
+
+pub asks_for_an_audit_of_all : asked audit_all ≡ Some (audit (codes "a.log" ∷ codes "b.log" ∷ codes "a.pfx" ∷ []) (Some 1440) None None None form.Csv)
+unfolding clap_on_literals asked
+asks_for_an_audit_of_all = refl
+
+pub takes_an_audit_of_all : takes pfx_app audit_all ≡ true
+unfolding clap_on_literals
+takes_an_audit_of_all = refl
+
+-- the least and the greatest bounds, and JSON before CSV
+abbrev audit_between : List Text
+audit_between = pfx (codes "audit" ∷ codes "--json" ∷ codes "--csv" ∷ codes "--from=0" ∷ codes "--to=281474976710656" ∷ codes "a.log" ∷ [])
+
+pub asks_for_bounds : asked audit_between ≡ Some (audit (codes "a.log" ∷ []) None (Some 0) (Some 281474976710656) None form.Json)
+unfolding clap_on_literals asked
+asks_for_bounds = refl
+
+pub takes_bounds : takes pfx_app audit_between ≡ true
+unfolding clap_on_literals
+takes_bounds = refl
+
+pub asks_for_a_record : asked (pfx (codes "audit" ∷ codes "a.log" ∷ codes "--number" ∷ codes "4294967296" ∷ [])) ≡ Some (audit (codes "a.log" ∷ []) None None None (Some 4294967296) form.Text)
+unfolding clap_on_literals asked
+asks_for_a_record = refl
+
+pub asks_for_a_head : asked (pfx (codes "head" ∷ codes "a.log" ∷ [])) ≡ Some (head (codes "a.log") false)
+unfolding clap_on_literals asked
+asks_for_a_head = refl
+
 -- ---- words that are refused
+
+pub no_history : fault_of pfx_app (pfx (codes "audit" ∷ codes "--every=1" ∷ [])) ≡ kind.MissingRequiredArgument ∷ []
+unfolding clap_on_literals
+no_history = refl
+
+pub empty_windows : fault_of pfx_app (pfx (codes "audit" ∷ codes "a.log" ∷ codes "--every=0" ∷ [])) ≡ kind.ValueValidation ∷ []
+unfolding clap_on_literals
+empty_windows = refl
+
+pub too_large_windows : fault_of pfx_app (pfx (codes "audit" ∷ codes "a.log" ∷ codes "--every=1048577" ∷ [])) ≡ kind.ValueValidation ∷ []
+unfolding clap_on_literals
+too_large_windows = refl
+
+pub too_large_bound : fault_of pfx_app (pfx (codes "audit" ∷ codes "a.log" ∷ codes "--to=281474976710657" ∷ [])) ≡ kind.ValueValidation ∷ []
+unfolding clap_on_literals
+too_large_bound = refl
+
+pub heads_of_two_logs : fault_of pfx_app (pfx (codes "head" ∷ codes "a.log" ∷ codes "b.log" ∷ [])) ≡ kind.UnknownArgument ∷ []
+unfolding clap_on_literals
+heads_of_two_logs = refl
 
 pub too_large_task : fault_of pfx_app (pfx (codes "show" ∷ codes "a.pfx" ∷ codes "65536" ∷ [])) ≡ kind.ValueValidation ∷ []
 unfolding clap_on_literals

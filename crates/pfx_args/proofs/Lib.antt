@@ -9,6 +9,8 @@ pub mod PlainInit
 pub mod PlainRun
 pub mod PlainBatch
 pub mod PlainStrict
+pub mod PlainLog
+pub mod PlainAfter
 pub mod PlainShow
 pub mod PlainStatus
 pub mod PlainReplay
@@ -18,3 +20,6 @@ pub mod PlainExplain
 pub mod PlainLedger
 pub mod PlainInitAt
 pub mod PlainMigrate
+pub mod PlainAudit
+pub mod PlainEvery
+pub mod PlainHead

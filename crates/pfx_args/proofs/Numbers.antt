@@ -1,5 +1,5 @@
 -- The number that the typed getter reads, and numbers as users write them.
-use Rattle.std.proofs.Common.{◌≡◌, ℕ, Bool, true, false, List, [], ◌∷◌, length, Option, Some, None, Result, Ok, Err, refl, ap, ◌∙◌, nat_lt, lt-ltb, ltb-true, pos, arith, ◌<◌, ◌≤◌}
+use Rattle.std.proofs.Common.{◌≡◌, ℕ, Bool, true, false, List, [], ◌∷◌, length, Option, Some, None, Result, Ok, Err, refl, ap, ◌∙◌, nat_lt, lt-ltb, ltb-true, pos, arith, ◌<◌, ◌≤◌, ◌^◌}
 use Rattle.std.specs.Prelude.{option_and_then, ◌==◌}
 use Rattle.std.specs.Char.{digit_value}
 use Rattle.std.specs.List.{list_all}
@@ -8,10 +8,10 @@ use Rattle.std.proofs.lemmas.Bool.{ne_eqb, le-leb}
 use Rattle.std.proofs.lemmas.Str.Parse.{digit_from_value}
 use Rattle.clap.specs.ValueTests.{is_signed_in}
 use Rattle.clap.specs.Matches.{ReadsOne, one_text}
-use Rattle.clap.specs.Walk.{rows_of}
+use Rattle.clap.specs.Walk.{one_of, rows_of}
 use Rattle.clap.specs.declared.parser.matches.Found.{Found}
 use Rattle.clap.proofs.WalkLemmas.{both, one_text-rows}
-use Rattle.pfx_args.specs.Requests.{is_number, number_of, number_at}
+use Rattle.pfx_args.specs.Requests.{is_number, number_within, number_of}
 
 digits_pass : (ds : List ℕ) → AllDigits 10 ds → list_all (λ d. nat_lt (digit_value d) 10) ds ≡ true
 digits_pass [] h = refl
@@ -24,15 +24,15 @@ digits_from (d ∷ ds) e =
     (ltb-true _ _ parts.0, digits_from ds parts.1)
 
 -- what is read of a text is the number that it writes
-number_read : (E : Type 0) (G : List ℕ → Result ℕ E → Type 0) (text : List ℕ) (o : Option ℕ) → ReadsOne G text o
-    → ((u : List ℕ) (r : Result ℕ E) → G u r → ParsesUnsigned 32 10 u r) → o ≡ number_of text
-number_read E G text (Some n) h only =
+number_read : (bits : ℕ) (E : Type 0) (G : List ℕ → Result ℕ E → Type 0) (text : List ℕ) (o : Option ℕ) → ReadsOne G text o
+    → ((u : List ℕ) (r : Result ℕ E) → G u r → ParsesUnsigned bits 10 u r) → o ≡ number_within bits text
+number_read bits E G text (Some n) h only =
     let ds = without_leading_plus text in
     let parsed = only text (Ok n) h in
-    rw (lt-ltb 0 (length ds) parsed.0.0.0, digits_pass ds parsed.0.0.1, lt-ltb (digits_value 10 ds) 4294967296 parsed.0.1) (ap Some parsed.1)
-number_read E G text None h only = go (is_number (without_leading_plus text)) refl
+    rw (lt-ltb 0 (length ds) parsed.0.0.0, digits_pass ds parsed.0.0.1, lt-ltb (digits_value 10 ds) (2 ^ bits) parsed.0.1) (ap Some parsed.1)
+number_read bits E G text None h only = go (is_number bits (without_leading_plus text)) refl
   where
-    go : (b : Bool) → is_number (without_leading_plus text) ≡ b → None ≡ number_of text
+    go : (b : Bool) → is_number bits (without_leading_plus text) ≡ b → None ≡ number_within bits text
     go false t = rw t refl
     go true t =
         let outer = both _ _ t in
@@ -40,14 +40,14 @@ number_read E G text None h only = go (is_number (without_leading_plus text)) re
         absurd (only text (Err h.0) h.1 ((ltb-true _ _ inner.0, digits_from (without_leading_plus text) inner.1), ltb-true _ _ outer.1))
 
 -- and so of what was found for an argument
-pub number_found : (E : Type 0) (G : List ℕ → Result ℕ E → Type 0) (f : Found) (id : List ℕ) (o : Option ℕ)
+pub number_found : (bits : ℕ) (E : Type 0) (G : List ℕ → Result ℕ E → Type 0) (f : Found) (id : List ℕ) (o : Option ℕ)
     → (one_text f id ≡ None → o ≡ None) → ((t : List ℕ) → one_text f id ≡ Some t → ReadsOne G t o)
-    → ((u : List ℕ) (r : Result ℕ E) → G u r → ParsesUnsigned 32 10 u r) → o ≡ number_at id (rows_of f)
-number_found E G f id o none value only = go (one_text f id) refl ∙ ap (option_and_then number_of) (one_text-rows f id)
+    → ((u : List ℕ) (r : Result ℕ E) → G u r → ParsesUnsigned bits 10 u r) → o ≡ option_and_then (λ text. number_within bits text) (one_of id (rows_of f))
+number_found bits E G f id o none value only = go (one_text f id) refl ∙ ap (option_and_then (λ text. number_within bits text)) (one_text-rows f id)
   where
-    go : (found : Option (List ℕ)) → one_text f id ≡ found → o ≡ option_and_then number_of (one_text f id)
+    go : (found : Option (List ℕ)) → one_text f id ≡ found → o ≡ option_and_then (λ text. number_within bits text) (one_text f id)
     go None e = rw e (none e)
-    go (Some t) e = rw e (number_read E G t o (value t e) only)
+    go (Some t) e = rw e (number_read bits E G t o (value t e) only)
 
 -- ---- numbers in plain digits, up to a greatest one
 

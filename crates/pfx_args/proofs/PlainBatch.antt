@@ -33,22 +33,22 @@ all_asked_steps : (program file script n : Text) → asked (program ∷ codes "r
 unfolding clap_on_literals asked
 all_asked_steps program file script n = refl
 
-all_asked_held : (file script n : Text) → asked_in (Some (codes "run", finished run_built.rules (after_all file script n).held)) ≡ run_of (Some file) (Some script) None (number_of (without_minus n)) false false
+all_asked_held : (file script n : Text) → asked_in (Some (codes "run", finished run_built.rules (after_all file script n).held)) ≡ run_of (Some file) (Some script) None (number_of (without_minus n)) None None false false
 unfolding clap_on_literals
 all_asked_held file script n = refl
 
 all_asked : (program file script : Text) (d : ℕ) (ds : Text) → starts_with_minus file ≡ false → starts_with_minus script ≡ false → (d == 45) ≡ false
-    → asked (program ∷ codes "run" ∷ file ∷ script ∷ codes "--batch" ∷ (d ∷ ds) ∷ []) ≡ run_of (Some file) (Some script) None (number_of (d ∷ ds)) false false
+    → asked (program ∷ codes "run" ∷ file ∷ script ∷ codes "--batch" ∷ (d ∷ ds) ∷ []) ≡ run_of (Some file) (Some script) None (number_of (d ∷ ds)) None None false false
 all_asked program file script d ds e f g =
     all_asked_steps program file script (d ∷ ds)
     ∙ ap (λ (w : Walk). asked_in (Some (codes "run", finished run_built.rules w.held))) (run_walk file script (codes "--batch" ∷ (d ∷ ds) ∷ []) e f ∙ batch_walk file script (d ∷ ds) g)
-    ∙ (all_asked_held file script (d ∷ ds) ∙ ap (λ (t : Text). run_of (Some file) (Some script) None (number_of t) false false) (plain_minus d ds g))
+    ∙ (all_asked_held file script (d ∷ ds) ∙ ap (λ (t : Text). run_of (Some file) (Some script) None (number_of t) None None false false) (plain_minus d ds g))
 
 pub plain_batch_asked : (program file script n : Text) → starts_with_minus file ≡ false → starts_with_minus script ≡ false → IsBatch n
-    → asked (program ∷ codes "run" ∷ file ∷ script ∷ codes "--batch" ∷ n ∷ []) ≡ Some (run file script None (Some (digits_value 10 n)) false false)
+    → asked (program ∷ codes "run" ∷ file ∷ script ∷ codes "--batch" ∷ n ∷ []) ≡ Some (run file script None (Some (digits_value 10 n)) None None false false)
 plain_batch_asked program file script [] e f h = absurd (omega (arith, h.0.0))
 plain_batch_asked program file script (d ∷ ds) e f h =
-    all_asked program file script d ds e f (no_sign d ds h.0).0 ∙ ap (λ n. run_of (Some file) (Some script) None n false false) (number_written 16 d ds h.0 h.2 (omega arith))
+    all_asked program file script d ds e f (no_sign d ds h.0).0 ∙ ap (λ n. run_of (Some file) (Some script) None n None None false false) (number_written 16 d ds h.0 h.2 (omega arith))
 
 option_passes_here : (file script : Text) → turn_passes run_built [] (after_both file script) (codes "--batch") ≡ true
 unfolding clap_on_literals

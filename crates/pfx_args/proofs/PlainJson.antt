@@ -105,12 +105,12 @@ run_asked_steps : (program file script : Text) → asked (program ∷ codes "run
 unfolding clap_on_literals asked
 run_asked_steps program file script = refl
 
-run_asked_held : (file script : Text) → asked_in (Some (codes "run", finished run_built.rules (run_all file script).held)) ≡ Some (run file script None None false true)
+run_asked_held : (file script : Text) → asked_in (Some (codes "run", finished run_built.rules (run_all file script).held)) ≡ Some (run file script None None None None false true)
 unfolding clap_on_literals
 run_asked_held file script = refl
 
 pub json_run_asked : (program file script : Text) → starts_with_minus file ≡ false → starts_with_minus script ≡ false
-    → asked (program ∷ codes "run" ∷ file ∷ script ∷ codes "--json" ∷ []) ≡ Some (run file script None None false true)
+    → asked (program ∷ codes "run" ∷ file ∷ script ∷ codes "--json" ∷ []) ≡ Some (run file script None None None None false true)
 json_run_asked program file script e f =
     run_asked_steps program file script ∙ ap (λ (w : Walk). asked_in (Some (codes "run", finished run_built.rules w.held))) (run_walk file script flag e f) ∙ run_asked_held file script
 

@@ -42,11 +42,11 @@ asked_steps : (program file script : Text) → asked (program ∷ codes "run" �
 unfolding clap_on_literals asked
 asked_steps program file script = refl
 
-asked_held : (file script : Text) → asked_in (Some (codes "run", finished run_built.rules (after_both file script).held)) ≡ Some (run file script None None false false)
+asked_held : (file script : Text) → asked_in (Some (codes "run", finished run_built.rules (after_both file script).held)) ≡ Some (run file script None None None None false false)
 unfolding clap_on_literals
 asked_held file script = refl
 
-pub plain_run_asked : (program file script : Text) → starts_with_minus file ≡ false → starts_with_minus script ≡ false → asked (program ∷ codes "run" ∷ file ∷ script ∷ []) ≡ Some (run file script None None false false)
+pub plain_run_asked : (program file script : Text) → starts_with_minus file ≡ false → starts_with_minus script ≡ false → asked (program ∷ codes "run" ∷ file ∷ script ∷ []) ≡ Some (run file script None None None None false false)
 plain_run_asked program file script e f =
     asked_steps program file script ∙ ap (λ (w : Walk). asked_in (Some (codes "run", finished run_built.rules w.held))) (run_walk file script [] e f) ∙ asked_held file script
 
@@ -69,7 +69,7 @@ plain_run_taken program file script e f =
 dash_walk : (file : Text) → starts_with_minus file ≡ false → on_from run_built (walk_from nothing_held) (file ∷ dash ∷ []) ≡ after_both file dash
 dash_walk file e = plain_on run_built nothing_held 1 file (dash ∷ []) e ∙ dash_on run_built (after_file file).held 2 []
 
-pub dash_run_asked : (program file : Text) → starts_with_minus file ≡ false → asked (program ∷ codes "run" ∷ file ∷ dash ∷ []) ≡ Some (run file dash None None false false)
+pub dash_run_asked : (program file : Text) → starts_with_minus file ≡ false → asked (program ∷ codes "run" ∷ file ∷ dash ∷ []) ≡ Some (run file dash None None None None false false)
 dash_run_asked program file e =
     asked_steps program file dash ∙ ap (λ (w : Walk). asked_in (Some (codes "run", finished run_built.rules w.held))) (dash_walk file e) ∙ asked_held file dash
 
@@ -115,22 +115,22 @@ all_asked_steps : (program file script n : Text) → asked (program ∷ codes "r
 unfolding clap_on_literals asked
 all_asked_steps program file script n = refl
 
-all_asked_held : (file script n : Text) → asked_in (Some (codes "run", finished run_built.rules (after_all file script n).held)) ≡ run_of (Some file) (Some script) (number_of (without_minus n)) None false false
+all_asked_held : (file script n : Text) → asked_in (Some (codes "run", finished run_built.rules (after_all file script n).held)) ≡ run_of (Some file) (Some script) (number_of (without_minus n)) None None None false false
 unfolding clap_on_literals
 all_asked_held file script n = refl
 
 all_asked : (program file script : Text) (d : ℕ) (ds : Text) → starts_with_minus file ≡ false → starts_with_minus script ≡ false → (d == 45) ≡ false
-    → asked (program ∷ codes "run" ∷ file ∷ script ∷ codes "--workers" ∷ (d ∷ ds) ∷ []) ≡ run_of (Some file) (Some script) (number_of (d ∷ ds)) None false false
+    → asked (program ∷ codes "run" ∷ file ∷ script ∷ codes "--workers" ∷ (d ∷ ds) ∷ []) ≡ run_of (Some file) (Some script) (number_of (d ∷ ds)) None None None false false
 all_asked program file script d ds e f g =
     all_asked_steps program file script (d ∷ ds)
     ∙ ap (λ (w : Walk). asked_in (Some (codes "run", finished run_built.rules w.held))) (run_walk file script (codes "--workers" ∷ (d ∷ ds) ∷ []) e f ∙ workers_walk file script (d ∷ ds) g)
-    ∙ (all_asked_held file script (d ∷ ds) ∙ ap (λ (t : Text). run_of (Some file) (Some script) (number_of t) None false false) (plain_minus d ds g))
+    ∙ (all_asked_held file script (d ∷ ds) ∙ ap (λ (t : Text). run_of (Some file) (Some script) (number_of t) None None None false false) (plain_minus d ds g))
 
 pub plain_workers_asked : (program file script n : Text) → starts_with_minus file ≡ false → starts_with_minus script ≡ false → IsWorkers n
-    → asked (program ∷ codes "run" ∷ file ∷ script ∷ codes "--workers" ∷ n ∷ []) ≡ Some (run file script (Some (digits_value 10 n)) None false false)
+    → asked (program ∷ codes "run" ∷ file ∷ script ∷ codes "--workers" ∷ n ∷ []) ≡ Some (run file script (Some (digits_value 10 n)) None None None false false)
 plain_workers_asked program file script [] e f h = absurd (omega (arith, h.0.0))
 plain_workers_asked program file script (d ∷ ds) e f h =
-    all_asked program file script d ds e f (no_sign d ds h.0).0 ∙ ap (λ n. run_of (Some file) (Some script) n None false false) (number_written 64 d ds h.0 h.1 (omega arith))
+    all_asked program file script d ds e f (no_sign d ds h.0).0 ∙ ap (λ n. run_of (Some file) (Some script) n None None None false false) (number_written 64 d ds h.0 h.1 (omega arith))
 
 option_passes_here : (file script : Text) → turn_passes run_built [] (after_both file script) (codes "--workers") ≡ true
 unfolding clap_on_literals

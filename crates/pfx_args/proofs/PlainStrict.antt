@@ -18,12 +18,12 @@ all_asked_steps : (program file script : Text) → asked (program ∷ codes "run
 unfolding clap_on_literals asked
 all_asked_steps program file script = refl
 
-all_asked_held : (file script : Text) → asked_in (Some (codes "run", finished run_built.rules (after_all file script).held)) ≡ Some (run file script None None true false)
+all_asked_held : (file script : Text) → asked_in (Some (codes "run", finished run_built.rules (after_all file script).held)) ≡ Some (run file script None None None None true false)
 unfolding clap_on_literals
 all_asked_held file script = refl
 
 pub plain_strict_asked : (program file script : Text) → starts_with_minus file ≡ false → starts_with_minus script ≡ false
-    → asked (program ∷ codes "run" ∷ file ∷ script ∷ codes "--strict" ∷ []) ≡ Some (run file script None None true false)
+    → asked (program ∷ codes "run" ∷ file ∷ script ∷ codes "--strict" ∷ []) ≡ Some (run file script None None None None true false)
 plain_strict_asked program file script e f =
     all_asked_steps program file script
     ∙ ap (λ (w : Walk). asked_in (Some (codes "run", finished run_built.rules w.held))) (run_walk file script (codes "--strict" ∷ []) e f)

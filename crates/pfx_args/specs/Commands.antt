@@ -1,5 +1,6 @@
 -- The program's command and its subcommands, in the words of `clap`.
 use Rattle.std.specs.Prelude.{◌≡◌, false, true, codes, Some, pos}
+use Rattle.clap.specs.Lexer.{usize_max}
 use Rattle.clap.specs.Walk.{Rule, Text, rule_of}
 use Rattle.clap.specs.Simple.{App, app_of, new_app, new_rule, with_rule, with_subcommand, on_top}
 use Rattle.clap.specs.declared.builder.action.ArgAction.TheVariants.{SetTrue}
@@ -80,9 +81,25 @@ run_by_batch = with_rule run_by_workers batch
 abbrev pub strict : Rule
 strict = record (new_rule (codes "strict")) { long = Some (codes "strict"); action = Some SetTrue }
 
+-- the file of the log beside the store, as the value of `--log`
+abbrev pub beside_log : Rule
+beside_log = record (new_rule (codes "log")) { long = Some (codes "log"); value_names = 1 }
+
+-- and `--log LOG`, which may be left out too
+abbrev pub run_logged : App
+run_logged = with_rule run_by_batch beside_log
+
+-- the log that a new one goes on from, as the value of `--after`
+abbrev pub older_log : Rule
+older_log = record (new_rule (codes "after")) { long = Some (codes "after"); value_names = 1 }
+
+-- and `--after OLD`, which may be left out too
+abbrev pub run_after_log : App
+run_after_log = with_rule run_logged older_log
+
 -- and `--strict`
 abbrev pub run_strictly : App
-run_strictly = with_rule run_by_batch strict
+run_strictly = with_rule run_after_log strict
 
 -- and `--json`
 abbrev pub run_app : App
@@ -156,6 +173,46 @@ migrate_words = with_rule (with_rule (new_app (codes "migrate")) (required (code
 abbrev pub migrate_app : App
 migrate_app = with_rule migrate_words as_json
 
+-- the paths of a history, one or more
+abbrev pub history : Rule
+history = record (required (codes "LOG")) { range = Some (record { start_inclusive = 1; end_inclusive = usize_max }) }
+
+-- how many slots a window has: 1 to 1,048,576, as the value of `--every`
+abbrev pub every : Rule
+every = record (new_rule (codes "every")) { long = Some (codes "every"); value_names = 1; parser = Some (vp.Signed (pos 1) (pos 1048576)) }
+
+-- a number of 0 to 2^48, as the value of the option of this name
+abbrev pub numbered : Text → Rule
+numbered name = record (new_rule name) { long = Some name; value_names = 1; parser = Some (vp.Unsigned 0 281474976710656) }
+
+-- whether what is printed is CSV: `--csv`, which has no value
+abbrev pub as_csv : Rule
+as_csv = record (new_rule (codes "csv")) { long = Some (codes "csv"); action = Some SetTrue }
+
+-- `audit LOG..`
+abbrev pub audit_words : App
+audit_words = with_rule (new_app (codes "audit")) history
+
+-- and the windows of slots by `--every N`, `--from N` and `--to N`, each of which may be left out
+abbrev pub audit_in_windows : App
+audit_in_windows = with_rule (with_rule (with_rule audit_words every) (numbered (codes "from"))) (numbered (codes "to"))
+
+-- and `--number N`, which may be left out too
+abbrev pub audit_of_record : App
+audit_of_record = with_rule audit_in_windows (numbered (codes "number"))
+
+-- and `--csv` and `--json`
+abbrev pub audit_app : App
+audit_app = with_rule (with_rule audit_of_record as_csv) as_json
+
+-- `head LOG`
+abbrev pub head_words : App
+head_words = with_rule (new_app (codes "head")) (required (codes "LOG"))
+
+-- and `--json`
+abbrev pub head_app : App
+head_app = with_rule head_words as_json
+
 -- `pfx`: one of its subcommands has to follow, and each of them tells the version too
 abbrev pub bare_app : App
 bare_app = on_top (λ s. record s { subcommand_required = true; has_version = true; propagate_version = true }) (new_app (codes "pfx"))
@@ -167,12 +224,16 @@ pfx_app =
     (with_subcommand
     (with_subcommand
     (with_subcommand
+    (with_subcommand
+    (with_subcommand
     (with_subcommand (with_subcommand (with_subcommand
     (with_subcommand (with_subcommand (with_subcommand bare_app plan_app.top) init_app.top) run_app.top) status_app.top) replay_app.top) show_app.top)
     draw_app.top)
     check_app.top)
     explain_app.top)
-    migrate_app.top
+    migrate_app.top)
+    audit_app.top)
+    head_app.top
 
 -- the command is this one, with no global argument
 abbrev pub IsCommand : Command → App → Type 0

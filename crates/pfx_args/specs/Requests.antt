@@ -1,12 +1,15 @@
 -- What the words of a command line ask for.
-use Rattle.std.specs.Prelude.{ℕ, Bool, false, ◌&&◌, ◌≤◌, nat_lt, if◌then◌else◌, codes, List, length, Option, Some, None, option_map, option_and_then}
+use Rattle.std.specs.Prelude.{ℕ, Bool, false, ◌&&◌, ◌≤◌, ◌^◌, nat_lt, if◌then◌else◌, codes, List, length, map}
+use Rattle.std.specs.Prelude.{Option, Some, None, option_map, option_and_then}
 use Rattle.std.specs.Char.{digit_value}
 use Rattle.std.specs.List.{list_all}
 use Rattle.std.specs.Str.{bytes_eq}
 use Rattle.std.specs.Str.Parse.{IsNumeral, digits_value, without_leading_plus}
-use Rattle.clap.specs.Walk.{Row, Text, first_of, one_of}
+use Rattle.clap.specs.Walk.{Row, Text, all_of, first_of, one_of}
 use Rattle.clap.specs.Simple.{subcommand_of}
 use Rattle.pfx_args.specs.Commands.{pfx_app}
+use Rattle.pfx_args.specs.declared.request.AuditForm.{AuditForm}
+use Rattle.pfx_args.specs.declared.request.AuditForm.TheVariants as form
 use Rattle.pfx_args.specs.declared.request.Request.{Request}
 use Rattle.pfx_args.specs.declared.request.Request.TheVariants as request
 
@@ -14,7 +17,7 @@ use Rattle.pfx_args.specs.declared.request.Request.TheVariants as request
 pub data Asked : Type 0 where
   plan : Text → ℕ → Option Text → Bool → Bool → Asked
   init : Text → Text → Option Text → Bool → Asked
-  run : Text → Text → Option ℕ → Option ℕ → Bool → Bool → Asked
+  run : Text → Text → Option ℕ → Option ℕ → Option Text → Option Text → Bool → Bool → Asked
   status : Text → Bool → Asked
   replay : Text → Bool → Asked
   show : Text → Option ℕ → Bool → Asked
@@ -22,12 +25,15 @@ pub data Asked : Type 0 where
   check : Text → Bool → Asked
   explain : Text → Bool → Asked
   migrate : Text → Text → Bool → Asked
+  audit : List Text → Option ℕ → Option ℕ → Option ℕ → Option ℕ → AuditForm → Asked
+  head : Text → Bool → Asked
 
 -- the request that a value of the code is
 abbrev pub asked_by : Request → Asked
 asked_by (request.Plan set slots at ledger json) = plan set.now slots (option_map (λ s. s.now) at) ledger json
 asked_by (request.Init set file at json) = init set.now file.now (option_map (λ s. s.now) at) json
-asked_by (request.Run file script workers batch strict json) = run file.now script.now workers batch strict json
+asked_by (request.Run file script workers batch log after strict json) =
+    run file.now script.now workers batch (option_map (λ s. s.now) log) (option_map (λ s. s.now) after) strict json
 asked_by (request.Status file json) = status file.now json
 asked_by (request.Replay file json) = replay file.now json
 asked_by (request.Show file task json) = show file.now task json
@@ -35,21 +41,33 @@ asked_by (request.Draw set slots at) = draw set.now slots (option_map (λ s. s.n
 asked_by (request.Check set json) = check set.now json
 asked_by (request.Explain fault json) = explain fault.now json
 asked_by (request.Migrate old new json) = migrate old.now new.now json
+asked_by (request.Audit logs every from to number form) = audit (map (λ s. s.now) logs.items) every from to number form
+asked_by (request.Head log json) = head log.now json
 
--- one digit or more, of a number of 32 bits
-abbrev pub is_number : Text → Bool
-is_number ds = nat_lt 0 (length ds) && list_all (λ d. nat_lt (digit_value d) 10) ds && nat_lt (digits_value 10 ds) 4294967296
+-- one digit or more, of a number of so many bits
+abbrev pub is_number : ℕ → Text → Bool
+is_number bits ds = nat_lt 0 (length ds) && list_all (λ d. nat_lt (digit_value d) 10) ds && nat_lt (digits_value 10 ds) (2 ^ bits)
 
--- the number that a text writes, where a plus may stand first
+-- the number of so many bits that a text writes, where a plus may stand first
+abbrev pub number_within : ℕ → Text → Option ℕ
+number_within bits text = let ds = without_leading_plus text in if is_number bits ds then Some (digits_value 10 ds) else None
+
 abbrev pub number_of : Text → Option ℕ
-number_of text = let ds = without_leading_plus text in if is_number ds then Some (digits_value 10 ds) else None
+number_of text = number_within 32 text
 
--- the first text that was found for an argument, and the number that it writes
+-- the first text that was found for an argument, and all of them
 abbrev pub text_at : Text → List Row → Option Text
 text_at id rows = first_of id rows
 
+abbrev pub texts_at : Text → List Row → Option (List Text)
+texts_at id rows = all_of id rows
+
+-- the number of 32 bits that the first one writes, and that of 64 bits
 abbrev pub number_at : Text → List Row → Option ℕ
 number_at id rows = option_and_then number_of (one_of id rows)
+
+abbrev pub wide_number_at : Text → List Row → Option ℕ
+wide_number_at id rows = option_and_then (λ text. number_within 64 text) (one_of id rows)
 
 -- whether the first text that was found for an argument says so
 abbrev pub is_yes : Option Text → Bool
@@ -81,18 +99,18 @@ init_of None file at json = None
 abbrev pub init_in : List Row → Option Asked
 init_in rows = init_of (text_at (codes "SET") rows) (text_at (codes "FILE") rows) (text_at (codes "at") rows) (flag_at (codes "json") rows)
 
--- a run, if both its words are there, with the number of workers and that of slots kept at once, if there are any, whether it
--- ends at its first refused record, and whether its lines are JSON
-abbrev pub run_of : Option Text → Option Text → Option ℕ → Option ℕ → Bool → Bool → Option Asked
-run_of (Some file) (Some script) workers batch strict json = Some (run file script workers batch strict json)
-run_of (Some file) None workers batch strict json = None
-run_of None script workers batch strict json = None
+-- a run, if both its words are there, with the number of workers, that of slots kept at once, the log, and the one that it goes on
+-- from, if there are any, whether it ends at its first refused record, and whether its lines are JSON
+abbrev pub run_of : Option Text → Option Text → Option ℕ → Option ℕ → Option Text → Option Text → Bool → Bool → Option Asked
+run_of (Some file) (Some script) workers batch log after strict json = Some (run file script workers batch log after strict json)
+run_of (Some file) None workers batch log after strict json = None
+run_of None script workers batch log after strict json = None
 
 abbrev pub run_in : List Row → Option Asked
 run_in rows =
     run_of (text_at (codes "FILE") rows) (text_at (codes "SCRIPT") rows) (number_at (codes "workers") rows)
-    (number_at (codes "batch") rows) (flag_at (codes "strict") rows)
-    (flag_at (codes "json") rows)
+    (number_at (codes "batch") rows) (text_at (codes "log") rows) (text_at (codes "after") rows)
+    (flag_at (codes "strict") rows) (flag_at (codes "json") rows)
 
 -- a look at a store, if its word is there, and whether it is printed as JSON
 abbrev pub status_of : Option Text → Bool → Option Asked
@@ -152,6 +170,30 @@ migrate_of None new json = None
 abbrev pub migrate_in : List Row → Option Asked
 migrate_in rows = migrate_of (text_at (codes "OLD") rows) (text_at (codes "NEW") rows) (flag_at (codes "json") rows)
 
+-- how an audit is printed: as JSON where that is asked for, else as CSV where that is, else as text
+abbrev pub form_of : Bool → Bool → AuditForm
+form_of csv json = if json then form.Json else (if csv then form.Csv else form.Text)
+
+-- an audit of a history, if one path of it is there or more, in their order, with the length and the bounds of the windows, the
+-- number of the record that is asked for alone, if there are any, and how it is printed
+abbrev pub audit_of : Option (List Text) → Option ℕ → Option ℕ → Option ℕ → Option ℕ → AuditForm → Option Asked
+audit_of (Some logs) every from to number form = Some (audit logs every from to number form)
+audit_of None every from to number form = None
+
+abbrev pub audit_in : List Row → Option Asked
+audit_in rows =
+    audit_of (texts_at (codes "LOG") rows) (number_at (codes "every") rows) (wide_number_at (codes "from") rows)
+    (wide_number_at (codes "to") rows) (wide_number_at (codes "number") rows)
+    (form_of (flag_at (codes "csv") rows) (flag_at (codes "json") rows))
+
+-- a log's last head, if its word is there, and whether it is printed as JSON
+abbrev pub head_of : Option Text → Bool → Option Asked
+head_of (Some log) json = Some (head log json)
+head_of None json = None
+
+abbrev pub head_in : List Row → Option Asked
+head_in rows = head_of (text_at (codes "LOG") rows) (flag_at (codes "json") rows)
+
 -- what the subcommand of this name asks for, by what was found for its arguments
 abbrev pub asked_of : Text → List Row → Option Asked
 asked_of name rows =
@@ -165,7 +207,9 @@ asked_of name rows =
     else (if bytes_eq name (codes "check") then check_in rows
     else (if bytes_eq name (codes "explain") then explain_in rows
     else (if bytes_eq name (codes "migrate") then migrate_in rows
-    else None)))))))))
+    else (if bytes_eq name (codes "audit") then audit_in rows
+    else (if bytes_eq name (codes "head") then head_in rows
+    else None)))))))))))
 
 abbrev pub asked_in : Option (Text × List Row) → Option Asked
 asked_in None = None
@@ -194,3 +238,7 @@ IsTask text = IsNumeral 10 text × (digits_value 10 text ≤ 65535)
 -- the text is a count of slots that are drawn in digits: 1 to 1,440
 abbrev pub IsDrawnSlots : Text → Type 0
 IsDrawnSlots text = IsNumeral 10 text × (1 ≤ digits_value 10 text) × (digits_value 10 text ≤ 1440)
+
+-- the text is a number of slots of a window in digits: 1 to 1,048,576
+abbrev pub IsWindow : Text → Type 0
+IsWindow text = IsNumeral 10 text × (1 ≤ digits_value 10 text) × (digits_value 10 text ≤ 1048576)

@@ -1,14 +1,14 @@
 //! How a subcommand and the arguments that several share are made, and what was found for these.
 
-ghost use Rattle.std.specs.Prelude.{◌≡◌, option_map};
+ghost use Rattle.std.specs.Prelude.{◌≡◌, IfOk, option_map};
 ghost use Rattle.clap.specs.Simple.{new_app};
 ghost use Rattle.clap.specs.Matches.{found_of};
-ghost use Rattle.clap.specs.Walk.{rows_of};
+ghost use Rattle.clap.specs.Walk.{rows_of, texts};
 ghost use Rattle.pfx_args.specs.Commands.{required, as_json, IsArgument, IsCommand};
-ghost use Rattle.pfx_args.specs.Requests.{flag_at, text_at, number_at};
+ghost use Rattle.pfx_args.specs.Requests.{flag_at, text_at, texts_at, number_at, wide_number_at};
 
 use clap::{Arg, ArgAction, ArgMatches, Command};
-use std::alloc::Global;
+use std::alloc::{AllocError, Global};
 
 // A subcommand without its arguments: its line in the list of all, its help and its example.
 pub(crate) fn subcommand<'a>(
@@ -53,6 +53,28 @@ pub(crate) fn number_under(matches: &ArgMatches<'_>, name: &str) -> Option<u32>
     ensures { result ≡ number_at name.now (rows_of (found_of matches.now)) }
 {
     matches.get_one::<u32>(name)
+}
+
+// A number of 64 bits.
+pub(crate) fn wide_number_under(matches: &ArgMatches<'_>, name: &str) -> Option<u64>
+    ensures { result ≡ wide_number_at name.now (rows_of (found_of matches.now)) }
+{
+    matches.get_one::<u64>(name)
+}
+
+// All texts that stand for a word, in their order.
+pub(crate) fn texts_under<'a>(
+    alloc: Global,
+    matches: &ArgMatches<'a>,
+    name: &str,
+) -> Result<Option<Vec<&'a str>>, AllocError>
+    ensures { IfOk result (λ found. option_map (λ v. texts v.items) found
+        ≡ texts_at name.now (rows_of (found_of matches.now))) }
+{
+    match matches.get_strs(name) {
+        Some(found) => Ok(Some(Vec::from_slice(alloc, found)?)),
+        None => Ok(None),
+    }
 }
 
 // Whether a flag is there.

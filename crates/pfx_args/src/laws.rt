@@ -5,7 +5,9 @@ ghost use Rattle.std.specs.Str.Parse.{digits_value, starts_with_minus};
 ghost use Rattle.clap.specs.Takes.{takes};
 ghost use Rattle.pfx_args.specs.Commands.{pfx_app};
 ghost use Rattle.pfx_args.specs.Requests.{IsBatch, IsDrawnSlots, IsSlots, IsTask, IsWorkers, asked, check, draw, explain, show, plan, init, migrate, run, status};
-ghost use Rattle.pfx_args.specs.Requests.{replay};
+ghost use Rattle.pfx_args.specs.Requests.{IsWindow, audit, head, replay};
+
+use crate::AuditForm;
 
 /// `pfx plan SET SLOTS`: for any `set` that doesn't begin with a hyphen, and any `slots` of digits that write 0 to
 /// 1,048,576, the command takes these words, and they ask for the plan of that many slots.
@@ -33,7 +35,7 @@ pub fn plain_run(program: &str, file: &str, script: &str)
     requires script { starts_with_minus script.now ≡ false }
     ensures taken { takes pfx_app (program.now ∷ codes "run" ∷ file.now ∷ script.now ∷ []) ≡ true }
     ensures asked { asked (program.now ∷ codes "run" ∷ file.now ∷ script.now ∷ [])
-        ≡ Some (run file.now script.now None None false false) }
+        ≡ Some (run file.now script.now None None None None false false) }
 {}
 
 /// `pfx run FILE SCRIPT --workers N`: the same words with any `workers` of digits that write 0 to 64 ask for a run by
@@ -45,7 +47,7 @@ pub fn plain_workers(program: &str, file: &str, script: &str, workers: &str)
     ensures taken { takes pfx_app
         (program.now ∷ codes "run" ∷ file.now ∷ script.now ∷ codes "--workers" ∷ workers.now ∷ []) ≡ true }
     ensures asked { asked (program.now ∷ codes "run" ∷ file.now ∷ script.now ∷ codes "--workers" ∷ workers.now ∷ [])
-        ≡ Some (run file.now script.now (Some (digits_value 10 workers.now)) None false false) }
+        ≡ Some (run file.now script.now (Some (digits_value 10 workers.now)) None None None false false) }
 {}
 
 /// `pfx run FILE SCRIPT --batch N`: the same words with any `batch` of digits that write 1 to 16 ask for a run that keeps so
@@ -57,7 +59,31 @@ pub fn plain_batch(program: &str, file: &str, script: &str, batch: &str)
     ensures taken { takes pfx_app
         (program.now ∷ codes "run" ∷ file.now ∷ script.now ∷ codes "--batch" ∷ batch.now ∷ []) ≡ true }
     ensures asked { asked (program.now ∷ codes "run" ∷ file.now ∷ script.now ∷ codes "--batch" ∷ batch.now ∷ [])
-        ≡ Some (run file.now script.now None (Some (digits_value 10 batch.now)) false false) }
+        ≡ Some (run file.now script.now None (Some (digits_value 10 batch.now)) None None false false) }
+{}
+
+/// `pfx run FILE SCRIPT --log LOG`: the same words with any `log` that doesn't begin with a hyphen ask for a run beside that log.
+pub fn plain_log(program: &str, file: &str, script: &str, log: &str)
+    requires file { starts_with_minus file.now ≡ false }
+    requires script { starts_with_minus script.now ≡ false }
+    requires log { starts_with_minus log.now ≡ false }
+    ensures taken { takes pfx_app (program.now ∷ codes "run" ∷ file.now ∷ script.now ∷ codes "--log" ∷ log.now ∷ []) ≡ true }
+    ensures asked { asked (program.now ∷ codes "run" ∷ file.now ∷ script.now ∷ codes "--log" ∷ log.now ∷ [])
+        ≡ Some (run file.now script.now None None (Some log.now) None false false) }
+{}
+
+/// `pfx run FILE SCRIPT --log LOG --after OLD`: the same words with any `old` that doesn't begin with a hyphen ask for a run beside a
+/// new log that goes on from the old one.
+pub fn plain_after(program: &str, file: &str, script: &str, log: &str, old: &str)
+    requires file { starts_with_minus file.now ≡ false }
+    requires script { starts_with_minus script.now ≡ false }
+    requires log { starts_with_minus log.now ≡ false }
+    requires old { starts_with_minus old.now ≡ false }
+    ensures taken { takes pfx_app
+        (program.now ∷ codes "run" ∷ file.now ∷ script.now ∷ codes "--log" ∷ log.now ∷ codes "--after" ∷ old.now ∷ []) ≡ true }
+    ensures asked { asked
+        (program.now ∷ codes "run" ∷ file.now ∷ script.now ∷ codes "--log" ∷ log.now ∷ codes "--after" ∷ old.now ∷ [])
+        ≡ Some (run file.now script.now None None (Some log.now) (Some old.now) false false) }
 {}
 
 /// `pfx status FILE`: for any `file` that doesn't begin with a hyphen, the command takes these words, and they ask for
@@ -88,7 +114,7 @@ pub fn standard_run(program: &str, file: &str)
     requires file { starts_with_minus file.now ≡ false }
     ensures taken { takes pfx_app (program.now ∷ codes "run" ∷ file.now ∷ codes "-" ∷ []) ≡ true }
     ensures asked { asked (program.now ∷ codes "run" ∷ file.now ∷ codes "-" ∷ [])
-        ≡ Some (run file.now (codes "-") None None false false) }
+        ≡ Some (run file.now (codes "-") None None None None false false) }
 {}
 
 /// `pfx replay FILE`: for any `file` that doesn't begin with a hyphen, the command takes these words, and they ask for
@@ -155,7 +181,7 @@ pub fn plain_strict(program: &str, file: &str, script: &str)
     requires script { starts_with_minus script.now ≡ false }
     ensures taken { takes pfx_app (program.now ∷ codes "run" ∷ file.now ∷ script.now ∷ codes "--strict" ∷ []) ≡ true }
     ensures asked { asked (program.now ∷ codes "run" ∷ file.now ∷ script.now ∷ codes "--strict" ∷ [])
-        ≡ Some (run file.now script.now None None true false) }
+        ≡ Some (run file.now script.now None None None None true false) }
 {}
 
 /// `pfx plan SET SLOTS --json`: the same words as of `pfx plan SET SLOTS` with the flag ask for that plan as JSON.
@@ -173,7 +199,7 @@ pub fn plain_json_run(program: &str, file: &str, script: &str)
     requires script { starts_with_minus script.now ≡ false }
     ensures taken { takes pfx_app (program.now ∷ codes "run" ∷ file.now ∷ script.now ∷ codes "--json" ∷ []) ≡ true }
     ensures asked { asked (program.now ∷ codes "run" ∷ file.now ∷ script.now ∷ codes "--json" ∷ [])
-        ≡ Some (run file.now script.now None None false true) }
+        ≡ Some (run file.now script.now None None None None false true) }
 {}
 
 /// `pfx status FILE --json`: the same of a board.
@@ -263,4 +289,40 @@ pub fn plain_json_migrate(program: &str, old: &str, new: &str)
     requires new { starts_with_minus new.now ≡ false }
     ensures taken { takes pfx_app (program.now ∷ codes "migrate" ∷ old.now ∷ new.now ∷ codes "--json" ∷ []) ≡ true }
     ensures asked { asked (program.now ∷ codes "migrate" ∷ old.now ∷ new.now ∷ codes "--json" ∷ []) ≡ Some (migrate old.now new.now true) }
+{}
+
+/// `pfx audit LOG FILE`: for any `log` and `file` that don't begin with a hyphen, the command takes these words, and they ask for an
+/// audit of the log and of the file behind it, in one window, as text.
+pub fn plain_audit(program: &str, log: &str, file: &str)
+    requires log { starts_with_minus log.now ≡ false }
+    requires file { starts_with_minus file.now ≡ false }
+    ensures taken { takes pfx_app (program.now ∷ codes "audit" ∷ log.now ∷ file.now ∷ []) ≡ true }
+    ensures asked { asked (program.now ∷ codes "audit" ∷ log.now ∷ file.now ∷ [])
+        ≡ Some (audit (log.now ∷ file.now ∷ []) None None None None AuditForm.Text) }
+{}
+
+/// `pfx audit LOG FILE --every N`: the same words with any `every` of digits that write 1 to 1,048,576 ask for that audit in windows of
+/// so many slots.
+pub fn plain_every(program: &str, log: &str, file: &str, every: &str)
+    requires log { starts_with_minus log.now ≡ false }
+    requires file { starts_with_minus file.now ≡ false }
+    requires every { IsWindow every.now }
+    ensures taken { takes pfx_app (program.now ∷ codes "audit" ∷ log.now ∷ file.now ∷ codes "--every" ∷ every.now ∷ []) ≡ true }
+    ensures asked { asked (program.now ∷ codes "audit" ∷ log.now ∷ file.now ∷ codes "--every" ∷ every.now ∷ [])
+        ≡ Some (audit (log.now ∷ file.now ∷ []) (Some (digits_value 10 every.now)) None None None AuditForm.Text) }
+{}
+
+/// `pfx head LOG`: for any `log` that doesn't begin with a hyphen, the command takes these words, and they ask for the last head of that
+/// log.
+pub fn plain_head(program: &str, log: &str)
+    requires log { starts_with_minus log.now ≡ false }
+    ensures taken { takes pfx_app (program.now ∷ codes "head" ∷ log.now ∷ []) ≡ true }
+    ensures asked { asked (program.now ∷ codes "head" ∷ log.now ∷ []) ≡ Some (head log.now false) }
+{}
+
+/// `pfx head LOG --json`: the same words with the flag ask for that head as JSON.
+pub fn plain_json_head(program: &str, log: &str)
+    requires log { starts_with_minus log.now ≡ false }
+    ensures taken { takes pfx_app (program.now ∷ codes "head" ∷ log.now ∷ codes "--json" ∷ []) ≡ true }
+    ensures asked { asked (program.now ∷ codes "head" ∷ log.now ∷ codes "--json" ∷ []) ≡ Some (head log.now true) }
 {}

@@ -8,9 +8,11 @@
 #![tactic(auto)]
 
 mod arguments;
+mod audit;
 mod check;
 mod draw;
 mod explain;
+mod head;
 mod init;
 pub mod laws;
 mod migrate;
@@ -23,4 +25,4 @@ mod show;
 mod status;
 
 pub use program::read_words;
-pub use request::Request;
+pub use request::{AuditForm, Request};

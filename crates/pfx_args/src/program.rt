@@ -11,9 +11,11 @@ ghost use Rattle.pfx_args.specs.Commands.{bare_app, pfx_app, IsCommand};
 ghost use Rattle.pfx_args.specs.Requests.{asked_by, asked_in, asked};
 
 use crate::Request;
+use crate::audit::{audit_command, audit_request};
 use crate::check::{check_command, check_request};
 use crate::draw::{draw_command, draw_request};
 use crate::explain::{explain_command, explain_request};
+use crate::head::{head_command, head_request};
 use crate::init::{init_command, init_request};
 use crate::migrate::{migrate_command, migrate_request};
 use crate::plan::{plan_command, plan_request};
@@ -43,7 +45,9 @@ const EXAMPLE: &str = "Example:
   pfx draw examples/thirds.toml 12              twelve slots of them as a picture
   pfx check examples/thirds.toml                what these tasks ask for, or all that is wrong with them
   pfx explain BadWeight                         what this fault means
-  pfx migrate old.pfx new.pfx                   a store of this version from one of version 1";
+  pfx migrate old.pfx new.pfx                   a store of this version from one of version 1
+  pfx audit thirds.log thirds.pfx               whether a log and the store behind it hold, and who got what
+  pfx head thirds.log                           the head that stands for all that a log has";
 
 fn bare_command<'a>(alloc: Global) -> Command<'a>
     ensures { IsCommand result bare_app }
@@ -70,25 +74,34 @@ fn pfx_command<'a>(alloc: Global) -> Result<Command<'a>, AllocError>
         .subcommand(draw_command(alloc)?)?
         .subcommand(check_command(alloc)?)?
         .subcommand(explain_command(alloc)?)?
-        .subcommand(migrate_command(alloc)?)
+        .subcommand(migrate_command(alloc)?)?
+        .subcommand(audit_command(alloc)?)?
+        .subcommand(head_command(alloc)?)
 }
 
-fn request_in<'a>(matches: &ArgMatches<'a>) -> Option<Request<'a>>
-    ensures { option_map asked_by result ≡ asked_in (subcommand_rows_of matches.now) }
+fn request_in<'a>(
+    alloc: Global,
+    matches: &ArgMatches<'a>,
+) -> Result<Option<Request<'a>>, AllocError>
+    ensures { IfOk result (λ r. option_map asked_by r ≡ asked_in (subcommand_rows_of matches.now)) }
 {
-    let (name, inner) = matches.subcommand()?;
+    let Some((name, inner)) = matches.subcommand() else {
+        return Ok(None);
+    };
     match name {
-        "plan" => plan_request(inner),
-        "init" => init_request(inner),
-        "run" => run_request(inner),
-        "status" => status_request(inner),
-        "replay" => replay_request(inner),
-        "show" => show_request(inner),
-        "draw" => draw_request(inner),
-        "check" => check_request(inner),
-        "explain" => explain_request(inner),
-        "migrate" => migrate_request(inner),
-        _ => None,
+        "plan" => Ok(plan_request(inner)),
+        "init" => Ok(init_request(inner)),
+        "run" => Ok(run_request(inner)),
+        "status" => Ok(status_request(inner)),
+        "replay" => Ok(replay_request(inner)),
+        "show" => Ok(show_request(inner)),
+        "draw" => Ok(draw_request(inner)),
+        "check" => Ok(check_request(inner)),
+        "explain" => Ok(explain_request(inner)),
+        "migrate" => Ok(migrate_request(inner)),
+        "audit" => audit_request(alloc, inner),
+        "head" => Ok(head_request(inner)),
+        _ => Ok(None),
     }
 }
 
@@ -104,5 +117,6 @@ pub fn read_words<'a>(alloc: Global, words: &'a [&'a str]) -> Result<Option<Requ
 {
     let command = pfx_command(alloc)?;
     let matches = command.try_get_matches_from(words)?;
-    Ok(request_in(&matches))
+    let request = request_in(alloc, &matches)?;
+    Ok(request)
 }

@@ -1,7 +1,18 @@
 //! What a command line asks for.
 
-/// What the words of a command line ask for. Its texts are the words themselves.
+/// How an audit is printed.
 #[derive(Clone, Copy, Debug, PartialEq, Eq)]
+pub enum AuditForm {
+    /// A line of words for each window and task.
+    Text,
+    /// A header, and a record of CSV for each window and task.
+    Csv,
+    /// An object of JSON for each window and task.
+    Json,
+}
+
+/// What the words of a command line ask for. Its texts are the words themselves.
+#[derive(Debug, Drop, PartialEq, Eq)]
 pub enum Request<'a> {
     /// Print the plan of some slots of a set.
     Plan {
@@ -39,6 +50,10 @@ pub enum Request<'a> {
         /// How many slots of a record are kept at once at the most, 1 to 16, if the words say so; else it is 1, or 64 with
         /// workers.
         batch: Option<u32>,
+        /// The path of the log that keeps the whole history, if the words name one.
+        log: Option<&'a str>,
+        /// The path of the log that a new one goes on from, if the words name one.
+        after: Option<&'a str>,
         /// Whether the script ends after its first refused record.
         strict: bool,
         /// Whether each line is an object of JSON.
@@ -96,6 +111,28 @@ pub enum Request<'a> {
         old: &'a str,
         /// The path of the new store's file.
         new: &'a str,
+        /// Whether the line is an object of JSON.
+        json: bool,
+    },
+    /// Check a history against what its commands do, and sum up what each task got.
+    Audit {
+        /// The paths of the logs in their order, one or more; the last may be the store's file behind them.
+        logs: Vec<&'a str>,
+        /// How many slots a window has, 1 to 1,048,576; without it all are one window.
+        every: Option<u32>,
+        /// The slot that the first window begins at, 0 to 2^48; without it the history's first one.
+        from: Option<u64>,
+        /// The slot that the last window ends before, 0 to 2^48; without it the history's end.
+        to: Option<u64>,
+        /// The number of the record, 0 to 2^48, if one alone is asked for.
+        number: Option<u64>,
+        /// How it is printed.
+        form: AuditForm,
+    },
+    /// Tell the last head of a log.
+    Head {
+        /// The path of the log.
+        log: &'a str,
         /// Whether the line is an object of JSON.
         json: bool,
     },

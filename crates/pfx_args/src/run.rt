@@ -1,9 +1,10 @@
-//! `pfx run FILE SCRIPT --workers N --batch N --strict --json`.
+//! `pfx run FILE SCRIPT --workers N --batch N --log LOG --after OLD --strict --json`.
 
 ghost use Rattle.std.specs.Prelude.{◌≡◌, IfOk, option_map};
 ghost use Rattle.clap.specs.Matches.{found_of};
 ghost use Rattle.clap.specs.Walk.{rows_of};
-ghost use Rattle.pfx_args.specs.Commands.{workers, batch, strict, run_words, run_app, IsArgument, IsCommand};
+ghost use Rattle.pfx_args.specs.Commands.{workers, batch, beside_log, older_log, strict, run_by_batch, run_after_log, run_words, run_app};
+ghost use Rattle.pfx_args.specs.Commands.{IsArgument, IsCommand};
 ghost use Rattle.pfx_args.specs.Requests.{asked_by, run_in};
 
 use crate::Request;
@@ -56,6 +57,12 @@ With --workers N the jobs of a slot run on N threads, while another thread keeps
 N slots of one record are kept at once, by one write of the file, and their lines are printed then. The
 output is the same for all of them.
 
+With --log LOG each batch of commands comes to stand in the file LOG too, before the store's file takes its
+place for others: the store keeps what it needs to go on, the log keeps all. A log begins at the store's
+state, or goes on where it ended; pfx audit checks it. With --after OLD too, LOG has to be missing or
+empty: the store's commands are brought up to OLD's end first, and LOG begins there and names OLD's head,
+so that an audit takes both.
+
 With --strict the script ends behind its first refused record, as if no more stood in it: nothing
 further is carried out, and the exit status is 7.
 
@@ -93,6 +100,23 @@ fn batch_option<'a>(alloc: Global) -> Arg<'a>
         .value_parser(value_parser!(u32).range(1..=16))
 }
 
+fn log_option<'a>(alloc: Global) -> Arg<'a>
+    ensures { IsArgument result beside_log }
+{
+    Arg::new(alloc, "log").long("log").value_name("LOG").help(
+        "The file that keeps the whole history; it is made if it is missing",
+    )
+}
+
+fn after_option<'a>(alloc: Global) -> Arg<'a>
+    ensures { IsArgument result older_log }
+{
+    Arg::new(alloc, "after")
+        .long("after")
+        .value_name("OLD")
+        .help("The log that a new one goes on from")
+}
+
 fn strict_flag<'a>(alloc: Global) -> Arg<'a>
     ensures { IsArgument result strict }
 {
@@ -112,12 +136,27 @@ fn bare_run<'a>(alloc: Global) -> Result<Command<'a>, AllocError>
     command.arg(file)?.arg(script)
 }
 
+// And with the numbers that it takes.
+fn numbered_run<'a>(alloc: Global) -> Result<Command<'a>, AllocError>
+    ensures { IfOk result (λ c. IsCommand c run_by_batch) }
+{
+    let command = bare_run(alloc)?.arg(workers_option(alloc))?;
+    command.arg(batch_option(alloc))
+}
+
+// And with its logs.
+fn logged_run<'a>(alloc: Global) -> Result<Command<'a>, AllocError>
+    ensures { IfOk result (λ c. IsCommand c run_after_log) }
+{
+    let command = numbered_run(alloc)?.arg(log_option(alloc))?;
+    command.arg(after_option(alloc))
+}
+
 pub(crate) fn run_command<'a>(alloc: Global) -> Result<Command<'a>, AllocError>
     ensures { IfOk result (λ c. IsCommand c run_app) }
 {
-    let command = bare_run(alloc)?.arg(workers_option(alloc))?;
-    let command = command.arg(batch_option(alloc))?;
-    command.arg(strict_flag(alloc))?.arg(json_flag(alloc))
+    let command = logged_run(alloc)?.arg(strict_flag(alloc))?;
+    command.arg(json_flag(alloc))
 }
 
 pub(crate) fn run_request<'a>(matches: &ArgMatches<'a>) -> Option<Request<'a>>
@@ -127,6 +166,8 @@ pub(crate) fn run_request<'a>(matches: &ArgMatches<'a>) -> Option<Request<'a>>
     let script = text_under(matches, "SCRIPT")?;
     let workers = number_under(matches, "workers");
     let batch = number_under(matches, "batch");
+    let log = text_under(matches, "log");
+    let after = text_under(matches, "after");
     let strict = flag_under(matches, "strict");
     let json = flag_under(matches, "json");
     Some(Request::Run {
@@ -134,6 +175,8 @@ pub(crate) fn run_request<'a>(matches: &ArgMatches<'a>) -> Option<Request<'a>>
         script,
         workers,
         batch,
+        log,
+        after,
         strict,
         json,
     })

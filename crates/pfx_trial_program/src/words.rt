@@ -113,13 +113,15 @@ fn reads_a_migration(rt: HostRuntime) {
 }
 
 const RUNS: &str =
-    r#"pfx|run|a.pfx|a.csv => Run { file: "a.pfx", script: "a.csv", workers: None, batch: None, strict: false, json: false }
-pfx|run|a.pfx|a.csv|--workers|0 => Run { file: "a.pfx", script: "a.csv", workers: Some(0), batch: None, strict: false, json: false }
-pfx|run|a.pfx|--workers=64|a.csv => Run { file: "a.pfx", script: "a.csv", workers: Some(64), batch: None, strict: false, json: false }
-pfx|run|--workers|007|--|a.pfx|a.csv => Run { file: "a.pfx", script: "a.csv", workers: Some(7), batch: None, strict: false, json: false }
-pfx|run|--workers=+2|a.pfx|a.csv => Run { file: "a.pfx", script: "a.csv", workers: Some(2), batch: None, strict: false, json: false }
-pfx|run|a.pfx|a.csv|--batch|16 => Run { file: "a.pfx", script: "a.csv", workers: None, batch: Some(16), strict: false, json: false }
-pfx|run|--batch=1|a.pfx|--workers=0|a.csv => Run { file: "a.pfx", script: "a.csv", workers: Some(0), batch: Some(1), strict: false, json: false }"#;
+    r#"pfx|run|a.pfx|a.csv => Run { file: "a.pfx", script: "a.csv", workers: None, batch: None, log: None, after: None, strict: false, json: false }
+pfx|run|a.pfx|a.csv|--workers|0 => Run { file: "a.pfx", script: "a.csv", workers: Some(0), batch: None, log: None, after: None, strict: false, json: false }
+pfx|run|a.pfx|--workers=64|a.csv => Run { file: "a.pfx", script: "a.csv", workers: Some(64), batch: None, log: None, after: None, strict: false, json: false }
+pfx|run|--workers|007|--|a.pfx|a.csv => Run { file: "a.pfx", script: "a.csv", workers: Some(7), batch: None, log: None, after: None, strict: false, json: false }
+pfx|run|--workers=+2|a.pfx|a.csv => Run { file: "a.pfx", script: "a.csv", workers: Some(2), batch: None, log: None, after: None, strict: false, json: false }
+pfx|run|a.pfx|a.csv|--batch|16 => Run { file: "a.pfx", script: "a.csv", workers: None, batch: Some(16), log: None, after: None, strict: false, json: false }
+pfx|run|--batch=1|a.pfx|--workers=0|a.csv => Run { file: "a.pfx", script: "a.csv", workers: Some(0), batch: Some(1), log: None, after: None, strict: false, json: false }
+pfx|run|a.pfx|a.csv|--log|a.log => Run { file: "a.pfx", script: "a.csv", workers: None, batch: None, log: Some("a.log"), after: None, strict: false, json: false }
+pfx|run|--after=a.log|a.pfx|--log=b.log|a.csv => Run { file: "a.pfx", script: "a.csv", workers: None, batch: None, log: Some("b.log"), after: Some("a.log"), strict: false, json: false }"#;
 
 #[test]
 fn reads_a_run(rt: HostRuntime) {
@@ -127,8 +129,8 @@ fn reads_a_run(rt: HostRuntime) {
 }
 
 const STRICT: &str =
-    r#"pfx|run|a.pfx|a.csv|--strict => Run { file: "a.pfx", script: "a.csv", workers: None, batch: None, strict: true, json: false }
-pfx|run|--strict|a.pfx|a.csv => Run { file: "a.pfx", script: "a.csv", workers: None, batch: None, strict: true, json: false }"#;
+    r#"pfx|run|a.pfx|a.csv|--strict => Run { file: "a.pfx", script: "a.csv", workers: None, batch: None, log: None, after: None, strict: true, json: false }
+pfx|run|--strict|a.pfx|a.csv => Run { file: "a.pfx", script: "a.csv", workers: None, batch: None, log: None, after: None, strict: true, json: false }"#;
 
 #[test]
 fn reads_a_strict_run(rt: HostRuntime) {
@@ -138,7 +140,7 @@ fn reads_a_strict_run(rt: HostRuntime) {
 const OBJECTS: &str =
     r#"pfx|plan|--json|a.toml|4|--at=0:0 => Plan { set: "a.toml", slots: 4, at: Some("0:0"), ledger: false, json: true }
 pfx|plan|--json|a.toml|4|--ledger => Plan { set: "a.toml", slots: 4, at: None, ledger: true, json: true }
-pfx|run|a.pfx|--json|--strict|a.csv => Run { file: "a.pfx", script: "a.csv", workers: None, batch: None, strict: true, json: true }
+pfx|run|a.pfx|--json|--strict|a.csv => Run { file: "a.pfx", script: "a.csv", workers: None, batch: None, log: None, after: None, strict: true, json: true }
 pfx|status|a.pfx|--json => Status { file: "a.pfx", json: true }
 pfx|show|--json|a.pfx => Show { file: "a.pfx", task: None, json: true }
 pfx|show|a.pfx|2|--json => Show { file: "a.pfx", task: Some(2), json: true }"#;
@@ -146,6 +148,18 @@ pfx|show|a.pfx|2|--json => Show { file: "a.pfx", task: Some(2), json: true }"#;
 #[test]
 fn reads_a_wish_for_json(rt: HostRuntime) {
     each_asks(&rt, rt.alloc(), OBJECTS);
+}
+
+const AUDITS: &str =
+    r#"pfx|audit|a.log|b.log|--csv|c.pfx|--every|12 => Audit { logs: ["a.log", "b.log", "c.pfx"], every: Some(12), from: None, to: None, number: None, form: Csv }
+pfx|audit|a.log|--from=3|--to|9|--json => Audit { logs: ["a.log"], every: None, from: Some(3), to: Some(9), number: None, form: Json }
+pfx|audit|--number|7|a.log => Audit { logs: ["a.log"], every: None, from: None, to: None, number: Some(7), form: Text }
+pfx|head|a.log|--json => Head { log: "a.log", json: true }
+pfx|head|a.log => Head { log: "a.log", json: false }"#;
+
+#[test]
+fn reads_an_audit_and_a_head(rt: HostRuntime) {
+    each_asks(&rt, rt.alloc(), AUDITS);
 }
 
 const EXPLAINS: &str = r#"pfx|explain|14 => Explain { fault: "14", json: false }
@@ -197,8 +211,8 @@ fn reads_a_check(rt: HostRuntime) {
 }
 
 const COMMANDS: &str =
-    "pfx => [subcommands: plan, init, run, status, replay, show, draw, check, explain, migrate, help]
- => [subcommands: plan, init, run, status, replay, show, draw, check, explain, migrate, help]
+    "pfx => [subcommands: plan, init, run, status, replay, show, draw, check, explain, migrate, audit, head, help]
+ => [subcommands: plan, init, run, status, replay, show, draw, check, explain, migrate, audit, head, help]
 pfx|paln|a.toml|4 => a similar subcommand exists: 'plan'";
 
 #[test]

@@ -12,4 +12,6 @@ returns c =
     let seven = with_one_more _ _ _ _ _ six c.in_ok-draw_command.ensures c.in_ok-subcommand-7.ensures in
     let eight = with_one_more _ _ _ _ _ seven c.in_ok-check_command.ensures c.in_ok-subcommand-8.ensures in
     let nine = with_one_more _ _ _ _ _ eight c.in_ok-explain_command.ensures c.in_ok-subcommand-9.ensures in
-    with_last _ _ _ _ _ nine c.in_ok-migrate_command.ensures c.subcommand-10.ensures
+    let ten = with_one_more _ _ _ _ _ nine c.in_ok-migrate_command.ensures c.in_ok-subcommand-10.ensures in
+    let eleven = with_one_more _ _ _ _ _ ten c.in_ok-audit_command.ensures c.in_ok-subcommand-11.ensures in
+    with_last _ _ _ _ _ eleven c.in_ok-head_command.ensures c.subcommand-12.ensures

@@ -21,7 +21,7 @@ returns-in_err-matches-clause-faults c =
 pub returns-clause-ok : goal.returns-clause-ok
 unfolding asked
 returns-clause-ok c =
-    c.request_in.ensures ∙ ap asked_in ((c.in_ok-matches.ensures.matches (ap is_simple c.in_ok-command.ensures.0)).1 ∙ ap₂ subcommand_of c.in_ok-command.ensures.0 refl)
+    c.in_ok-request.ensures ∙ ap asked_in ((c.in_ok-matches.ensures.matches (ap is_simple c.in_ok-command.ensures.0)).1 ∙ ap₂ subcommand_of c.in_ok-command.ensures.0 refl)
 
 pub returns-clause-faults : goal.returns-clause-faults
 returns-clause-faults c = ap₂ fault_of (sym c.in_ok-command.ensures.0) refl ∙ c.in_ok-matches.ensures.kinds (ap is_simple_and_free c.in_ok-command.ensures.0)
