@@ -321,11 +321,12 @@ class Core:
 class Drive:
     """Runs the units of a set's tasks under their shares: Drive(SET, STORE, command=["./work"]).run() gives 0 once all tasks have ended.
 
-    `engine` may be any `Engine`; without one, `seats` processes of this machine (the set's workers where it isn't said). Other words
+    `engine` may be any `Engine`; without one, `seats` processes of this machine (the set's workers where it isn't said). Beside the file
+    `log` the store's whole history is kept. Other words
     are those of `Options`. The store and the folder STORE.drive are made where there are none. A drive runs once."""
 
-    def __init__(self, set_file, store, program=None, seats=None, engine=None, tell=lambda event: None, look=None, **options):
-        self.set_file, self.path, self.tell = set_file, store, tell
+    def __init__(self, set_file, store, program=None, seats=None, engine=None, tell=lambda event: None, look=None, log=None, **options):
+        self.set_file, self.path, self.tell, self.log = set_file, store, tell, log
         self.program = program or find_program()
         self.options = Options(**options)
         self.workers, tasks = sets.read_set(set_file)
@@ -370,7 +371,7 @@ class Drive:
 
     def open_compared(self):
         while True:
-            store, look = open_store(self.program, self.path, len(self.tasks), self.pause)
+            store, look = open_store(self.program, self.path, len(self.tasks), self.pause, self.log)
             try:
                 return self.compare(store, look)
             except Gone:
@@ -490,7 +491,7 @@ class Drive:
         self.selector.unregister(old)
         old.close() if is_full else old.forget()
         self.tell({"event": "reopened", "why": "full" if is_full else "gone"})
-        store, look = open_store(self.program, self.path, len(self.tasks), lambda seconds: time.sleep(seconds))
+        store, look = open_store(self.program, self.path, len(self.tasks), lambda seconds: time.sleep(seconds), self.log)
         self.open(store, look)
 
     def watch_signals(self):

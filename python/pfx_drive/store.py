@@ -60,8 +60,8 @@ def jobs_by_place(board, jobs):
 class Store:
     """An open store. `read` gives what has been answered since: ("ran", row), ("recorded", place, number), ("notnext", place, number)."""
 
-    def __init__(self, program, path):
-        words = [*program, "run", path, "-", "--json", "--workers", "0", "--batch", "16"]
+    def __init__(self, program, path, log=None):
+        words = [*program, "run", path, "-", "--json", "--workers", "0", "--batch", "16", *(["--log", log] if log else [])]
         try:
             self.child = subprocess.Popen(words, stdin=subprocess.PIPE, stdout=subprocess.PIPE, stderr=subprocess.PIPE,
                                           bufsize=0, start_new_session=True)
@@ -176,11 +176,11 @@ class Store:
         self.child.stderr.close()
 
 
-def open_store(program, path, count, wait=None):
-    """An open store and its look. A run that was left behind may still have it: that is waited for."""
+def open_store(program, path, count, wait=None, log=None):
+    """An open store, beside its log if there is one, and its look. A run that was left behind may still have it: that is waited for."""
     until = time.monotonic() + PATIENCE
     while True:
-        store = Store(program, path)
+        store = Store(program, path, log)
         try:
             return store, store.look(count)
         except Gone:

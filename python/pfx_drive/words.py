@@ -21,7 +21,7 @@ Any other: failed. The exit status of pfx-drive is 0 once all tasks have ended, 
 3 where it was stopped, and that of pfx where pfx refuses the store. docs/DRIVE.md says more."""
 
 KEYS = {"command": str, "retries": int, "timeout": (int, float), "start": str}
-TOP_KEYS = {**KEYS, "seats": int, "hosts": list, "slurm": bool, "owe": int, "slots": int, "keep": int, "pause": (int, float), "grace": (int, float), "task": dict}
+TOP_KEYS = {**KEYS, "seats": int, "log": str, "hosts": list, "slurm": bool, "owe": int, "slots": int, "keep": int, "pause": (int, float), "grace": (int, float), "task": dict}
 
 
 class Wrong(Exception):
@@ -53,6 +53,7 @@ def parser():
     words.add_argument("--pause", type=float, metavar="SECONDS", help="before a unit is tried again; doubled each time up to 60 (1)")
     words.add_argument("--grace", type=float, metavar="SECONDS", help="between SIGTERM and SIGKILL where a unit is ended (5)")
     words.add_argument("--keep", type=int, metavar="N", help="outputs of the last N recorded units of each task (all)")
+    words.add_argument("--log", metavar="LOG", help="the log that keeps the store's whole history, as pfx run --log has it; made where there is none")
     words.add_argument("--http", metavar="[ADDRESS:]PORT", help="serves a page that shows it live, and /metrics (on 127.0.0.1 if no address is told)")
     words.add_argument("--json", action="store_true", help="prints what happens, an object a line")
     words.add_argument("--version", action="version", version=f"pfx-drive {__version__}")
@@ -187,7 +188,7 @@ def run(words):
     options = options_of(given, command, table)
     teller = Teller(given.json)
     seats, engine = engine_of(given, table, options.get("grace", 5.0))
-    drive = Drive(given.set, given.store, seats=seats, engine=engine, tell=teller.tell,
+    drive = Drive(given.set, given.store, seats=seats, engine=engine, tell=teller.tell, log=given.log or table.get("log"),
                   look=lambda it: look.Server(it, given.http), **options)
     lacking = [task.name for task in drive.tasks if not drive.options.of(task.name, "command")]
     if lacking:

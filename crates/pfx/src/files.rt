@@ -11,6 +11,9 @@ use std::path::Path;
 use std::time::Duration;
 use std::{fs, io, thread};
 
+/// The letters with which a store's file begins, behind an open gate.
+pub(crate) const STORE: &[u8; 9] = b"\xC3PFXSTORE";
+
 /// How often a reader tries to lock a store's file, with a pause after each try: a second in all.
 const TRIES: u32 = 100;
 
@@ -170,4 +173,39 @@ pub(crate) fn shared_disk(rt: &HostRuntime, path: &str) -> Result<FileDisk, Faul
         }
     }
     Err(Fault::Busy)
+}
+
+/// A log for a reader, who keeps no run from it and is kept by none: a log only grows, and its last gate says where it ends. Of one that
+/// can't be opened it keeps what the system says.
+pub(crate) fn growing_disk(
+    rt: &HostRuntime,
+    path: &str,
+    unopened: &Cell<Option<io::ErrorKind>>,
+) -> Result<FileDisk, Fault> {
+    let mut options = OpenOptions::new();
+    options.read(true).write(!is_plain(rt, path));
+    match options.open(rt, path) {
+        Ok(file) => Ok(FileDisk::new(file)),
+        Err(error) => {
+            unopened.set(Some(error.kind()));
+            Err(fault_of(&error, Fault::InputFailed))
+        }
+    }
+}
+
+/// Whether a file begins as a store does: a plain file, whose first bytes can be read.
+pub(crate) fn begins_as_store(rt: &HostRuntime, path: &str) -> Result<bool, Fault> {
+    if !is_plain(rt, path) {
+        return Ok(false);
+    }
+    let mut letters = [0u8; 9];
+    let mut file = match File::open(rt, path) {
+        Ok(file) => file,
+        Err(error) => return Err(fault_of(&error, Fault::InputFailed)),
+    };
+    match file.read_exact(&mut letters) {
+        Ok(()) => Ok(letters == *STORE),
+        Err(error) if error.kind() == io::ErrorKind::UnexpectedEof => Ok(false),
+        Err(error) => Err(fault_of(&error, Fault::InputFailed)),
+    }
 }

@@ -3,7 +3,7 @@
 //! It does what its words ask for, over the system's own files. Where that fails it prints one fault line on standard
 //! error and ends with the fault's exit status: 3 if the set, the ledger or the plan is refused, 4 if the store is or
 //! its disk failed, 5 if memory ran out, 7 if the script has a record without form, 8 if a file or an output
-//! failed. Help and version end with 0, words that it doesn't take with 2, a replay that finds a difference with 6, a
+//! failed. Help and version end with 0, words that it doesn't take with 2, a replay or an audit that finds a difference with 6, a
 //! strict run with a refused record with 7. Below the fault line at most three lines say where the mistake stands, what is
 //! wrong and what to change. If the output's reader has gone nothing is said, and the status is 8.
 #![tactic(auto)]
@@ -11,10 +11,13 @@
 ghost use Rattle.std.specs.Prelude.{◌≡◌};
 ghost use Rattle.pfx_fault.specs.Refusals.{status_of};
 
+mod audit;
 mod check;
 mod draw;
 mod explain;
 mod files;
+mod head;
+mod log;
 mod migrate;
 mod notes;
 mod plan;
@@ -25,19 +28,23 @@ mod store;
 mod tell;
 mod tips;
 mod traces;
+mod watcher;
 
+use crate::audit::{Found, audit};
 use crate::check::{check, refused_by_all};
 use crate::draw::draw;
 use crate::explain::explain;
 use crate::files::taken_streams;
+use crate::head::head;
 use crate::migrate::migrate_store;
 use crate::plan::plan;
 use crate::replay::replay;
-use crate::run::run;
+use crate::run::{Asked, run};
 use crate::store::{init, show, status};
 use crate::tell::{form_of, is_closed, tell, warn};
 use crate::tips::{of_fault, of_words};
 use crate::traces::Traces;
+use crate::watcher::Sought;
 use clap::Error;
 use clap::error::ErrorKind;
 use pfx_args::{Request, read_words};
@@ -53,7 +60,7 @@ use std::{env, io};
 /// The exit status of words that the program doesn't take.
 const USAGE: u8 = 2;
 
-/// The exit status of a replay that finds a difference.
+/// The exit status of a replay or an audit that finds a difference.
 const DIFFERS: u8 = 6;
 
 /// The exit status of a strict run that ends at a refused record.
@@ -62,6 +69,12 @@ const REFUSED: u8 = 7;
 /// What is said of a picture that would be too large.
 const TOO_LARGE: &str =
     "more than 262144 slots over the lanes of all tasks; draw fewer, and further ones with --at";
+
+/// What is said of an older log without a new one.
+const NO_NEW_LOG: &str = "--after is for a new log\n\n  tip: name the new one too, by --log NEW";
+
+/// What is said of the number of a record that isn't there.
+const NO_RECORD: &str = "the history has no command of this number";
 
 /// What is said of a word that is no text.
 const NO_TEXT: &str =
@@ -118,15 +131,105 @@ fn answered(rt: &HostRuntime, alloc: Global, words: &[&str], error: &Error) -> u
     error.exit_code() as u8
 }
 
+// Runs a script, if that is asked for, and answers the exit status if nothing fails; `None` if it isn't.
+fn ran<R: Threads + Wait + Clock + Copy + Drop + Send + Sync + 'static>(
+    rt: &HostRuntime,
+    threads: R,
+    alloc: Global,
+    request: &Request<'_>,
+    traces: &Traces,
+) -> Result<Option<u8>, Fault> {
+    let Request::Run {
+        file,
+        script,
+        workers,
+        batch,
+        log,
+        after,
+        strict,
+        ..
+    } = request
+    else {
+        return Ok(None);
+    };
+    if after.is_some() && log.is_none() {
+        return Ok(Some(refused(rt, alloc, NO_NEW_LOG)));
+    }
+    let asked = Asked {
+        workers: *workers,
+        batch: *batch,
+        log: *log,
+        after: *after,
+        strict: *strict,
+        form: form_of(request),
+    };
+    run(rt, threads, alloc, file, script, asked, traces)?;
+    let is_refused = *strict && traces.has_refused();
+    Ok(Some(if is_refused { REFUSED } else { 0 }))
+}
+
+// The exit status of what was compared with what it should be.
+fn compared(agrees: bool) -> u8 {
+    if agrees { 0 } else { DIFFERS }
+}
+
+// Does what is asked for of a history, and answers the exit status if nothing fails; `None` if nothing is asked of one.
+fn looked_back(
+    rt: &HostRuntime,
+    alloc: Global,
+    request: &Request<'_>,
+    traces: &Traces,
+) -> Result<Option<u8>, Fault> {
+    let form = form_of(request);
+    match request {
+        Request::Replay { file, .. } => {
+            let agrees = replay(rt, alloc, file, form, traces)?;
+            Ok(Some(compared(agrees)))
+        }
+        Request::Audit {
+            logs,
+            every,
+            from,
+            to,
+            number,
+            form,
+        } => {
+            let asked = Sought {
+                every: *every,
+                from: *from,
+                to: *to,
+                number: *number,
+                form: *form,
+            };
+            Ok(Some(match audit(rt, alloc, logs, asked, traces)? {
+                Found::Agrees => 0,
+                Found::Differs => DIFFERS,
+                Found::Nothing => refused(rt, alloc, NO_RECORD),
+            }))
+        }
+        Request::Head { log, .. } => {
+            head(rt, alloc, log, form, traces)?;
+            Ok(Some(0))
+        }
+        _ => Ok(None),
+    }
+}
+
 // Does what is asked for, and answers the exit status if nothing fails.
 fn carried_out<R: Threads + Wait + Clock + Copy + Drop + Send + Sync + 'static>(
     rt: &HostRuntime,
     threads: R,
     alloc: Global,
-    request: Request<'_>,
+    request: &Request<'_>,
     traces: &mut Traces,
 ) -> Result<u8, Fault> {
-    let form = form_of(&request);
+    if let Some(status) = looked_back(rt, alloc, request, traces)? {
+        return Ok(status);
+    }
+    if let Some(status) = ran(rt, threads, alloc, request, traces)? {
+        return Ok(status);
+    }
+    let form = form_of(request);
     match request {
         Request::Plan {
             set,
@@ -134,36 +237,18 @@ fn carried_out<R: Threads + Wait + Clock + Copy + Drop + Send + Sync + 'static>(
             at,
             ledger,
             ..
-        } => plan(rt, alloc, set, at, slots, ledger, form, traces)?,
-        Request::Init { set, file, at, .. } => init(rt, alloc, set, file, at, form, traces)?,
-        Request::Run {
-            file,
-            script,
-            workers,
-            batch,
-            strict,
-            ..
-        } => {
-            run(
-                rt, threads, alloc, file, script, workers, batch, strict, form, traces,
-            )?;
-            let refused = strict && traces.has_refused();
-            return Ok(if refused { REFUSED } else { 0 });
-        }
+        } => plan(rt, alloc, set, *at, *slots, *ledger, form, traces)?,
+        Request::Init { set, file, at, .. } => init(rt, alloc, set, file, *at, form, traces)?,
         Request::Status { file, .. } => status(rt, alloc, file, form, traces)?,
-        Request::Replay { file, .. } => {
-            let agrees = replay(rt, alloc, file, form, traces)?;
-            return Ok(if agrees { 0 } else { DIFFERS });
-        }
-        Request::Show { file, task, .. } => show(rt, alloc, file, task, form, traces)?,
+        Request::Show { file, task, .. } => show(rt, alloc, file, *task, form, traces)?,
         Request::Draw { set, slots, at } => {
-            if !draw(rt, alloc, set, at, slots, traces)? {
+            if !draw(rt, alloc, set, *at, *slots, traces)? {
                 return Ok(refused(rt, alloc, TOO_LARGE));
             }
         }
         Request::Check { set, .. } => {
             if let Err(refusal) = check(rt, alloc, set, form, traces) {
-                return Ok(refused_by_all(rt, alloc, &request, traces, &refusal));
+                return Ok(refused_by_all(rt, alloc, request, traces, &refusal));
             }
         }
         Request::Explain { fault, .. } => {
@@ -172,6 +257,10 @@ fn carried_out<R: Threads + Wait + Clock + Copy + Drop + Send + Sync + 'static>(
             }
         }
         Request::Migrate { old, new, .. } => migrate_store(rt, alloc, old, new, form, traces)?,
+        Request::Run { .. }
+        | Request::Replay { .. }
+        | Request::Audit { .. }
+        | Request::Head { .. } => {}
     }
     Ok(0)
 }
@@ -188,7 +277,7 @@ fn done<R: Threads + Wait + Clock + Copy + Drop + Send + Sync + 'static>(
         Err(error) => return answered(rt, alloc, words, &error),
     };
     let mut traces = Traces::new(alloc);
-    match carried_out(rt, threads, alloc, request, &mut traces) {
+    match carried_out(rt, threads, alloc, &request, &mut traces) {
         Ok(status) => {
             if status == 0 || status == REFUSED {
                 warn(rt, alloc, &request, &traces);

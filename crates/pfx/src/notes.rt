@@ -1,21 +1,19 @@
 //! What is said below the line of a fault.
 
+use crate::files::begins_as_store;
 use crate::traces::{Traces, Unmade};
 use pfx_args::Request;
 use pfx_explain::Note;
-use pfx_fault::Fault;
+use pfx_fault::{Cause, Fault};
 use pfx_notes::{
-    Named, Stands, Trouble, input_note, output_note, record_note, script_note, set_note,
-    store_note, trouble_note,
+    Named, Stands, Trouble, history_note, input_note, log_note, output_note, record_note,
+    script_note, set_note, store_note, trouble_note,
 };
 use std::alloc::{AllocError, Global};
 use std::fs;
 use std::fs::{File, OpenOptions};
 use std::io::{Error, ErrorKind, Read};
 use std::path::Path;
-
-/// The letters with which a store's file begins, behind an open gate.
-const STORE: &[u8; 9] = b"\xC3PFXSTORE";
 
 /// How often a store whose disk has failed is read again, 4,096 bytes each time.
 const LOOKS: u32 = 1024;
@@ -206,6 +204,15 @@ fn unmade_note(
     }
 }
 
+// What has failed of a file on a disk that failed in such a call, where the file itself tells it.
+fn plain_why(rt: &HostRuntime, path: &str) -> Option<&'static str> {
+    match fs::metadata(rt, path) {
+        Ok(found) if found.is_file() => None,
+        Ok(_) => Some("it is no plain file"),
+        Err(error) => Some(why(error.kind())),
+    }
+}
+
 // The note of a store whose disk has failed in such a call: what the system said of that, or else what it says of a read of the store
 // now.
 fn device_note(
@@ -215,12 +222,8 @@ fn device_note(
     call: &str,
     said: Option<Error>,
 ) -> Result<Option<Note>, AllocError> {
-    let found = match fs::metadata(rt, path) {
-        Ok(found) => found,
-        Err(error) => return trouble_note(alloc, path, Trouble::Device(why(error.kind()))),
-    };
-    if !found.is_file() {
-        return trouble_note(alloc, path, Trouble::Device("it is no plain file"));
+    if let Some(why) = plain_why(rt, path) {
+        return trouble_note(alloc, path, Trouble::Device(why));
     }
     if let Some(error) = said {
         let words = words_of(alloc, error)?;
@@ -232,6 +235,79 @@ fn device_note(
         None => call,
     };
     trouble_note(alloc, path, Trouble::Device(why))
+}
+
+// The note of a log whose disk has failed.
+fn log_device_note(
+    rt: &HostRuntime,
+    alloc: Global,
+    path: &str,
+    said: Option<Error>,
+) -> Result<Option<Note>, AllocError> {
+    if let Some(why) = plain_why(rt, path) {
+        return trouble_note(alloc, path, Trouble::LogDevice(why));
+    }
+    let Some(error) = said else {
+        return trouble_note(alloc, path, Trouble::LogDevice(ANY_CALL));
+    };
+    let words = words_of(alloc, error)?;
+    let why = format!(in alloc; "{ANY_CALL}: {words}")?;
+    trouble_note(alloc, path, Trouble::LogDevice(why.as_str()))
+}
+
+// The note of a fault that comes of the log beside a store, if it does.
+fn beside_note(
+    rt: &HostRuntime,
+    alloc: Global,
+    log: &str,
+    traces: &Traces,
+    fault: Fault,
+) -> Result<Option<Note>, AllocError> {
+    match fault {
+        Fault::StoreFailed {
+            cause: Cause::Log,
+            ..
+        } => log_device_note(rt, alloc, log, traces.device.get()),
+        Fault::Device if traces.at_log.get() => log_device_note(
+            rt,
+            alloc,
+            log,
+            traces.device.get(),
+        ),
+        Fault::Busy if traces.at_log.get() => log_note(alloc, log, fault),
+        Fault::InputFailed if traces.at_log.get() => match traces.unopened_log.get() {
+            Some(kind) => input_note(alloc, Named::Log, log, why(kind), false),
+            None => Ok(None),
+        },
+        Fault::Busy | Fault::NotEmpty if !traces.at_log.get() => Ok(None),
+        _ => log_note(alloc, log, fault),
+    }
+}
+
+// The note of a fault of a part of a history.
+fn history_part_note(
+    rt: &HostRuntime,
+    alloc: Global,
+    parts: &[&str],
+    traces: &Traces,
+    fault: Fault,
+) -> Result<Option<Note>, AllocError> {
+    let Some(path) = parts.get(traces.at_part.get()) else {
+        return Ok(None);
+    };
+    match fault {
+        Fault::Device => device_note(rt, alloc, path, ANY_CALL, traces.device.get()),
+        Fault::InputFailed => match unread(rt, path) {
+            Some(kind) => input_note(alloc, Named::Log, path, why(kind), false),
+            None => Ok(None),
+        },
+        Fault::LogGap { .. }
+        | Fault::NotALog
+        | Fault::LogDamaged { .. }
+        | Fault::WrongLogVersion { .. }
+        | Fault::Busy => history_note(alloc, path, fault),
+        _ => store_note(alloc, path, None, fault),
+    }
 }
 
 // Why a file can't be read, as far as its first bytes tell: a failing disk takes long for each.
@@ -283,7 +359,7 @@ fn input_failed(
             let note = store_word_note(rt, alloc, old)?;
             first_of(note, made_note(rt, alloc, new, traces.unopened))
         }
-        Request::Explain { .. } => Ok(None),
+        Request::Audit { .. } | Request::Head { .. } | Request::Explain { .. } => Ok(None),
     }
 }
 
@@ -301,14 +377,7 @@ pub(crate) fn text_of(rt: &HostRuntime, path: &str) -> Option<Vec<u8>> {
 
 // Whether a file begins as a store does.
 fn is_store(rt: &HostRuntime, path: &str) -> bool {
-    let mut letters = [0u8; 9];
-    match trouble(rt, path, false) {
-        Some(_) => false,
-        None => match File::open(rt, path) {
-            Ok(mut file) => file.read_exact(&mut letters).is_ok() && letters == *STORE,
-            Err(_) => false,
-        },
-    }
+    matches!(begins_as_store(rt, path), Ok(true))
 }
 
 fn run_note(
@@ -342,25 +411,14 @@ fn stands_of(request: &Request<'_>) -> Stands {
     }
 }
 
-/// What is said below the line of a fault, if anything is known beside it. Fails only if memory runs out.
-pub(crate) fn note_of(
+// What is said of the fault of a request, that of its output or of its threads left out.
+fn request_note(
     rt: &HostRuntime,
     alloc: Global,
     request: &Request<'_>,
     traces: &Traces,
     fault: Fault,
 ) -> Result<Option<Note>, AllocError> {
-    match fault {
-        Fault::InputFailed => return input_failed(rt, alloc, request, traces),
-        Fault::OutputFailed => {
-            return match traces.failed.get() {
-                Some(kind) => output_note(alloc, why(kind), stands_of(request)),
-                None => Ok(None),
-            };
-        }
-        Fault::NoThread => return trouble_note(alloc, "", Trouble::Threads),
-        _ => {}
-    }
     let text = traces.set.text.as_slice();
     let said = traces.device.get();
     match request {
@@ -393,6 +451,37 @@ pub(crate) fn note_of(
             (Fault::Device, None) => device_note(rt, alloc, old, ANY_CALL, said),
             _ => store_note(alloc, old, None, fault),
         },
-        Request::Explain { .. } => Ok(None),
+        Request::Audit { .. } | Request::Head { .. } | Request::Explain { .. } => Ok(None),
+    }
+}
+
+/// What is said below the line of a fault, if anything is known beside it. Fails only if memory runs out.
+pub(crate) fn note_of(
+    rt: &HostRuntime,
+    alloc: Global,
+    request: &Request<'_>,
+    traces: &Traces,
+    fault: Fault,
+) -> Result<Option<Note>, AllocError> {
+    match request {
+        Request::Run { log: Some(log), .. } | Request::Head { log, .. } => {
+            let note = beside_note(rt, alloc, log, traces, fault)?;
+            if note.is_some() {
+                return Ok(note);
+            }
+        }
+        Request::Audit { logs, .. } if fault != Fault::OutputFailed => {
+            return history_part_note(rt, alloc, logs.as_slice(), traces, fault);
+        }
+        _ => {}
+    }
+    match fault {
+        Fault::InputFailed => input_failed(rt, alloc, request, traces),
+        Fault::OutputFailed => match traces.failed.get() {
+            Some(kind) => output_note(alloc, why(kind), stands_of(request)),
+            None => Ok(None),
+        },
+        Fault::NoThread => trouble_note(alloc, "", Trouble::Threads),
+        _ => request_note(rt, alloc, request, traces, fault),
     }
 }

@@ -104,8 +104,8 @@ impl<'a, W> Told<'a, W> {
         }
     }
 
-    // Counts lines, and tells of them if a second has gone by.
-    fn count(&mut self, lines: u64)
+    /// Counts lines, and tells of them if a second has gone by.
+    pub(crate) fn count(&mut self, lines: u64)
         ensures { self.new.output ≡ self.old.output }
     {
         let Some(mut course) = self.course else {

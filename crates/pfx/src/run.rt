@@ -1,11 +1,13 @@
 //! `pfx run FILE SCRIPT`.
 
-ghost use Rattle.std.specs.Prelude.{◌≡◌, ◌<◌, unwrap_or};
+ghost use Rattle.std.specs.Prelude.{◌≡◌, ◌<◌, unwrap_or, None};
 ghost use Rattle.pfx_disk.specs.File.{file_view};
 ghost use Rattle.pfx_front.specs.Starting.{Begins};
 ghost use Rattle.pfx_kinds.specs.AnyKind.{any_kind};
+ghost use Rattle.pfx_store_log.specs.Working.{failure_beside};
 
 use crate::files::{Source, disk, input};
+use crate::log::beside;
 use crate::progress::Told;
 use crate::store::opened;
 use crate::traces::{Traces, output_of};
@@ -14,14 +16,16 @@ use pfx_chronicle::name::Charted;
 use pfx_crew::channel::ChannelDesk;
 use pfx_disk::FileDisk;
 use pfx_engine::run_noted;
-use pfx_fault::Fault;
+use pfx_fault::{Cause, Fault};
 use pfx_front_engine::engine::WINDOW;
 use pfx_front_engine::scripts::run_served;
 use pfx_jobs::quantum::{Done, Quantum};
 use pfx_kinds::any::AnyJob;
-use pfx_program::{AtRefusal, Form, level_slot};
+use pfx_log_engine::{run_logged, run_logged_served};
+use pfx_program::{AtRefusal, Form, Report, level_slot};
 use pfx_script::{Script, Whole};
 use pfx_store::Store;
+use pfx_store_log::LoggedStore;
 use std::alloc::Global;
 use std::marker::Brand;
 use std::sync::Wait;
@@ -34,6 +38,32 @@ type JobDesk = ChannelDesk<Quantum<AnyJob>, Done<AnyJob>>;
 /// The most records of a script that share a commit.
 const GROUP: u32 = 16;
 
+/// How the records of a script are run.
+#[derive(Clone, Copy)]
+struct Way {
+    /// How many slots of a record are kept at once at the most.
+    window: u32,
+    /// What a refused record does.
+    at_refusal: AtRefusal,
+    /// Whether lines are text or objects.
+    form: Form,
+    ghost some: { 0 < window },
+}
+
+// The way with so many slots at once, or this many where none are said.
+fn way_of(window: Option<u32>, other: u32, strict: bool, form: Form) -> Way {
+    let at_refusal = if strict {
+        AtRefusal::End
+    } else {
+        AtRefusal::GoOn
+    };
+    Way {
+        window: window.unwrap_or(other).max(1),
+        at_refusal,
+        form,
+    }
+}
+
 // Runs a script on a store by one thread. The name says which bytes the file held when it was opened: that they stand for the store is
 // the premise of each printed line.
 fn run_alone<N: Charted>(
@@ -42,12 +72,9 @@ fn run_alone<N: Charted>(
     list: Opened,
     store: Store<FileDisk, AnyJob>,
     script: &mut Script<Whole<Source>>,
-    window: u32,
-    at_refusal: AtRefusal,
-    form: Form,
+    way: Way,
     traces: &Traces,
 ) -> Result<(), Fault>
-    requires some { 0 < window }
     requires list { list.seen.book ≡ N.calls }
     requires begins { Begins any_kind store.state N.failures N.clock N.held N.image store (file_view store.file.disk) }
 {
@@ -57,16 +84,71 @@ fn run_alone<N: Charted>(
         list,
         store,
         script,
-        window,
+        way.window,
         GROUP,
-        at_refusal,
-        form,
+        way.at_refusal,
+        way.form,
         &mut output,
     );
     output.clear();
     traces.keep_said(ran.store.disk());
     traces.level.set(Some(level_slot(ran.store.state())));
     traces.keep_report(ran.result)
+}
+
+// Whether it is the log that ended a run.
+fn is_of_log(answer: &Result<Report, Fault>) -> bool {
+    match answer {
+        Err(Fault::StoreFailed { cause, .. }) => *cause == Cause::Log,
+        _ => false,
+    }
+}
+
+// Leaves what the system said of the disk that failed, and what the run answered.
+fn leave_beside(
+    beside: &LoggedStore<FileDisk, FileDisk, AnyJob>,
+    answer: Result<Report, Fault>,
+    traces: &Traces,
+) -> Result<(), Fault> {
+    let is_log = is_of_log(&answer);
+    traces.at_log.set(is_log);
+    traces.keep_said(if is_log {
+        &beside.log.disk
+    } else {
+        beside.store.disk()
+    });
+    traces.level.set(Some(level_slot(beside.store.state())));
+    traces.keep_report(answer)
+}
+
+// Runs a script on a store beside its log by one thread, as `run_alone` does on a store.
+fn run_beside<N: Charted>(
+    rt: &HostRuntime,
+    alloc: Global,
+    list: Opened,
+    beside: LoggedStore<FileDisk, FileDisk, AnyJob>,
+    script: &mut Script<Whole<Source>>,
+    way: Way,
+    traces: &Traces,
+) -> Result<(), Fault>
+    requires list { list.seen.book ≡ N.calls }
+    requires whole { failure_beside beside ≡ None }
+    requires begins { Begins any_kind beside.store.state N.failures N.clock N.held N.image beside.store (file_view beside.store.file.disk) }
+{
+    let mut output = Told::new(rt, alloc, output_of(rt, &traces.failed), "lines", None);
+    let ran = run_logged::<_, _, FileDisk, FileDisk, N>(
+        alloc,
+        list,
+        beside,
+        script,
+        way.window,
+        GROUP,
+        way.at_refusal,
+        way.form,
+        &mut output,
+    );
+    output.clear();
+    leave_beside(&ran.beside, ran.result, traces)
 }
 
 // Runs a script on a store by so many workers. The name says which bytes the file held when it was opened: that they stand for the
@@ -78,12 +160,9 @@ fn run_by<N: Charted, R: Threads + Wait + Clock + Copy + Drop + Send + Sync + 's
     store: Store<FileDisk, AnyJob>,
     workers: u32,
     script: &mut Script<Whole<Source>>,
-    window: u32,
-    at_refusal: AtRefusal,
-    form: Form,
+    way: Way,
     traces: &Traces,
 ) -> Result<(), Fault>
-    requires some { 0 < window }
     requires begins { Begins any_kind store.state (file_view store.file.disk).failures
         (file_view store.file.disk).clock N.held N.image store (file_view store.file.disk) }
 {
@@ -98,16 +177,52 @@ fn run_by<N: Charted, R: Threads + Wait + Clock + Copy + Drop + Send + Sync + 's
         desk,
         workers,
         script,
-        window,
+        way.window,
         GROUP,
-        at_refusal,
-        form,
+        way.at_refusal,
+        way.form,
         &mut output,
     );
     output.clear();
     traces.keep_said(served.store.disk());
     traces.level.set(Some(level_slot(served.store.state())));
     traces.keep_report(served.result)
+}
+
+// Runs a script on a store beside its log by so many workers, as `run_by` does on a store.
+fn run_beside_by<N: Charted, R: Threads + Wait + Clock + Copy + Drop + Send + Sync + 'static>(
+    rt: &HostRuntime,
+    threads: R,
+    alloc: Global,
+    beside: LoggedStore<FileDisk, FileDisk, AnyJob>,
+    workers: u32,
+    script: &mut Script<Whole<Source>>,
+    way: Way,
+    traces: &Traces,
+) -> Result<(), Fault>
+    requires whole { failure_beside beside ≡ None }
+    requires begins { Begins any_kind beside.store.state (file_view beside.store.file.disk).failures
+        (file_view beside.store.file.disk).clock N.held N.image beside.store (file_view beside.store.file.disk) }
+{
+    let Ok(desk) = JobDesk::new(alloc) else {
+        return Err(Fault::NoMemory);
+    };
+    let mut output = Told::new(rt, alloc, output_of(rt, &traces.failed), "lines", None);
+    let served = run_logged_served::<_, _, FileDisk, FileDisk, N, JobDesk, R>(
+        threads,
+        alloc,
+        beside,
+        desk,
+        workers,
+        script,
+        way.window,
+        GROUP,
+        way.at_refusal,
+        way.form,
+        &mut output,
+    );
+    output.clear();
+    leave_beside(&served.beside, served.result, traces)
 }
 
 // By how many workers a store is run: those that are said, or else as many as the weights in force have, which need not be those of
@@ -118,56 +233,70 @@ fn workers_of(said: Option<u32>, store: &Store<FileDisk, AnyJob>) -> u32
     said.unwrap_or(store.state().columns().workers())
 }
 
+/// What a run is asked for beside its file and its script.
+#[derive(Clone, Copy)]
+pub(crate) struct Asked<'a> {
+    /// How many workers run the jobs; 0 is one thread for all.
+    pub(crate) workers: Option<u32>,
+    /// How many slots of a record are kept at once at the most.
+    pub(crate) batch: Option<u32>,
+    /// The log beside the store.
+    pub(crate) log: Option<&'a str>,
+    /// The log that a new one goes on from.
+    pub(crate) after: Option<&'a str>,
+    /// Whether the script ends behind its first refused record.
+    pub(crate) strict: bool,
+    /// Whether lines are text or objects.
+    pub(crate) form: Form,
+}
+
 /// Runs a script on the store of a file by so many workers, as many as its weights have if none are said, or for 0 by one thread. Up
-/// to `window` slots of a record are kept at once; if that isn't said, it is 1, or 64 with workers. Records that stand ready together
-/// are kept at once too, up to 16. Lines are printed as they come. Behind a refused record the script goes on, or ends if it is
-/// strict.
+/// to `batch` slots of a record are kept at once; if that isn't said, it is 1, or 64 with workers. Records that stand ready together
+/// are kept at once too, up to 16. Lines are printed as they come. Behind a refused record the script goes on, or ends if it is strict.
+/// Beside a log each segment of the file is in the log before it is used again.
 pub(crate) fn run<R: Threads + Wait + Clock + Copy + Drop + Send + Sync + 'static>(
     rt: &HostRuntime,
     threads: R,
     alloc: Global,
     file: &str,
     script: &str,
-    workers: Option<u32>,
-    window: Option<u32>,
-    strict: bool,
-    form: Form,
+    asked: Asked<'_>,
     traces: &Traces,
 ) -> Result<(), Fault> {
     let mut script = Script::new(alloc, Whole::new(input(rt, script)?));
-    let at_refusal = if strict {
-        AtRefusal::End
-    } else {
-        AtRefusal::GoOn
-    };
     let store = opened(alloc, disk(rt, file)?, traces)?;
-    let workers = workers_of(workers, &store);
-    if workers == 0 {
-        let window = window.unwrap_or(1).max(1);
-        run_alone::<Brand>(
-            rt,
-            alloc,
-            Opened::new(),
-            store,
-            &mut script,
-            window,
-            at_refusal,
-            form,
-            traces,
-        )
-    } else {
-        let window = window.unwrap_or(WINDOW).max(1);
-        run_by::<Brand, R>(
+    let alone = way_of(asked.batch, 1, asked.strict, asked.form);
+    let many = way_of(asked.batch, WINDOW, asked.strict, asked.form);
+    let workers = workers_of(asked.workers, &store);
+    if let Some(log) = asked.log {
+        let beside = beside(rt, alloc, store, log, asked.after, traces)?;
+        if workers == 0 {
+            let list = Opened::new();
+            return run_beside::<Brand>(rt, alloc, list, beside, &mut script, alone, traces);
+        }
+        return run_beside_by::<Brand, R>(
             rt,
             threads,
             alloc,
-            store,
+            beside,
             workers,
             &mut script,
-            window,
-            at_refusal,
-            form,
+            many,
             traces,
-        )
+        );
     }
+    if workers == 0 {
+        let list = Opened::new();
+        return run_alone::<Brand>(rt, alloc, list, store, &mut script, alone, traces);
+    }
+    run_by::<Brand, R>(
+        rt,
+        threads,
+        alloc,
+        store,
+        workers,
+        &mut script,
+        many,
+        traces,
+    )
 }

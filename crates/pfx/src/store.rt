@@ -11,8 +11,8 @@ use crate::files::{fault_of, input, new_disk, shared_disk, sync_directory};
 use crate::traces::{SetRead, Traces, Unmade, output_of, set_source};
 use pfx_check::store_len;
 use pfx_disk::FileDisk;
-use pfx_engine::DurableEngine;
 use pfx_engine::faults::{init_fault, open_fault, size_fault};
+use pfx_engine::{DurableEngine, StoreEngine};
 use pfx_fault::Fault;
 use pfx_header::check_segment;
 use pfx_kinds::any::AnyJob;
@@ -115,7 +115,7 @@ pub(crate) fn opened(
 }
 
 // The engine of one thread over a store.
-fn engine(alloc: Global, store: Store<FileDisk, AnyJob>) -> Result<DurableEngine<FileDisk>, Fault> {
+fn engine(alloc: Global, store: Store<FileDisk, AnyJob>) -> Result<StoreEngine<FileDisk>, Fault> {
     match DurableEngine::new(alloc, store) {
         Ok(engine) => Ok(engine),
         Err(_) => Err(Fault::NoMemory),

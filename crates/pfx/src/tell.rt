@@ -2,7 +2,7 @@
 
 use crate::notes::{note_of, text_of};
 use crate::traces::Traces;
-use pfx_args::Request;
+use pfx_args::{AuditForm, Request};
 use pfx_check::put_also;
 use pfx_explain::Note;
 use pfx_fault::{Fault, put_fault};
@@ -31,7 +31,9 @@ pub(crate) fn form_of(request: &Request<'_>) -> Form {
         | Request::Show { json, .. }
         | Request::Check { json, .. }
         | Request::Explain { json, .. }
-        | Request::Migrate { json, .. } => *json,
+        | Request::Migrate { json, .. }
+        | Request::Head { json, .. } => *json,
+        Request::Audit { form, .. } => *form == AuditForm::Json,
         Request::Draw { .. } => false,
     };
     if json { Form::Json } else { Form::Text }

@@ -5,7 +5,7 @@ use std::alloc::{AllocError, Global};
 
 /// The numbers that faults have.
 const NUMBERS: &str =
-    "the numbers are 10 to 14, 16, 17, 19 to 26, 31 to 34, 41 to 43, 45, 51 to 58, 61, 64, 68, 71 to 73 and 90";
+    "the numbers are 10 to 14, 16, 17, 19 to 26, 31 to 34, 41 to 43, 45, 51 to 58, 61, 64, 68, 71 to 77 and 90";
 
 /// The last line of what is said of wrong words.
 const END: &str = "\nFor more information";

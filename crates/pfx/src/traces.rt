@@ -39,6 +39,12 @@ pub(crate) struct Traces {
     pub(crate) unmade: Option<Unmade>,
     /// Why the file of a new store couldn't be opened or made.
     pub(crate) unopened: Option<ErrorKind>,
+    /// Why the log beside a store couldn't be opened or made.
+    pub(crate) unopened_log: Cell<Option<ErrorKind>>,
+    /// Whether what failed is the log beside a store.
+    pub(crate) at_log: Cell<bool>,
+    /// Which path of a history what failed is at, counted from 0.
+    pub(crate) at_part: Cell<usize>,
     /// What the system said of the last call of a store's disk that failed.
     pub(crate) device: Cell<Option<Error>>,
     /// Why the last write of its output failed.
@@ -58,6 +64,9 @@ impl Traces {
             },
             unmade: None,
             unopened: None,
+            unopened_log: Cell::new(None),
+            at_log: Cell::new(false),
+            at_part: Cell::new(0),
             device: Cell::new(None),
             failed: Cell::new(None),
             report: Cell::new(None),

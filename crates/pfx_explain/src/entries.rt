@@ -295,7 +295,8 @@ A store has one writer. Wait until it ends, or ask it: a record status,,,, print
             marked: 7,
             cause: Cause::Device,
         },
-        text: "The disk, or the memory, failed within the run. Every command up to marked is durable.
+        text: "The disk, or the memory, or by cause Log the disk of the log beside the store, failed within the run. Every command
+up to marked is durable.
 
 pfx status says whether one more is, or with --batch how many more. After a failed sync restart the machine
 first: until then the system may show bytes that aren't on the disk.",
@@ -352,26 +353,34 @@ the program ends with the same status and says nothing.",
         text: "The log ends with command 40, and the store's file begins behind command 97: what came in between is in neither. Nothing
 is changed.
 
-No command of this version keeps a log.",
+    pfx run night.pfx jobs.csv                      # a long run without its log
+    pfx run night.pfx jobs.csv --log night.log
+
+Begin another log, in a file that is missing; the one that ends stays good for what it has. Where the second number is
+the lesser one, the log is another store's, or the file is an older copy.",
     },
     Entry {
         fault: Fault::NotALog,
         text: "The file isn't a log: it doesn't begin as one, or the making of it was stopped midway. Nothing is changed.
 
-No command of this version keeps a log.",
+    pfx run night.pfx jobs.csv --log jobs.csv       # the script stands behind --log
+
+Name a file that is missing, and a log is made. What a stopped making left is to be deleted first.",
     },
     Entry {
         fault: Fault::LogDamaged { at: 4_205 },
-        text: "The part of the log that begins at this byte isn't as it was written, or what stands before it has changed since: the head
+        text: "The part of the log that begins at this byte isn't as pfx writes it, or what stands before it has changed since: the head
 of each block is a sum of all before it. Nothing is changed.
 
-No command of this version keeps a log.",
+    truncate -s -1 night.log
+
+Another program has written the file, or its disk has lost bytes. Take a copy of the file from elsewhere.",
     },
     Entry {
         fault: Fault::WrongLogVersion { version: 2 },
-        text: "The log is of another version than 1. Nothing is changed.
+        text: "The log is of another version than 1, the one that this program reads. Nothing is changed.
 
-No command of this version keeps a log.",
+Use the program that made it.",
     },
     Entry {
         fault: Fault::NoMemory,

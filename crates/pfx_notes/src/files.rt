@@ -210,6 +210,7 @@ fn said_of_log<'a>(path: &'a str, fault: Fault) -> Option<Said<'a>> {
             say(texts, &[file, Word::Number(log), Word::Number(begin)])
         }
         Fault::NotALog => say(texts::NO_LOG, &[file]),
+        Fault::NotEmpty => say(texts::LOG_NOT_EMPTY, &[file]),
         Fault::Busy => say(texts::LOG_BUSY, &[file]),
         Fault::LogDamaged { at } => say(texts::DAMAGED_LOG, &[file, Word::Number(at)]),
         Fault::WrongLogVersion { version } => {
@@ -220,6 +221,30 @@ fn said_of_log<'a>(path: &'a str, fault: Fault) -> Option<Said<'a>> {
         }
         _ => None,
     }
+}
+
+// What is said of a part of a history that isn't the next one.
+fn said_of_history<'a>(path: &'a str, fault: Fault) -> Option<Said<'a>> {
+    let file = Word::Text(path);
+    match fault {
+        Fault::LogGap { log, file: begin } => {
+            let texts = if log == begin {
+                texts::OTHER_HISTORY
+            } else {
+                texts::HISTORY_GAP
+            };
+            say(texts, &[file, Word::Number(log), Word::Number(begin)])
+        }
+        Fault::NotALog => say(texts::NO_HISTORY, &[file]),
+        Fault::Busy => say(texts::HISTORY_BUSY, &[file]),
+        _ => said_of_log(path, fault),
+    }
+}
+
+/// The note of a fault of the part of a history at this path: a log, or a store's file behind logs. `None` if the fault is of another kind.
+/// Fails only if memory runs out.
+pub fn history_note(alloc: Global, path: &str, fault: Fault) -> Result<Option<Note>, AllocError> {
+    written(alloc, said_of_history(path, fault))
 }
 
 /// The note of a fault of the log at this path. `None` if the fault is of another kind. Fails only if memory runs out.

@@ -18,7 +18,8 @@ mod weights;
 mod words;
 
 pub use files::{
-    Named, Stands, Trouble, input_note, log_note, output_note, store_note, trouble_note,
+    Named, Stands, Trouble, history_note, input_note, log_note, output_note, store_note,
+    trouble_note,
 };
 pub use refusals::{First, refused_note};
 pub use scripts::{record_note, script_note};

@@ -515,6 +515,11 @@ pub(crate) const LOG_BUSY: Texts = Texts {
     change: "Wait until that ends, or name another file: a log has one writer.",
 };
 
+pub(crate) const LOG_NOT_EMPTY: Texts = Texts {
+    what: "log {0}: the file isn't empty, so no log that goes on from another one begins in it",
+    change: "Name a file that is missing; without --after the run goes on with the log that is there.",
+};
+
 pub(crate) const NO_LOG: Texts = Texts {
     what: "log {0}: it doesn't begin as a log",
     change: "Name a file that is missing, for a new log; delete first what a stopped run left.",
@@ -528,6 +533,26 @@ pub(crate) const DAMAGED_LOG: Texts = Texts {
 pub(crate) const LOG_VERSION: Texts = Texts {
     what: "log {0}: it is of version {1}, and this program reads version 1",
     change: "Use the program that made it. Nothing is changed in it.",
+};
+
+pub(crate) const HISTORY_GAP: Texts = Texts {
+    what: "{0}: what stands before it ends with command {1}, and this begins behind command {2}",
+    change: "Name the logs in their order, with none left out, and behind them the file of their store.",
+};
+
+pub(crate) const OTHER_HISTORY: Texts = Texts {
+    what: "{0}: it doesn't go on behind command {1} of what stands before it: it is of another history",
+    change: "Name the log that names the head of the one before, or the file of that store.",
+};
+
+pub(crate) const NO_HISTORY: Texts = Texts {
+    what: "log {0}: it doesn't begin as a log",
+    change: "Name logs, as pfx run --log makes them, and behind them the store's file, if it is wanted.",
+};
+
+pub(crate) const HISTORY_BUSY: Texts = Texts {
+    what: "{0}: another process has it open",
+    change: "Wait until that ends, or audit a copy of the log; pfx head tells a log's head meanwhile.",
 };
 
 pub(crate) const NOT_EMPTY: Texts = Texts {

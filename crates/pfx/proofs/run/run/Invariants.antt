@@ -12,6 +12,15 @@ ghosts-run_alone g a = record {
   held = IsHeldBy any_kind a.store [];
 }
 
+abbrev pub ghosts-run_beside : goal.ghosts-run_beside
+ghosts-run_beside g a = record {
+  calls = a.list.seen.book;
+  clock = a.beside.store.file.disk.clock;
+  failures = a.beside.store.file.disk.failures;
+  image = [];
+  held = IsHeldBy any_kind a.beside.store [];
+}
+
 abbrev pub ghosts-run_by : goal.ghosts-run_by
 ghosts-run_by g a = record {
   calls = record { number = 0; log_name = 0; cells_name = 0 };
@@ -19,4 +28,13 @@ ghosts-run_by g a = record {
   failures = 0;
   image = [];
   held = IsHeldBy any_kind a.store [];
+}
+
+abbrev pub ghosts-run_beside_by : goal.ghosts-run_beside_by
+ghosts-run_beside_by g a = record {
+  calls = record { number = 0; log_name = 0; cells_name = 0 };
+  clock = 0;
+  failures = 0;
+  image = [];
+  held = IsHeldBy any_kind a.beside.store [];
 }

@@ -1,0 +1,80 @@
+//! `pfx head LOG`.
+
+use crate::files::{fault_of, growing_disk};
+use crate::log::log_fault;
+use crate::traces::{Traces, output_of};
+use pfx_audit::{head_object, head_text};
+use pfx_disk::FileDisk;
+use pfx_fault::Fault;
+use pfx_log::{LogFault, LogFile, LogPlace};
+use pfx_program::{Form, object_line};
+use std::alloc::{AllocError, Global};
+use std::io::Write;
+use std::thread;
+use std::time::Duration;
+
+/// How often a log whose end is cut is read once more: a run may have grown it meanwhile.
+const READS: u32 = 4;
+
+const PAUSE_MILLIS: u64 = 20;
+
+// Where the log on a disk ends.
+fn end_on(alloc: Global, disk: FileDisk, traces: &Traces) -> Result<LogPlace, LogFault> {
+    match LogFile::open(alloc, disk) {
+        Ok(log) => Ok(log.place),
+        Err((fault, disk)) => {
+            traces.keep_said(&disk);
+            Err(fault)
+        }
+    }
+}
+
+fn told(read: Result<LogPlace, LogFault>) -> Result<LogPlace, Fault> {
+    match read {
+        Ok(place) => Ok(place),
+        Err(fault) => Err(log_fault(fault)),
+    }
+}
+
+// Where the log of a file ends. A run that has it doesn't keep it from being read: what is read is a log as it was at some moment, or
+// it is cut, and then it is read again.
+fn end_of(rt: &HostRuntime, alloc: Global, path: &str, traces: &Traces) -> Result<LogPlace, Fault> {
+    traces.at_log.set(true);
+    for _ in 1..READS {
+        let disk = growing_disk(rt, path, &traces.unopened_log)?;
+        match end_on(alloc, disk, traces) {
+            Err(LogFault::Damaged { .. }) => thread::sleep(rt, Duration::from_millis(PAUSE_MILLIS)),
+            read => return told(read),
+        }
+    }
+    told(end_on(alloc, growing_disk(rt, path, &traces.unopened_log)?, traces))
+}
+
+// The line of a log's last head.
+fn line_of(alloc: Global, form: Form, place: LogPlace) -> Result<String, AllocError> {
+    match form {
+        Form::Text => head_text(alloc, place.last, &place.head),
+        Form::Json => {
+            let object = head_object(alloc, place.last, &place.head)?;
+            object_line(alloc, &object)
+        }
+    }
+}
+
+/// Prints the last number of the log of a file and its last head. Nothing is written to the file, and a run that has it goes on.
+pub(crate) fn head(
+    rt: &HostRuntime,
+    alloc: Global,
+    log: &str,
+    form: Form,
+    traces: &Traces,
+) -> Result<(), Fault> {
+    let place = end_of(rt, alloc, log, traces)?;
+    let Ok(line) = line_of(alloc, form, place) else {
+        return Err(Fault::NoMemory);
+    };
+    match output_of(rt, &traces.failed).write_all(line.as_bytes()) {
+        Ok(()) => Ok(()),
+        Err(error) => Err(fault_of(&error, Fault::OutputFailed)),
+    }
+}
