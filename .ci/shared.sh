@@ -173,6 +173,7 @@ says_at_once() {
   python3 "$top/.ci/wrong_bodies" "$1" --look
   python3 "$top/.ci/pages" "$1"
   python3 "$top/.ci/definitions" "$1" --check
+  python3 "$top/.ci/promises" "$1" --check
 }
 
 # Takes from the copy $1 the tests of its crate $2: the crate itself where it is only tests, else the tests within.
