@@ -1,7 +1,27 @@
 """The drive: asks for slots by the rule, begins owed units on free seats, has their answers recorded, each once and in order.
 
 Whatever is killed, the store has what was recorded: units up to a task's recorded number are done, those up to its granted one are
-owed, and the next one begins from the recorded text, once that is durable."""
+owed, and the next one begins from the recorded text, once that is durable.
+
+Why it is so:
+- **The rule for the next slot looks at the board alone.** A window of slots would keep seats as busy, but needs a memory of slots that a
+  restart doesn't have.
+- **Places without work pass without a record**, so that a task that has ended costs no commits. Where it has work again, what it passed
+  is recorded with the unchanged text, number by number: that is all the protocol needs, and a kill in the middle leaves a number and the
+  text.
+- **Status 75 lets places pass**, rather than stop the others once the task owes O units, as a failed try does. Who has nothing to do
+  doesn't mean to stop anybody.
+- **A unit's last failure is its answer**, with the text before behind it: that its task is parked is in the store, so no file has to
+  agree with it. This takes 12 of the 106 characters.
+- **What a last line may be is strict.** A line that isn't a text fails the unit: taking it for none would let a task stand still and look
+  well.
+- **A unit's seat is free once nothing of its process group is left**, for a moment or two after it has ended.
+- **One loop without threads** runs units, asks pfx and answers lookers. All that it waits for is a descriptor, but for results of SLURM,
+  which come on a shared file system: these are looked for ten times a second.
+- **Over ssh a unit lives by its standard input.** If the drive, its ssh or the connection ends, so does that, and a shell beside the unit
+  ends its process group; nothing has to be installed there.
+- **There is one way to drive.** Drivers without recorded answers, which looked at the effects instead, were examples here before; they
+  gave neither texts nor slots ahead, and each of their rules is one that people forget."""
 import collections
 import os
 import selectors

@@ -1,5 +1,10 @@
 """A program's calls of the system, as its tracer sees them (ptrace, by ctypes: nothing has to be installed), with one sync that fails, is
-made again when it has failed, or is swallowed: answered as made, and not made. Linux on x86-64 from 5.3 on."""
+made again when it has failed, or is swallowed: answered as made, and not made. Linux on x86-64 from 5.3 on.
+
+Why it is so:
+- **Syncs are tried by tracing**, not by a library that is preloaded: a static program takes none, and a call that isn't made is seen only
+  from outside. The tracer is Python over ptrace, so a trial needs nothing installed. It can swallow a sync and have a failed one made
+  again, and the trial does both, to show that its rules see it."""
 import ctypes
 import errno
 import os

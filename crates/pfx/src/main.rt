@@ -6,6 +6,15 @@
 //! failed. Help and version end with 0, words that it doesn't take with 2, a replay or an audit that finds a difference with 6, a
 //! strict run with a refused record with 7. Below the fault line at most three lines say where the mistake stands, what is
 //! wrong and what to change. If the output's reader has gone nothing is said, and the status is 8.
+//!
+//! Why it is so:
+//! - **`-` is standard input by its descriptor**, not by `/dev/stdin`, which opens a file anew, from its beginning, and can't open a
+//!   socket.
+//! - **The places of the three standard streams are taken first**, by `/dev/null`: a store that was opened while standard output was
+//!   closed would have got its place, and the lines with it.
+//! - **Why `init` can't make its file is what the system said at that try**, kept beside the fault. The note makes no file of its own to
+//!   find out: another `init` might have opened it meanwhile.
+//! - **A closed pipe is told from other failures by the writer**, which sees the system's error; the proved code knows one fault for all.
 #![tactic(auto)]
 
 ghost use Rattle.std.specs.Prelude.{◌≡◌};

@@ -5,4 +5,9 @@
 //! file. `proofs/Stepping.antt` proves of each act that, from a file of a state on, every image that a stop may leave before,
 //! between or within its calls is one of that state or of the state after the act, and that after its last call all images
 //! are of the latter.
+//!
+//! Why it is so:
+//! - **A disk's calls are stated by contents and images**, not by a count: counts are in clauses of their own. So an opening is its sync;
+//!   a read leaves nothing. They are stated of a store that has a certain file, whatever its state, so that they compose without one; and
+//!   that they are the world's is shown by functions that run the real call (`pfx_events::tied`), not by a law over lists alone.
 #![tactic(auto)]

@@ -5,6 +5,9 @@
 //! it takes are refused only if memory runs out, and other words are refused always, by an error
 //! whose text says what was expected. `--help` and `--version` come as such an error too, whose exit
 //! status is 0; that of a wrong word is 2.
+//!
+//! Why it is so:
+//! - **Words follow clap**: `--` ends the options, a count may begin with `+`. A word that isn't UTF-8 is a usage fault.
 #![tactic(auto)]
 
 mod arguments;

@@ -14,6 +14,10 @@
 //!
 //! Each record is judged by `pfx_replay`, apart from the machine; a block's frames are taken over by the machine before, which says
 //! whether they are frames of records that may stand there. One block is in memory at a time.
+//!
+//! Why it is so:
+//! - **An audit locks what it reads**, as `replay` does: what its contracts say is of disks that nobody writes meanwhile. A copy of a log
+//!   can be audited while a run has the log itself.
 #![tactic(auto)]
 
 mod audit_fault;

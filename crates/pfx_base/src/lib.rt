@@ -6,6 +6,11 @@
 //! to the last turn misses nothing.
 //!
 //! `specs/Bases.antt` says what that means of an image and of a disk, over any codec; `laws` has it of each act.
+//!
+//! Why it is so:
+//! - **Which checkpoint an image is recovered from is shown by a codec that takes none above a number** (`pfx_base`): for it such a
+//!   checkpoint is damaged. It keeps the laws of recovery, so that what is proved of each act over any codec holds over it too, and what
+//!   it recovers has a checkpoint of at most that number. No proof of an act was written again for it, but for how the acts are joined.
 #![tactic(auto)]
 
 pub mod laws;

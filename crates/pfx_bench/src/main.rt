@@ -5,6 +5,10 @@
 //! to the ledger, over and over; with `classes` in place of `advance` it takes the classes of all tasks eight times before each. Each
 //! prints a sum over what it made, by which another program's result is compared, and on standard error how many
 //! nanoseconds it took.
+//!
+//! Why it is so:
+//! - **A second crate for measuring** (`pfx_bench`) calls the same functions as the program, so that a benchmark measures what is proved
+//!   and shipped, and its Rust twin is plain code with no contracts.
 #![tactic(auto)]
 
 ghost use Rattle.std.specs.Prelude.{◌≡◌, length};

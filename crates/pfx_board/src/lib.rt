@@ -13,6 +13,10 @@
 //! What types keep: the batches that a reader knows, and those that are shown, begin the durable ones; what is shown is the
 //! board of the state after them. That a reader does get to see what was published before it was told, and so isn't answered
 //! `BoardShut`, is shown by tests alone.
+//!
+//! Why it is so:
+//! - **The board is built on the plain handles of `left_right`, whose value carries a prefix of the durable list.** Its ruled reader
+//!   doesn't say that its seat stays with its table, so it can't be told repeatedly. Readers compare prefixes by their counts.
 #![tactic(auto)]
 
 pub mod name;

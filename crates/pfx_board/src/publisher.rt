@@ -1,4 +1,15 @@
 //! Where the durable list grows, and is published.
+//!
+//! Why it is so:
+//! - **A batch whose publication is refused memory is in the durable list all the same**: the store has it. What is shown then stays, and
+//!   a later publication shows it too.
+//! - **If the durable list were longer than its one end knows, publishing would wait for ever.** The list grows by `publish` alone, but
+//!   no proof says that nobody else extended it.
+//! - **The struct that holds the writer has a type parameter for what the copies hold** (`BoardWriter`; `Publisher` names it with the one
+//!   type that is meant): a struct whose bound is on a type made of its parameters can't be dropped by a generic function.
+//! - **Publishing asks for a moment of the disk at which the batch is durable.** It could have taken the store; then it would have to
+//!   know stores, and a copy of one in memory would do. A moment is a beginning of the one list of calls, so nobody can have one that the
+//!   disk hasn't reached.
 ghost use Rattle.std.specs.Prelude.{◌≡◌, ◌≤◌, ◌<◌, ◌^◌, ◌++◌, ◌∷◌, [], replicate, Some, IfOk, OnOk, OnErr};
 ghost use mathlib.Core.List.{IsPrefix};
 ghost use Rattle.left_right.specs.Handles.{published, pending};

@@ -1,4 +1,8 @@
 //! Those who look at the board.
+//!
+//! Why it is so:
+//! - **A reader waits for nobody**: `told`, `status` and `looks` take no handle by which they could. The writer waits, for readers that
+//!   are still in the copy that it is to write; so a reader takes the memory for its lines before it enters.
 ghost use Rattle.std.specs.Prelude.{◌≡◌, ◌≤◌, IfOk, OnErr, IsTrue};
 ghost use mathlib.Core.List.{IsPrefix};
 ghost use Rattle.pfx_board.specs.Shown.{IsBoardOf};

@@ -1,4 +1,9 @@
 //! Acknowledgements that a reader can be told of.
+//!
+//! Why it is so:
+//! - **BoardShut may be answered by a board that is behind what the reader knows.** No contract ties the moment of an entry to that of a
+//!   publication. It doesn't happen if a receipt's word was published before it was given, and tests show it. That `looks` did look is
+//!   therefore tested: no contract could tell.
 ghost use Rattle.std.specs.Prelude.{◌≡◌, ◌≤◌};
 ghost use Rattle.pfx_board.specs.Word.{last_of};
 

@@ -1,4 +1,9 @@
 //! Beginnings of the durable batches.
+//!
+//! Why it is so:
+//! - **The durable list is of batches** (`Batch`, as the store appends them), not of commands or of a type that the caller picks: the
+//!   flusher has the batch at hand, one step of the list and one publication serve up to 16 commands, and what is shown has to be the
+//!   board of the state that the entries lead to.
 ghost use Rattle.std.specs.Prelude.{◌≡◌, ◌≤◌, ◌<◌, ◌+◌, ◌^◌, ◌++◌, ◌∷◌, ◌↔◌, [], length, IsTrue, IsFalse, MatchBool};
 ghost use mathlib.Core.List.{IsPrefix};
 ghost use Rattle.pfx_board.specs.Word.{last_of};

@@ -14,6 +14,11 @@
 //!
 //! Of a value under a lock a client knows nothing but this. So each client has a `Pass` and the flusher a `Share`, whose lists
 //! the book's keeper knows: once all passes are back, `Book::gathered` says that the session is the merge of their entries.
+//!
+//! Why it is so:
+//! - **What is accepted or refused is an entry of the caller's pass**: that is a clause of `ask_of`, over the book itself, and not of the
+//!   function that waits for the lock, whose contract can't speak of what is under it. Nor can that of `close`: how many passes a front
+//!   has given out is under its lock, so `PassOut` says of some number what is missing of it.
 #![tactic(auto)]
 
 pub mod book;

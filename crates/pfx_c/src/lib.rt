@@ -12,6 +12,15 @@
 //! - `laws`: what a call answers is determined by its arguments, but for 90.
 //!
 //! 90 is answered if any allocation fails, also if the call would succeed.
+//!
+//! Why it is so:
+//! - **Nothing is required of a caller's numbers**, since nothing would check it: each call tests them, and answers a refusal by the
+//!   number that the program prints. 57 NoRoom, there a frame that doesn't fit its segment, is here rows that don't fit the caller's
+//!   places: so every number is one of `pfx_fault`'s table.
+//! - **A plan that ends early keeps its rows**, as `pfx plan` prints them: otherwise the caller would have to plan them again. `made`
+//!   tells how many.
+//! - **The copy of the weights is bounded before it is made**: more than 1,024 are refused first, whatever else is wrong with them, as
+//!   `TaskSet::new` does.
 #![tactic(auto)]
 
 mod checks;

@@ -1,4 +1,8 @@
 //! Bytes as a state.
+//!
+//! Why it is so:
+//! - **Bytes are a state's if they are the ones that it is written as.** The reader takes what stands at the places, tests it, writes it
+//!   again and compares. So flags, zeros after a flag of 0 and jobs that decode are covered at once, and no byte is free.
 
 ghost use Rattle.std.specs.Prelude.{◌≡◌, ◌≢◌, ◌↔◌, IsTrue, ◌+◌, ◌<◌, ◌≤◌, ◌*◌, ◌^◌, length, IfOk, MatchResult};
 ghost use Rattle.pfx_columns.specs.Ledgers.{ledger_at, IsLedger};

@@ -1,4 +1,13 @@
 //! A state with the set in force as bytes, and back.
+//!
+//! Why it is so:
+//! - **The set stands in a file's checkpoints**, with the slot from which on it is in force: the header's set is the one that the store
+//!   began with, and another may come. The length of segments stands in the header alone. Each set of so many real tasks takes as many
+//!   bytes, so that areas don't move: behind the tasks stand zeros for the idle ones that it lacks of 128, of which there are never more
+//!   than 127.
+//! - **The bytes of version 1 are in those of version 2.** A state alone has its number, its slot since the set came into force, and its
+//!   tasks; with its set, the head takes the place of the first 16 bytes. So it is written behind the head's place, and the head over its
+//!   front; to be read, those 16 are put together, and version 1's reader is asked. Its laws carry those of version 2.
 
 ghost use Rattle.std.specs.Prelude.{◌≡◌, ◌≢◌, ◌↔◌, IsTrue, ◌+◌, ◌*◌, ◌≤◌, ◌++◌, ◌∷◌, length, take, drop, IfOk, MatchResult};
 ghost use Rattle.byteorder.specs.Endian.{little_bytes};

@@ -1,4 +1,9 @@
 //! How many bytes are below one, or 1, counted sixteen at a time.
+//!
+//! Why it is so:
+//! - **Bytes are searched by the crate's own `first_from`**, sixteen at a time, the last ones with some before them. The kit's `memchr`
+//!   goes byte by byte through less than 32, which is where small sets lie.
+//! - **Bytes are counted by the bits of a comparison**, sixteen at a time, which takes a third of what sums of two-byte numbers take.
 
 ghost use Rattle.std.specs.Prelude.{◌≡◌, ◌+◌, ◌≤◌, ◌==◌, nat_lt, length, take, drop, count_by};
 ghost use Rattle.pfx_weights.specs.Rows.{count, marked_in};

@@ -1,4 +1,7 @@
 //! The kinds of tasks: the tasks whose weights are one fraction.
+//!
+//! Why it is so:
+//! - **All weights are compared with those kept**, and not up to the first that differs, so that several are compared at a time.
 
 ghost use Rattle.std.specs.Prelude.{◌≡◌, ℕ, ◌<◌, ◌≤◌, pos, length, slice_index_or, IsTrue, IfOk, OnOk};
 ghost use Rattle.pfx_columns.specs.Ledgers.{total};

@@ -1,4 +1,19 @@
 //! The keys of the tasks at one place.
+//!
+//! Why it is so:
+//! - **Tasks at one place are compared by keys.** What follows the end of a task's next subtask stays the same while the task rests, so a
+//!   number in the order of these strings is found once for each time that a task runs, and comparing two tasks is comparing two numbers.
+//!   A key narrows the range of all keys by each gap of a comparison's rounds, as a code in which short gaps have wide parts, and is the
+//!   other way round after a weight above a half: so no round needs the other string. Only if two keys are equal, and don't tell the
+//!   whole of their strings, the strings are compared.
+//! - **Keys of one round first.** If weights are drawn at random, one round of Euclid's algorithm tells most strings apart, and each
+//!   further one costs two divisions more. If more choices than not leave many tasks to be compared, keys tell three rounds, and if that
+//!   is too few, up to 24; after 1,024 choices they begin with one again. Keys of different numbers of rounds aren't compared.
+//! - **A kept key is tested, not trusted**: it holds the weight and the phase that it is of, and is found anew if these differ. So the
+//!   chooser keeps nothing that a ledger's row could depend on.
+//! - **Keys are kept by their strings, not by their tasks.** Tasks of one weight that got as many slots have one string behind their next
+//!   subtask's end, so the first of them finds the key for all. Each string has one of 1,024 places, and takes it from whatever stood
+//!   there: no list is searched, and a set of a thousand unlike tasks loses little, since only those at one place need keys in a slot.
 
 ghost use Rattle.std.specs.Prelude.{◌≡◌, ◌≤◌, length, OnOk};
 ghost use Rattle.pfx_columns.specs.Ledgers.{total};

@@ -1,4 +1,9 @@
 //! The string of one kind of tasks, as far as it is known.
+//!
+//! Why it is so:
+//! - **A kind keeps the key of its string**, with the weight and the phase that it is of. While its tasks rest, the gap before that phase
+//!   gets shorter by one a slot and the key stays: one product tells that the phase is the same, and else two divisions and a key are
+//!   due.
 
 ghost use Rattle.std.specs.Prelude.{◌≡◌, ◌+◌, ◌%◌, ◌<◌, ◌≤◌, ◌^◌};
 ghost use Rattle.pfx_symbols.specs.RankKeys.{next_of};

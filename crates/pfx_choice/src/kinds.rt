@@ -2,6 +2,16 @@
 //!
 //! Of two contending tasks of one weight the one with the lower number goes first, at every slot. So where there are few kinds, these
 //! are ordered and not the tasks.
+//!
+//! Why it is so:
+//! - **Kinds stand beside the weights that they were found by**, which are compared with the ledger's at each choice. So kinds of another
+//!   ledger are never used, and which kind a task is of needn't be tested task by task. It is tested that tasks of one kind have one
+//!   fraction where kinds are found; `Fractions` keeps that as a fact.
+//! - **The order of kinds and where the workers run out among them are guessed.** Tested is, at each slot, what each kind's string is to
+//!   the one guessed, and that as many tasks are marked as there are workers. What fails goes the way of all other sets. So a chooser
+//!   that comes to another ledger loses time alone, and kinds of equal strings, as 1/3 and 2/5 now and then, share their places by number
+//!   as they must. If there is one kind, the tasks' classes are their levels.
+//! - **Kinds are put in order by insertion**, since they mostly stand in it; std's sort would add 3 KB to the library.
 
 ghost use Rattle.std.specs.Prelude.{◌≡◌, ℕ, ◌<◌, length, slice_index_or, IfSome};
 ghost use Rattle.pfx_columns.specs.Ledgers.{total};

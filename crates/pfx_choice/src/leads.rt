@@ -2,6 +2,14 @@
 //!
 //! It is guessed by that of the slot before, which was one more if the task rested, and tested by a product. Only if the
 //! guess is wrong, as for the tasks that ran, a division gives it. So no answer rests on what was kept.
+//!
+//! Why it is so:
+//! - **Leads are guessed and tested, and are no column of the ledger.** A lead falls by one if the task rests, so one product and two
+//!   comparisons tell whether the guess is right, several tasks at a time, and a division computes those of the tasks that ran. The
+//!   guesses are the chooser's, any of them will do, and so the ledger, recovery and a ledger that is given need nothing new.
+//! - **What is searched isn't written meanwhile.** Leads that a slot guesses stand in a vector of their own, which the search for unknown
+//!   ones reads, while their quotients go elsewhere: a vector that was just written in part is read only once the byte is there, and so
+//!   each division would wait for the one before.
 
 ghost use Rattle.std.specs.Prelude.{◌≡◌, ◌≢◌, ℕ, ◌-◌, ◌/◌, ◌<◌, ◌≤◌, ◌^◌, min, pos, neg_ℤ, ◌≤ℤ◌, ◌-ℤ◌, length, slice_index_or, OnOk};
 ghost use Rattle.pfx_columns.specs.Columns.{lag_in, e_in, p_in};

@@ -1,4 +1,8 @@
 //! The tasks of a row, marked by their places, and at the place where the workers run out by their keys.
+//!
+//! Why it is so:
+//! - **The classes are the marks of the choice**: 1 stands for urgent, and then for each task that runs, so the row is read off one
+//!   column (`Row::set_marked`), with no list of numbers between. Only contending tasks get a rank.
 
 ghost use Rattle.std.specs.Prelude.{◌≡◌, ℕ, ◌<◌, ◌==◌, nat_lt, length, slice_index_or, IfSome, IfOk, OnOk, IsTrue};
 ghost use Rattle.pfx_weights.specs.Rows.{marked_in};

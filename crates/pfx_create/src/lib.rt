@@ -7,6 +7,10 @@
 //!
 //! No memory is taken: each byte of the file is worked out from the header, the first checkpoint area's body, the first segment's
 //! number and the lengths.
+//!
+//! Why it is so:
+//! - **The first byte of a new file** may be left open by a stop within its very first write, which a torn write allows. A file of one
+//!   byte is no store, so nothing is lost by it.
 #![tactic(auto)]
 
 mod bytes;

@@ -1,5 +1,9 @@
 //! The rule of a lane: what was put in is what was taken out and what is inside. Every value named here exists in proofs
 //! alone.
+//!
+//! Why it is so:
+//! - **The rule counts, it doesn't order.** However messages are weighed, what all seats put in weighs as much as what they took out and
+//!   what is inside. Which seat's message comes when is left to the threads.
 use crossbeam_channel::protocol::{Lesson, Outcome, Protocol, Split};
 use std::collections::LinkedList;
 

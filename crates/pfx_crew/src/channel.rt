@@ -1,4 +1,11 @@
 //! A desk of two lanes, one for what is dealt and one for results.
+//!
+//! Why it is so:
+//! - **A closed desk answers at once.** A flag beside the lanes is read before a call, so that what is brought is given back and nothing
+//!   is given out any more, though something may still lie there. The ends are for those that are already waiting. A quantum that is lost
+//!   in this way is dealt by its slot, which can make it again.
+//! - **Closing waits for room** if a lane is full, as every message does. A lane has room for all quanta of a slot.
+//! - **A seat owns its ends of both lanes**, so it may be kept under a lock or go to a thread, and no call has a condition on it.
 use crate::desk::Desk;
 use crate::lane::{Berth, Quay};
 use std::alloc::{AllocError, Global};

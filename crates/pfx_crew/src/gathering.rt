@@ -1,4 +1,9 @@
 //! Putting results at their quanta's places, in any order of arrival.
+//!
+//! Why it is so:
+//! - **A result finds its place by the quantum that it answers**, state before included, and not by its task alone, so a late result of
+//!   an earlier slot is a Stranger. That every order gives the same is a law over all orders, and needs only that no two quanta of a slot
+//!   are of one task, as a row's aren't.
 ghost use Rattle.std.specs.Prelude.{◌≡◌, ◌<◌, ◌≤◌, length, map, Some, IfErr, OnOk, OnErr, IfSome, IfNone};
 ghost use Rattle.pfx_machine.specs.Slots.{deal};
 ghost use Rattle.pfx_crew.specs.Gathering.{IsFirst, IsNowhere, Puts, Refuses};

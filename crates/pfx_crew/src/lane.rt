@@ -2,6 +2,19 @@
 //!
 //! It is a bounded channel under the rule that what was put in is what was taken out and what is inside. A thread's berth
 //! owns its ends of the channel, so that it may lie under a lock or go to another thread.
+//!
+//! Why it is so:
+//! - **Of the channel crate these calls are used: `bounded_with`, `try_clone`, `another`, `send_as`, `recv_as` and `try_recv_as`**, those
+//!   of a bounded channel under a rule, which say what they did: a message is in or out by one step that keeps the rule. `try_send` and
+//!   `try_recv` of plain channels aren't used, since one that overlaps another call can answer Full or Empty wrongly; nor is `select!`,
+//!   which can hang at capacity 0; nor is disconnection, since each seat has both ends. Nothing depends on an Empty of `try_recv_as`: it
+//!   is followed by another look, and in the end by `recv_as`.
+//! - **A seat looks for a message for 32 turns, each of which yields, and then sleeps.** Waking a thread costs more than dealing and
+//!   gathering a quantum, so if messages follow one another nobody should sleep; if none comes, a thread that waits soon takes no
+//!   processor.
+//! - **A lane is closed by an end that whoever takes it puts in again**, so one end wakes all that wait, one after the other, and none of
+//!   them has to poll. In what a seat put in and took out, ends don't count as items, and a lane's contract counts them separately:
+//!   nothing is given only if an end was taken, and then one was put in.
 ghost use Rattle.std.specs.Prelude.{◌≡◌, [], ◌∷◌, ◌++◌, ◌+◌, ◌<◌, IfOk, IfSome, IfNone, MatchResult};
 ghost use Rattle.crossbeam_channel.specs.Claims.{view as ticket_view, IsSeatAt};
 ghost use Rattle.crossbeam_channel.specs.Ends.{sends_on, receives_on};

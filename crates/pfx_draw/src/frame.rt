@@ -1,4 +1,7 @@
 //! What stands round the lanes.
+//!
+//! Why it is so:
+//! - **A set's name is in the title only if it is a name as tasks have them**, so nothing is ever escaped.
 
 ghost use Rattle.std.specs.Prelude.{◌≡◌, ◌++◌, ◌≤◌, ◌<◌, ◌/◌, ◌*◌, OnOk, IfOk};
 ghost use Rattle.pfx_draw.specs.Frame.{named, counted, title, opening, spoken, dark, heading, level_key, key, head, upright, grid_piece, number_piece, ticks};

@@ -1,4 +1,8 @@
 //! Lags along the slots that are drawn.
+//!
+//! Why it is so:
+//! - **A lag stands as a fraction over its own period and as a decimal number beside it**: fractions are exact, decimals can be compared
+//!   down a column. One denominator for all would be the hyperperiod, of up to seven digits.
 
 ghost use Rattle.std.specs.Prelude.{◌≡◌, ◌++◌, ◌≤◌, ◌<◌, ◌+◌, ◌*◌, ◌^◌, OnOk, IfOk, length, max};
 ghost use Rattle.pfx_weights.specs.Rows.{one};

@@ -1,4 +1,8 @@
 //! A task's lane.
+//!
+//! Why it is so:
+//! - **One lane per task**, not per worker: a row says which tasks run, not which worker runs them, names stay legible where colours end
+//!   at eight, and the lag stands under the bars that it answers to.
 
 ghost use Rattle.std.specs.Prelude.{◌≡◌, ◌++◌, ◌≤◌, ◌<◌, OnOk, length};
 ghost use Rattle.pfx_draw.specs.Lags.{runs_in, IsCourse};

@@ -6,6 +6,14 @@
 //! the line of that, `lane` all of a lane; `frame` has what stands round the lanes, `sizes` where all of it stands, and
 //! `phrases` the words between the numbers. `start` reads a set and a ledger as `pfx plan` does, `run` draws what was read.
 //! `laws` says of the lags that are drawn that they are the ledgers' own.
+//!
+//! Why it is so:
+//! - **Whole numbers alone**, so that a picture is a stated function of the set and the ledger, the same on every machine: a lag is
+//!   rounded to the pixel towards none, a quarter of a slot downwards.
+//! - **What is drawn for each number below another is `each`**, and greatest numbers `most`: so each loop's invariant says how far `each`
+//!   has come, and one lemma serves them all.
+//! - **Dark pages are a style of a few rules** that set other colours by those that the elements name, so nothing else of a picture
+//!   differs.
 #![tactic(auto)]
 
 mod bars;

@@ -1,4 +1,8 @@
 //! The words of which a picture is made.
+//!
+//! Why it is so:
+//! - **The words between the numbers are a table**, `say` of `Phrases`, which proofs don't open: inline texts of a hundred letters made
+//!   goals about their letters.
 
 ghost use Rattle.std.specs.Prelude.{◌≡◌, ◌++◌, OnOk};
 ghost use Rattle.pfx_draw.specs.Phrases.{say, say_number};

@@ -1,4 +1,7 @@
 //! The picture that is made of a set file's bytes.
+//!
+//! Why it is so:
+//! - **A picture is made whole before it is printed**, a few megabytes at most: a refusal prints nothing.
 
 ghost use Rattle.std.specs.Prelude.{IfSome, IfOk, IfErr, option_map};
 ghost use Rattle.pfx_draw.specs.Run.{Pictures, PictureFails};

@@ -1,4 +1,9 @@
 //! Keeping commands.
+//!
+//! Why it is so:
+//! - **A step of the checkpoint comes before each append, not after it.** The order of the device's calls is the same, but no reply waits
+//!   behind a step, and a step that fails ends a command that wasn't kept: after the append it would hide that the command was, or leave
+//!   a broken store behind an answer that all is well.
 
 ghost use Rattle.std.specs.Prelude.{◌≡◌, ◌<◌, ◌≤◌, ◌∷◌, ◌++◌, [], List, length, map, MatchResult, IfOk, IfErr, OnOk, OnErr, None};
 ghost use Rattle.pfx_disk.specs.Disk.{IsHonest};

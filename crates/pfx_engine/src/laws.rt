@@ -1,4 +1,8 @@
 //! What holds of all lists of commands, each the contract of a function that does nothing.
+//!
+//! Why it is so:
+//! - **Sessions are chained by what they leave** (`AreSessions`), not by what their engines did: so one law holds of runs on one thread
+//!   and through a front, for any number of stops between them.
 
 ghost use Rattle.std.specs.Prelude.{◌≡◌, ℕ, List, Ok};
 ghost use Rattle.pfx_feasible.specs.Endless.{IsEndless};

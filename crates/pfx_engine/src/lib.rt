@@ -18,6 +18,14 @@
 //! `faults` has the program's fault for each way in which a store isn't made or opened.
 //!
 //! It is an `Engine`, so what a script's run prints over it is what `pfx_program` says, and `settled` waits for nothing.
+//!
+//! Why it is so:
+//! - **An engine is a trait with one state behind it**, and clauses that say what a call does to that state. So what a script prints is
+//!   one function, made in one place, for an engine in memory and for every one that comes later.
+//! - **What ends a run and what doesn't** is distinguished by the type of the answer: a machine's refusal is a line and the script goes
+//!   on; a fault of reader, writer, memory or engine ends it with a prefix of its output printed.
+//! - **What is kept is stated over commands, not frames.** A frame survives whole or not at all, so the outcomes of prefixes of commands
+//!   that may be found are fewer than stated; a caller has no use for the difference, and the statement doesn't change with the window.
 #![tactic(auto)]
 
 mod durable;

@@ -1,4 +1,9 @@
 //! Running a script on a store whose disk's calls are noted, so that what is kept is said of them, and not of the disk alone.
+//!
+//! Why it is so:
+//! - **A run on one thread notes its disk's calls as a front does** (`run_noted`), since `run_durable` says nothing of a file, which is
+//!   never honest. It says it of the calls alone, under the name's premise, and not of a disk of its own; of an honest disk it says both.
+//!   The list exists in proofs alone, so a call of the disk costs a word's exchange more, and no memory.
 
 ghost use Rattle.std.specs.Prelude.{◌≡◌, ◌<◌, ◌≤◌, false};
 ghost use Rattle.pfx_disk.specs.Disk.{IsHonest, Only};

@@ -1,4 +1,9 @@
 //! Running several commands before any of them is kept.
+//!
+//! Why it is so:
+//! - **An engine that had no memory within a window of Slots is starved**: what was run is kept and answered, and the next call for Slots
+//!   answers NoMemory. So a clause can say that a window is filled: fewer Slots than were asked for are followed by a refusal or by that
+//!   answer. To take back what was run would need a copy of the state for each window.
 
 ghost use Rattle.std.specs.Prelude.{◌≡◌, ◌<◌, map, IfOk, IfErr, OnErr};
 ghost use Rattle.pfx_kinds.specs.AnyKind.{any_kind};

@@ -5,6 +5,9 @@
 //! `specs/Refusals.antt`; the line is exactly `pfx: error`, the number, the name and ` field=value`
 //! for each field in the table's order, ended by one line feed; a refused command is shown by the same
 //! words behind `refused`; the exit status follows from the number alone.
+//!
+//! Why it is so:
+//! - **Exit statuses tell the kind of a refusal**: 3 for a set or a plan, 5 for memory, 8 for files and output; 2 for words.
 #![tactic(auto)]
 
 mod line;

@@ -16,6 +16,14 @@
 //!
 //! - `laws`: what holds of every ledger and every list of commands.
 //! - `begin`, `next_row`: a plan that only a failed allocation can stop.
+//!
+//! Why it is so:
+//! - **What is carried along is that a ledger is endless**, and not how it was reached: `IsEndless` speaks of the ledger alone, PF's
+//!   choice keeps it, and at such a ledger nothing but the last slot and memory refuses. The refusals for lack of a row stay in the
+//!   types: a ledger that is given may have them.
+//! - **That fair schedules exist is proved by moves between slots**, without flows: a move shifts one task, so what it keeps is said of
+//!   one task and one number at a time, and any whole number of hyperperiods may be taken at once.
+//! - **Whether a given ledger goes on without end has no command of its own**: a plan up to a whole number of hyperperiods decides it.
 #![tactic(auto)]
 
 pub mod laws;

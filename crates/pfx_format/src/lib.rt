@@ -11,6 +11,13 @@
 //! without a list of places: it takes no memory.
 //!
 //! `laws` has that the codec keeps what recovery asks of one.
+//!
+//! Why it is so:
+//! - **Areas of checkpoints never move**: how long one is depends on the number of real tasks alone, which no new weights change. A step
+//!   of a checkpoint in progress writes the state at the turn, whatever set was in force then.
+//! - **What can stand in a file is one codec**, and reading, making and writing a file are proved over any codec. The product's own one
+//!   enters only in `pfx_format` and `pfx_store`. The impl that files are opened by (`FileFormat`) stands in `pfx_store`, not beside the
+//!   codec: an impl takes the laws of its trait from its own crate's definitions or from below, and the codec's laws are proofs.
 #![tactic(auto)]
 
 mod areas;

@@ -1,4 +1,14 @@
 //! Appending what was taken.
+//!
+//! Why it is so:
+//! - **A batch is of a Reweigh alone, or of other commands**, as a frame is: the flusher's batch ends before a Reweigh that waits and
+//!   behind one that it took first. Until a Reweigh is taken the book's state is of other workers than the next batch's rows, so a book
+//!   keeps, as a number of its own, how many workers are in force after what was taken.
+//! - **A batch says of no task that it is real, unless it is a Reweigh's**, as a store's `append` asks. The flusher goes by the record,
+//!   which has the weights that are prepared.
+//! - **The flusher takes the memory of new weights before it writes anything**, but behind their reply: the book has room for the
+//!   command, the store's own set and room are the flusher's. If it is refused the store is as it was, and the front ends as at the
+//!   board's memory: Memory, and the number of the last mark. A client's reply is no receipt, so nothing that was acknowledged is lost.
 ghost use Rattle.std.specs.Prelude.{◌≡◌, ◌∷◌, [], ℕ, map, None, IfSome, IfNone, IfOk, IfErr};
 ghost use Rattle.pfx_book.specs.Batching.{real_for};
 ghost use Rattle.pfx_record.specs.Records.{plain, reweighed};

@@ -1,4 +1,12 @@
 //! What clients call.
+//!
+//! Why it is so:
+//! - **A slot takes the front's lock twice**, to be opened and to be ended: its results are gathered outside and taken in together, so
+//!   that more clients come between two batches of the flusher. If memory for a result is refused, the book is given it at once.
+//! - **A single client's board is made under the lock.** A reader's board is what was published; only the book's state is that of the
+//!   client's commands, and while one pass is out nobody else except the flusher can wait for the lock.
+//! - **A result that never comes is made by the caller.** If the desk is closed or a worker is gone, `missing` gives the quantum again
+//!   and the calling thread runs it; a second result of the same quantum is refused by the book, and dropped.
 ghost use Rattle.std.specs.Prelude.{◌≡◌, ◌<◌, ◌≤◌, ◌+◌, ℕ, [], length, IfOk, IfErr, IfSome, IfNone, OnOk, Some, None, false};
 ghost use Rattle.pfx_fault.specs.declared.parts.Cause.{Cause};
 ghost use Rattle.pfx_machine.specs.declared.command.Command.TheVariants.{Slot};

@@ -1,4 +1,12 @@
 //! The end of a front.
+//!
+//! Why it is so:
+//! - **That a device which is said to have failed has is asked of the disk itself when the front is closed**: the disk that tells its
+//!   calls may fail where the one behind it didn't, if its list hasn't grown or a write goes past the end. That never happens, and if it
+//!   did the close would wait for ever. In the same way it is asked of the store whether it is whole where memory is said to have been
+//!   refused.
+//! - **Readers are asked once more by `close`**, which tells each of the last publication; one that looked has seen a prefix of the
+//!   commands, which the store has. Room for their answers is taken at the start, so a close takes no memory.
 ghost use Rattle.std.specs.Prelude.{◌≡◌, ◌≢◌, ◌+◌, ◌-◌, [], length, map, Some, true, false, IfOk, IfErr, IfSome, IfNone, IsTrue, IsPermutation};
 ghost use Rattle.pfx_chronicle.specs.Chart.{noted_view};
 ghost use Rattle.pfx_disk.specs.Disk.{IsHonest};

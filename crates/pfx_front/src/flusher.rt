@@ -1,4 +1,13 @@
 //! The flusher: it alone owns what keeps the store.
+//!
+//! Why it is so:
+//! - **The store's promise is kept over the flusher's own notes.** The notes in its share are the book's: batches that were taken, marks,
+//!   a failure. The flusher's type says that the store has just these frames and keeps just these marks; at the end the book is laid
+//!   beside the share, and what held of the notes holds of the session. So nothing new had to be written under the lock for the theorem.
+//! - **The board is published between a batch's append and its mark**, and what is durable then is left under a lock of its own before
+//!   the mark. So a receipt is given with a word that reaches its number and a moment that has come to its clock, both of which the call
+//!   tests rather than keeps as an invariant of the lock: nothing of the book's needs to be proved anew at each call for it. If memory is
+//!   refused for the board, the flusher gives up, with the batch in the store and not marked.
 ghost use Rattle.std.specs.Prelude.{◌≡◌, ◌≤◌, ◌+◌, [], ◌∷◌, ◌++◌, length, IsTrue, IfSome, IfNone, Some, None, false, vec_capacity};
 ghost use Rattle.pfx_board.specs.Word.{records_of};
 ghost use Rattle.pfx_redo.specs.Applying.{applied};

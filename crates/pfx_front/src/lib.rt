@@ -27,6 +27,11 @@
 //! prove against are the book's, so `close` can say of the whole session what its calls had answered, and of the store what its
 //! receipts had promised. Who waits sleeps, but for a seat of the crew, which looks for a message for some turns before, and no
 //! lock is held during a call of the disk or a step of a job.
+//!
+//! Why it is so:
+//! - **A front is generic over what keeps its store** (`pfx_store::Keeper`): a store, or one beside a log, which no command begins a
+//!   front at yet. The flusher can make no call but the keeper's. `start` and `close` are those of a plain store, with the contracts that
+//!   they had; `start_kept` and `close_kept`, of which they are made, take and give back any keeper whose disk tells its calls.
 #![tactic(auto)]
 
 mod appending;

@@ -1,4 +1,12 @@
 //! The marks that the flusher gave, as a list that is kept in proofs alone.
+//!
+//! Why it is so:
+//! - **What a running front says of later moments is said of its marks, not of a world of events.** The design wanted two lists that tell
+//!   one run of the world, the disk's calls and what changed the book, with that run as the lock's invariant. What a client needs of it
+//!   is less: that from a receipt on whatever a stop may leave has the receipt's command, and that what is published is what was asked
+//!   for. Both follow from what the flusher keeps of its store anyway (`InStep`) and from a look into the book at each mark. So there is
+//!   one list more, of the marks, kept in proofs alone; a receipt carries a beginning of it, and `Durable::holds` compares two. Nothing
+//!   of the book's is proved anew for it, and no call costs more.
 ghost use Rattle.std.specs.Prelude.{◌≡◌, ◌++◌, ◌∷◌, [], IsTrue};
 
 use crate::name::Since;

@@ -1,4 +1,8 @@
 //! The book's lock, and what threads wait for.
+//!
+//! Why it is so:
+//! - **Three condition variables**: work for the flusher, marks, and a book that may be asked. With one, each mark woke every client that
+//!   waited for a slot's end.
 ghost use Rattle.std.specs.Prelude.{◌≡◌, ℕ, None, false, IsTrue};
 ghost use Rattle.pfx_book.specs.Register.{new_register, HasRoom};
 

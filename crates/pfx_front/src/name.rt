@@ -1,4 +1,8 @@
 //! Whose front it is, and what it began with.
+//!
+//! Why it is so:
+//! - **A front's name carries the disk's clock and failures at the start** beside the state: `close` says since which moment each image
+//!   has a prefix of the commands, and that a front which answered that the device had failed did see it fail.
 ghost use Rattle.std.specs.Prelude.{◌≡◌};
 
 use pfx_board::name::Begun;

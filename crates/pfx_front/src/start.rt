@@ -1,4 +1,12 @@
 //! A front with its threads.
+//!
+//! Why it is so:
+//! - **The flusher's thread is started before it is given the store**, which it finds in a mailbox: a thread that can't be started would
+//!   otherwise have taken the store with it, and a refusal gives it back as it was.
+//! - **A front moves the store onto a disk that tells its calls, and back when it is closed**, so that callers keep their types. What a
+//!   closed front says is said of the disk itself: it has left nothing that its calls don't leave. The premise under which receipts hold
+//!   is part of the front's name: of a disk that is honest it follows, and of a file it is that it held some bytes that stand for the
+//!   store.
 ghost use Rattle.std.specs.Prelude.{◌≡◌, ◌<◌, ◌≤◌, ◌∷◌, [], replicate, Some, None, false, IfOk, IfErr, IsTrue, vec_len, vec_capacity};
 ghost use Rattle.pfx_board.specs.Word.{records_of};
 ghost use Rattle.pfx_chronicle.specs.Chart.{noted_view};

@@ -12,6 +12,10 @@
 //! 5. tasks that are no set, or a segment out of its limits: `Damaged`.
 //!
 //! What stands behind the header doesn't matter. Bytes are read as a header exactly where they begin with its bytes.
+//!
+//! Why it is so:
+//! - **A set is read from a header as a function of its bytes**: the first common multiple up to 2^20 is the hyperperiod. The code
+//!   computes it by least common multiples, and the two are proved the same.
 #![tactic(auto)]
 
 mod faults;

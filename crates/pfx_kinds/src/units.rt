@@ -1,4 +1,8 @@
 //! Which jobs are the answers of units that other programs do.
+//!
+//! Why it is so:
+//! - **Whether an answer is of the next unit is asked where a script is run** (`is_next`), not by the machine: the machine knows no kind.
+//!   So it holds of scripts, and of a file only if scripts alone wrote it.
 
 ghost use Rattle.std.specs.Prelude.{◌≡◌, Option};
 ghost use Rattle.pfx_kinds.specs.declared.units.Unit.{Unit as Answered};

@@ -1,4 +1,8 @@
 // Appending a block.
+//
+// Why it is so:
+// - **A block's bytes are put together in memory**, at most 16,777,273 of them, and written by one call, so that an append takes four.
+//   The bound is that of a segment.
 ghost use Rattle.std.specs.Prelude.{◌≡◌, ◌≢◌, ◌≤◌, ◌<◌, ◌+◌, ◌^◌, length, vec_capacity, MatchResult, OnOk, IsErrOf, true, false};
 ghost use Rattle.pfx_log.specs.Files.{Appends, IsAppend, IsBehind, IsLeftBy, IsOpen, IsRefused};
 ghost use Rattle.pfx_log.specs.Logs.{Log, block_of};

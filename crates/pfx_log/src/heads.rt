@@ -1,4 +1,8 @@
 // Heads, and the bytes that they are of.
+//
+// Why it is so:
+// - **The header isn't hashed by itself.** Its hash is the head that the first block's is made of: a log without blocks has nothing that
+//   tells a changed state from another one. Its number and the file of the store do.
 ghost use Rattle.std.specs.Prelude.{◌≡◌, ◌≤◌, ◌+◌, ◌++◌, ◌∷◌, [], length, vec_len, vec_capacity, IfOk};
 ghost use Rattle.byteorder.specs.Endian.{little_bytes};
 ghost use Rattle.pfx_log.specs.Logs.{AreBytes, block_of, block_text, first_head, head_of, header_text, new_log, this_version};

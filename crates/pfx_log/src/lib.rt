@@ -12,6 +12,13 @@
 //!    image. After a call of the disk that failed nothing is known, and the log is broken until it is opened again.
 //! 3. A block begins with the number behind the last one before it, so that there is no gap.
 //! 4. An image holds at most one log, and a last head fixes all that is before it, or two strings of bytes have one SHA-256.
+//!
+//! Why it is so:
+//! - **A closed gate ends a log, and has to be there.** The grammar has it, each call writes it, and so opening writes nothing: a byte
+//!   written at a file's end may be torn to any other, an open gate too. A log that is cut right behind its last block is refused
+//!   (`Block`, at its end).
+//! - **A state's first 8 bytes are its number.** The log knows nothing else of a state, and needs that one to know which block is next. A
+//!   checkpoint area's body begins so.
 #![tactic(auto)]
 
 mod appending;

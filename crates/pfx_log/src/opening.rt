@@ -1,4 +1,8 @@
 // Opening a log.
+//
+// Why it is so:
+// - **Opening reads each block and checks its head**, in four calls and with one buffer: constant memory, and time in the log's length.
+//   A caller that knows a place may go on from there (`read_block`).
 ghost use Rattle.std.specs.Prelude.{◌≡◌, ◌≤◌, List, ℕ, IfErr, IfOk, MatchResult, OnOk};
 ghost use Rattle.pfx_disk.specs.Disk.{HasFailed, IsHonest, Only};
 ghost use Rattle.pfx_log.specs.Faults.{IsFault, IsOfMachine};

@@ -1,4 +1,8 @@
 // Bytes put behind the gate that ends a log.
+//
+// Why it is so:
+// - **`put_behind` of `pfx_segment` isn't used**: it asks that the bytes end inside the disk, and a log grows. The one here writes past
+//   the end; what the two leave is said of whole fronts rather than of places.
 ghost use Rattle.std.specs.Prelude.{◌≡◌, ◌<◌, ◌^◌, length};
 ghost use Rattle.pfx_disk.specs.Disk.{IsHonest};
 ghost use Rattle.pfx_segment.specs.Segment.{IsRun};

@@ -1,4 +1,11 @@
 //! Why a command is refused.
+//!
+//! Why it is so:
+//! - **A lack of memory is a case of the lowest fault at hand** and has no type of its own: the machine's and the book's is the choice's
+//!   (`NoRow(NoMemory)`), and what reads a header, a frame or a file each has one case for it, into which the library's `AllocError`
+//!   turns. So a caller matches one enum, and nothing is copied upwards.
+//! - **A refusal names the first test that fails**, in one order, and takes no number. NumberLimit comes before all others, so that a
+//!   machine at its last number answers one thing.
 
 ghost use Rattle.std.specs.Prelude.{◌≡◌, ◌↔◌, IsTrue};
 ghost use Rattle.pfx_machine.specs.Faults.{no_memory};

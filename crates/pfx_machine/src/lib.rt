@@ -12,6 +12,17 @@
 //! `State` is that outcome, kept a command at a time: after `apply` it is the outcome of the list with the command added.
 //! A slot may also be opened, its quanta run elsewhere and in any order, and sealed, with the same result. `run` takes a
 //! whole list. At every moment every lag lies strictly between minus one and one.
+//!
+//! Why it is so:
+//! - **The meaning of commands is stated over whole lists**, from a start: rows, spans, quanta, outcome. The machine keeps one state and
+//!   proceeds one command at a time; that the two agree is proved, and is the contract of `apply`, `seal` and `run`.
+//! - **A start is any state**, not only the empty one, so that a store that was opened continues under the same definitions.
+//! - **Only a Slot and a Reweigh take memory** (the choice's vectors, which the state keeps for the next one; the new set and its
+//!   ledger), so only these can be refused with NoMemory, which their clause says. `seal` and `begin` take none: what could fail has been
+//!   done by `open_slot` and `prepare`.
+//! - **What a record is taken over by stands with the machine**: whether a task is free, has a job or is busy, and the tests that a state
+//!   passes (`laws::tests_tell_states`). `put_job`, `pass_row` and `count` bypass acceptance, for records of commands that were accepted
+//!   before; their docs say so. So records are taken over without anything of a checkpoint.
 #![tactic(auto)]
 
 mod board;

@@ -1,4 +1,8 @@
 //! New weights, and the ledger that they begin with.
+//!
+//! Why it is so:
+//! - **A Reweigh is prepared and then begun**: `State::prepare` makes the new set and its ledger, and changes nothing; `begin` takes no
+//!   memory. So whoever keeps a state on a disk has all memory before the first byte is written.
 
 ghost use Rattle.std.specs.Prelude.{◌≡◌, ◌≢◌, ◌<◌, ◌≤◌, length, IfOk, IfErr, OnOk, Some, None};
 ghost use Rattle.pfx_weights.specs.Sets.{Accepts, IsOfItsTasks};

@@ -1,4 +1,10 @@
 //! One slot: its quanta, and its jobs' steps.
+//!
+//! Why it is so:
+//! - **Opening a slot changes nothing.** A slot that was opened and given up leaves the state as it was, and may be opened again.
+//! - **The results of a slot come back in increasing task order**, the order in which its quanta were dealt. Whoever runs them in another
+//!   order sorts them first.
+//! - **A job that is chosen when it is done stays as it is**, and keeps its place until it is withdrawn or another is given.
 
 ghost use Rattle.std.specs.Prelude.{◌≡◌, ℕ, ◌≤◌, length, map, [], ◌∷◌, MatchOption, IfOk, slice_get, slice_set};
 ghost use Rattle.std.specs.List.Sorted.{IsStrictlyIncreasing};

@@ -1,4 +1,11 @@
 //! The machine's state.
+//!
+//! Why it is so:
+//! - **A state says from which slot on its set is in force**, and how long its store's segments are. The ledger's slot is counted from
+//!   there, and so are allocations and lags; a Slot's reply, its quanta, the board and the slot limit count from the first slot of all
+//!   (`whole`). Until the first Reweigh the two are the same.
+//! - **A state keeps that its set is the one of its tasks.** Idle tasks follow from the real ones, so whoever writes a state down needs
+//!   only these.
 
 ghost use Rattle.std.specs.Prelude.{◌≡◌, ◌↔◌, ℕ, ◌+◌, ◌<◌, ◌≤◌, ◌^◌, ◌++◌, [], ◌∷◌, List, length, map, replicate, slice_get, slice_set, Some, None, Ok, IsTrue};
 ghost use Rattle.std.specs.Prelude.{IsFalse, MatchResult, IfOk, IfNone, OnOk, OnErr};

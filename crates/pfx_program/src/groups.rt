@@ -1,4 +1,10 @@
 //! Records that stand ready together, whose commands share a call of the engine.
+//!
+//! Why it is so:
+//! - **Records share a commit where they stand ready, and not by an option.** A peer that sends one record and waits sees what it saw;
+//!   one that sends several at once waits for two syncs and not for two each. A group has only records that give a task a job or take one
+//!   away, of one task each: so whether an answer is of the next unit can be tested before any of the group is carried out, and is the
+//!   same behind the others. What shows a state, and Slots, end a group.
 
 ghost use Rattle.std.specs.Prelude.{◌≡◌, ◌+◌, ◌-◌, ◌≤◌, ◌<◌, ◌^◌, false, length, IfOk, IfErr, OnOk};
 ghost use Rattle.std.specs.Io.KnownBytes.{Appends};

@@ -1,4 +1,9 @@
 //! The line of the ledger that a plan leaves.
+//!
+//! Why it is so:
+//! - **A plan is as long as its callers want, a call of it isn't**: `--ledger` prints the ledger that the last slot leaves, as `--at`
+//!   takes it, and a law says that a plan in such parts has the lines of the whole one. The line comes only if it is asked for, since
+//!   whoever reads a plan reads slots, and only behind a whole plan: from the ledger at which a plan ends early no plan goes on.
 
 ghost use Rattle.std.specs.Prelude.{◌≡◌, Some, IfOk, IfErr, OnOk, string_bytes};
 ghost use Rattle.std.specs.Io.KnownBytes.{Appends};

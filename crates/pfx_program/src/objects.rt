@@ -1,4 +1,8 @@
 //! A plan and what jobs have computed, as JSON.
+//!
+//! Why it is so:
+//! - **An object has its keys in alphabetical order and no space**, since `serde_json` keeps the members of an object sorted: so what is
+//!   printed is a function of the object alone, and a clause says it by that crate's own definition of compact text.
 
 ghost use Rattle.std.specs.Prelude.{◌≡◌, ◌<◌, ◌+◌, ◌∷◌, [], IfOk, false, map, string_bytes};
 ghost use Rattle.serde_json.specs.Data.{string};

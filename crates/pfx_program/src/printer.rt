@@ -1,4 +1,10 @@
 //! What a run prints on.
+//!
+//! Why it is so:
+//! - **A run prints on a `Printer`, which is told the engine with each text.** What a clause says of a result can't speak of the moments
+//!   before it, and a line that left too early can't be called back. So what is printed on asks for what has to be true then, and the run
+//!   proves it at each line, for every printer; a plain writer is one that asks for nothing, so callers owe nothing new. What a run's
+//!   caller owes (`MayRun`) speaks of the course alone, not of how the run gets there.
 
 ghost use Rattle.std.specs.Prelude.{OnOk, OnErr, ⊤};
 ghost use Rattle.std.specs.Io.KnownBytes.{Appends};

@@ -1,4 +1,11 @@
 //! What a run of a script does at a refusal, and what it counts.
+//!
+//! Why it is so:
+//! - **A strict run is an ordinary run of a shorter script**: that of the records up to the first one that is refused (`taken`), so what
+//!   is proved of courses holds of it as it stands, and `closed` says what was kept. Its records share no call, so that none behind a
+//!   refusal is carried out.
+//! - **Only a run that went well has a report.** Where it fails, the fault is what there is to say, and what was refused before stands in
+//!   its output.
 
 ghost use Rattle.std.specs.Prelude.{◌≡◌, ◌<◌, None};
 ghost use Rattle.pfx_program.specs.Reports.{IsAdded};

@@ -20,6 +20,13 @@
 //! Spellings are read with the number of workers and of real tasks, which they don't tell. Where no task is said to be real,
 //! no new weights have a spelling. Only form is tested: whether commands are ones that a state accepts is for those who know
 //! the state.
+//!
+//! Why it is so:
+//! - **A batch keeps its records in a vector**, which the caller makes and gets back: writing takes no memory.
+//! - **New weights have a record, which is alone in its frame.** Its spelling takes a weight for each real task, so the grammar asks how
+//!   many tasks are real, and for that a file of version 1 says none: then new weights have no spelling, and every frame is what it was.
+//!   So records are read by one grammar, whichever version they are of. Alone, since the rows of a frame are all of one length, that of
+//!   the state before it.
 #![tactic(auto)]
 
 mod batch;

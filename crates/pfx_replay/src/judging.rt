@@ -1,4 +1,8 @@
 // Records against what their commands do.
+//
+// Why it is so:
+// - **What a record holds decides what is compared**: a slot's row and states. A submit's or a withdrawal's record says what its command
+//   says, and recovery has already tested that the state lets it pass.
 ghost use Rattle.std.specs.Prelude.{◌≡◌, ◌≢◌, ◌↔◌, ◌+◌, ◌∷◌, [], ℕ, List, length, map, slice_get, slice_index_or, IsTrue, IfOk, Some, None, Ok};
 ghost use Rattle.pfx_machine.specs.Choosing.{row_in};
 ghost use Rattle.pfx_machine.specs.Outcome.{outcome};

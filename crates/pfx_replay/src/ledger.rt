@@ -1,4 +1,8 @@
 // A ledger as plain numbers, and PF's row by counting who beats whom.
+//
+// Why it is so:
+// - **PF's row is counted, not chosen**: each task's class and its rivals are found from weights, slot and allocations, and two tasks'
+//   symbols are worked out anew for each comparison. That is slow, and shares no code with the chooser or the lanes.
 ghost use Rattle.std.specs.Prelude.{◌≡◌, ◌≢◌, ◌↔◌, ◌≤◌, ◌<◌, ◌+◌, ◌-◌, ◌^◌, ℕ, List, length, slice_index, IsTrue, IfOk, Ok, MatchOption};
 ghost use Rattle.pfx_weights.specs.Rows.{is_in, one};
 ghost use Rattle.pfx_columns.specs.Ledgers.{add, after, class, start, task};

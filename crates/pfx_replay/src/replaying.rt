@@ -1,4 +1,8 @@
 //! A replay of a store's file.
+//!
+//! Why it is so:
+//! - **A replay takes the disk and gives it back**, as `open` does: it opens the file first, so what is refused is refused by the same
+//!   test, and then reads all bytes once and works in memory.
 ghost use Rattle.std.specs.Prelude.{◌≡◌, ◌≤◌, ℕ, List, length, Err, IfOk, IfErr, IsErrOf, MatchResult};
 ghost use Rattle.pfx_disk.specs.Disk.{IsHonest, HasFailed};
 ghost use Rattle.pfx_format.specs.Format.{format};

@@ -1,4 +1,11 @@
 // The way from the lesser checkpoint to the checkpoint in use.
+//
+// Why it is so:
+// - **The lesser checkpoint counts only if a way leads from it**: its gate is open, it is a state, and the segment that isn't in use
+//   begins after it and holds frames that lead from it to just the number of the checkpoint in use. Otherwise nothing is said of it:
+//   what a slot that isn't in use holds is of no consequence.
+// - **After the checkpoint the replay goes on from what the checkpoint holds**, which is what the commands led to, or the verdict has
+//   already been given.
 ghost use Rattle.std.specs.Prelude.{◌≡◌, ◌≢◌, ◌≤◌, ◌<◌, ◌+◌, ◌^◌, ℕ, List, length, IfOk, MatchOption};
 ghost use Rattle.pfx_segment.specs.Reading.{views};
 ghost use Rattle.pfx_recovery.specs.Layout.{file_len};

@@ -1,4 +1,14 @@
 // New weights, prepared for a store.
+//
+// Why it is so:
+// - **New weights are appended in two steps**, as the machine puts them in force: `prepare_reweigh` takes all memory, for the new set's
+//   ledger and for the longest frame of its workers, and refuses what the machine refuses; it only looks at the store, so no call of the
+//   disk comes before a refusal. `append_reweigh` takes what was prepared, and no memory: so it answers and promises just what `append`
+//   does, and needs no fault of its own. In one call memory would come behind the checkpoint's step that an engine takes before each
+//   append, and a refusal for memory would leave a store that isn't as it was.
+// - **The room for frames is always enough for a record of weights too**, of as many as there are real tasks: it is a matter of the
+//   header, and a store of few workers and many tasks has that record as its longest frame. The room that was prepared takes its place
+//   when the new set comes into force, so a failed append keeps the room of its own set.
 ghost use Rattle.std.specs.Prelude.{◌≡◌, IfOk, MatchResult, None};
 ghost use Rattle.pfx_machine.specs.Refusals.{refusal, IsFaultOf};
 ghost use Rattle.pfx_machine.specs.Reweighing.{new_set};

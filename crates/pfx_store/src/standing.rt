@@ -1,4 +1,10 @@
 // A store: a journal that stands for its state.
+//
+// Why it is so:
+// - **A store's `append` says of no task that it is real**, so that its batch has no new weights: its set stays, and it takes no memory.
+//   An opening takes new weights over, which takes memory for their set.
+// - **A store's promise is its type's invariant**, that of its Model and not a ghost field, since proofs need the parts of what stands,
+//   and a ghost field can hold none. `init` syncs the file's directory whether or not it made the file: the opening doesn't tell.
 ghost use Rattle.std.specs.Prelude.{◌≡◌, ◌++◌, ◌∷◌, [], ℕ, List, length, map, true, false, Ok, OnOk, IfOk, MatchResult, None};
 ghost use Rattle.pfx_disk.specs.Disk.{IsHonest};
 ghost use Rattle.pfx_format.specs.Format.{format};

@@ -1,4 +1,10 @@
 // Turning a store to its other segment, and the checkpoint in progress.
+//
+// Why it is so:
+// - **Turning came with the store.** `Store::append` ends the checkpoint in progress and turns if a frame doesn't fit, so that no append
+//   is refused for lack of room, and a store runs for ever in a file of fixed length. Whoever runs commands takes a step of the
+//   checkpoint between appends; an append that needs the room takes all that are left.
+// - **A store's turn and its steps are public beside `append`**, which turns by itself: for callers that know of a quiet moment.
 ghost use Rattle.std.specs.Prelude.{◌≡◌, true, Ok, OnOk};
 ghost use Rattle.pfx_format.specs.Format.{format};
 ghost use Rattle.pfx_store_file.specs.Acts.{tended_file, turned_file};

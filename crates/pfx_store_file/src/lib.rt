@@ -14,6 +14,18 @@
 //!    broken until it is opened again.
 //! 4. A checkpoint holds the state at the turn. The sync of its first step leaves no image with that checkpoint area's gate open
 //!    while pieces are written; the first sync of its last step leaves none without the whole body before the gate opens.
+//!
+//! Why it is so:
+//! - **Writing a checkpoint is the store's file's**: `pfx_checkpoint` spells states and has no disk. How far the writing is says
+//!   `Checkpoint::Writing` of `pfx_store_file`, whose `tend` takes its first, middle and last steps (`begin`, `write_piece`, `finish`).
+//! - **A layout has room by its type** (more than nine bytes a segment), so the codec gives headers that nobody reads the greater of
+//!   their length and ten; headers that are read have 2,137 bytes at least.
+//! - **How far a checkpoint is is one type** (`Checkpoint`): ended, pending, or writing, with how many bytes stand behind its gate. Three
+//!   fields could say that one was begun that isn't in progress; what the proofs had to exclude can't be written any more.
+//! - **The lengths of a file's parts stand once**, with where each part lies (`Sizes`): a place that a call writes and the place that an
+//!   opening reads are the same function's answer, and places are changed field by field, never copied whole.
+//! - **Calls are counted by definitions over the places** (`append_calls`, `calls_left`), so that a bound for every append follows from
+//!   them by arithmetic, and a caller sees how many steps are left.
 #![tactic(auto)]
 
 mod appending;

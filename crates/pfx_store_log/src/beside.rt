@@ -1,4 +1,10 @@
 // A store, its log, and the frames that the log doesn't have yet.
+//
+// Why it is so:
+// - **A segment's frames are copied in memory, and become a block when the segment is left** (`pfx_store_log`), not when it is used
+//   again, and they aren't read back: a front's disk refuses reads. Then the log ends where the next checkpoint will. That a file's
+//   frames behind the log's end are the very ones that the log hasn't is `pfx_base`'s law over a codec that takes no other frames. One
+//   segment's frames stand in memory.
 ghost use Rattle.std.specs.Prelude.{◌≡◌, ◌≤◌, ◌+◌, length, false, vec_capacity};
 ghost use Rattle.pfx_store_log.specs.Fitting.{FitsIn};
 

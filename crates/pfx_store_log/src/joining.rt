@@ -1,4 +1,9 @@
 // The frames that a store's file has behind the last number of a log.
+//
+// Why it is so:
+// - **Opening beside a log reads the segments once more** for the frames that the log hasn't: recovery gives the state behind them and
+//   not the frames. They are the very bytes of the file, so a log that was brought up after a stop has what it would have had without
+//   one.
 ghost use Rattle.std.specs.Prelude.{◌≡◌, ◌≤◌, ◌<◌, ◌+◌, ◌^◌, ℕ, List, length, IfErr, IfOk, MatchResult, Ok, Err, if◌then◌else◌, not};
 ghost use Rattle.pfx_disk.specs.Disk.{HasFailed, IsHonest};
 ghost use Rattle.pfx_format.specs.Format.{format};

@@ -1,4 +1,11 @@
 // A store beside its log is a keeper.
+//
+// Why it is so:
+// - **A log's failing disk doesn't break the store**, and stops what keeps the batches (`Keeper::failure`), whose cause tells that it
+//   was the log.
+// - **Coverage is said of the calls that the engines make** (`keep`, `keep_reweigh`, `tend_on` of a store beside its log), in two steps
+//   where the log is brought up first: an image of the log from before that with one of the file from after it is no pair that a stop
+//   may leave.
 ghost use Rattle.std.specs.Prelude.{◌≡◌, ◌⊎◌, ◌++◌, ◌∷◌, [], ℕ, List, length, map, None, Some, OnOk, IfErr};
 ghost use Rattle.pfx_fault.specs.declared.parts.Cause.TheVariants.{Log as LogCause};
 ghost use Rattle.pfx_log.specs.Logs.{Log};

@@ -9,6 +9,10 @@
 //! 1. No turn comes before the log has all frames up to the store's state.
 //! 2. The log gets only frames that are durable in the file.
 //! 3. A call works on one disk alone: on the log's, or on the file's. If the log's disk fails nothing was done to the file, and no turn comes any more.
+//!
+//! Why it is so:
+//! - **A call works on one disk.** `keep_up` writes the log, `append` and `tend` the file. So no contract has to tell in which order the
+//!   calls of two disks come, of which nothing is known: each image of the one is covered with each image of the other.
 #![tactic(auto)]
 
 mod beside;

@@ -1,4 +1,8 @@
 // What a store beside its log does.
+//
+// Why it is so:
+// - **An append to the log takes no memory** (`append_in`): the room for a block is taken with the store's. So want of memory can't come
+//   when a state has moved on and its command isn't kept.
 ghost use Rattle.std.specs.Prelude.{◌≡◌, ◌≤◌, ◌+◌, ◌++◌, ◌∷◌, [], ℕ, List, length, map, vec_capacity, ◌↔◌, OnOk, OnErr, IfOk, IfErr, IsErrOf, IsTrue, false, true};
 ghost use Rattle.pfx_disk.specs.Disk.{IsHonest};
 ghost use Rattle.pfx_format.specs.Format.{format};

@@ -10,6 +10,15 @@
 //!   the shorter one begins the longer.
 //!
 //! No call waits, and none fails, but for the memory of the first one. Nothing here says who notes what, nor when.
+//!
+//! Why it is so:
+//! - **Tokens are built on `atomic_table`, growing lists on `logbook`**, and neither waits, fails nor takes memory, except for the
+//!   keeper's first allocation: a call under a lock is sure to return.
+//! - **A name is a trait without type parameters** (`Room`, `Naming`), since only at such a trait can a call pick what the name stands
+//!   for. What bears one name belongs together.
+//! - **A prefix may be copied, a token may not.** For each token's number there is one token, so what it brings is all that was noted for
+//!   it; a `Past` only says that the list got that far.
+//! - **Prefixes are compared by their counts.** Two of them are of one list, so the shorter one is a prefix of the longer.
 #![tactic(auto)]
 
 pub mod growing;
