@@ -43,7 +43,9 @@ module _ {H S : Type 0} (K : Codec H S) where
   -- after the next step, whichever that is
   abbrev pub tended_file : File H S → File H S
   tended_file f = if f.parts.turned
-      then (if is_begun f.checkpoint then (if nat_lt (written f.checkpoint) (K.layout f.head).body then pieced_file f else finished_file f) else closed_file f)
+      then (if is_begun f.checkpoint
+      then (if nat_lt (written f.checkpoint) (K.layout f.head).body then pieced_file f else finished_file f)
+      else closed_file f)
       else f
 
   -- so many steps of it
@@ -94,7 +96,8 @@ module _ {H S : Type 0} (K : Codec H S) where
 
   -- an append of a frame: room made, and these bytes put behind the frame's gate
   abbrev pub append_acts : File H S → S → List ℕ → List ℕ → List ℕ → List Act
-  append_acts f s spelling start bytes = room_acts (length bytes) f spelling start ++ put_acts (gate_of (roomy_file (length bytes) f s)) bytes
+  append_acts f s spelling start bytes =
+      room_acts (length bytes) f spelling start ++ put_acts (gate_of (roomy_file (length bytes) f s)) bytes
 
   -- the file after it
   abbrev pub appended_file : File H S → S → List ℕ → List ℕ → File H S

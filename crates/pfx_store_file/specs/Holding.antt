@@ -2,6 +2,7 @@
 use Rattle.std.specs.Prelude.{◌≡◌, ℕ, ◌+◌, ◌≤◌, List, [], ◌∷◌, ◌++◌, length, take, slice_index, Bool, true, false, not, Some, Ok}
 use Rattle.pfx_disk.specs.Disk.{View, IsHonest}
 use Rattle.pfx_disk.specs.declared.gates.TheConstants.{GATE_OPEN}
+use Rattle.pfx_recovery.specs.declared.head.TheConstants.{SEGMENT_HEAD}
 use Rattle.pfx_segment.specs.Segment.{StandAt}
 use Rattle.pfx_segment.specs.Frames.{IsFrame}
 use Rattle.pfx_recovery.specs.Codec.{Codec}
@@ -25,7 +26,7 @@ pub record IsPending (bytes body : List ℕ) : Type 0 where
 
 -- the bytes behind the gate of a segment that begins with this number and has no frame yet
 pub record IsStart {H S : Type 0} (K : Codec H S) (first : ℕ) (bytes : List ℕ) : Type 0 where
-  pub long : length bytes ≡ 9
+  pub long : length bytes ≡ SEGMENT_HEAD
   pub number : K.segment_number (take 8 bytes) ≡ first
   pub closed : slice_index bytes 8 ≡ 0
 

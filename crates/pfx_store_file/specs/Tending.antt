@@ -1,5 +1,6 @@
 -- The steps of a checkpoint in progress.
-use Rattle.std.specs.Prelude.{◌≡◌, ℕ, ◌+◌, ◌-◌, ◌/◌, nat_lt, Bool, if◌then◌else◌}
+use Rattle.std.specs.Prelude.{◌≡◌, ℕ, ◌+◌, ◌-◌, ◌/◌, nat_lt, Bool, true, false, if◌then◌else◌}
+use Rattle.pfx_recovery.specs.declared.head.TheConstants.{SEGMENT_HEAD}
 use Rattle.pfx_recovery.specs.Store.{Parts, finished, turned_at}
 use Rattle.pfx_store_file.specs.Checkpoints.{in_progress}
 use Rattle.pfx_store_file.specs.Fitting.{HasRoom, IsEmpty}
@@ -16,6 +17,7 @@ step_of body Ended = Nothing
 step_of body Pending = Closed
 step_of body (Writing done) = if nat_lt done body then Piece else Finished
 
+-- the step that comes next in a file with these places
 abbrev pub next_step : Places → Tended
 next_step places = step_of places.sizes.body places.checkpoint
 
@@ -36,6 +38,7 @@ steps_of body Ended = 0
 steps_of body Pending = 2 + pieces body
 steps_of body (Writing done) = 1 + pieces (body - done)
 
+-- how many are to come in a file with these places
 abbrev pub steps_left : Places → ℕ
 steps_left places = steps_of places.sizes.body places.checkpoint
 
@@ -45,20 +48,18 @@ calls_to_end body Ended = 0
 calls_to_end body Pending = 5 + pieces body
 calls_to_end body (Writing done) = 3 + pieces (body - done)
 
+-- how many calls they take in a file with these places
 abbrev pub calls_left : Places → ℕ
 calls_left places = calls_to_end places.sizes.body places.checkpoint
 
--- how many it takes to make room for a frame of n bytes: none if it fits, else those of the steps to come
-abbrev pub room_calls : ℕ → Places → ℕ
-room_calls n places = if nat_lt (places.gate + n) places.end then 0 else calls_left places
-
--- how many it takes to append one: four if it fits, else those of the steps to come, of a turn, and four
+-- how many it takes to append a frame of n bytes: four if it fits, else those of the steps to come, of a turn, and four
 abbrev pub append_calls : ℕ → Places → ℕ
 append_calls n places = if nat_lt (places.gate + n) places.end then 4 else 10 + calls_left places
 
 -- how many a turn takes: none if it isn't lawful
 abbrev pub turn_calls : Places → ℕ
-turn_calls places = if in_progress places.checkpoint then 0 else (if nat_lt (places.end + 9) (places.gate + places.sizes.segment) then 6 else 0)
+turn_calls places = if in_progress places.checkpoint then 0
+    else (if nat_lt (places.end + SEGMENT_HEAD) (places.gate + places.sizes.segment) then 6 else 0)
 
 -- after a turn: the segment that frames go to has none, and the checkpoint in progress has all its steps to come
 pub record IsTurned (places : Places) : Type 0 where
@@ -84,12 +85,18 @@ pub record MovesOn (n : ℕ) (old new : Places) : Type 0 where
 -- after a turn and a frame of n bytes: that frame alone is in its segment, and the checkpoint has all its steps to come
 pub record IsTurnedBefore (n : ℕ) (places : Places) : Type 0 where
   pub pending : places.checkpoint ≡ Pending
-  pub gate : places.end + 9 + n ≡ places.gate + places.sizes.segment
+  pub gate : places.end + SEGMENT_HEAD + n ≡ places.gate + places.sizes.segment
 
 -- how a frame of n bytes moves the places, whether it fits or not
 pub record TakesFrame (n : ℕ) (old new : Places) : Type 0 where
   pub room : HasRoom n old → MovesOn n old new
   pub full : ¬ HasRoom n old → IsTurnedBefore n new
+
+-- a frame of n bytes moved the places so, and the file was turned for it exactly if it had no room
+pub record FindsRoom (turned : Bool) (n : ℕ) (old new : Places) : Type 0 where
+  pub takes : TakesFrame n old new
+  pub there : turned ≡ false → HasRoom n old
+  pub full : turned ≡ true → ¬ HasRoom n old
 
 -- the parts, if the checkpoint in progress has ended, if there was one
 abbrev pub settled : {S : Type 0} → Parts S → Parts S

@@ -1,5 +1,6 @@
 -- What the calls of a store's file do.
-use Rattle.std.specs.Prelude.{◌≡◌, ◌↔◌, ◌≤◌, ◌<◌, ◌+◌, ◌++◌, ◌∷◌, [], ℕ, List, length, min, true, false, Result, Ok, OnOk, OnErr, IfOk, IsErrOf}
+use Rattle.std.specs.Prelude.{◌≡◌, ◌↔◌, ◌≤◌, ◌<◌, ◌+◌, ◌++◌, ◌∷◌, [], ℕ, List, length, min, true, false}
+use Rattle.std.specs.Prelude.{Result, Ok, OnOk, OnErr, IfOk, IsErrOf}
 use Rattle.pfx_disk.specs.CallsMade.{HasMade, HasBrokenOff, HasKeptTo}
 use Rattle.pfx_disk.specs.Disk.{IsHonest}
 use Rattle.pfx_disk.specs.Stop.{Act}

@@ -79,7 +79,8 @@ impl<D: Disk> StoreFile<D> {
             → Holds K h self.old.places p s spelling.now (D.view self.old.disk)
             → Keeps self.old self.new result K h p s spelling.now }
         ensures acts { (K : Codec H S) → (f : File H S) → AreOf K f self.old.places → IsHonest (D.view self.old.disk)
-            → Makes self.old self.new result (Write (area_of K f + 1 + written f.checkpoint) (take n (drop (written f.checkpoint) spelling.now)) ∷ []) }
+            → Makes self.old self.new result
+            (Write (area_of K f + 1 + written f.checkpoint) (take n (drop (written f.checkpoint) spelling.now)) ∷ []) }
         ensures file { (K : Codec H S) → (f : File H S) → AreOf K f self.old.places
             → OnOk result (AreOf K (record f { checkpoint = Writing (written f.checkpoint + n) }) self.new.places) }
     {

@@ -1,5 +1,6 @@
 // How long the parts of a store's file are, and where they lie.
 ghost use Rattle.std.specs.Prelude.{◌≡◌, ◌≤◌, ◌<◌, ◌+◌, ◌*◌, ◌^◌};
+ghost use Rattle.pfx_recovery.specs.declared.head.TheConstants.{SEGMENT_HEAD};
 
 /// How long the parts of a store's file are, in bytes. Of the two checkpoint areas and of the two segments `true` names the second.
 #[derive(Clone, Copy)]
@@ -10,7 +11,7 @@ pub struct Sizes {
     pub body: usize,
     /// A segment. It begins with a gate, a number of eight bytes and the gate of a frame.
     pub segment: usize,
-    ghost room: { 9 < segment },
+    ghost room: { SEGMENT_HEAD < segment },
     ghost short: { head + 2 * (1 + body) + 2 * segment < 2 ^ 62 },
 }
 

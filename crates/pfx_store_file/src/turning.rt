@@ -14,6 +14,7 @@ use crate::faults::StoreFault;
 use crate::file::StoreFile;
 use crate::progress::Checkpoint;
 use pfx_disk::Disk;
+use pfx_recovery::SEGMENT_HEAD;
 use pfx_segment::prepare;
 
 impl<D: Disk> StoreFile<D> {
@@ -25,7 +26,7 @@ impl<D: Disk> StoreFile<D> {
             → IsTrue result ↔ (p.turned ≡ false) × (0 < length p.frames) }
     {
         !self.places.checkpoint.in_progress()
-            && self.places.end + 9 < self.places.gate + self.places.sizes.segment
+            && self.places.end + SEGMENT_HEAD < self.places.gate + self.places.sizes.segment
     }
 
     /// Goes on in the other segment, by six calls of the disk: that segment's gate is closed, if it stands open, or else
@@ -37,7 +38,7 @@ impl<D: Disk> StoreFile<D> {
     /// survived before survives. The calls of the disk are those of a turn, and the places are those of the file after it.
     pub fn turn<H, S>(&mut self, start: &[u8]) -> Result<(), StoreFault>
         requires lawful { IsTurnable self.old.places }
-        requires nine { length start.now ≡ 9 }
+        requires nine { length start.now ≡ SEGMENT_HEAD }
         ensures call { IsCall self.old self.new result 6 }
         ensures place { MovesTo result self.old.places self.new.places (IsTurned self.new.places) }
         // The store goes on in the other segment, with a checkpoint of this state in progress.
@@ -59,7 +60,7 @@ impl<D: Disk> StoreFile<D> {
         let mut places = self.places;
         places.segment = !places.segment;
         places.checkpoint = Checkpoint::Pending;
-        places.gate = at + 9;
+        places.gate = at + SEGMENT_HEAD;
         places.end = at + places.sizes.segment;
         self.places = places;
         self.broken = false;
