@@ -115,7 +115,10 @@ pub(crate) fn opened(
 }
 
 // The engine of one thread over a store.
-fn engine(alloc: Global, store: Store<FileDisk, AnyJob>) -> Result<StoreEngine<FileDisk>, Fault> {
+fn engine(
+    alloc: Global,
+    store: Store<FileDisk, AnyJob>,
+) -> Result<StoreEngine<FileDisk, AnyJob>, Fault> {
     match DurableEngine::new(alloc, store) {
         Ok(engine) => Ok(engine),
         Err(_) => Err(Fault::NoMemory),

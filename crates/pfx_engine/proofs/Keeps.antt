@@ -17,8 +17,6 @@ use Rattle.pfx_store.specs.Working as working
 use Rattle.pfx_store.specs.declared.store.Mark.{Mark}
 use Rattle.pfx_store.proofs.Grouping.{alone_small, batch_led, joined_alone, keeps_groups, length-alone, length-records, records_lead, replays_same, to_frames, to_groups}
 use Rattle.pfx_store.proofs.Grouping as grouping
-use Rattle.pfx_kinds.specs.AnyKind.{any_kind, any_laws}
-use Rattle.pfx_kinds.specs.declared.any.AnyJob.{AnyJob}
 use Rattle.pfx_machine.specs.Plain.{Plain, IsState}
 use Rattle.pfx_machine.specs.Batches.{IsBatchable}
 use Rattle.pfx_machine.specs.Outcome.{outcome}
@@ -35,99 +33,100 @@ use Rattle.pfx_engine.specs.Executing.{IsCommit, IsPut}
 use Rattle.pfx_engine.specs.Surviving.{Survives, KeepsAll, frames_of}
 use Rattle.pfx_engine.specs.KeepingLaws.{acceptable_both}
 use Rattle.pfx_engine.proofs.Commands.{all_in, replays_commands, with_accepted, with_frames, with_group, with_small, with_survives}
+use Rattle.pfx_jobs.specs.Kind.{Kind, Laws}
 
 -- commands more, whose frame this is
-pub keeps_commands : (start s : Plain AnyJob) (H G : List (Command AnyJob)) (frame : List ℕ) (old new : View) → IsState start → IsAcceptable any_kind start H → s ≡ outcome any_kind start H → IsAcceptable any_kind s G →
-    IsBatchable G → 0 < length G → length G ≤ 16 → frame ≡ frame_of any_kind s G → frames.KeepsAll (format any_kind) start (frames_of start H) (frames_of start H ++ frame ∷ []) old new → KeepsAll start H (H ++ G) old new
-keeps_commands start s H G frame old new h all at accepted may some few is keeps c n le before image here =
-    let more : IsAcceptable any_kind start (H ++ G) = acceptable_both start H G all (subst (λ (t : Plain AnyJob). IsAcceptable any_kind t G) at accepted) in
-    let there : frames_of start H ++ frame ∷ [] ≡ groups.frames_of any_kind start (with_group start H G) =
-    ap (λ (f : List ℕ). frames_of start H ++ f ∷ []) (is ∙ ap (λ (t : Plain AnyJob). frame_of any_kind t G) at) ∙ sym (with_frames start H G) in
-    with_survives start H G n image some
-    (keeps_groups any_kind any_laws start (alone H) (with_group start H G) old new h (all_in start H all) (alone_small H) (with_accepted start H G more) (with_small start H G may some few)
-    (subst (λ (l : List (List ℕ)). frames.KeepsAll (format any_kind) start (frames_of start H) l old new) there keeps) c n le before image here)
+pub keeps_commands : {J : Type 0} (K : Kind J) (L : Laws K) (start s : Plain J) (H G : List (Command J)) (frame : List ℕ) (old new : View) → IsState start → IsAcceptable K start H → s ≡ outcome K start H → IsAcceptable K s G →
+    IsBatchable G → 0 < length G → length G ≤ 16 → frame ≡ frame_of K s G → frames.KeepsAll (format K) start (frames_of K start H) (frames_of K start H ++ frame ∷ []) old new → KeepsAll K start H (H ++ G) old new
+keeps_commands {J = J} K L start s H G frame old new h all at accepted may some few is keeps c n le before image here =
+    let more : IsAcceptable K start (H ++ G) = acceptable_both K L start H G all (subst (λ (t : Plain J). IsAcceptable K t G) at accepted) in
+    let there : frames_of K start H ++ frame ∷ [] ≡ groups.frames_of K start (with_group K L start H G) =
+    ap (λ (f : List ℕ). frames_of K start H ++ f ∷ []) (is ∙ ap (λ (t : Plain J). frame_of K t G) at) ∙ sym (with_frames K L start H G) in
+    with_survives K L start H G n image some
+    (keeps_groups K L start (alone H) (with_group K L start H G) old new h (all_in K start H all) (alone_small H) (with_accepted K L start H G more) (with_small K L start H G may some few)
+    (subst (λ (l : List (List ℕ)). frames.KeepsAll (format K) start (frames_of K start H) l old new) there keeps) c n le before image here)
 
 -- commands that come later
-pub survives_more : (s : Plain AnyJob) (H G : List (Command AnyJob)) (n : ℕ) (image : List ℕ) → Survives s H n image → Survives s (H ++ G) n image
-survives_more s H G n image v =
+pub survives_more : {J : Type 0} (K : Kind J) (s : Plain J) (H G : List (Command J)) (n : ℕ) (image : List ℕ) → Survives K s H n image → Survives K s (H ++ G) n image
+survives_more {J = J} K s H G n image v =
     let most = v.at_most in
     let few : v.count ≤ length H = omega (arith, most, length-alone H) in
     record {
       count = v.count;
       at_least = v.at_least;
       at_most = omega (arith, few, length-alone (H ++ G), length-append H G);
-      recovered = v.recovered ∙ ap (λ (l : List (Command AnyJob)). Ok (outcome any_kind s l)) (joined_alone v.count H ∙ (sym (take-append-le v.count H G few) ∙ sym (joined_alone v.count (H ++ G))));
+      recovered = v.recovered ∙ ap (λ (l : List (Command J)). Ok (outcome K s l)) (joined_alone v.count H ∙ (sym (take-append-le v.count H G few) ∙ sym (joined_alone v.count (H ++ G))));
     }
 
 -- nothing is done
-pub keeps_more : (start : Plain AnyJob) (H G : List (Command AnyJob)) (disk : View) → KeepsAll start H (H ++ G) disk disk
-keeps_more start H G disk from n le before image here = survives_more start H G n image (before image here)
+pub keeps_more : {J : Type 0} (K : Kind J) (start : Plain J) (H G : List (Command J)) (disk : View) → KeepsAll K start H (H ++ G) disk disk
+keeps_more K start H G disk from n le before image here = survives_more K start H G n image (before image here)
 
 -- a call that writes no frame, and then one behind which a command more survives
-pub keeps_behind : (start : Plain AnyJob) (H more : List (Command AnyJob)) (a b c : View) → IsState start → IsAcceptable any_kind start H → a.clock ≤ b.clock →
-    frames.KeepsAll (format any_kind) start (frames_of start H) (frames_of start H) a b → KeepsAll start H more b c → KeepsAll start H more a c
-keeps_behind start H more a b c h all later one two from n le before =
-    let in_groups = all_in start H all in
+pub keeps_behind : {J : Type 0} (K : Kind J) (L : Laws K) (start : Plain J) (H more : List (Command J)) (a b c : View) → IsState start → IsAcceptable K start H → a.clock ≤ b.clock →
+    frames.KeepsAll (format K) start (frames_of K start H) (frames_of K start H) a b → KeepsAll K start H more b c → KeepsAll K start H more a c
+keeps_behind K L start H more a b c h all later one two from n le before =
+    let in_groups = all_in K start H all in
     let small = alone_small H in
     two from n (omega (arith, le, later))
-    (λ other was. to_groups any_kind any_laws start (alone H) h in_groups small n other (one from n le (λ image here. to_frames any_kind any_laws start (alone H) h in_groups small n image (before image here)) other was))
+    (λ other was. to_groups K L start (alone H) h in_groups small n other (one from n le (λ image here. to_frames K L start (alone H) h in_groups small n image (before image here)) other was))
 
 -- an image in which one frame survives is recovered to the state after it
-pub one_recovered : (s t : Plain AnyJob) (frame image : List ℕ) → state_after any_kind s frame ≡ Some t → frames.Survives (format any_kind) s (frame ∷ []) 1 image → recovered (format any_kind) image ≡ Ok t
-one_recovered s t frame image leads v =
+pub one_recovered : {J : Type 0} (K : Kind J) (s t : Plain J) (frame image : List ℕ) → state_after K s frame ≡ Some t → frames.Survives (format K) s (frame ∷ []) 1 image → recovered (format K) image ≡ Ok t
+one_recovered K s t frame image leads v =
     let least = v.at_least in
     let most = v.at_most in
     let one : v.count ≡ 1 = omega (arith, least, most) in
-    v.recovered ∙ ap Ok (replays_same (format any_kind) (frame ∷ []) s v.state t (subst (λ (n : ℕ). Replays (format any_kind) s (take n (frame ∷ [])) v.state) one v.replays) (t, leads, refl))
+    v.recovered ∙ ap Ok (replays_same (format K) (frame ∷ []) s v.state t (subst (λ (n : ℕ). Replays (format K) s (take n (frame ∷ [])) v.state) one v.replays) (t, leads, refl))
 
 -- A batch with the records of accepted commands.
-module _ (s : Plain AnyJob) (G : List (Command AnyJob)) (records : List (recorded.Recorded AnyJob)) where
-  pub state_with : (t : Plain AnyJob) → IsState s → AreKeptAs any_kind s G records → applied any_kind s records ≡ Some t → t ≡ outcome any_kind s G
-  state_with t h is taken = some_same t (outcome any_kind s G) (sym taken ∙ records_lead any_kind any_laws s G records h is)
+module _ {J : Type 0} (K : Kind J) (L : Laws K) (s : Plain J) (G : List (Command J)) (records : List (recorded.Recorded J)) where
+  pub state_with : (t : Plain J) → IsState s → AreKeptAs K s G records → applied K s records ≡ Some t → t ≡ outcome K s G
+  state_with t h is taken = some_same t (outcome K s G) (sym taken ∙ records_lead K L s G records h is)
 
-  pub frame_is : (first : ℕ) → IsState s → AreKeptAs any_kind s G records → first ≡ s.number + 1 → batch_bytes any_kind (record { first = first; records = records }) ≡ frame_of any_kind s G
-  frame_is first h is next = grouping.frame_is any_kind any_laws s G records h is first next
+  pub frame_is : (first : ℕ) → IsState s → AreKeptAs K s G records → first ≡ s.number + 1 → batch_bytes K (record { first = first; records = records }) ≡ frame_of K s G
+  frame_is first h is next = grouping.frame_is K L s G records h is first next
 
-  pub acknowledged_with : (t : Plain AnyJob) (first : ℕ) → IsState s → AreKeptAs any_kind s G records → 0 < length G → length G ≤ 16 → first ≡ s.number + 1 → applied any_kind s records ≡ Some t → (image : List ℕ) →
-      frames.Survives (format any_kind) s (batch_bytes any_kind (record { first = first; records = records }) ∷ []) 1 image → recovered (format any_kind) image ≡ Ok t
+  pub acknowledged_with : (t : Plain J) (first : ℕ) → IsState s → AreKeptAs K s G records → 0 < length G → length G ≤ 16 → first ≡ s.number + 1 → applied K s records ≡ Some t → (image : List ℕ) →
+      frames.Survives (format K) s (batch_bytes K (record { first = first; records = records }) ∷ []) 1 image → recovered (format K) image ≡ Ok t
   acknowledged_with t first h is some few next taken image survives =
-      one_recovered s t (batch_bytes any_kind (record { first = first; records = records })) image
-      (ap (state_after any_kind s) (frame_is first h is next) ∙ (batch_led any_kind any_laws s G h is.accepted some few is.may ∙ ap Some (sym (state_with t h is taken)))) survives
+      one_recovered K s t (batch_bytes K (record { first = first; records = records })) image
+      (ap (state_after K s) (frame_is first h is next) ∙ (batch_led K L s G h is.accepted some few is.may ∙ ap Some (sym (state_with t h is taken)))) survives
 
-  pub keeps_with : (start : Plain AnyJob) (H : List (Command AnyJob)) (first : ℕ) (old new : View) → IsState s → IsState start → IsAcceptable any_kind start H → s ≡ outcome any_kind start H → AreKeptAs any_kind s G records →
-      0 < length G → length G ≤ 16 → first ≡ s.number + 1 → frames.KeepsAll (format any_kind) start (frames_of start H) (frames_of start H ++ batch_bytes any_kind (record { first = first; records = records }) ∷ []) old new
-      → KeepsAll start H (H ++ G) old new
+  pub keeps_with : (start : Plain J) (H : List (Command J)) (first : ℕ) (old new : View) → IsState s → IsState start → IsAcceptable K start H → s ≡ outcome K start H → AreKeptAs K s G records →
+      0 < length G → length G ≤ 16 → first ≡ s.number + 1 → frames.KeepsAll (format K) start (frames_of K start H) (frames_of K start H ++ batch_bytes K (record { first = first; records = records }) ∷ []) old new
+      → KeepsAll K start H (H ++ G) old new
   keeps_with start H first old new h_s h all at is some few next keeps =
-      keeps_commands start s H G (batch_bytes any_kind (record { first = first; records = records })) old new h all at is.accepted is.may some few (frame_is first h_s is next) keeps
+      keeps_commands K L start s H G (batch_bytes K (record { first = first; records = records })) old new h all at is.accepted is.may some few (frame_is first h_s is next) keeps
 
 pub on_ok_then : {T E P Q : Type 0} (r : Result T E) → (P → Q) → OnOk r P → OnOk r Q
 on_ok_then (Ok x) f p = f p
 on_ok_then (Err e) f p = tt
 
 -- their batch, kept in a store, is an append of the commands' frame
-pub put_as : {D : Type 0} (view : D → View) (old : PlainStore D AnyJob) (G : List (Command AnyJob)) (new : PlainStore D AnyJob) (was is : Option Cause) (result : Result Mark Cause) (first : ℕ) (records : List (recorded.Recorded AnyJob)) →
-    IsState old.state → AreKeptAs any_kind old.state G records → first ≡ old.state.number + 1 →
-    Keeps view any_kind records (batch_bytes any_kind (record { first = first; records = records })) old new was is result → IsPut view old G new was is result
-put_as view old G new was is result first records h are next kept =
-    let frame = frame_is old.state G records first h are next in
+pub put_as : {J : Type 0} (K : Kind J) (L : Laws K) {D : Type 0} (view : D → View) (old : PlainStore D J) (G : List (Command J)) (new : PlainStore D J) (was is : Option Cause) (result : Result Mark Cause) (first : ℕ) (records : List (recorded.Recorded J)) →
+    IsState old.state → AreKeptAs K old.state G records → first ≡ old.state.number + 1 →
+    Keeps view K records (batch_bytes K (record { first = first; records = records })) old new was is result → IsPut K view old G new was is result
+put_as K L view old G new was is result first records h are next kept =
+    let frame = frame_is K L old.state G records first h are next in
     record {
       call = subst (λ (f : List ℕ). IsKeeping view old new was is result (append_calls (length f) old.file.places)) frame kept.call;
-      state = on_ok_then result (λ taken. state_with old.state G records new.state h are taken) kept.state.moved;
+      state = on_ok_then result (λ taken. state_with K L old.state G records new.state h are taken) kept.state.moved;
       same = kept.state.same;
       mark = kept.mark;
-      commits = λ honest. subst (λ (f : List ℕ). working.Commits any_kind old.state f result (view old.file.disk) (view new.file.disk)) frame (kept.commits honest);
+      commits = λ honest. subst (λ (f : List ℕ). working.Commits K old.state f result (view old.file.disk) (view new.file.disk)) frame (kept.commits honest);
     }
 
 -- how many commands the records are of
-pub length_of : (s : Plain AnyJob) (G : List (Command AnyJob)) (records : List (recorded.Recorded AnyJob)) → AreRecordsOf any_kind s G records → length G ≡ length records
-length_of s G records is = sym (length-records any_kind s G) ∙ ap length (sym is.of)
+pub length_of : {J : Type 0} (K : Kind J) (s : Plain J) (G : List (Command J)) (records : List (recorded.Recorded J)) → AreRecordsOf K s G records → length G ≡ length records
+length_of K s G records is = sym (length-records K s G) ∙ ap length (sym is.of)
 
-pub kept_length : (s : Plain AnyJob) (G : List (Command AnyJob)) (records : List (recorded.Recorded AnyJob)) → AreKeptAs any_kind s G records → length G ≡ length records
-kept_length s G records is = sym (length-records any_kind s G) ∙ ap length (sym is.of)
+pub kept_length : {J : Type 0} (K : Kind J) (s : Plain J) (G : List (Command J)) (records : List (recorded.Recorded J)) → AreKeptAs K s G records → length G ≡ length records
+kept_length K s G records is = sym (length-records K s G) ∙ ap length (sym is.of)
 
 -- the frames of commands lead to their outcome
-pub replays_to : (start s : Plain AnyJob) (H : List (Command AnyJob)) → IsState start → IsAcceptable any_kind start H → s ≡ outcome any_kind start H → Replays (format any_kind) start (frames_of start H) s
-replays_to start s H h all at = subst (λ (t : Plain AnyJob). Replays (format any_kind) start (frames_of start H) t) (sym at) (replays_commands start H h all)
+pub replays_to : {J : Type 0} (K : Kind J) (L : Laws K) (start s : Plain J) (H : List (Command J)) → IsState start → IsAcceptable K start H → s ≡ outcome K start H → Replays (format K) start (frames_of K start H) s
+replays_to {J = J} K L start s H h all at = subst (λ (t : Plain J). Replays (format K) start (frames_of K start H) t) (sym at) (replays_commands K L start H h all)
 
 pub on_ok_two : {T E P Q R : Type 0} (r : Result T E) → (P → Q → R) → OnOk r P → OnOk r Q → OnOk r R
 on_ok_two (Ok x) f p q = f p q
@@ -157,7 +156,7 @@ failed_since a b c fewer (inl less) = inl (omega (arith, fewer, less))
 failed_since a b c fewer (inr spent) = inr spent
 
 -- a step that failed, handed on
-pub commit_failed : {D S : Type 0} (view : D → View) (old new : PlainStore D AnyJob) (was is : Option Cause) (calls : ℕ) (first : Result S Cause) (result : Result Mark Cause) (cause : Cause) → first ≡ Err cause → IsErrAnd result (λ e. e ≡ cause)
+pub commit_failed : {J : Type 0} {D S : Type 0} (view : D → View) (old new : PlainStore D J) (was is : Option Cause) (calls : ℕ) (first : Result S Cause) (result : Result Mark Cause) (cause : Cause) → first ≡ Err cause → IsErrAnd result (λ e. e ≡ cause)
     → IsKeeping view old new was is first calls → new.state ≡ old.state → IsCommit view old new was is result
 commit_failed view old new was is calls first (Ok mark) cause at same call stays = absurd same
 commit_failed view old new was is calls first (Err e) cause at same call stays =
@@ -172,7 +171,7 @@ commit_failed view old new was is calls first (Err e) cause at same call stays =
     }
 
 -- an append behind a step
-pub commit_both : {D S : Type 0} (view : D → View) (old mid new : PlainStore D AnyJob) (was between is : Option Cause) (steps calls : ℕ) (first : Result S Cause) (step : S) (result : Result Mark Cause) → first ≡ Ok step
+pub commit_both : {J : Type 0} {D S : Type 0} (view : D → View) (old mid new : PlainStore D J) (was between is : Option Cause) (steps calls : ℕ) (first : Result S Cause) (step : S) (result : Result Mark Cause) → first ≡ Ok step
     → IsKeeping view old mid was between first steps → IsKeeping view mid new between is result calls → OnErr result (new.state ≡ old.state)
     → IfOk result (λ mark. (mark.number ≡ new.state.number) × (mark.clock ≡ (view new.file.disk).clock)) → IsCommit view old new was is result
 commit_both view old mid new was between is steps calls first step result at one two same mark =

@@ -1,12 +1,10 @@
-pub mod EndingLemmas
-mod RunningLemmas
-pub mod NotingLemmas
 pub mod Promising
+pub mod Sharing
+pub mod Slots
 mod Commands
 pub mod Keeps
 mod Serving
 mod RefutedFailing
-mod RefutedNoting
 mod RefutedSessions
 mod SessionLemmas
 mod Stepping

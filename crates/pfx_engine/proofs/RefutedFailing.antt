@@ -4,7 +4,7 @@ use Rattle.pfx_fault.specs.declared.parts.Cause.{Cause}
 use Rattle.pfx_fault.specs.declared.parts.Cause.TheVariants as cause
 use Rattle.pfx_fault.specs.declared.refusals.Fault.{Fault}
 use Rattle.pfx_fault.specs.declared.refusals.Fault.TheVariants as fault
-use Rattle.pfx_program.specs.declared.engine.CallFault.TheVariants as callfault
+use Rattle.pfx_engine.specs.declared.engine.CallFault.TheVariants as callfault
 use Rattle.pfx_engine.specs.Failing.{Fails, IsStop, last_kept}
 
 kept : last_kept None 5 ≡ Ok 5

@@ -4,15 +4,14 @@ use Rattle.pfx_feasible.specs.Commands.{limit_fault}
 use Rattle.pfx_fault.specs.declared.parts.Cause.{Cause}
 use Rattle.pfx_fault.specs.declared.refusals.Fault.{Fault}
 use Rattle.pfx_fault.specs.declared.refusals.Fault.TheVariants as fault
-use Rattle.pfx_kinds.specs.declared.any.AnyJob.{AnyJob}
-use Rattle.pfx_kinds.specs.AnyKind.{any_kind}
 use Rattle.pfx_machine.specs.Plain.{Plain}
 use Rattle.pfx_machine.specs.Runs.{answer}
 use Rattle.pfx_machine.specs.declared.command.Command.{Command}
 use Rattle.pfx_machine.specs.declared.command.Command.TheVariants.{Slot}
 use Rattle.pfx_engine.specs.Keeping.{IsAccepted}
-use Rattle.pfx_program.specs.declared.engine.CallFault.{CallFault}
-use Rattle.pfx_program.specs.declared.engine.CallFault.TheVariants as callfault
+use Rattle.pfx_engine.specs.declared.engine.CallFault.{CallFault}
+use Rattle.pfx_engine.specs.declared.engine.CallFault.TheVariants as callfault
+use Rattle.pfx_jobs.specs.Kind.{Kind}
 
 -- it failed by this cause, with the commands up to this number kept
 abbrev pub stopped_at : ℕ → Cause → Fault
@@ -58,17 +57,17 @@ pub record IsLook {E T : Type 0} (marked : ℕ) (was : Option Cause) (old new : 
   pub stays : new ≡ old
 
 -- the machine refuses the command, and the state is as before, or the engine failed
-abbrev pub NotAccepted : Plain AnyJob → Command AnyJob → Plain AnyJob → CallFault → Type 0
-NotAccepted s c new (callfault.Refused f) = (answer any_kind s c ≡ Err f) × (new ≡ s)
-NotAccepted s c new (callfault.Failed f) = ⊤
+abbrev pub NotAccepted : {J : Type 0} → Kind J → Plain J → Command J → Plain J → CallFault → Type 0
+NotAccepted K s c new (callfault.Refused f) = (answer K s c ≡ Err f) × (new ≡ s)
+NotAccepted K s c new (callfault.Failed f) = ⊤
 
 -- if a Slot is refused, the limits on numbers and slots refuse it
-abbrev pub IsServed : Plain AnyJob → Command AnyJob → CallFault → Type 0
+abbrev pub IsServed : {J : Type 0} → Plain J → Command J → CallFault → Type 0
 IsServed s c (callfault.Refused f) = c ≡ Slot → limit_fault s ≡ Some f
 IsServed s c (callfault.Failed f) = ⊤
 
 -- if nothing had failed and something has, the machine accepts the command
-abbrev pub IsInDoubt : Plain AnyJob → Command AnyJob → CallFault → Type 0
-IsInDoubt s c (callfault.Refused f) = ⊤
-IsInDoubt s c (callfault.Failed fault.NoMemory) = ⊤
-IsInDoubt s c (callfault.Failed other) = IsAccepted s c
+abbrev pub IsInDoubt : {J : Type 0} → Kind J → Plain J → Command J → CallFault → Type 0
+IsInDoubt K s c (callfault.Refused f) = ⊤
+IsInDoubt K s c (callfault.Failed fault.NoMemory) = ⊤
+IsInDoubt K s c (callfault.Failed other) = IsAccepted K s c

@@ -3,8 +3,6 @@ use Rattle.std.specs.Prelude.{◌≡◌, ℕ, ◌≤◌, List, length, Option, N
 use Rattle.pfx_disk.specs.Disk.{View, IsHonest}
 use Rattle.pfx_fault.specs.declared.parts.Cause.{Cause}
 use Rattle.pfx_format.specs.Format.{format}
-use Rattle.pfx_kinds.specs.AnyKind.{any_kind}
-use Rattle.pfx_kinds.specs.declared.any.AnyJob.{AnyJob}
 use Rattle.pfx_machine.specs.Plain.{Plain}
 use Rattle.pfx_machine.specs.Outcome.{outcome}
 use Rattle.pfx_machine.specs.Runs.{answer}
@@ -13,25 +11,26 @@ use Rattle.pfx_machine.specs.declared.command.Command.{Command}
 use Rattle.pfx_machine.specs.declared.command.Reply.{Reply}
 use Rattle.pfx_recovery.specs.Recovery.{recovered}
 use Rattle.pfx_engine.specs.Surviving.{Survives}
+use Rattle.pfx_jobs.specs.Kind.{Kind}
 
 -- each image since this moment is recovered to the state
-abbrev pub Anchors : View → Plain AnyJob → Type 0
-Anchors disk s = (image : List ℕ) → disk.since disk.clock image → recovered (format any_kind) image ≡ Ok s
+abbrev pub Anchors : {J : Type 0} → Kind J → View → Plain J → Type 0
+Anchors K disk s = (image : List ℕ) → disk.since disk.clock image → recovered (format K) image ≡ Ok s
 
 -- Each image that a stop now may leave is recovered to the outcome of a beginning of these commands, with n of them at least;
 -- if that is all of them, to the state, and each image since this moment is.
-pub record Kept (s : Plain AnyJob) (H : List (Command AnyJob)) (n : ℕ) (new : View) (t : Plain AnyJob) : Type 0 where
+pub record Kept {J : Type 0} (K : Kind J) (s : Plain J) (H : List (Command J)) (n : ℕ) (new : View) (t : Plain J) : Type 0 where
   pub honest : IsHonest new
-  pub anchored : length H ≤ n → Anchors new t
-  pub survive : (image : List ℕ) → new.now image → Survives s H n image
+  pub anchored : length H ≤ n → Anchors K new t
+  pub survive : (image : List ℕ) → new.now image → Survives K s H n image
 
 -- Between a moment of a store and a later one these commands were accepted from the state on, and n of them are kept, if
 -- nothing had failed and the store held its state on an honest disk.
-pub record KeepsFrom (old : View) (was : Option Cause) (s : Plain AnyJob) (H : List (Command AnyJob)) (n : ℕ) (new : View) (t : Plain AnyJob) : Type 0 where
-  pub accepted : IsAcceptable any_kind s H
-  pub state : length H ≤ n → t ≡ outcome any_kind s H
-  pub kept : was ≡ None → IsHonest old → Anchors old s → Kept s H n new t
+pub record KeepsFrom {J : Type 0} (K : Kind J) (old : View) (was : Option Cause) (s : Plain J) (H : List (Command J)) (n : ℕ) (new : View) (t : Plain J) : Type 0 where
+  pub accepted : IsAcceptable K s H
+  pub state : length H ≤ n → t ≡ outcome K s H
+  pub kept : was ≡ None → IsHonest old → Anchors K old s → Kept K s H n new t
 
 -- the machine accepts the command
-abbrev pub IsAccepted : Plain AnyJob → Command AnyJob → Type 0
-IsAccepted s c = (reply : Reply) × (answer any_kind s c ≡ Ok reply)
+abbrev pub IsAccepted : {J : Type 0} → Kind J → Plain J → Command J → Type 0
+IsAccepted K s c = (reply : Reply) × (answer K s c ≡ Ok reply)

@@ -1,12 +1,11 @@
-pub mod Ending
 pub mod Executing
 pub mod Failing
 pub mod Faults
 pub mod Keeping
 pub mod KeepingLaws
-pub mod Noting
-pub mod Running
+pub mod Promises
 pub mod Sessions
 pub mod Stepping
 pub mod Surviving
 pub mod Renewing
+pub mod Sharing

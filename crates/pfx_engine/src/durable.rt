@@ -5,11 +5,9 @@ ghost use Rattle.pfx_disk.specs.Disk.{IsHonest, HasFailed};
 ghost use Rattle.pfx_fault.specs.declared.parts.Cause.TheVariants.{Device};
 ghost use Rattle.pfx_feasible.specs.Endless.{IsEndless};
 ghost use Rattle.pfx_format.specs.Format.{format};
-ghost use Rattle.pfx_kinds.specs.AnyKind.{any_kind};
-ghost use Rattle.pfx_kinds.specs.declared.any.AnyJob.{AnyJob};
 ghost use Rattle.pfx_machine.specs.declared.command.Command.{Command};
-ghost use Rattle.pfx_program.specs.Promises.{Promise, Laws, AreDone, AreNotDone, IsDone, IsNotDone, IsPlace, IsSame, IsEngineFault, Shows};
-ghost use Rattle.pfx_program.specs.Sharing.{AreChanges, AreAllDone, AreAllLeft};
+ghost use Rattle.pfx_engine.specs.Promises.{Promise, Laws, AreDone, AreNotDone, IsDone, IsNotDone, IsPlace, IsSame, IsEngineFault, Shows};
+ghost use Rattle.pfx_engine.specs.Sharing.{AreChanges, AreAllDone, AreAllLeft};
 ghost use Rattle.pfx_recovery.specs.Recovery.{recovered};
 ghost use Rattle.pfx_engine.specs.Executing.{AreCarriedOut, Commits, CommitsOne, Follows, IsCarriedOut, IsExecuted, TakesCalls};
 ghost use Rattle.pfx_engine.specs.Failing.{IsInDoubt, IsLook, IsServed, IsStop, MayFail, NotAccepted, Stops, StopsSlots, last_kept, stopped_at};
@@ -17,13 +15,15 @@ ghost use Rattle.pfx_engine.specs.Keeping.{Anchors, KeepsFrom};
 ghost use Rattle.pfx_engine.specs.KeepingLaws.{keeps_none, keeps_more, keeps_fewer};
 ghost use Rattle.pfx_engine.specs.Stepping.{command_calls, frame_len};
 
+use crate::engine::{CallFault, Engine, Told};
 use crate::keeping::{Prepared, commit, run_prepared};
+use crate::place::Place;
+use crate::places::place_of;
 use crate::windows::{Changes, Window, run_changes, run_slots};
 use pfx_disk::Disk;
 use pfx_fault::{Cause, Fault};
-use pfx_kinds::any::AnyJob;
+use pfx_jobs::job::Job;
 use pfx_machine::{Board, Command, Reply, State};
-use pfx_program::{CallFault, Engine, Place, Told, place_of};
 use pfx_redo::Recorded;
 use pfx_store::{Keeper, Mark, Store};
 use std::alloc::{AllocError, Global};
@@ -34,21 +34,21 @@ use std::marker::PhantomData;
 /// An engine that had no memory within a window of Slots is starved: it keeps what was run of them, and to the next call for Slots
 /// it answers `NoMemory`.
 #[derive(Drop)]
-pub struct DurableEngine<D: Disk, K: Keeper<D, AnyJob>> {
+pub struct DurableEngine<D: Disk, J: Job, K: Keeper<D, J>> {
     /// What keeps the commands: a store, or one beside a log.
     pub keeper: K,
     /// The state that commands are run on.
-    pub state: State<AnyJob>,
+    pub state: State<J>,
     starved: bool,
     on: PhantomData<D>,
     pub ghost same: { K.failed keeper ≡ None → state ≡ (K.kept keeper).state },
 }
 
 /// The engine over a store without a log.
-pub type StoreEngine<D> = DurableEngine<D, Store<D, AnyJob>>;
+pub type StoreEngine<D, J> = DurableEngine<D, J, Store<D, J>>;
 
 // The fault of an engine whose keeper has failed so.
-fn stopped<D: Disk, K: Keeper<D, AnyJob>>(keeper: &K, cause: Cause) -> Fault
+fn stopped<D: Disk, J: Job, K: Keeper<D, J>>(keeper: &K, cause: Cause) -> Fault
     ensures { result ≡ stopped_at (K.kept keeper.now).state.number cause }
 {
     Fault::StoreFailed {
@@ -57,9 +57,9 @@ fn stopped<D: Disk, K: Keeper<D, AnyJob>>(keeper: &K, cause: Cause) -> Fault
     }
 }
 
-impl<D: Disk, K: Keeper<D, AnyJob>> DurableEngine<D, K> {
+impl<D: Disk, J: Job, K: Keeper<D, J>> DurableEngine<D, J, K> {
     /// The engine over what keeps its commands, at the state of the store. If an allocation failed, it is given back.
-    pub fn new(alloc: Global, keeper: K) -> Result<DurableEngine<D, K>, (AllocError, K)>
+    pub fn new(alloc: Global, keeper: K) -> Result<DurableEngine<D, J, K>, (AllocError, K)>
         ensures keeper { IfOk result (λ engine. engine.keeper ≡ keeper) }
         ensures state { IfOk result (λ engine. engine.state ≡ (K.kept keeper).state) }
         ensures fed { IfOk result (λ engine. engine.starved ≡ false) }
@@ -92,7 +92,7 @@ impl<D: Disk, K: Keeper<D, AnyJob>> DurableEngine<D, K> {
 
         // Each image that a stop now may leave is recovered to the state.
         ensures durable { IsHonest (D.view (K.kept self.now.keeper).file.disk)
-            → OnOk result ((image : List ℕ) → (D.view (K.kept self.now.keeper).file.disk).now image → recovered (format any_kind) image ≡ Ok self.now.state) }
+            → OnOk result ((image : List ℕ) → (D.view (K.kept self.now.keeper).file.disk).now image → recovered (format J.kind) image ≡ Ok self.now.state) }
     {
         if let Some(cause) = self.keeper.failure() {
             return Err(stopped(&self.keeper, cause));
@@ -109,15 +109,15 @@ impl<D: Disk, K: Keeper<D, AnyJob>> DurableEngine<D, K> {
     pub fn execute(
         &mut self,
         alloc: Global,
-        command: Command<AnyJob>,
+        command: Command<J>,
     ) -> Result<(Mark, Reply), CallFault>
-        ensures done { IfOk result (IsExecuted self.old.state command self.new.state
+        ensures done { IfOk result (IsExecuted J.kind self.old.state command self.new.state
             (D.view (K.kept self.new.keeper).file.disk).clock (K.failed self.new.keeper)) }
-        ensures refused { IfErr result (λ e. NotAccepted self.old.state command self.new.state e
+        ensures refused { IfErr result (λ e. NotAccepted J.kind self.old.state command self.new.state e
             × ((K.kept self.new.keeper).state ≡ (K.kept self.old.keeper).state)) }
 
         // What the store fails on is a command that the machine accepts.
-        ensures doubt { K.failed self.old.keeper ≡ None → IfErr result (IsInDoubt self.old.state command) }
+        ensures doubt { K.failed self.old.keeper ≡ None → IfErr result (IsInDoubt J.kind self.old.state command) }
 
         // If fair schedules of every length go on from the state, as in each store that `init` made, the limits alone refuse
         // a Slot, and such schedules go on from the new state.
@@ -129,12 +129,12 @@ impl<D: Disk, K: Keeper<D, AnyJob>> DurableEngine<D, K> {
             ((self.new.state ≡ self.old.state) × (self.new.keeper ≡ self.old.keeper)) result }
 
         // A step of the checkpoint in progress, if there is one, and the command: so many calls of the disk.
-        ensures calls { TakesCalls (command_calls (frame_len self.old.state (command ∷ [])) (K.kept self.old.keeper).file.places)
+        ensures calls { TakesCalls (command_calls (frame_len J.kind self.old.state (command ∷ [])) (K.kept self.old.keeper).file.places)
             (D.view (K.kept self.old.keeper).file.disk) (D.view (K.kept self.new.keeper).file.disk) result }
 
         // At every moment what survived before survives, with the command or without; from the mark on each image has it.
         ensures commits { IsHonest (D.view (K.kept self.old.keeper).file.disk)
-            → CommitsOne (K.kept self.old.keeper).state command self.new.state (D.view (K.kept self.old.keeper).file.disk) (D.view (K.kept self.new.keeper).file.disk) result }
+            → CommitsOne J.kind (K.kept self.old.keeper).state command self.new.state (D.view (K.kept self.old.keeper).file.disk) (D.view (K.kept self.new.keeper).file.disk) result }
     {
         if let Some(cause) = self.keeper.failure() {
             return Err(CallFault::Failed(stopped(&self.keeper, cause)));
@@ -159,13 +159,13 @@ impl<D: Disk, K: Keeper<D, AnyJob>> DurableEngine<D, K> {
     }
 }
 
-impl<D: Disk, K: Keeper<D, AnyJob>> Engine for DurableEngine<D, K> {
+impl<D: Disk, J: Job, K: Keeper<D, J>> Engine<J> for DurableEngine<D, J, K> {
     // The state is that of the store: the one after the commands that are known to be durable.
     ghost promise = { record {
       state = λ engine. (K.kept engine.keeper).state;
       faults = λ s f. IsStop (MayFail K.failed) s.number f;
       settled = λ engine. K.failed engine.keeper ≡ None;
-      keeps = λ a H n b. KeepsFrom (D.view (K.kept a.keeper).file.disk) (K.failed a.keeper) (K.kept a.keeper).state H n
+      keeps = λ a H n b. KeepsFrom J.kind (D.view (K.kept a.keeper).file.disk) (K.failed a.keeper) (K.kept a.keeper).state H n
           (D.view (K.kept b.keeper).file.disk) (K.kept b.keeper).state;
     } };
 
@@ -178,18 +178,18 @@ impl<D: Disk, K: Keeper<D, AnyJob>> Engine for DurableEngine<D, K> {
     /// `StoreFailed` breaks the store; a broken store does nothing, and answers so to every command. The disk is honest after the
     /// call if and only if it was before. At every moment of the call, whatever it answers, the commands that survived before
     /// survive, with this one or without; from the return on each image is recovered to the state after it.
-    fn call(&mut self, alloc: Global, command: Command<AnyJob>) -> Result<(u64, Reply), CallFault>
-        ensures done { IfOk result (λ r. IsDone ⟦<DurableEngine<D, K> as Engine>⟧.promise command r.0 r.1 self.old self.new) }
-        ensures not_done { IfErr result (IsNotDone ⟦<DurableEngine<D, K> as Engine>⟧.promise command self.old self.new) }
-        ensures accepted { IfOk result (λ r. IsCarriedOut self.old.state command self.new.state (K.failed self.new.keeper) r.1) }
-        ensures refused { IfErr result (NotAccepted self.old.state command self.new.state) }
+    fn call(&mut self, alloc: Global, command: Command<J>) -> Result<(u64, Reply), CallFault>
+        ensures done { IfOk result (λ r. IsDone J.kind ⟦<DurableEngine<D, J, K> as Engine<J>>⟧.promise command r.0 r.1 self.old self.new) }
+        ensures not_done { IfErr result (IsNotDone J.kind ⟦<DurableEngine<D, J, K> as Engine<J>>⟧.promise command self.old self.new) }
+        ensures accepted { IfOk result (λ r. IsCarriedOut J.kind self.old.state command self.new.state (K.failed self.new.keeper) r.1) }
+        ensures refused { IfErr result (NotAccepted J.kind self.old.state command self.new.state) }
         ensures serves { IsEndless self.old.state.ledger
             → IfErr result (IsServed self.old.state command) × OnOk result (IsEndless self.new.state.ledger) }
         ensures stops { Stops (K.kept self.old.keeper).state.number (K.failed self.old.keeper) (λ cause. K.failed self.new.keeper ≡ Some cause)
             ((self.new.state ≡ self.old.state) × (self.new.keeper ≡ self.old.keeper)) result }
         ensures calls { Follows (D.view (K.kept self.old.keeper).file.disk) (D.view (K.kept self.new.keeper).file.disk) }
         ensures commits { IsHonest (D.view (K.kept self.old.keeper).file.disk)
-            → Commits (K.kept self.old.keeper).state (command ∷ []) self.new.state (D.view (K.kept self.old.keeper).file.disk) (D.view (K.kept self.new.keeper).file.disk) result }
+            → Commits J.kind (K.kept self.old.keeper).state (command ∷ []) self.new.state (D.view (K.kept self.old.keeper).file.disk) (D.view (K.kept self.new.keeper).file.disk) result }
     {
         let _number = self.keeper.stored().state().number();
         match self.execute(alloc, command) {
@@ -209,16 +209,16 @@ impl<D: Disk, K: Keeper<D, AnyJob>> Engine for DurableEngine<D, K> {
     /// call if and only if it was before. From the return on each image is recovered to the state after the Slots.
     fn slots(&mut self, alloc: Global, count: u32) -> Result<Vec<(u64, Reply)>, CallFault>
         requires some { 0 < count }
-        ensures done { IfOk result (λ said. AreDone ⟦<DurableEngine<D, K> as Engine>⟧.promise count said.items self.old self.new) }
-        ensures not_done { IfErr result (AreNotDone ⟦<DurableEngine<D, K> as Engine>⟧.promise count self.old self.new) }
-        ensures accepted { IfOk result (λ said. AreCarriedOut self.old.state self.new.state count (K.failed self.new.keeper) self.new.starved said.items) }
-        ensures refused { IfErr result (NotAccepted self.old.state Command.Slot self.new.state) }
+        ensures done { IfOk result (λ said. AreDone J.kind ⟦<DurableEngine<D, J, K> as Engine<J>>⟧.promise count said.items self.old self.new) }
+        ensures not_done { IfErr result (AreNotDone J.kind ⟦<DurableEngine<D, J, K> as Engine<J>>⟧.promise count self.old self.new) }
+        ensures accepted { IfOk result (λ said. AreCarriedOut J.kind self.old.state self.new.state count (K.failed self.new.keeper) self.new.starved said.items) }
+        ensures refused { IfErr result (NotAccepted J.kind self.old.state Command.Slot self.new.state) }
         ensures stops { StopsSlots (K.kept self.old.keeper).state.number (K.failed self.old.keeper) self.old.starved
             (λ cause. K.failed self.new.keeper ≡ Some cause)
             ((self.new.state ≡ self.old.state) × (self.new.keeper ≡ self.old.keeper)) result }
         ensures calls { Follows (D.view (K.kept self.old.keeper).file.disk) (D.view (K.kept self.new.keeper).file.disk) }
         ensures acknowledged { IsHonest (D.view (K.kept self.old.keeper).file.disk)
-            → OnOk result (Anchors (D.view (K.kept self.new.keeper).file.disk) self.new.state) }
+            → OnOk result (Anchors J.kind (D.view (K.kept self.new.keeper).file.disk) self.new.state) }
     {
         if let Some(cause) = self.keeper.failure() {
             return Err(CallFault::Failed(stopped(&self.keeper, cause)));
@@ -241,12 +241,12 @@ impl<D: Disk, K: Keeper<D, AnyJob>> Engine for DurableEngine<D, K> {
     ///
     /// `NoMemory` leaves the state. `StoreFailed` breaks the store; a broken store does nothing, and answers so to every call. The
     /// disk is honest after the call if and only if it was before.
-    fn all(&mut self, alloc: Global, commands: Vec<Command<AnyJob>>) -> Result<Vec<Told>, Fault>
+    fn all(&mut self, alloc: Global, commands: Vec<Command<J>>) -> Result<Vec<Told>, Fault>
         requires changes { AreChanges commands.items }
         requires few { length commands.items ≤ 16 }
-        ensures done { IfOk result (λ told. AreAllDone ⟦<DurableEngine<D, K> as Engine>⟧.promise commands.items told.items self.old self.new) }
-        ensures fails { IfErr result (IsEngineFault ⟦<DurableEngine<D, K> as Engine>⟧.promise.faults (K.kept self.old.keeper).state) }
-        ensures left { OnErr result (AreAllLeft ⟦<DurableEngine<D, K> as Engine>⟧.promise commands.items self.old self.new) }
+        ensures done { IfOk result (λ told. AreAllDone J.kind ⟦<DurableEngine<D, J, K> as Engine<J>>⟧.promise commands.items told.items self.old self.new) }
+        ensures fails { IfErr result (IsEngineFault ⟦<DurableEngine<D, J, K> as Engine<J>>⟧.promise.faults (K.kept self.old.keeper).state) }
+        ensures left { OnErr result (AreAllLeft J.kind ⟦<DurableEngine<D, J, K> as Engine<J>>⟧.promise commands.items self.old self.new) }
         ensures calls { Follows (D.view (K.kept self.old.keeper).file.disk) (D.view (K.kept self.new.keeper).file.disk) }
     {
         if let Some(cause) = self.keeper.failure() {
@@ -268,8 +268,8 @@ impl<D: Disk, K: Keeper<D, AnyJob>> Engine for DurableEngine<D, K> {
     fn settled(&mut self, _alloc: Global) -> Result<u64, Fault>
         ensures number { IfOk result (λ n. n ≡ (K.kept self.old.keeper).state.number) }
         ensures settled { OnOk result (K.failed self.new.keeper ≡ None) }
-        ensures same { IsSame ⟦<DurableEngine<D, K> as Engine>⟧.promise self.old self.new }
-        ensures fails { IfErr result (IsEngineFault ⟦<DurableEngine<D, K> as Engine>⟧.promise.faults (K.kept self.old.keeper).state) }
+        ensures same { IsSame ⟦<DurableEngine<D, J, K> as Engine<J>>⟧.promise self.old self.new }
+        ensures fails { IfErr result (IsEngineFault ⟦<DurableEngine<D, J, K> as Engine<J>>⟧.promise.faults (K.kept self.old.keeper).state) }
         ensures answer { result ≡ last_kept (K.failed self.old.keeper) (K.kept self.old.keeper).state.number }
         ensures stays { self.new ≡ self.old }
     {
@@ -277,10 +277,10 @@ impl<D: Disk, K: Keeper<D, AnyJob>> Engine for DurableEngine<D, K> {
     }
 
     fn status(&mut self, alloc: Global) -> Result<Board, Fault>
-        ensures shows { IfOk result (Shows (K.kept self.old.keeper).state) }
+        ensures shows { IfOk result (Shows J.kind (K.kept self.old.keeper).state) }
         ensures settled { OnOk result (K.failed self.new.keeper ≡ None) }
-        ensures same { IsSame ⟦<DurableEngine<D, K> as Engine>⟧.promise self.old self.new }
-        ensures fails { IfErr result (IsEngineFault ⟦<DurableEngine<D, K> as Engine>⟧.promise.faults (K.kept self.old.keeper).state) }
+        ensures same { IsSame ⟦<DurableEngine<D, J, K> as Engine<J>>⟧.promise self.old self.new }
+        ensures fails { IfErr result (IsEngineFault ⟦<DurableEngine<D, J, K> as Engine<J>>⟧.promise.faults (K.kept self.old.keeper).state) }
         ensures look { IsLook (K.kept self.old.keeper).state.number (K.failed self.old.keeper) self.old self.new result }
     {
         if let Err(fault) = self.last_kept() {
@@ -292,11 +292,11 @@ impl<D: Disk, K: Keeper<D, AnyJob>> Engine for DurableEngine<D, K> {
         }
     }
 
-    fn state(&mut self, alloc: Global) -> Result<State<AnyJob>, Fault>
+    fn state(&mut self, alloc: Global) -> Result<State<J>, Fault>
         ensures copies { IfOk result (λ copy. copy ≡ (K.kept self.old.keeper).state) }
         ensures settled { OnOk result (K.failed self.new.keeper ≡ None) }
-        ensures same { IsSame ⟦<DurableEngine<D, K> as Engine>⟧.promise self.old self.new }
-        ensures fails { IfErr result (IsEngineFault ⟦<DurableEngine<D, K> as Engine>⟧.promise.faults (K.kept self.old.keeper).state) }
+        ensures same { IsSame ⟦<DurableEngine<D, J, K> as Engine<J>>⟧.promise self.old self.new }
+        ensures fails { IfErr result (IsEngineFault ⟦<DurableEngine<D, J, K> as Engine<J>>⟧.promise.faults (K.kept self.old.keeper).state) }
         ensures look { IsLook (K.kept self.old.keeper).state.number (K.failed self.old.keeper) self.old self.new result }
     {
         let _number = self.last_kept()?;
@@ -306,11 +306,11 @@ impl<D: Disk, K: Keeper<D, AnyJob>> Engine for DurableEngine<D, K> {
         }
     }
 
-    fn place(&mut self, _alloc: Global, task: u16) -> Result<Option<Place>, Fault>
+    fn place(&mut self, _alloc: Global, task: u16) -> Result<Option<Place<J>>, Fault>
         ensures copies { IfOk result (IsPlace (K.kept self.old.keeper).state task) }
         ensures settled { OnOk result (K.failed self.new.keeper ≡ None) }
-        ensures same { IsSame ⟦<DurableEngine<D, K> as Engine>⟧.promise self.old self.new }
-        ensures fails { IfErr result (IsEngineFault ⟦<DurableEngine<D, K> as Engine>⟧.promise.faults (K.kept self.old.keeper).state) }
+        ensures same { IsSame ⟦<DurableEngine<D, J, K> as Engine<J>>⟧.promise self.old self.new }
+        ensures fails { IfErr result (IsEngineFault ⟦<DurableEngine<D, J, K> as Engine<J>>⟧.promise.faults (K.kept self.old.keeper).state) }
         ensures look { IsLook (K.kept self.old.keeper).state.number (K.failed self.old.keeper) self.old self.new result }
     {
         let _kept = self.last_kept()?;
@@ -318,8 +318,8 @@ impl<D: Disk, K: Keeper<D, AnyJob>> Engine for DurableEngine<D, K> {
     }
 
     ghost laws = { record {
-      none = λ e. keeps_none _ _ _;
-      more = λ a b c H G n settled one two. keeps_more _ _ _ _ _ _ _ _ H G n settled one two;
-      fewer = λ a b H n m le one. keeps_fewer _ _ _ H n m _ _ le one;
+      none = λ e. keeps_none J.kind _ _ _;
+      more = λ a b c H G n settled one two. keeps_more J.kind J.laws _ _ _ _ _ _ _ _ H G n settled one two;
+      fewer = λ a b H n m le one. keeps_fewer J.kind _ _ _ H n m _ _ le one;
     } };
 }

@@ -1,6 +1,10 @@
-//! The engine of a store: commands that are durable before they are answered.
+//! Engines, which carry commands out, for jobs of any kind; of a store, such that commands are durable before they are answered.
 //!
-//! A `DurableEngine` has a keeper of a store of jobs of any kind, the store itself or one beside a log, and a state of its own that
+//! An `Engine` is anything that carries commands out as the machine does, and promises what is kept of them: a `State` in
+//! memory, which keeps nothing, a `DurableEngine`, or a front's only client (`pfx_front_engine`). What is said over any engine
+//! holds of each of them.
+//!
+//! A `DurableEngine` has a keeper of a store, the store itself or one beside a log, and a state of its own that
 //! commands are run on. For every disk that behaves as its model says, at every moment and through repeated stops:
 //! 1. a command that is answered is durable: from its mark on, each image that a stop may leave is recovered to the state
 //!    after it;
@@ -13,11 +17,9 @@
 //! A command has a frame of its own; Slots of one call share one, 16 at the most, and none is answered before it is kept.
 //!
 //! A step of the checkpoint in progress, if there is one, is taken before each frame that is kept, so that an append which
-//! turns seldom has a checkpoint to end.
+//! turns seldom has a checkpoint to end. Its `settled` waits for nothing.
 //!
 //! `faults` has the program's fault for each way in which a store isn't made or opened.
-//!
-//! It is an `Engine`, so what a script's run prints over it is what `pfx_program` says, and `settled` waits for nothing.
 //!
 //! Why it is so:
 //! - **An engine is a trait with one state behind it**, and clauses that say what a call does to that state. So what a script prints is
@@ -29,13 +31,16 @@
 #![tactic(auto)]
 
 mod durable;
+mod engine;
 pub mod faults;
 mod keeping;
 pub mod laws;
-mod noting;
-mod scripts;
+mod memory;
+mod place;
+mod places;
 mod windows;
 
 pub use durable::{DurableEngine, StoreEngine};
-pub use noting::{NotedRun, run_noted};
-pub use scripts::run_durable;
+pub use engine::{CallFault, Engine, Told};
+pub use place::Place;
+pub use places::place_of;

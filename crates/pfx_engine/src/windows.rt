@@ -6,47 +6,46 @@
 //!   answer. To take back what was run would need a copy of the state for each window.
 
 ghost use Rattle.std.specs.Prelude.{◌≡◌, ◌<◌, map, IfOk, IfErr, OnErr};
-ghost use Rattle.pfx_kinds.specs.AnyKind.{any_kind};
 ghost use Rattle.pfx_machine.specs.Outcome.{outcome};
 ghost use Rattle.pfx_machine.specs.declared.command.Command.{Command};
-ghost use Rattle.pfx_program.specs.Sharing.{AreChanges, AreTold, accepted_of};
+ghost use Rattle.pfx_engine.specs.Sharing.{AreChanges, AreTold, accepted_of};
 ghost use Rattle.pfx_record.specs.Records.{plain};
 ghost use Rattle.pfx_store.specs.Groups.{AreRecordsOf};
 ghost use Rattle.pfx_engine.specs.Executing.{Fills};
 ghost use Rattle.pfx_engine.specs.Failing.{Fails, NotAccepted};
 ghost use Rattle.pfx_engine.specs.Surviving.{AreRun};
 
+use crate::engine::{CallFault, Told};
 use pfx_fault::Fault;
-use pfx_kinds::any::AnyJob;
+use pfx_jobs::job::Job;
 use pfx_machine::{Command, Reply, State};
-use pfx_program::{CallFault, Told};
 use pfx_record::Record;
 use pfx_redo::{Recorded, run_recorded};
 use std::alloc::{AllocError, Global};
 
 /// Slots that were run, in order.
 #[derive(Drop)]
-pub(crate) struct Window {
+pub(crate) struct Window<J> {
     /// Their numbers and their replies.
     pub(crate) said: Vec<(u64, Reply)>,
     /// Their records.
-    pub(crate) records: Vec<Record<AnyJob>>,
+    pub(crate) records: Vec<Record<J>>,
 }
 
 /// Runs Slots on the state, at least one and at most `count`, up to the first that is refused, or for which there is no memory, and then
 /// `starved` says so. If that is the first of all, the state stays.
-pub(crate) fn run_slots(
+pub(crate) fn run_slots<J: Job>(
     alloc: Global,
-    state: &mut State<AnyJob>,
+    state: &mut State<J>,
     starved: &mut bool,
     count: u32,
-) -> Result<Window, CallFault>
+) -> Result<Window<J>, CallFault>
     requires some { 0 < count }
-    ensures ran { IfOk result (λ w. AreRun state.old count w.said.items (map plain w.records.items) state.new) }
+    ensures ran { IfOk result (λ w. AreRun J.kind state.old count w.said.items (map plain w.records.items) state.new) }
 
     // All of them, unless the next one is refused by the machine, or for want of memory.
-    ensures fills { IfOk result (λ w. Fills count w.said.items state.new starved.new) }
-    ensures refused { IfErr result (NotAccepted state.old Command.Slot state.new) }
+    ensures fills { IfOk result (λ w. Fills J.kind count w.said.items state.new starved.new) }
+    ensures refused { IfErr result (NotAccepted J.kind state.old Command.Slot state.new) }
     ensures stays { OnErr result (state.new ≡ state.old) }
 
     // It is refused by the machine, or for want of memory.
@@ -78,23 +77,23 @@ pub(crate) fn run_slots(
 
 /// Commands that were run, in order.
 #[derive(Drop)]
-pub(crate) struct Changes {
+pub(crate) struct Changes<J> {
     /// What each of them is told.
     pub(crate) told: Vec<Told>,
     /// The records of those that were accepted.
-    pub(crate) records: Vec<Record<AnyJob>>,
+    pub(crate) records: Vec<Record<J>>,
 }
 
 /// Runs commands that are no Slots on the state, one after the other. If an allocation failed, none was run.
-pub(crate) fn run_changes(
+pub(crate) fn run_changes<J: Job>(
     alloc: Global,
-    state: &mut State<AnyJob>,
-    commands: Vec<Command<AnyJob>>,
-) -> Result<Changes, AllocError>
+    state: &mut State<J>,
+    commands: Vec<Command<J>>,
+) -> Result<Changes<J>, AllocError>
     requires changes { AreChanges commands.items }
-    ensures told { IfOk result (λ w. AreTold state.old commands.items w.told.items) }
-    ensures moves { IfOk result (λ w. state.new ≡ outcome any_kind state.old (accepted_of commands.items w.told.items)) }
-    ensures recorded { IfOk result (λ w. AreRecordsOf any_kind state.old (accepted_of commands.items w.told.items) (map plain w.records.items)) }
+    ensures told { IfOk result (λ w. AreTold J.kind state.old commands.items w.told.items) }
+    ensures moves { IfOk result (λ w. state.new ≡ outcome J.kind state.old (accepted_of commands.items w.told.items)) }
+    ensures recorded { IfOk result (λ w. AreRecordsOf J.kind state.old (accepted_of commands.items w.told.items) (map plain w.records.items)) }
     ensures stays { OnErr result (state.new ≡ state.old) }
 {
     let mut told = Vec::with_capacity(alloc, commands.len())?;

@@ -1,14 +1,16 @@
 //! The whole of a program that embeds the durable store: three tasks of 2/3 share two workers, and each run goes on where the last
 //! one left off, however that ended once it had made the store.
 //!
-//! `pfx_example FILE` makes the store if FILE is empty or missing, and gives each task a count to 1,000; else it opens the store
-//! that FILE has. Then it runs ten slots, prints the row of each once the slot is durable, and at last how each task stands. The
-//! status is 1 if the file, the store or standard output fails, and 2 if the words are wrong.
+//! `pfx_example FILE` makes the store if FILE is empty or missing, and gives each task a sum of the numbers up to 1,000, which is
+//! a kind of job of this program's own (`sum`); else it opens the store that FILE has. Then it runs ten slots, prints the row of
+//! each once the slot is durable, and at last how each task stands. The status is 1 if the file, the store or standard output
+//! fails, and 2 if the words are wrong.
 #![tactic(auto)]
 
 mod failure;
 mod slots;
 mod store;
+mod sum;
 
 use crate::failure::Failure;
 use crate::slots::{print_tasks, run_slots, submit_all};

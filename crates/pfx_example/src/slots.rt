@@ -1,19 +1,18 @@
 //! Commands, and what is printed of them.
 
 use crate::failure::Failure;
+use crate::sum::Sum;
 use pfx_disk::FileDisk;
-use pfx_engine::StoreEngine;
+use pfx_engine::{CallFault, StoreEngine};
 use pfx_fault::Fault;
-use pfx_kinds::any::AnyJob;
 use pfx_machine::{Command, JobStatus, Reply};
-use pfx_program::CallFault;
 use std::alloc::Global;
 
 /// How many slots a run has.
 const SLOTS: u32 = 10;
 
-/// How far the jobs count.
-const GOAL: u64 = 1_000;
+/// The greatest number of the jobs' sums.
+const GREATEST: u32 = 1_000;
 
 /// Why a command wasn't accepted.
 fn failure_of(fault: CallFault) -> Failure {
@@ -24,8 +23,8 @@ fn failure_of(fault: CallFault) -> Failure {
     }
 }
 
-/// Gives a count to each task that has no job.
-pub fn submit_all(alloc: Global, engine: &mut StoreEngine<FileDisk>) -> Result<(), Failure> {
+/// Gives a sum to each task that has no job.
+pub fn submit_all(alloc: Global, engine: &mut StoreEngine<FileDisk, Sum>) -> Result<(), Failure> {
     let Ok(board) = engine.state.board(alloc) else {
         return Err(Failure::NoMemory);
     };
@@ -35,9 +34,7 @@ pub fn submit_all(alloc: Global, engine: &mut StoreEngine<FileDisk>) -> Result<(
             None => false,
         };
         if is_free {
-            let Ok(job) = AnyJob::start("count", GOAL, b"") else {
-                return Err(Failure::NoMemory);
-            };
+            let job = Sum::new(GREATEST);
             match engine.execute(alloc, Command::Submit { task, job }) {
                 Ok(_) => {}
                 Err(fault) => return Err(failure_of(fault)),
@@ -51,7 +48,7 @@ pub fn submit_all(alloc: Global, engine: &mut StoreEngine<FileDisk>) -> Result<(
 pub fn run_slots(
     rt: &HostRuntime,
     alloc: Global,
-    engine: &mut StoreEngine<FileDisk>,
+    engine: &mut StoreEngine<FileDisk, Sum>,
 ) -> Result<(), Failure> {
     for _more in 0..SLOTS {
         let (number, slot, row) = match engine.execute(alloc, Command::Slot) {
@@ -67,11 +64,11 @@ pub fn run_slots(
     Ok(())
 }
 
-/// Prints how many slots each task got, and its lag.
+/// Prints how many slots each task got, its lag, and its sum so far.
 pub fn print_tasks(
     rt: &HostRuntime,
     alloc: Global,
-    engine: &StoreEngine<FileDisk>,
+    engine: &StoreEngine<FileDisk, Sum>,
 ) -> Result<(), Failure> {
     let Ok(board) = engine.state.board(alloc) else {
         return Err(Failure::NoMemory);
@@ -80,8 +77,12 @@ pub fn print_tasks(
         let Some(line) = board.lines.get(task) else {
             return Err(Failure::NoStore);
         };
+        let total = match engine.state.jobs().get(task) {
+            Some(Some(job)) => job.total,
+            _ => return Err(Failure::NoStore),
+        };
         if println!(rt;
-            "task {task} got {} slots, its lag is {}/{}",
+            "task {task} got {} slots, its lag is {}/{}, its sum is {total}",
             line.alloc, line.lag, line.period
         )
         .is_err()

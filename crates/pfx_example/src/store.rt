@@ -1,8 +1,8 @@
 //! The file, and the store in it.
 
 use crate::failure::Failure;
+use crate::sum::Sum;
 use pfx_disk::{Disk, FileDisk};
-use pfx_kinds::any::AnyJob;
 use pfx_store::Store;
 use pfx_weights::TaskSet;
 use std::alloc::Global;
@@ -25,7 +25,7 @@ pub fn locked(rt: &HostRuntime, path: &str) -> Result<FileDisk, Failure> {
 }
 
 /// The store on a disk: a new one of three tasks of 2/3 on two workers if the disk is empty.
-pub fn store_in(alloc: Global, mut disk: FileDisk) -> Result<Store<FileDisk, AnyJob>, Failure> {
+pub fn store_in(alloc: Global, mut disk: FileDisk) -> Result<Store<FileDisk, Sum>, Failure> {
     let Ok(length) = disk.len() else {
         return Err(Failure::NoFile);
     };

@@ -7,7 +7,7 @@
 //!   client's commands, and while one pass is out nobody else except the flusher can wait for the lock.
 //! - **A result that never comes is made by the caller.** If the desk is closed or a worker is gone, `missing` gives the quantum again
 //!   and the calling thread runs it; a second result of the same quantum is refused by the book, and dropped.
-ghost use Rattle.std.specs.Prelude.{◌≡◌, ◌<◌, ◌≤◌, ◌+◌, ℕ, [], length, IfOk, IfErr, IfSome, IfNone, OnOk, Some, None, false};
+ghost use Rattle.std.specs.Prelude.{◌≡◌, ◌<◌, ◌≤◌, ◌+◌, ℕ, [], length, IfOk, IfErr, IfSome, IfNone, OnOk, Some, None, false, IsTrue};
 ghost use Rattle.pfx_fault.specs.declared.parts.Cause.{Cause};
 ghost use Rattle.pfx_machine.specs.declared.command.Command.TheVariants.{Slot};
 ghost use Rattle.pfx_world.specs.Session.{IsQuick, asked};
@@ -17,12 +17,14 @@ ghost use Rattle.pfx_book.specs.Register.{HasRoom};
 ghost use Rattle.pfx_book.specs.declared.note.Note.TheVariants.{Accepted, Receipt as Receipted};
 ghost use Rattle.pfx_front.specs.Calling.{IsLost, IsRefusedBy, HasNoReply, HasNoReceipt};
 ghost use Rattle.pfx_front.specs.Lasting.{IsAcknowledged};
+ghost use Rattle.pfx_front.specs.Sole.{IsAlone};
 ghost use Rattle.pfx_front.specs.declared.faults.CallFault.TheVariants.{StoreFailed};
 
 use crate::durable::{Acknowledged, Durable};
 use crate::faults::CallFault;
 use crate::monitor::{Monitor, is_busy, is_ready};
 use crate::name::Since;
+use crate::sole::{Heard, is_sole_in};
 use crate::start::make_room;
 use pfx_book::book::{Book, Pass};
 use pfx_book::closing;
@@ -71,6 +73,20 @@ fn loss<J: Job, B: Since<J>>(book: &mut Book<J, B>, pass: &mut Pass<J, B>) -> Op
     }
 }
 
+/// As `loss`, with whether this is the only pass that is out.
+fn heard_loss<J: Job, B: Since<J>>(
+    book: &mut Book<J, B>,
+    pass: &mut Pass<J, B>,
+) -> Option<Heard<CallFault>>
+    ensures some { IfSome result (λ heard. IsLost pass.old pass.new heard.said) }
+    ensures alone { IfSome result (λ heard. IsTrue heard.sole → IsAlone J.kind B.start pass.new.1) }
+    ensures none { IfNone result ((book.old.failure ≡ None) × (book.new ≡ book.old) × (pass.new ≡ pass.old)) }
+{
+    let said = loss(book, pass)?;
+    let sole = is_sole_in(book, pass);
+    Some(Heard { sole, said })
+}
+
 /// A receipt, as the book gives it.
 fn receipt_of<J: Job, B: Since<J>>(
     book: &mut Book<J, B>,
@@ -111,8 +127,9 @@ fn seal_in<J: Job, B: Since<J>, R: Wait>(
     monitor: &Monitor<J, B>,
     pass: &mut Pass<J, B>,
     back: Vec<Done<J>>,
-) -> Option<(u64, Reply)>
-    ensures some { IfSome result (λ r. (pass.new ≡ noted (Accepted r.0 Slot r.1) pass.old) × (greatest pass.old.1 < r.0)) }
+) -> Option<Heard<(u64, Reply)>>
+    ensures some { IfSome result (λ r. (pass.new ≡ noted (Accepted r.said.0 Slot r.said.1) pass.old) × (greatest pass.old.1 < r.said.0)) }
+    ensures alone { IfSome result (λ heard. IsTrue heard.sole → IsAlone J.kind B.start pass.new.1) }
     ensures none { IfNone result (pass.new ≡ pass.old) }
 {
     let mut guard = monitor.book.lock(rt);
@@ -120,11 +137,12 @@ fn seal_in<J: Job, B: Since<J>, R: Wait>(
         return None;
     };
     give_all(book, back);
-    let sealed = book.seal(pass)?;
-    let enough = monitor.notes(sealed.0);
+    let said = book.seal(pass)?;
+    let sole = is_sole_in(book, pass);
+    let enough = monitor.notes(said.0);
     drop(guard);
     monitor.wake(enough);
-    Some(sealed)
+    Some(Heard { sole, said })
 }
 
 /// The first quantum of the open slot whose result isn't back.
@@ -142,9 +160,10 @@ fn end_slot<J: Job, B: Since<J>, R: Wait>(
     monitor: &Monitor<J, B>,
     pass: &mut Pass<J, B>,
     back: Vec<Done<J>>,
-) -> (u64, Reply)
-    ensures noted { pass.new ≡ noted (Accepted result.0 Slot result.1) pass.old }
-    ensures rises { greatest pass.old.1 < result.0 }
+) -> Heard<(u64, Reply)>
+    ensures noted { pass.new ≡ noted (Accepted result.said.0 Slot result.said.1) pass.old }
+    ensures rises { greatest pass.old.1 < result.said.0 }
+    ensures alone { IsTrue result.sole → IsAlone J.kind B.start pass.new.1 }
 {
     if let Some(sealed) = seal_in(rt, monitor, pass, back) {
         return sealed;
@@ -160,14 +179,40 @@ fn end_slot<J: Job, B: Since<J>, R: Wait>(
     unreachable!()
 }
 
+/// Opens a slot of the book, or says why there is none, and whether this is the only pass that is out.
+fn open_of<J: Job, B: Since<J>>(
+    book: &mut Book<J, B>,
+    pass: &mut Pass<J, B>,
+) -> Result<Vec<Quantum<J>>, Heard<CallFault>>
+    requires none_open { book.old.session.opened ≡ None }
+    requires room { HasRoom book.old.session }
+    requires goes_on { book.old.failure ≡ None }
+    requires not_shut { book.old.shut ≡ false }
+    ensures ok { OnOk result (pass.new ≡ pass.old) }
+    ensures err { IfErr result (λ heard. HasNoReply Slot pass.old pass.new heard.said) }
+    ensures alone { IfErr result (λ heard. IsTrue heard.sole → IsAlone J.kind B.start pass.new.1) }
+{
+    match book.open(pass) {
+        Ok(quanta) => Ok(quanta),
+        Err(fault) => {
+            let sole = is_sole_in(book, pass);
+            Err(Heard {
+                sole,
+                said: CallFault::Refused(fault),
+            })
+        }
+    }
+}
+
 /// Waits until a command may be asked, and opens a slot.
 fn open_in<J: Job, B: Since<J>, R: Wait>(
     rt: &R,
     monitor: &Monitor<J, B>,
     pass: &mut Pass<J, B>,
-) -> Result<Vec<Quantum<J>>, CallFault>
+) -> Result<Vec<Quantum<J>>, Heard<CallFault>>
     ensures ok { OnOk result (pass.new ≡ pass.old) }
-    ensures err { IfErr result (HasNoReply Slot pass.old pass.new) }
+    ensures err { IfErr result (λ heard. HasNoReply Slot pass.old pass.new heard.said) }
+    ensures alone { IfErr result (λ heard. IsTrue heard.sole → IsAlone J.kind B.start pass.new.1) }
 {
     for _ in rt.forever() {
         let mut guard = monitor
@@ -176,19 +221,16 @@ fn open_in<J: Job, B: Since<J>, R: Wait>(
         let Some(book) = &mut *guard else {
             continue;
         };
-        if let Some(fault) = loss(book, pass) {
-            return Err(fault);
+        if let Some(heard) = heard_loss(book, pass) {
+            return Err(heard);
         }
         if is_ready(book) {
-            let opened = book.open(pass);
+            let opened = open_of(book, pass);
             drop(guard);
-            return match opened {
-                Ok(quanta) => Ok(quanta),
-                Err(fault) => {
-                    monitor.free.notify_one();
-                    Err(CallFault::Refused(fault))
-                }
-            };
+            if opened.is_err() {
+                monitor.free.notify_one();
+            }
+            return opened;
         }
     }
     unreachable!()
@@ -216,6 +258,26 @@ fn ask_of<J: Job, B: Since<J>>(
     }
 }
 
+/// As `ask_of`, with whether this is the only pass that is out.
+fn heard_of<J: Job, B: Since<J>>(
+    book: &mut Book<J, B>,
+    pass: &mut Pass<J, B>,
+    command: Command<J>,
+) -> Heard<Result<(u64, Reply), CallFault>>
+    requires quick { IsQuick command }
+    requires none_open { book.old.session.opened ≡ None }
+    requires room { HasRoom book.old.session }
+    requires goes_on { book.old.failure ≡ None }
+    requires not_shut { book.old.shut ≡ false }
+    ensures ok { IfOk result.said (λ r. (pass.new ≡ noted (Accepted r.0 command r.1) pass.old) × (greatest pass.old.1 < r.0)) }
+    ensures err { IfErr result.said (HasNoReply command pass.old pass.new) }
+    ensures alone { IsTrue result.sole → IsAlone J.kind B.start pass.new.1 }
+{
+    let said = ask_of(book, pass, command);
+    let sole = is_sole_in(book, pass);
+    Heard { sole, said }
+}
+
 /// Whether the flusher has what it waits for after this answer.
 fn is_enough<J: Job, B: Since<J>>(
     monitor: &Monitor<J, B>,
@@ -233,10 +295,11 @@ fn ask_in<J: Job, B: Since<J>, R: Wait>(
     monitor: &Monitor<J, B>,
     pass: &mut Pass<J, B>,
     command: Command<J>,
-) -> Result<(u64, Reply), CallFault>
+) -> Heard<Result<(u64, Reply), CallFault>>
     requires { IsQuick command }
-    ensures ok { IfOk result (λ r. (pass.new ≡ noted (Accepted r.0 command r.1) pass.old) × (greatest pass.old.1 < r.0)) }
-    ensures err { IfErr result (HasNoReply command pass.old pass.new) }
+    ensures ok { IfOk result.said (λ r. (pass.new ≡ noted (Accepted r.0 command r.1) pass.old) × (greatest pass.old.1 < r.0)) }
+    ensures err { IfErr result.said (HasNoReply command pass.old pass.new) }
+    ensures alone { IsTrue result.sole → IsAlone J.kind B.start pass.new.1 }
 {
     for _ in rt.forever() {
         let mut guard = monitor
@@ -245,12 +308,15 @@ fn ask_in<J: Job, B: Since<J>, R: Wait>(
         let Some(book) = &mut *guard else {
             continue;
         };
-        if let Some(fault) = loss(book, pass) {
-            return Err(fault);
+        if let Some(lost) = heard_loss(book, pass) {
+            return Heard {
+                sole: lost.sole,
+                said: Err(lost.said),
+            };
         }
         if is_ready(book) {
-            let answer = ask_of(book, pass, command);
-            let enough = is_enough(monitor, &answer);
+            let answer = heard_of(book, pass, command);
+            let enough = is_enough(monitor, &answer.said);
             drop(guard);
             monitor.wake(enough);
             return answer;
@@ -386,15 +452,37 @@ where
         ensures ok { IfOk result (λ r. (pass.new ≡ noted (Accepted r.0 command r.1) pass.old) × (greatest pass.old.1 < r.0)) }
         ensures err { IfErr result (HasNoReply command pass.old pass.new) }
     {
+        self.hear(rt, pass, command).said
+    }
+
+    /// What `call` does, with whether no other pass was out when it was answered, under the same lock. Then what this pass notes is all that
+    /// has happened: each of its answers is the machine's after the commands that it had accepted before.
+    pub fn hear<R: Wait>(
+        &self,
+        rt: &R,
+        pass: &mut Pass<J, B>,
+        command: Command<J>,
+    ) -> Heard<Result<(u64, Reply), CallFault>>
+        ensures ok { IfOk result.said (λ r. (pass.new ≡ noted (Accepted r.0 command r.1) pass.old) × (greatest pass.old.1 < r.0)) }
+        ensures err { IfErr result.said (HasNoReply command pass.old pass.new) }
+        ensures alone { IsTrue result.sole → IsAlone J.kind B.start pass.new.1 }
+    {
         let shared = &*self.shared;
         if !matches!(&command, Command::Slot) {
             return ask_in(rt, &shared.monitor, pass, command);
         }
         match open_in(rt, &shared.monitor, pass) {
-            Err(fault) => Err(fault),
+            Err(refused) => Heard {
+                sole: refused.sole,
+                said: Err(refused.said),
+            },
             Ok(quanta) => {
                 let back = shared.run(rt, quanta);
-                Ok(end_slot(rt, shared.alloc, &shared.monitor, pass, back))
+                let sealed = end_slot(rt, shared.alloc, &shared.monitor, pass, back);
+                Heard {
+                    sole: sealed.sole,
+                    said: Ok(sealed.said),
+                }
             }
         }
     }

@@ -12,8 +12,17 @@ use pfx_machine::{Board, State};
 use std::alloc::AllocError;
 use std::sync::Wait;
 
+/// What a call gives, with whether no other pass was out then.
+#[derive(Drop)]
+pub struct Heard<T: Drop> {
+    /// Whether the pass was the only one.
+    pub sole: bool,
+    /// What the call gives.
+    pub said: T,
+}
+
 /// Whether this is the only pass that is out; then its notes are the session.
-fn is_sole_in<J: Job, B: Since<J>>(book: &mut Book<J, B>, pass: &mut Pass<J, B>) -> bool
+pub(crate) fn is_sole_in<J: Job, B: Since<J>>(book: &mut Book<J, B>, pass: &mut Pass<J, B>) -> bool
     ensures same { (book.new ≡ book.old) × (pass.new ≡ pass.old) }
     ensures alone { IsTrue result → IsAlone J.kind B.start pass.old.1 }
     ensures state { IsTrue result → book.old.session.state ≡ state_of J.kind B.start pass.old.1 }

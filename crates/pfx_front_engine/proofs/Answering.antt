@@ -14,36 +14,35 @@ use Rattle.pfx_front.specs.Calling.{HasNoReply}
 use Rattle.pfx_front.specs.Sole.{IsAlone, state_of}
 use Rattle.pfx_front.specs.declared.faults.CallFault as front
 use Rattle.pfx_front.specs.declared.faults.CallFault.TheVariants as frontfault
-use Rattle.pfx_kinds.specs.AnyKind.{any_kind}
-use Rattle.pfx_kinds.specs.declared.any.AnyJob.{AnyJob}
 use Rattle.pfx_machine.specs.Plain.{Plain}
 use Rattle.pfx_machine.specs.Runs.{answer}
 use Rattle.pfx_machine.specs.declared.command.Command.{Command}
 use Rattle.pfx_machine.specs.declared.command.Reply.{Reply}
 use Rattle.pfx_machine.specs.declared.faults.MachineFault.{MachineFault}
 use Rattle.pfx_machine.specs.declared.faults.MachineFault.TheVariants.{NoRow}
-use Rattle.pfx_program.specs.Promises.{IsEngineFault}
+use Rattle.pfx_engine.specs.Promises.{IsEngineFault}
 use Rattle.pfx_front_engine.specs.Asking.{IsAnswered, IsFrontFault, IsReason, IsUnanswered, MayEndRun, why_machine, why_of}
 use Rattle.pfx_front_engine.proofs.Notes.{alone_more, answered, commands_are, greatest_same_answers, known_last, refused, session_full, stays_as, stays_with, tagged}
 use Rattle.pfx_front_engine.specs.Keeping.{KeepsBy}
+use Rattle.pfx_jobs.specs.Kind.{Kind}
 
 -- what ends a run is a fault of an engine
-pub engine_fault : (start : Plain AnyJob) (notes : List (Note AnyJob)) (s : Plain AnyJob) (f : Fault) → IsFrontFault start notes f → IsEngineFault (λ t g. MayEndRun g) s f
-engine_fault start notes s fault.NoMemory h = tt
-engine_fault start notes s fault.SessionFull h = tt
-engine_fault start notes s (fault.StoreFailed marked cause) h = tt
-engine_fault start notes s fault.InputFailed h = absurd h
-engine_fault start notes s fault.OutputFailed h = absurd h
-engine_fault start notes s (fault.BadScript at) h = absurd h
-engine_fault start notes s other h = h
+pub engine_fault : {J : Type 0} (K : Kind J) (start : Plain J) (notes : List (Note J)) (s : Plain J) (f : Fault) → IsFrontFault K start notes f → IsEngineFault (λ t g. MayEndRun g) s f
+engine_fault K start notes s fault.NoMemory h = tt
+engine_fault K start notes s fault.SessionFull h = tt
+engine_fault K start notes s (fault.StoreFailed marked cause) h = tt
+engine_fault K start notes s fault.InputFailed h = absurd h
+engine_fault K start notes s fault.OutputFailed h = absurd h
+engine_fault K start notes s (fault.BadScript at) h = absurd h
+engine_fault K start notes s other h = h
 
-machine_reason : (start : Plain AnyJob) (was : List (Note AnyJob)) (c : Command AnyJob) (is : List (Note AnyJob)) (f : MachineFault)
-    → answer any_kind (state_of any_kind start was) c ≡ Err f → IsReason start was c is (why_machine f)
-machine_reason start was c is (NoRow choicefault.NoMemory) h = tt
-machine_reason start was c is other h = h
+machine_reason : {J : Type 0} (K : Kind J) (start : Plain J) (was : List (Note J)) (c : Command J) (is : List (Note J)) (f : MachineFault)
+    → answer K (state_of K start was) c ≡ Err f → IsReason K start was c is (why_machine f)
+machine_reason K start was c is (NoRow choicefault.NoMemory) h = tt
+machine_reason K start was c is other h = h
 
-module _ (B : Plain AnyJob) (c : Command AnyJob) (was is : ℕ × List (Note AnyJob)) where
-  noted_why : (b : BookFault) (n : ℕ) → is ≡ noted (note.Refused n c b) was → IsAlone any_kind B is.1 → IsUnanswered B was.1 c is.1 (why_of (frontfault.Refused b))
+module _ {J : Type 0} (K : Kind J) (B : Plain J) (c : Command J) (was is : ℕ × List (Note J)) where
+  noted_why : (b : BookFault) (n : ℕ) → is ≡ noted (note.Refused n c b) was → IsAlone K B is.1 → IsUnanswered K B was.1 c is.1 (why_of (frontfault.Refused b))
   noted_why b n same l = record { reason = by b l'; stays = stays; known = rises }
     where
       rises : greatest was.1 ≤ greatest is.1
@@ -55,25 +54,25 @@ module _ (B : Plain AnyJob) (c : Command AnyJob) (was is : ℕ × List (Note Any
       still : commands_of (alone is.1) ≡ commands_of (alone was.1)
       still = commands_are B.number was.1 is.1 [] 0 stays ∙ append-nil (commands_of (alone was.1))
 
-      l' : IsAlone any_kind B (was.1 ++ note.Refused n c b ∷ [])
-      l' = subst (λ (p : ℕ × List (Note AnyJob)). IsAlone any_kind B p.1) same l
+      l' : IsAlone K B (was.1 ++ note.Refused n c b ∷ [])
+      l' = subst (λ (p : ℕ × List (Note J)). IsAlone K B p.1) same l
 
-      by : (d : BookFault) → IsAlone any_kind B (was.1 ++ note.Refused n c d ∷ []) → IsReason B was.1 c is.1 (why_of (frontfault.Refused d))
-      by book.SessionFull k = (let full = session_full B was.1 n c k in let long = ap length still in omega (arith, full, long))
-      by (book.Machine f) k = machine_reason B was.1 c is.1 f (refused B was.1 n c f k)
+      by : (d : BookFault) → IsAlone K B (was.1 ++ note.Refused n c d ∷ []) → IsReason K B was.1 c is.1 (why_of (frontfault.Refused d))
+      by book.SessionFull k = (let full = session_full K B was.1 n c k in let long = ap length still in omega (arith, full, long))
+      by (book.Machine f) k = machine_reason K B was.1 c is.1 f (refused K B was.1 n c f k)
 
-  pub unanswered : (why : front.CallFault) → HasNoReply c was is why → IsAlone any_kind B is.1 → IsUnanswered B was.1 c is.1 (why_of why)
+  pub unanswered : (why : front.CallFault) → HasNoReply c was is why → IsAlone K B is.1 → IsUnanswered K B was.1 c is.1 (why_of why)
   unanswered (frontfault.Refused b) (inl h) l = rw h.0 (record { reason = tt; stays = stays_as B.number was.1 is.1 (ap (λ p. alone p.1) h.1); known = (let top = ap (λ p. greatest p.1) h.1 in omega (arith, top)) })
   unanswered (frontfault.Refused b) (inr h) l = noted_why b h.0 h.1 l
   unanswered (frontfault.StoreFailed marked cause) h l = record { reason = inl h.2; stays = stays_as B.number was.1 is.1 (ap tagged h.1); known = (let top = greatest_same_answers was.1 is.1 h.1 in omega (arith, top)) }
 
-  pub answered_as : (n : ℕ) (said : Reply) → is ≡ noted (note.Accepted n c said) was → IsAlone any_kind B is.1 → IsAnswered B was.1 c n said is.1
+  pub answered_as : (n : ℕ) (said : Reply) → is ≡ noted (note.Accepted n c said) was → IsAlone K B is.1 → IsAnswered K B was.1 c n said is.1
   answered_as n said same l =
       let at : is.1 ≡ was.1 ++ note.Accepted n c said ∷ [] = ap (λ p. p.1) same in
-      let h = answered B was.1 n c said (subst (IsAlone any_kind B) at l) in
+      let h = answered K B was.1 n c said (subst (IsAlone K B) at l) in
       record {
         accepted = h.0;
         next = h.1;
         noted = ap alone at ∙ alone_more was.1 (note.Accepted n c said) refl;
-        known = subst (λ (notes : List (Note AnyJob)). n ≤ greatest notes) (sym at) (known_last was.1 n c said);
+        known = subst (λ (notes : List (Note J)). n ≤ greatest notes) (sym at) (known_last was.1 n c said);
       }

@@ -1,4 +1,3 @@
 pub mod Notes
 pub mod Answering
 pub mod Promising
-pub mod Served

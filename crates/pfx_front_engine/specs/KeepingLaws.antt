@@ -5,30 +5,29 @@ use Rattle.pfx_book.specs.Notes.{Noted, added, alone, commands_of}
 use Rattle.pfx_book.specs.declared.note.Note.{Note}
 use Rattle.pfx_book.specs.declared.note.Note.TheVariants.{Receipt}
 use Rattle.pfx_book.proofs.Notes.{noted_more}
-use Rattle.pfx_kinds.specs.declared.any.AnyJob.{AnyJob}
 use Rattle.pfx_machine.specs.declared.command.Command.{Command}
 use Rattle.pfx_front_engine.specs.Keeping.{HasReceipt, KeepsBy}
 
-pub commands_both : (xs ys : List (ℕ × Note AnyJob)) → commands_of (xs ++ ys) ≡ commands_of xs ++ commands_of ys
+pub commands_both : {J : Type 0} (xs ys : List (ℕ × Note J)) → commands_of (xs ++ ys) ≡ commands_of xs ++ commands_of ys
 commands_both [] ys = refl
-commands_both (x ∷ xs) ys = ap (λ (l : List (Command AnyJob)). added x.1 ++ l) (commands_both xs ys)
+commands_both {J = J} (x ∷ xs) ys = ap (λ (l : List (Command J)). added x.1 ++ l) (commands_both xs ys)
     ∙ sym (append_assoc (added x.1) (commands_of xs) (commands_of ys))
 
-pub receipt_later : (b c : List (Note AnyJob)) (later : List (ℕ × Note AnyJob)) (n m : ℕ) → alone c ≡ alone b ++ later → m ≤ n → HasReceipt b n
+pub receipt_later : {J : Type 0} (b c : List (Note J)) (later : List (ℕ × Note J)) (n m : ℕ) → alone c ≡ alone b ++ later → m ≤ n → HasReceipt b n
     → HasReceipt c m
-receipt_later b c later n m grows le h =
+receipt_later {J = J} b c later n m grows le h =
     let high = h.high in
     record {
       number = h.number;
       clock = h.clock;
       high = omega (arith, high, le);
-      noted = subst (λ (l : List (ℕ × Note AnyJob)). Noted (1, Receipt h.number h.clock) l) (sym grows) (noted_more _ (alone b) later h.noted);
+      noted = subst (λ (l : List (ℕ × Note J)). Noted (1, Receipt h.number h.clock) l) (sym grows) (noted_more _ (alone b) later h.noted);
     }
 
-pub keeps_none : (first : ℕ) (notes : List (Note AnyJob)) → KeepsBy first notes [] 0 notes
+pub keeps_none : {J : Type 0} (first : ℕ) (notes : List (Note J)) → KeepsBy first notes [] 0 notes
 keeps_none first notes = record { later = []; grows = sym (append-nil (alone notes)); commands = refl; receipt = inl refl }
 
-pub keeps_more : (first : ℕ) (a b c : List (Note AnyJob)) (H G : List (Command AnyJob)) (n : ℕ) → KeepsBy first a H (length H) b
+pub keeps_more : {J : Type 0} (first : ℕ) (a b c : List (Note J)) (H G : List (Command J)) (n : ℕ) → KeepsBy first a H (length H) b
     → KeepsBy first b G n c → KeepsBy first a (H ++ G) (length H + n) c
 keeps_more first a b c H G n one two = record {
   later = one.later ++ two.later;
@@ -40,7 +39,7 @@ keeps_more first a b c H G n one two = record {
     long : length (commands_of (alone b)) ≡ length (commands_of (alone a)) + length H
     long = ap (λ l. length (commands_of l)) one.grows ∙ ap length (commands_both (alone a) one.later)
         ∙ length-append (commands_of (alone a)) (commands_of one.later)
-        ∙ ap (λ (l : List (Command AnyJob)). length (commands_of (alone a)) + length l) one.commands
+        ∙ ap (λ (l : List (Command J)). length (commands_of (alone a)) + length l) one.commands
 
     by : (k : ℕ) → (k ≡ 0) ⊎ HasReceipt c (first + (length (commands_of (alone b)) + k))
         → (length H ≡ 0) ⊎ HasReceipt b (first + (length (commands_of (alone a)) + length H))
@@ -49,7 +48,7 @@ keeps_more first a b c H G n one two = record {
     by k (inl none) (inl empty) = inl (omega (arith, none, empty))
     by k (inl none) (inr h) = inr (receipt_later b c two.later _ _ two.grows (omega (arith, none)) h)
 
-pub keeps_fewer : (first : ℕ) (a : List (Note AnyJob)) (H : List (Command AnyJob)) (n m : ℕ) (b : List (Note AnyJob)) → m ≤ n
+pub keeps_fewer : {J : Type 0} (first : ℕ) (a : List (Note J)) (H : List (Command J)) (n m : ℕ) (b : List (Note J)) → m ≤ n
     → KeepsBy first a H n b → KeepsBy first a H m b
 keeps_fewer first a H n m b le h = record { later = h.later; grows = h.grows; commands = h.commands; receipt = by h.receipt }
   where

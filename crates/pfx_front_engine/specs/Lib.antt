@@ -1,4 +1,3 @@
 pub mod Keeping
 pub mod KeepingLaws
 pub mod Asking
-pub mod Running

@@ -1,24 +1,23 @@
 //! A command of a front's only client.
-ghost use Rattle.std.specs.Prelude.{◌≡◌, ◌≢◌, ◌<◌, [], IfOk, IfErr, OnOk, OnErr};
-ghost use Rattle.pfx_front.specs.Sole.{IsAlone, IsShownBy, state_of};
-ghost use Rattle.pfx_kinds.specs.AnyKind.{any_kind};
+ghost use Rattle.std.specs.Prelude.{◌≡◌, ◌≢◌, ◌<◌, [], true, IfOk, IfErr, OnOk, OnErr};
+ghost use Rattle.pfx_front.specs.Sole.{IsShownBy, state_of};
 ghost use Rattle.pfx_machine.specs.declared.command.Command.{Command};
 ghost use Rattle.pfx_front_engine.specs.Asking.{AreAllAsked, AreAsked, AreSomeAsked, IsAnswered, IsUnanswered, IsFrontFault, why_machine, why_of};
 ghost use Rattle.pfx_front_engine.specs.Keeping.{IsSettled, KeepsBy};
 
 use crate::client::Client;
-use pfx_book::book::Pass;
 use pfx_book::faults::BookFault;
 use pfx_choice::ChoiceFault;
 use pfx_crew::desk::Desk;
+use pfx_engine::{CallFault, Told};
 use pfx_fault::{Cause, Fault};
 use pfx_front::calls::Front;
 use pfx_front::faults::CallFault as FrontFault;
 use pfx_front::name::Since;
+use pfx_front::sole::Heard;
+use pfx_jobs::job::Job;
 use pfx_jobs::quantum::{Done, Quantum};
-use pfx_kinds::any::AnyJob;
 use pfx_machine::{Board, Command, MachineFault, Reply, State};
-use pfx_program::{CallFault, Told};
 use std::alloc::{AllocError, Global};
 use std::sync::Wait;
 
@@ -45,18 +44,11 @@ fn why(fault: FrontFault) -> CallFault
     }
 }
 
-/// Returns if no other pass is out, and else never: who gave this pass out gives no other.
-fn stay_alone<B: Since<AnyJob>, K: Desk<Quantum<AnyJob>, Done<AnyJob>> + Drop, R: Wait>(
-    rt: &R,
-    front: &Front<AnyJob, B, K>,
-    pass: &mut Pass<AnyJob, B>,
-)
-where
-    K::Seat: Drop,
-    ensures same { pass.new ≡ pass.old }
-    ensures alone { IsAlone any_kind B.start pass.old.1 }
+/// Returns if a pass was the only one that was out, and else never: who gave it out gives no other.
+fn stay_alone<R: Wait>(rt: &R, sole: bool)
+    ensures { sole ≡ true }
 {
-    if front.is_sole(rt, pass) {
+    if sole {
         return;
     }
     for _ in rt.forever() {}
@@ -64,20 +56,20 @@ where
 }
 
 /// Has a command carried out for the only client. The answer isn't an acknowledgement: `settle` is.
-pub(crate) fn ask<B: Since<AnyJob>, K: Desk<Quantum<AnyJob>, Done<AnyJob>> + Drop, R: Wait>(
+pub(crate) fn ask<J: Job, B: Since<J>, K: Desk<Quantum<J>, Done<J>> + Drop, R: Wait>(
     rt: &R,
-    front: &Front<AnyJob, B, K>,
-    client: &mut Client<B>,
-    command: Command<AnyJob>,
+    front: &Front<J, B, K>,
+    client: &mut Client<J, B>,
+    command: Command<J>,
 ) -> Result<(u64, Reply), CallFault>
 where
     K::Seat: Drop,
-    ensures ok { IfOk result (λ r. IsAnswered B.start client.old command r.0 r.1 client.new) }
-    ensures err { IfErr result (IsUnanswered B.start client.old command client.new) }
+    ensures ok { IfOk result (λ r. IsAnswered J.kind B.start client.old command r.0 r.1 client.new) }
+    ensures err { IfErr result (IsUnanswered J.kind B.start client.old command client.new) }
 {
-    let asked = front.call(rt, &mut client.pass, command);
-    stay_alone(rt, front, &mut client.pass);
-    match asked {
+    let Heard { sole, said } = front.hear(rt, &mut client.pass, command);
+    stay_alone(rt, sole);
+    match said {
         Ok((number, reply)) => {
             client.number = number;
             Ok((number, reply))
@@ -87,18 +79,18 @@ where
 }
 
 /// Has Slots carried out one after the other, at least one and at most `count`, up to the first that has no answer.
-pub(crate) fn ask_slots<B: Since<AnyJob>, K: Desk<Quantum<AnyJob>, Done<AnyJob>> + Drop, R: Wait>(
+pub(crate) fn ask_slots<J: Job, B: Since<J>, K: Desk<Quantum<J>, Done<J>> + Drop, R: Wait>(
     rt: &R,
     alloc: Global,
-    front: &Front<AnyJob, B, K>,
-    client: &mut Client<B>,
+    front: &Front<J, B, K>,
+    client: &mut Client<J, B>,
     count: u32,
 ) -> Result<Vec<(u64, Reply)>, CallFault>
 where
     K::Seat: Drop,
     requires some { 0 < count }
-    ensures ok { IfOk result (λ said. AreAsked B.start client.old count said.items client.new) }
-    ensures err { IfErr result (IsUnanswered B.start client.old Command.Slot client.new) }
+    ensures ok { IfOk result (λ said. AreAsked J.kind B.start client.old count said.items client.new) }
+    ensures err { IfErr result (IsUnanswered J.kind B.start client.old Command.Slot client.new) }
 {
     let Ok(mut said) = Vec::with_capacity(alloc, count as usize) else {
         return Err(CallFault::Failed(Fault::NoMemory));
@@ -114,18 +106,18 @@ where
 }
 
 /// Has commands carried out one after the other: what each is told. None of the answers is an acknowledgement: `settle` is.
-pub(crate) fn ask_all<B: Since<AnyJob>, K: Desk<Quantum<AnyJob>, Done<AnyJob>> + Drop, R: Wait>(
+pub(crate) fn ask_all<J: Job, B: Since<J>, K: Desk<Quantum<J>, Done<J>> + Drop, R: Wait>(
     rt: &R,
     alloc: Global,
-    front: &Front<AnyJob, B, K>,
-    client: &mut Client<B>,
-    commands: Vec<Command<AnyJob>>,
+    front: &Front<J, B, K>,
+    client: &mut Client<J, B>,
+    commands: Vec<Command<J>>,
 ) -> Result<Vec<Told>, Fault>
 where
     K::Seat: Drop,
-    ensures ok { IfOk result (λ told. AreAllAsked B.start client.old commands.items told.items client.new) }
-    ensures fails { IfErr result (IsFrontFault B.start client.new) }
-    ensures err { OnErr result (AreSomeAsked B.start client.old commands.items client.new) }
+    ensures ok { IfOk result (λ told. AreAllAsked J.kind B.start client.old commands.items told.items client.new) }
+    ensures fails { IfErr result (IsFrontFault J.kind B.start client.new) }
+    ensures err { OnErr result (AreSomeAsked J.kind B.start client.old commands.items client.new) }
 {
     let Ok(mut told) = Vec::with_capacity(alloc, commands.len()) else {
         return Err(Fault::NoMemory);
@@ -141,17 +133,17 @@ where
 }
 
 /// Waits until all that the client had accepted is durable: the last number.
-pub(crate) fn settle<B: Since<AnyJob>, K: Desk<Quantum<AnyJob>, Done<AnyJob>> + Drop, R: Wait>(
+pub(crate) fn settle<J: Job, B: Since<J>, K: Desk<Quantum<J>, Done<J>> + Drop, R: Wait>(
     rt: &R,
-    front: &Front<AnyJob, B, K>,
-    client: &mut Client<B>,
+    front: &Front<J, B, K>,
+    client: &mut Client<J, B>,
 ) -> Result<u64, Fault>
 where
     K::Seat: Drop,
-    ensures number { IfOk result (λ n. n ≡ (state_of any_kind B.start client.old).number) }
+    ensures number { IfOk result (λ n. n ≡ (state_of J.kind B.start client.old).number) }
     ensures settled { OnOk result (IsSettled B.start.number client.new) }
     ensures stays { KeepsBy B.start.number client.old [] 0 client.new }
-    ensures fails { IfErr result (IsFrontFault B.start client.new) }
+    ensures fails { IfErr result (IsFrontFault J.kind B.start client.new) }
     ensures memory { IfErr result (λ fault. fault ≢ Fault.NoMemory) }
 {
     if client.number == client.kept {
@@ -173,15 +165,15 @@ where
 }
 
 /// The board of the state after the client's commands.
-pub(crate) fn board<B: Since<AnyJob>, K: Desk<Quantum<AnyJob>, Done<AnyJob>> + Drop, R: Wait>(
+pub(crate) fn board<J: Job, B: Since<J>, K: Desk<Quantum<J>, Done<J>> + Drop, R: Wait>(
     rt: &R,
-    front: &Front<AnyJob, B, K>,
-    client: &mut Client<B>,
+    front: &Front<J, B, K>,
+    client: &mut Client<J, B>,
 ) -> Result<Board, AllocError>
 where
     K::Seat: Drop,
     ensures same { client.new ≡ client.old }
-    ensures shows { IfOk result (IsShownBy any_kind (state_of any_kind B.start client.old)) }
+    ensures shows { IfOk result (IsShownBy J.kind (state_of J.kind B.start client.old)) }
 {
     match front.board(rt, &mut client.pass) {
         Ok(Some(board)) => return Ok(board),
@@ -193,15 +185,15 @@ where
 }
 
 /// A copy of the state after the client's commands.
-pub(crate) fn state<B: Since<AnyJob>, K: Desk<Quantum<AnyJob>, Done<AnyJob>> + Drop, R: Wait>(
+pub(crate) fn state<J: Job, B: Since<J>, K: Desk<Quantum<J>, Done<J>> + Drop, R: Wait>(
     rt: &R,
-    front: &Front<AnyJob, B, K>,
-    client: &mut Client<B>,
-) -> Result<State<AnyJob>, AllocError>
+    front: &Front<J, B, K>,
+    client: &mut Client<J, B>,
+) -> Result<State<J>, AllocError>
 where
     K::Seat: Drop,
     ensures same { client.new ≡ client.old }
-    ensures copies { IfOk result (λ copy. copy ≡ state_of any_kind B.start client.old) }
+    ensures copies { IfOk result (λ copy. copy ≡ state_of J.kind B.start client.old) }
 {
     match front.state(rt, &mut client.pass) {
         Ok(Some(copy)) => return Ok(copy),

@@ -1,9 +1,8 @@
 //! The engine.
-ghost use Rattle.std.specs.Prelude.{◌≡◌, ◌≢◌, [], IfOk, IfErr, OnOk};
+ghost use Rattle.std.specs.Prelude.{◌≡◌, ◌≢◌, ◌≤◌, [], length, IfOk, IfErr, OnOk, OnErr};
 ghost use Rattle.pfx_front.specs.Sole.{state_of};
-ghost use Rattle.pfx_kinds.specs.AnyKind.{any_kind};
-ghost use Rattle.pfx_program.specs.Promises.{Promise, Laws, AreAnswered, AreDone, AreNotDone, IsDone, IsNotDone, IsSame, IsEngineFault, Shows, slots_for};
-ghost use Rattle.pfx_program.specs.Sharing.{AreChanges, AreAllDone, AreAllLeft};
+ghost use Rattle.pfx_engine.specs.Promises.{Promise, Laws, AreAnswered, AreDone, AreNotDone, IsDone, IsNotDone, IsSame, IsEngineFault, Shows, slots_for};
+ghost use Rattle.pfx_engine.specs.Sharing.{AreChanges, AreAllDone, AreAllLeft};
 ghost use Rattle.pfx_front_engine.specs.Asking.{AreAllAsked, AreAsked, AreSomeAsked, IsAnswered, IsUnanswered, MayEndRun};
 ghost use Rattle.pfx_front_engine.specs.Keeping.{IsSettled, KeepsBy};
 ghost use Rattle.pfx_front_engine.specs.KeepingLaws.{keeps_none, keeps_more, keeps_fewer};
@@ -11,13 +10,13 @@ ghost use Rattle.pfx_front_engine.specs.KeepingLaws.{keeps_none, keeps_more, kee
 use crate::asking::{ask, ask_all, ask_slots, board, settle, state};
 use crate::client::Client;
 use pfx_crew::desk::Desk;
+use pfx_engine::{CallFault, Engine, Place, Told, place_of};
 use pfx_fault::Fault;
 use pfx_front::calls::Front;
 use pfx_front::name::Since;
+use pfx_jobs::job::Job;
 use pfx_jobs::quantum::{Done, Quantum};
-use pfx_kinds::any::AnyJob;
 use pfx_machine::{Board, Command, Reply, State};
-use pfx_program::{CallFault, Engine, Place, Told, place_of};
 use std::alloc::Global;
 use std::sync::Wait;
 
@@ -26,37 +25,32 @@ pub const WINDOW: u32 = 64;
 
 /// A front, and its only client.
 #[derive(Drop)]
-pub(crate) struct FrontEngine<
-    B: Since<AnyJob>,
-    K: Desk<Quantum<AnyJob>, Done<AnyJob>> + Drop,
-    R: Wait + Drop,
-> {
+pub struct FrontEngine<J: Job, B: Since<J>, K: Desk<Quantum<J>, Done<J>> + Drop, R: Wait + Drop> {
     /// The system, by which calls wait.
-    pub(crate) rt: R,
+    pub rt: R,
     /// The front.
-    pub(crate) front: Front<AnyJob, B, K>,
+    pub front: Front<J, B, K>,
     /// Its only client.
-    pub(crate) client: Client<B>,
+    pub client: Client<J, B>,
 }
 
-impl<B: Since<AnyJob>, K: Desk<Quantum<AnyJob>, Done<AnyJob>> + Drop, R: Wait + Drop> Engine
-    for FrontEngine<B, K, R>
+impl<J: Job, B: Since<J>, K: Desk<Quantum<J>, Done<J>> + Drop, R: Wait + Drop> Engine<J>
+    for FrontEngine<J, B, K, R>
 where
     K::Seat: Drop,
 {
     // The state is that after all accepted commands; a command is kept once the pass has its receipt.
     ghost promise = { record {
-      state = λ engine. state_of any_kind B.start engine.client;
+      state = λ engine. state_of J.kind B.start engine.client;
       faults = λ s f. MayEndRun f;
       settled = λ engine. IsSettled B.start.number engine.client;
       keeps = λ a H n b. KeepsBy B.start.number a.client H n b.client;
     } };
 
-    fn call(
-        &mut self,
-        _alloc: Global,
-        command: Command<AnyJob>,
-    ) -> Result<(u64, Reply), CallFault> {
+    fn call(&mut self, _alloc: Global, command: Command<J>) -> Result<(u64, Reply), CallFault>
+        ensures done { IfOk result (λ r. IsDone J.kind ⟦<FrontEngine<J, B, K, R> as Engine<J>>⟧.promise command r.0 r.1 self.old self.new) }
+        ensures not_done { IfErr result (IsNotDone J.kind ⟦<FrontEngine<J, B, K, R> as Engine<J>>⟧.promise command self.old self.new) }
+    {
         match ask(&self.rt, &self.front, &mut self.client, command) {
             Err(why) => Err(why),
             Ok(reply) => match settle(&self.rt, &self.front, &mut self.client) {
@@ -82,7 +76,13 @@ where
         }
     }
 
-    fn all(&mut self, alloc: Global, commands: Vec<Command<AnyJob>>) -> Result<Vec<Told>, Fault> {
+    fn all(&mut self, alloc: Global, commands: Vec<Command<J>>) -> Result<Vec<Told>, Fault>
+        requires changes { AreChanges commands.items }
+        requires few { length commands.items ≤ 16 }
+        ensures done { IfOk result (λ told. AreAllDone J.kind ⟦<FrontEngine<J, B, K, R> as Engine<J>>⟧.promise commands.items told.items self.old self.new) }
+        ensures fails { IfErr result (IsEngineFault ⟦<FrontEngine<J, B, K, R> as Engine<J>>⟧.promise.faults (state_of J.kind B.start self.old.client)) }
+        ensures left { OnErr result (AreAllLeft J.kind ⟦<FrontEngine<J, B, K, R> as Engine<J>>⟧.promise commands.items self.old self.new) }
+    {
         match ask_all(&self.rt, alloc, &self.front, &mut self.client, commands) {
             Err(fault) => Err(fault),
             Ok(told) => match settle(&self.rt, &self.front, &mut self.client) {
@@ -106,7 +106,7 @@ where
         }
     }
 
-    fn state(&mut self, _alloc: Global) -> Result<State<AnyJob>, Fault> {
+    fn state(&mut self, _alloc: Global) -> Result<State<J>, Fault> {
         match settle(&self.rt, &self.front, &mut self.client) {
             Err(fault) => Err(fault),
             Ok(_number) => match state(&self.rt, &self.front, &mut self.client) {
@@ -116,7 +116,7 @@ where
         }
     }
 
-    fn place(&mut self, alloc: Global, task: u16) -> Result<Option<Place>, Fault> {
+    fn place(&mut self, alloc: Global, task: u16) -> Result<Option<Place<J>>, Fault> {
         let copy = self.state(alloc)?;
         Ok(place_of(&copy, task))
     }

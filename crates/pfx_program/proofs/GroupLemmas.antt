@@ -34,14 +34,14 @@ use Rattle.pfx_program.specs.Answers.{reply_line}
 use Rattle.pfx_program.specs.Faults.{fault_of_machine}
 use Rattle.pfx_program.specs.Grants.{counted, counted_at, is_next, granted}
 use Rattle.pfx_program.specs.Groups.{Avoid, Gathers, IsGiven, IsJoining, Joins, ToldFail, behind_group, group_refusals, group_steps, run_at, told_count, told_line, told_refusals, told_text, touches}
-use Rattle.pfx_program.specs.Promises.{Promise, Laws, IsEngineFault, IsSame}
+use Rattle.pfx_engine.specs.Promises.{Promise, Laws, IsEngineFault, IsSame}
 use Rattle.pfx_program.specs.Running.{run_of, Carried, Halts, LineFails, Stopped}
 use Rattle.pfx_program.specs.Reports.{IsAdded, first_of}
 use Rattle.pfx_program.specs.Script.{Run, Step, after, answered, carried, command_step, commands_of, course_from, job_by, moved, noted, refusal_of, refused, text_of, with_command}
 use Rattle.pfx_program.specs.declared.report.RefusedRecord.{RefusedRecord}
 use Rattle.pfx_program.specs.declared.report.Report.{Report}
 use Rattle.std.specs.Option.{option_or}
-use Rattle.pfx_program.specs.Sharing.{AreChanges, IsChange, AreAllDone, AreAllLeft, AreTold, Told, accepted_of}
+use Rattle.pfx_engine.specs.Sharing.{AreChanges, IsChange, AreAllDone, AreAllLeft, AreTold, Told, accepted_of}
 use Rattle.pfx_program.proofs.Appends.{appends-kept}
 use Rattle.pfx_program.proofs.Granting.{get_step}
 use Rattle.pfx_program.proofs.RunLemmas.{after_after, first_append, from_verb}
@@ -125,7 +125,7 @@ told_none r c f few refusal =
     ∙ ap (answered r c) refusal
 
 -- the steps of commands that are told so
-pub told_group : (r : Run) (H : List (Command AnyJob)) (told : List Told) → AreTold r.state H told → r.accepted + length H ≤ 1048576 → group_steps r H ≡ told_steps r.form H told
+pub told_group : (r : Run) (H : List (Command AnyJob)) (told : List Told) → AreTold any_kind r.state H told → r.accepted + length H ≤ 1048576 → group_steps r H ≡ told_steps r.form H told
 told_group r [] [] all few = group_none r
 told_group r [] (x ∷ told) all few = absurd all
 told_group r (c ∷ H) [] all few = absurd all
@@ -145,28 +145,28 @@ told_commands form (c ∷ H) [] = refl
 told_commands form (c ∷ H) (Ok x ∷ told) = ap (λ (l : List (Command AnyJob)). c ∷ l) (told_commands form H told)
 told_commands form (c ∷ H) (Err f ∷ told) = told_commands form H told
 
-told_long : (form : Form) (s : Plain AnyJob) (H : List (Command AnyJob)) (told : List Told) → AreTold s H told → length (told_steps form H told) ≡ length H
+told_long : (form : Form) (s : Plain AnyJob) (H : List (Command AnyJob)) (told : List Told) → AreTold any_kind s H told → length (told_steps form H told) ≡ length H
 told_long form s [] [] all = refl
 told_long form s [] (x ∷ told) all = absurd all
 told_long form s (c ∷ H) [] all = absurd all
 told_long form s (c ∷ H) (Ok x ∷ told) (accepted, next, more) = ap suc (told_long form (outcome any_kind s (c ∷ [])) H told more)
 told_long form s (c ∷ H) (Err f ∷ told) (refusal, more) = ap suc (told_long form s H told more)
 
-told_lines : (form : Form) (s : Plain AnyJob) (H : List (Command AnyJob)) (told : List Told) → AreTold s H told → text_of (told_steps form H told) ≡ told_text form told
+told_lines : (form : Form) (s : Plain AnyJob) (H : List (Command AnyJob)) (told : List Told) → AreTold any_kind s H told → text_of (told_steps form H told) ≡ told_text form told
 told_lines form s [] [] all = refl
 told_lines form s [] (x ∷ told) all = absurd all
 told_lines form s (c ∷ H) [] all = absurd all
 told_lines form s (c ∷ H) (Ok x ∷ told) (accepted, next, more) = ap (λ (l : List ℕ). told_line form (Ok x) ++ l) (told_lines form (outcome any_kind s (c ∷ [])) H told more)
 told_lines form s (c ∷ H) (Err f ∷ told) (refusal, more) = ap (λ (l : List ℕ). told_line form (Err f) ++ l) (told_lines form s H told more)
 
-pub told_counts : (s : Plain AnyJob) (H : List (Command AnyJob)) (told : List Told) → AreTold s H told → told_count told ≡ length (accepted_of H told)
+pub told_counts : (s : Plain AnyJob) (H : List (Command AnyJob)) (told : List Told) → AreTold any_kind s H told → told_count told ≡ length (accepted_of H told)
 told_counts s [] [] all = refl
 told_counts s [] (x ∷ told) all = absurd all
 told_counts s (c ∷ H) [] all = absurd all
 told_counts s (c ∷ H) (Ok x ∷ told) (accepted, next, more) = let rest = told_counts (outcome any_kind s (c ∷ [])) H told more in omega (arith, rest)
 told_counts s (c ∷ H) (Err f ∷ told) (refusal, more) = told_counts s H told more
 
-pub told_refused : (form : Form) (s : Plain AnyJob) (at : ℕ) (H : List (Command AnyJob)) (told : List Told) → AreTold s H told → group_refusals at (told_steps form H told) ≡ told_refusals at told
+pub told_refused : (form : Form) (s : Plain AnyJob) (at : ℕ) (H : List (Command AnyJob)) (told : List Told) → AreTold any_kind s H told → group_refusals at (told_steps form H told) ≡ told_refusals at told
 told_refused form s at [] [] all = refl
 told_refused form s at [] (x ∷ told) all = absurd all
 told_refused form s at (c ∷ H) [] all = absurd all
@@ -174,7 +174,7 @@ told_refused form s at (c ∷ H) (Ok x ∷ told) (accepted, next, more) = told_r
 told_refused form s at (c ∷ H) (Err f ∷ told) (refusal, more) = ap (λ (l : List RefusedRecord). record { at = at; fault = fault_of_machine f } ∷ l) (told_refused form s (at + 1) H told more)
 
 -- the step of the command behind some first ones
-pub told_split : (form : Form) (s : Plain AnyJob) (H : List (Command AnyJob)) (front : List Told) (x : Told) (back : List Told) → AreTold s H (front ++ x ∷ back)
+pub told_split : (form : Form) (s : Plain AnyJob) (H : List (Command AnyJob)) (front : List Told) (x : Told) (back : List Told) → AreTold any_kind s H (front ++ x ∷ back)
     → (printed : List Step) × (c : Command AnyJob) × (rest : List Step) × (told_steps form H (front ++ x ∷ back) ≡ printed ++ told_step form c x ∷ rest) × (text_of printed ≡ told_text form front)
 told_split form s [] [] x back all = absurd all
 told_split form s [] (y ∷ front) x back all = absurd all
@@ -441,7 +441,7 @@ gathers_more s script mid next group c row h (place, whole, took) (verb, means, 
 
 -- ---- a call that carries them out
 
-module _ {E : Type 0} (P : Promise E) (form : Form) (L : Laws P) where
+module _ {E : Type 0} (P : Promise AnyJob E) (form : Form) (L : Laws P) where
   -- steps that are carried out, of which a line wasn't written
   steps_unwritten : {most : ℕ} (steps printed rest : List Step) (x : Step) (a b : E) (u v w : Option (List ℕ)) (f : Fault) → steps ≡ printed ++ x ∷ rest → length steps ≤ most → P.state b ≡ outcome any_kind (P.state a) (commands_of steps)
       → P.keeps a (commands_of steps) (length (commands_of steps)) b → Appends u v (text_of printed) → LineFails x.text v w f → Stopped P most ⊥ steps a b u w f
@@ -467,7 +467,7 @@ module _ {E : Type 0} (P : Promise E) (form : Form) (L : Laws P) where
       because fault.NoMemory kept is = (inr is, appends-kept u v w (text_of printed) written kept)
       because other h is = absurd h
 
-  pub group_done : (H : List (Command AnyJob)) (told : List Told) (accepted : ℕ) (a b : E) (u v : Option (List ℕ)) → AreAllDone P H told a b → accepted + length H ≤ 1048576 → Appends u v (told_text form told)
+  pub group_done : (H : List (Command AnyJob)) (told : List Told) (accepted : ℕ) (a b : E) (u v : Option (List ℕ)) → AreAllDone any_kind P H told a b → accepted + length H ≤ 1048576 → Appends u v (told_text form told)
       → Carried P (group_steps (run_of P form a accepted) H) a b u v
   group_done H told accepted a b u v h few written =
       let is : group_steps (run_of P form a accepted) H ≡ told_steps form H told = told_group (run_of P form a accepted) H told h.answered few in
@@ -479,12 +479,12 @@ module _ {E : Type 0} (P : Promise E) (form : Form) (L : Laws P) where
         keeps = subst (λ (G : List (Command AnyJob)). P.keeps a G (length G) b) all h.keeps;
       })
 
-  pub group_counts : (H : List (Command AnyJob)) (told : List Told) (accepted : ℕ) (a b : E) → AreAllDone P H told a b → accepted + length H ≤ 1048576
+  pub group_counts : (H : List (Command AnyJob)) (told : List Told) (accepted : ℕ) (a b : E) → AreAllDone any_kind P H told a b → accepted + length H ≤ 1048576
       → told_count told ≡ length (commands_of (group_steps (run_of P form a accepted) H))
   group_counts H told accepted a b h few =
       told_counts (P.state a) H told h.answered ∙ ap length (sym (told_commands form H told)) ∙ ap (λ (l : List Step). length (commands_of l)) (sym (told_group (run_of P form a accepted) H told h.answered few))
 
-  pub group_added : (H : List (Command AnyJob)) (told : List Told) (before later : Report) (at : ℕ) (a b : E) → AreAllDone P H told a b → before.accepted + length H ≤ 1048576 → IsAdded before (told_count told) (told_refusals at told) later
+  pub group_added : (H : List (Command AnyJob)) (told : List Told) (before later : Report) (at : ℕ) (a b : E) → AreAllDone any_kind P H told a b → before.accepted + length H ≤ 1048576 → IsAdded before (told_count told) (told_refusals at told) later
       → IsAdded before (length (commands_of (group_steps (run_of P form a before.accepted) H))) (group_refusals at (group_steps (run_of P form a before.accepted) H)) later
   group_added H told before later at a b h few added =
       let is : group_steps (run_of P form a before.accepted) H ≡ told_steps form H told = told_group (run_of P form a before.accepted) H told h.answered few in
@@ -492,19 +492,19 @@ module _ {E : Type 0} (P : Promise E) (form : Form) (L : Laws P) where
       subst (λ (n : ℕ). IsAdded before n (group_refusals at (group_steps (run_of P form a before.accepted) H)) later) (group_counts H told before.accepted a b h few)
       (subst (λ (l : List RefusedRecord). IsAdded before (told_count told) l later) refusals added)
 
-  pub group_unwritten : (H : List (Command AnyJob)) (told : List Told) (accepted : ℕ) (a b : E) (u v : Option (List ℕ)) (f : Fault) → AreAllDone P H told a b → accepted + length H ≤ 1048576 → ToldFail form told u v f
+  pub group_unwritten : (H : List (Command AnyJob)) (told : List Told) (accepted : ℕ) (a b : E) (u v : Option (List ℕ)) (f : Fault) → AreAllDone any_kind P H told a b → accepted + length H ≤ 1048576 → ToldFail form told u v f
       → Stopped P (length H) ⊥ (group_steps (run_of P form a accepted) H) a b u v f
   group_unwritten H told accepted a b u v f h few fails =
       let is : group_steps (run_of P form a accepted) H ≡ told_steps form H told = told_group (run_of P form a accepted) H told h.answered few in
       let all : accepted_of H told ≡ commands_of (told_steps form H told) = sym (told_commands form H told) in
-      let (printed, c, rest, split, text) = told_split form (P.state a) H fails.printed fails.next fails.rest (subst (AreTold (P.state a) H) fails.split h.answered) in
+      let (printed, c, rest, split, text) = told_split form (P.state a) H fails.printed fails.next fails.rest (subst (AreTold any_kind (P.state a) H) fails.split h.answered) in
       let long = told_long form (P.state a) H told h.answered in
       subst (λ (l : List Step). Stopped P (length H) ⊥ l a b u v f) (sym is)
       (steps_unwritten (told_steps form H told) printed rest (told_step form c fails.next) a b u fails.behind v f (ap (told_steps form H) fails.split ∙ split) (omega (arith, long)) (h.state ∙ ap (outcome any_kind (P.state a)) all)
       (subst (λ (G : List (Command AnyJob)). P.keeps a G (length G) b) all h.keeps) (subst (λ (t : List ℕ). Appends u fails.behind t) (sym text) fails.written)
       (subst (λ (t : List ℕ). LineFails t fails.behind v f) (sym (step_line form c fails.next)) fails.fails))
 
-  pub group_left : (H : List (Command AnyJob)) (accepted : ℕ) (a b : E) (u : Option (List ℕ)) (f : Fault) → AreAllLeft P H a b → accepted + length H ≤ 1048576 → IsEngineFault P.faults (P.state a) f
+  pub group_left : (H : List (Command AnyJob)) (accepted : ℕ) (a b : E) (u : Option (List ℕ)) (f : Fault) → AreAllLeft any_kind P H a b → accepted + length H ≤ 1048576 → IsEngineFault P.faults (P.state a) f
       → Stopped P (length H) ⊥ (group_steps (run_of P form a accepted) H) a b u u f
   group_left H accepted a b u f h few why =
       let r : Run = run_of P form a accepted in
@@ -536,91 +536,6 @@ count_small [] = omega arith
 count_small (Ok x ∷ told) = let rest = count_small told in omega (arith, rest)
 count_small (Err f ∷ told) = let rest = count_small told in omega (arith, rest)
 
--- ---- commands that are run one after the other
-
--- and none of them takes memory
-change_takes : (c : Command AnyJob) → IsChange c → TakesMemory c → ⊥
-change_takes (Submit x job) change takes = takes
-change_takes (Withdraw x) change takes = takes
-change_takes Slot change takes = change
-change_takes (Reweigh workers weights) change takes = change
-
-pub change_refused : (s : Plain AnyJob) (c : Command AnyJob) (f : MachineFault) → IsChange c → IsFaultOf any_kind s c f → answer any_kind s c ≡ Err f
-change_refused s c f change fault = ap (answer_by (reply s c)) (fault.1 (λ same. change_takes c change (fault.0 same)))
-
-pub change_accepted : (s : Plain AnyJob) (c : Command AnyJob) (said : Reply) → refusal any_kind s c ≡ None → said ≡ reply s c → answer any_kind s c ≡ Ok said
-change_accepted s c said none is = ap (answer_by (reply s c)) none ∙ ap Ok (sym is)
-
-pub changes_at : (H : List (Command AnyJob)) (c : Command AnyJob) (rest : List (Command AnyJob)) → AreChanges (H ++ c ∷ rest) → IsChange c
-changes_at [] c rest (one, more) = one
-changes_at (d ∷ H) c rest (one, more) = changes_at H c rest more
-
-pub told_equal : (s : Plain AnyJob) (H : List (Command AnyJob)) (told : List Told) → AreTold s H told → length told ≡ length H
-told_equal s [] [] all = refl
-told_equal s [] (x ∷ told) all = absurd all
-told_equal s (c ∷ H) [] all = absurd all
-told_equal s (c ∷ H) (Ok x ∷ told) (accepted, next, more) = ap suc (told_equal (outcome any_kind s (c ∷ [])) H told more)
-told_equal s (c ∷ H) (Err f ∷ told) (refusal, more) = ap suc (told_equal s H told more)
-
-pub accepted_ok : (s : Plain AnyJob) (H : List (Command AnyJob)) (told : List Told) (c : Command AnyJob) (x : ℕ × Reply) → AreTold s H told → accepted_of (H ++ c ∷ []) (told ++ Ok x ∷ []) ≡ accepted_of H told ++ c ∷ []
-accepted_ok s [] [] c x all = refl
-accepted_ok s [] (y ∷ told) c x all = absurd all
-accepted_ok s (d ∷ H) [] c x all = absurd all
-accepted_ok s (d ∷ H) (Ok y ∷ told) c x (accepted, next, more) = ap (λ (l : List (Command AnyJob)). d ∷ l) (accepted_ok (outcome any_kind s (d ∷ [])) H told c x more)
-accepted_ok s (d ∷ H) (Err f ∷ told) c x (refusal, more) = accepted_ok s H told c x more
-
-pub accepted_err : (s : Plain AnyJob) (H : List (Command AnyJob)) (told : List Told) (c : Command AnyJob) (f : MachineFault) → AreTold s H told → accepted_of (H ++ c ∷ []) (told ++ Err f ∷ []) ≡ accepted_of H told
-accepted_err s [] [] c f all = refl
-accepted_err s [] (y ∷ told) c f all = absurd all
-accepted_err s (d ∷ H) [] c f all = absurd all
-accepted_err s (d ∷ H) (Ok y ∷ told) c f (accepted, next, more) = ap (λ (l : List (Command AnyJob)). d ∷ l) (accepted_err (outcome any_kind s (d ∷ [])) H told c f more)
-accepted_err s (d ∷ H) (Err g ∷ told) c f (refusal, more) = accepted_err s H told c f more
-
-pub told_ok : (s : Plain AnyJob) (H : List (Command AnyJob)) (told : List Told) (c : Command AnyJob) (x : ℕ × Reply) → AreTold s H told → answer any_kind (outcome any_kind s (accepted_of H told)) c ≡ Ok x.1
-    → x.0 ≡ (outcome any_kind s (accepted_of H told)).number + 1 → AreTold s (H ++ c ∷ []) (told ++ Ok x ∷ [])
-told_ok s [] [] c x all accepted next =
-    (subst (λ (t : Plain AnyJob). answer any_kind t c ≡ Ok x.1) (outcome-none any_kind s) accepted, subst (λ (t : Plain AnyJob). x.0 ≡ t.number + 1) (outcome-none any_kind s) next, tt)
-told_ok s [] (y ∷ told) c x all accepted next = absurd all
-told_ok s (d ∷ H) [] c x all accepted next = absurd all
-told_ok s (d ∷ H) (Ok y ∷ told) c x (one, number, more) accepted next =
-    let behind = sym (outcome-outcome any_kind any_laws s (d ∷ []) (accepted_of H told)) in
-    (one, number, told_ok (outcome any_kind s (d ∷ [])) H told c x more (subst (λ (t : Plain AnyJob). answer any_kind t c ≡ Ok x.1) behind accepted) (subst (λ (t : Plain AnyJob). x.0 ≡ t.number + 1) behind next))
-told_ok s (d ∷ H) (Err f ∷ told) c x (refusal, more) accepted next = (refusal, told_ok s H told c x more accepted next)
-
-pub told_err : (s : Plain AnyJob) (H : List (Command AnyJob)) (told : List Told) (c : Command AnyJob) (f : MachineFault) → AreTold s H told → answer any_kind (outcome any_kind s (accepted_of H told)) c ≡ Err f
-    → AreTold s (H ++ c ∷ []) (told ++ Err f ∷ [])
-told_err s [] [] c f all refused_by = (subst (λ (t : Plain AnyJob). answer any_kind t c ≡ Err f) (outcome-none any_kind s) refused_by, tt)
-told_err s [] (y ∷ told) c f all refused_by = absurd all
-told_err s (d ∷ H) [] c f all refused_by = absurd all
-told_err s (d ∷ H) (Ok y ∷ told) c f (one, number, more) refused_by =
-    let behind = sym (outcome-outcome any_kind any_laws s (d ∷ []) (accepted_of H told)) in
-    (one, number, told_err (outcome any_kind s (d ∷ [])) H told c f more (subst (λ (t : Plain AnyJob). answer any_kind t c ≡ Err f) behind refused_by))
-told_err s (d ∷ H) (Err g ∷ told) c f (refusal, more) refused_by = (refusal, told_err s H told c f more refused_by)
-
-pub change_next : (all gone : List (Command AnyJob)) (c : Command AnyJob) (rest left : List (Command AnyJob)) → AreChanges all → all ≡ gone ++ rest → rest ≡ c ∷ left → IsChange c
-change_next all gone c rest left h split step = changes_at gone c left (subst AreChanges (split ∙ ap (λ (l : List (Command AnyJob)). gone ++ l) step) h)
-
--- one command more was run on the state
-pub ran_ok : (s t u : Plain AnyJob) (H : List (Command AnyJob)) (told : List Told) (c : Command AnyJob) (x : ℕ × Reply) → AreTold s H told → t ≡ outcome any_kind s (accepted_of H told) → answer any_kind t c ≡ Ok x.1 → x.0 ≡ t.number + 1
-    → ((B : Plain AnyJob) (G : List (Command AnyJob)) → t ≡ outcome any_kind B G → u ≡ outcome any_kind B (G ++ c ∷ []))
-    → AreTold s (H ++ c ∷ []) (told ++ Ok x ∷ []) × (u ≡ outcome any_kind s (accepted_of (H ++ c ∷ []) (told ++ Ok x ∷ [])))
-ran_ok s t u H told c x h at accepted next step = (
-  told_ok s H told c x h (subst (λ (v : Plain AnyJob). answer any_kind v c ≡ Ok x.1) at accepted) (subst (λ (v : Plain AnyJob). x.0 ≡ v.number + 1) at next),
-  step s (accepted_of H told) at ∙ ap (outcome any_kind s) (sym (accepted_ok s H told c x h)),
-)
-
-pub ran_err : (s t u : Plain AnyJob) (H : List (Command AnyJob)) (told : List Told) (c : Command AnyJob) (f : MachineFault) → AreTold s H told → t ≡ outcome any_kind s (accepted_of H told) → answer any_kind t c ≡ Err f → u ≡ t
-    → AreTold s (H ++ c ∷ []) (told ++ Err f ∷ []) × (u ≡ outcome any_kind s (accepted_of (H ++ c ∷ []) (told ++ Err f ∷ [])))
-ran_err s t u H told c f h at refused_by kept = (
-  told_err s H told c f h (subst (λ (v : Plain AnyJob). answer any_kind v c ≡ Err f) at refused_by),
-  kept ∙ at ∙ ap (outcome any_kind s) (sym (accepted_err s H told c f h)),
-)
-
--- where none was accepted the state stays
-pub none_accepted : (s t : Plain AnyJob) (H : List (Command AnyJob)) → length H ≡ 0 → t ≡ outcome any_kind s H → t ≡ s
-none_accepted s t [] none at = at ∙ outcome-none any_kind s
-none_accepted s t (c ∷ H) none at = absurd (let no : suc (length H) ≡ 0 = none in omega (arith, no))
-
 -- the next command of a list that is gone over
 pub within : {A : Type 0} (all gone : List A) (x : A) (rest left : List A) → all ≡ gone ++ rest → rest ≡ x ∷ left → length gone < length all
 within all gone x rest left split step =
@@ -633,7 +548,7 @@ pub over : {A : Type 0} (all gone rest : List A) → all ≡ gone ++ rest → re
 over {A} all gone rest split none = sym (split ∙ ap (λ (l : List A). gone ++ l) none ∙ append-nil gone)
 
 -- a call that did nothing
-pub nothing_done : {E : Type 0} (P : Promise E) (H : List (Command AnyJob)) (a b : E) → IsSame P a b → AreAllLeft P H a b
+pub nothing_done : {E : Type 0} (P : Promise AnyJob E) (H : List (Command AnyJob)) (a b : E) → IsSame P a b → AreAllLeft any_kind P H a b
 nothing_done P H a b same = record {
   took = [];
   rest = H;

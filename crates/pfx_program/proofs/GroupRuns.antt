@@ -11,7 +11,7 @@ use Rattle.pfx_program.specs.declared.groups.Behind.{Behind}
 use Rattle.pfx_program.specs.declared.groups.Behind.TheVariants as left
 use Rattle.pfx_program.specs.Groups.{Gathers, IsBehind, IsStill, behind_group, group_refusals, group_steps}
 use Rattle.pfx_program.specs.OneRecord.{RowDone, RowFails}
-use Rattle.pfx_program.specs.Promises.{Promise, Laws, IsEngineFault, IsSame}
+use Rattle.pfx_engine.specs.Promises.{Promise, Laws, IsEngineFault, IsSame}
 use Rattle.pfx_program.specs.Running.{run_of, Carried, Ends, Runs, Stopped}
 use Rattle.std.specs.Option.{option_or}
 use Rattle.pfx_program.specs.Answers.{closed_line}
@@ -26,8 +26,9 @@ use Rattle.pfx_program.proofs.RunLemmas.{Goes, Noted, Progress, after_after, clo
 use Rattle.pfx_program.proofs.SlotLemmas.{slots_failed}
 use Rattle.pfx_program.proofs.StepLemmas.{carried_then, commands_append, same_state, stopped_after, stopped_anyway, stopped_before, stopped_wider}
 use Rattle.pfx_program.proofs.Appends.{appends-nothing}
+use Rattle.pfx_kinds.specs.AnyKind.{any_kind}
 
-module _ {E : Type 0} (P : Promise E) (form : Form) (at_refusal : AtRefusal) (L : Laws P) where
+module _ {E : Type 0} (P : Promise AnyJob E) (form : Form) (at_refusal : AtRefusal) (L : Laws P) where
   -- a call that changed nothing
   pub progress_same : (first script : Records) (a b c : E) (report : Report) (u v : Option (List ℕ)) → Progress P form at_refusal first script a b report u v → IsSame P b c → (P.settled b → P.settled c) → Progress P form at_refusal first script a c report u v
   progress_same first script a b c report u v h same settled = record {

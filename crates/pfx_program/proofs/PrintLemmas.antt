@@ -12,27 +12,28 @@ use Rattle.pfx_program.specs.declared.form.Form.{Form}
 use Rattle.pfx_program.specs.Answers.{closed_line}
 use Rattle.pfx_program.specs.Groups.{Gathers, behind_group, group_steps, told_line, told_text}
 use Rattle.pfx_program.specs.Printing.{MayPrint, MayRun, MayTell, Rule, line_of, lines_of}
-use Rattle.pfx_program.specs.Promises.{Promise, Laws, IsSame, slots_for}
+use Rattle.pfx_engine.specs.Promises.{Promise, Laws, IsSame, slots_for}
 use Rattle.pfx_program.specs.Running.{run_of, ran_step, ran_steps, Carried}
 use Rattle.pfx_fault.specs.declared.refusals.Fault.{Fault}
 use Rattle.pfx_program.specs.Script.{Run, Step, after, at_start, commands_of, course_from, moved, refusal_of, shown, silent, taken, text_of, verb_steps}
 use Rattle.pfx_program.specs.declared.report.AtRefusal.{AtRefusal}
 use Rattle.pfx_program.specs.declared.report.AtRefusal.TheVariants.{GoOn, End}
 use Rattle.pfx_program.specs.declared.report.Report.{Report}
-use Rattle.pfx_program.specs.Sharing.{AreTold, Told, accepted_of}
+use Rattle.pfx_engine.specs.Sharing.{AreTold, Told, accepted_of}
 use Rattle.pfx_program.proofs.Appends.{appends-nothing}
 use Rattle.pfx_program.proofs.GroupLemmas.{step_line, told_commands, told_group, told_split, told_step, told_steps}
 use Rattle.pfx_program.proofs.GroupRuns.{MayShare, progress_same, taken_group}
 use Rattle.pfx_program.proofs.RunLemmas.{Progress, from_none, from_verb, taken_none, taken_refused, taken_row}
 use Rattle.pfx_program.proofs.SlotLemmas.{ran_append, ran_commands}
 use Rattle.pfx_program.proofs.StepLemmas.{commands_append, same_state, then_text}
+use Rattle.pfx_kinds.specs.AnyKind.{any_kind}
 
 -- the entry that comes next
 pub next_split : {A : Type 0} (xs : List A) (i : ℕ) (x : A) → i < length xs → x ≡ get_or xs i x → xs ≡ take i xs ++ x ∷ drop (i + 1) xs
 next_split xs i x within is =
     sym (take-append-drop (i + 1) xs) ∙ ap (λ l. l ++ drop (i + 1) xs) (take_more xs i x within ∙ ap (λ y. take i xs ++ y ∷ []) (sym is)) ∙ append_assoc (take i xs) (x ∷ []) (drop (i + 1) xs)
 
-module _ {E : Type 0} (P : Promise E) (L : Laws P) (allows : Rule E) where
+module _ {E : Type 0} (P : Promise AnyJob E) (L : Laws P) (allows : Rule E) where
   -- the first of some steps, once its command is kept
   pub may_show : (a b : E) (was : Option (List ℕ)) (x : Step) (more : List Step) → MayPrint P allows a was (x ∷ more) → P.keeps a (commands_of (x ∷ [])) (length (commands_of (x ∷ []))) b → allows b was x.text
   may_show a b was x more h kept = h [] x [] more refl b kept was (appends-nothing was)
@@ -90,10 +91,10 @@ module _ {E : Type 0} (P : Promise E) (L : Laws P) (allows : Rule E) where
       (kept_first a b (ran_steps form front) (ran_step form x) (ran_steps form back) (subst (λ (H : List (Command AnyJob)). P.keeps a H (length H) b) commands (subst (λ (n : ℕ). P.keeps a (slots_for said) n b) (sym long) kept))) shows text
 
   -- the lines of commands that were told something
-  pub may_told : (a b : E) (was : Option (List ℕ)) (form : Form) (s : Plain AnyJob) (H : List (Command AnyJob)) (told : List Told) (steps : List Step) → steps ≡ told_steps form H told → AreTold s H told → MayPrint P allows a was steps
+  pub may_told : (a b : E) (was : Option (List ℕ)) (form : Form) (s : Plain AnyJob) (H : List (Command AnyJob)) (told : List Told) (steps : List Step) → steps ≡ told_steps form H told → AreTold any_kind s H told → MayPrint P allows a was steps
       → P.keeps a (accepted_of H told) (length (accepted_of H told)) b → MayTell allows b was (told_line form) (told_text form) told
   may_told a b was form s H told steps is answered h kept front x back split shows text =
-      let (printed, c, rest, at, lines) = told_split form s H front x back (subst (λ (l : List Told). AreTold s H l) split answered) in
+      let (printed, c, rest, at, lines) = told_split form s H front x back (subst (λ (l : List Told). AreTold any_kind s H l) split answered) in
       let all : told_steps form H told ≡ printed ++ told_step form c x ∷ rest = ap (told_steps form H) split ∙ at in
       let commands : accepted_of H told ≡ commands_of (printed ++ told_step form c x ∷ rest) = sym (told_commands form H told) ∙ ap commands_of all in
       subst (λ (l : List ℕ). allows b shows l) (step_line form c x)

@@ -16,11 +16,11 @@ use Rattle.pfx_program.specs.declared.groups.Joining.TheVariants as joining
 use Rattle.pfx_program.specs.Answers.{reply_line, refused_line}
 use Rattle.pfx_program.specs.Faults.{fault_of_machine}
 use Rattle.pfx_program.specs.Grants.{counted, is_next}
-use Rattle.pfx_program.specs.Promises.{IsEngineFault}
+use Rattle.pfx_engine.specs.Promises.{IsEngineFault}
 use Rattle.pfx_program.specs.Running.{LineFails}
 use Rattle.pfx_program.specs.Script.{Run, Step, after, command_step, commands_of, course_from, moved, noted, verb_steps}
 use Rattle.pfx_program.specs.declared.report.RefusedRecord.{RefusedRecord}
-use Rattle.pfx_program.specs.Sharing.{IsChange, Told}
+use Rattle.pfx_engine.specs.Sharing.{IsChange, Told}
 
 -- the steps of commands, one after the other
 unfoldable pub group_steps : Run → List (Command AnyJob) → List Step

@@ -4,11 +4,10 @@ ghost use Rattle.std.specs.Prelude.{◌≡◌, ◌==◌, if◌then◌else◌, If
 ghost use Rattle.pfx_kinds.specs.Starts.{any_start};
 ghost use Rattle.pfx_kinds.specs.Units.{unit_of, is_behind, last_by};
 ghost use Rattle.pfx_program.specs.Grants.{counted, counted_by, is_next, is_taken_by};
-ghost use Rattle.pfx_program.specs.Promises.{IsSame, IsEngineFault};
+ghost use Rattle.pfx_engine.specs.Promises.{IsSame, IsEngineFault};
 ghost use Rattle.pfx_program.specs.Script.{job_by};
 
-use crate::engine::Engine;
-use crate::place::Place;
+use pfx_engine::{Engine, Place};
 use pfx_fault::Fault;
 use pfx_kinds::any::AnyJob;
 use pfx_kinds::own::Own;
@@ -43,7 +42,7 @@ fn is_behind(from: u64, place: &Option<AnyJob>, unit: u64) -> bool
 }
 
 // Whether a unit's answer is taken, by what its task has.
-fn is_taken(place: &Option<Place>, unit: u64) -> bool
+fn is_taken(place: &Option<Place<AnyJob>>, unit: u64) -> bool
     ensures { result ≡ is_taken_by place.now unit }
 {
     match place {
@@ -53,7 +52,7 @@ fn is_taken(place: &Option<Place>, unit: u64) -> bool
 }
 
 // Counts an answer in the weights in force, by what its task has.
-fn count(place: &Option<Place>, job: &mut AnyJob)
+fn count(place: &Option<Place<AnyJob>>, job: &mut AnyJob)
     ensures { job.new ≡ counted_by place.now job.old }
 {
     if let (Some(place), AnyJob::Own(answer)) = (place, job) {
@@ -63,7 +62,7 @@ fn count(place: &Option<Place>, job: &mut AnyJob)
 
 // Whether the machine may be asked to give a task this job: an answer, only if it is of the next unit that the task was given. The
 // answer counts in the weights in force then.
-pub(crate) fn is_next<E: Engine>(
+pub(crate) fn is_next<E: Engine<AnyJob>>(
     alloc: Global,
     task: u16,
     job: &mut AnyJob,

@@ -12,19 +12,19 @@ ghost use Rattle.csv.specs.Records.{fields_of, AllText};
 ghost use Rattle.pfx_program.specs.Groups.{touches, Avoid, HasNotFailed, IsBehind, IsGiven, IsJoining, IsStill, ToldFail, group_refusals, group_steps, told_count, told_line, told_refusals, told_text};
 ghost use Rattle.pfx_program.specs.Reports.{IsAdded};
 ghost use Rattle.pfx_program.specs.Printing.{MayPrint, MayTell};
-ghost use Rattle.pfx_program.specs.Promises.{IsSame};
+ghost use Rattle.pfx_engine.specs.Promises.{IsSame};
 ghost use Rattle.pfx_program.specs.Running.{run_of, Carried, Stopped};
 ghost use Rattle.pfx_program.specs.Script.{commands_of};
-ghost use Rattle.pfx_program.specs.Sharing.{AreChanges};
+ghost use Rattle.pfx_engine.specs.Sharing.{AreChanges};
 
 use crate::Form;
-use crate::engine::{Engine, Told};
 use crate::faults::machine_fault;
 use crate::grants::{is_next, started};
 use crate::printer::Printer;
 use crate::report::Report;
 use crate::writing::{put_reply, refuse};
 use csv::StringRecord;
+use pfx_engine::{Engine, Told};
 use pfx_fault::Fault;
 use pfx_kinds::any::AnyJob;
 use pfx_machine::Command;
@@ -90,7 +90,12 @@ fn has_task(group: &[Command<AnyJob>], task: u16) -> bool
 }
 
 // Whether a job for a task joins a group; an answer, only if it is of the next unit that the task was given.
-fn joining_job<E: Engine>(alloc: Global, task: u16, mut job: AnyJob, engine: &mut E) -> Joining
+fn joining_job<E: Engine<AnyJob>>(
+    alloc: Global,
+    task: u16,
+    mut job: AnyJob,
+    engine: &mut E,
+) -> Joining
     ensures joins { IsGiven E.promise.faults (E.promise.state engine.old) task job result }
     ensures settled { HasNotFailed result → E.promise.settled engine.old → E.promise.settled engine.new }
     ensures same { IsSame E.promise engine.old engine.new }
@@ -104,7 +109,7 @@ fn joining_job<E: Engine>(alloc: Global, task: u16, mut job: AnyJob, engine: &mu
 
 // Whether the record that was read joins a group of less than `most` commands: it gives a job to a task that no command of the group
 // is of, or takes one away, so that what it asks for is the same behind them as before.
-fn joining_row<E: Engine>(
+fn joining_row<E: Engine<AnyJob>>(
     alloc: Global,
     row: &StringRecord,
     most: u32,
@@ -140,7 +145,7 @@ fn joining_row<E: Engine>(
 
 /// Reads the next record and, as long as they join it, those that stand ready behind it, up to `most`: their commands, none of
 /// which was carried out, and what stands behind them. Only the first one is waited for.
-pub(crate) fn gather<R: Read + Drop, E: Engine>(
+pub(crate) fn gather<R: Read + Drop, E: Engine<AnyJob>>(
     alloc: Global,
     script: &mut Script<R>,
     row: &mut StringRecord,
@@ -230,7 +235,7 @@ fn put_told<W: Printer<E>, E>(
 
 /// Carries the commands of a group out in one call of the engine, prints their lines once all that were accepted are kept, and reports
 /// of them. `from` is the place of the record before the first one's.
-pub(crate) fn run_group<W: Printer<E>, E: Engine>(
+pub(crate) fn run_group<W: Printer<E>, E: Engine<AnyJob>>(
     alloc: Global,
     group: Vec<Command<AnyJob>>,
     from: u64,

@@ -50,6 +50,15 @@ pub trait Service {
     /// Asks.
     fn ask<R: Wait>(&self, rt: &R, alloc: Global, pass: &mut Self::Pass, ask: Ask) -> Answer;
 
+    /// Asks: whether it is accepted, and whether the client is said to be the only one. `None` if there was no memory to ask.
+    fn hears<R: Wait>(
+        &self,
+        rt: &R,
+        alloc: Global,
+        pass: &mut Self::Pass,
+        ask: Ask,
+    ) -> Option<(bool, bool)>;
+
     /// Waits for the receipt of what was accepted last: whether it has that number, and came at a moment that its clock had
     /// reached. `None` if nothing was accepted.
     fn settle<R: Wait>(&self, rt: &R, pass: &mut Self::Pass) -> Option<Result<bool, CallFault>>;
@@ -155,6 +164,18 @@ where
     fn ask<R: Wait>(&self, rt: &R, alloc: Global, pass: &mut Pass<AnyJob, B>, ask: Ask) -> Answer {
         let command = command_of(alloc, ask)?;
         Some(self.call(rt, pass, command))
+    }
+
+    fn hears<R: Wait>(
+        &self,
+        rt: &R,
+        alloc: Global,
+        pass: &mut Pass<AnyJob, B>,
+        ask: Ask,
+    ) -> Option<(bool, bool)> {
+        let command = command_of(alloc, ask)?;
+        let heard = self.hear(rt, pass, command);
+        Some((heard.said.is_ok(), heard.sole))
     }
 
     fn settle<R: Wait>(

@@ -7,11 +7,11 @@ use crate::sessions::{Session, Visit, in_memory};
 use std::alloc::Global;
 use std::sync::Wait;
 
-/// Whether two Submits and a slot are accepted. None of them is waited for.
+/// Whether two Submits and a slot are accepted, the slot of the only client. None of them is waited for.
 fn are_accepted<F: Service, R: Wait>(rt: &R, alloc: Global, front: &F, pass: &mut F::Pass) -> bool {
     let first = is_accepted(&front.ask(rt, alloc, pass, Ask::Submit { task: 0 }));
     let second = is_accepted(&front.ask(rt, alloc, pass, Ask::Submit { task: 2 }));
-    let slot = is_accepted(&front.ask(rt, alloc, pass, Ask::Slot));
+    let slot = front.hears(rt, alloc, pass, Ask::Slot) == Some((true, true));
     first && second && slot
 }
 
@@ -23,11 +23,18 @@ fn is_copied<F: Service, R: Wait>(rt: &R, front: &F, pass: &mut F::Pass) -> bool
     state == Some(Some((3, [Some(4), None, Some(5)]))) && board == Some(Some((3, 2)))
 }
 
-/// Whether the client is given neither.
-fn is_told_nothing<F: Service, R: Wait>(rt: &R, front: &F, pass: &mut F::Pass) -> bool {
+/// Whether the client is given neither, and with a refusal hears that it isn't the only one.
+fn is_told_nothing<F: Service, R: Wait>(
+    rt: &R,
+    alloc: Global,
+    front: &F,
+    pass: &mut F::Pass,
+) -> bool {
+    let heard = front.hears(rt, alloc, pass, Ask::Withdraw { task: 1 });
     let state = front.copied(rt, pass);
     let board = front.boarded(rt, pass);
-    state == Some(None) && board == Some(None) && !front.is_alone(rt, pass)
+    let others = state == Some(None) && board == Some(None) && heard == Some((false, false));
+    others && !front.is_alone(rt, pass)
 }
 
 /// Whether the only client is given a copy of its state, and one of two clients none.
@@ -37,7 +44,7 @@ pub fn visit<F: Service, R: Wait>(rt: &R, alloc: Global, front: &F) -> Option<Vi
     let accepted = are_accepted(rt, alloc, front, &mut first);
     let copied = is_copied(rt, front, &mut first);
     let second = front.admit(rt)?;
-    let refused = is_told_nothing(rt, front, &mut first);
+    let refused = is_told_nothing(rt, alloc, front, &mut first);
     let mut passes = Vec::new(alloc);
     passes.push(first).ok()?;
     passes.push(second).ok()?;

@@ -24,14 +24,14 @@ fn disk_of(alloc: Global, bytes: &[u8]) -> Option<MemoryDisk> {
 }
 
 /// The engine over a new store.
-fn begun(alloc: Global) -> Option<StoreEngine<MemoryDisk>> {
+fn begun(alloc: Global) -> Option<StoreEngine<MemoryDisk, AnyJob>> {
     let set = TaskSet::new(alloc, 2, &[(2, 3), (2, 3), (2, 3)]).ok()?;
     let store = Store::init(alloc, disk_of(alloc, &[])?, &set, 8192).ok()?;
     DurableEngine::new(alloc, store).ok()
 }
 
 /// The engine after so many slots.
-fn behind_slots(alloc: Global, count: u32) -> Option<StoreEngine<MemoryDisk>> {
+fn behind_slots(alloc: Global, count: u32) -> Option<StoreEngine<MemoryDisk, AnyJob>> {
     let mut engine = begun(alloc)?;
     for _ in 0..count {
         engine.execute(alloc, Command::Slot).ok()?;

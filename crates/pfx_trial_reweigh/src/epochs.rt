@@ -2,11 +2,10 @@
 
 use crate::check::{check, check_at, check_pair};
 use pfx_disk::{Disk, Fate, MemoryDisk};
-use pfx_engine::{DurableEngine, StoreEngine};
+use pfx_engine::{CallFault, DurableEngine, StoreEngine};
 use pfx_jobs::job::Job;
 use pfx_kinds::any::AnyJob;
 use pfx_machine::{Command, MachineFault, Reply};
-use pfx_program::CallFault;
 use pfx_store::Store;
 use pfx_weights::{SetFault, TaskSet, Weights};
 use std::alloc::Global;
@@ -19,7 +18,7 @@ fn begun(
     segment: u32,
     len: usize,
     room: usize,
-) -> Option<StoreEngine<MemoryDisk>> {
+) -> Option<StoreEngine<MemoryDisk, AnyJob>> {
     let disk = MemoryDisk::new(alloc, &[], len, 1000, room).ok()?;
     let set = TaskSet::new(alloc, workers, weights).ok()?;
     let store = Store::init(alloc, disk, &set, segment).ok()?;
@@ -33,12 +32,12 @@ const SINGLE: [(u32, u32); 3] = [(1, 3), (1, 3), (1, 3)];
 const DOUBLE: [(u32, u32); 3] = [(2, 3), (2, 3), (2, 3)];
 
 /// The engine over the store of three tasks of 2/3 on two workers, with segments of 8,192 bytes.
-fn thirds(alloc: Global) -> Option<StoreEngine<MemoryDisk>> {
+fn thirds(alloc: Global) -> Option<StoreEngine<MemoryDisk, AnyJob>> {
     begun(alloc, 2, &DOUBLE, 8192, 19395, 60_000)
 }
 
 /// The engine over the store that a disk holds.
-fn opened(alloc: Global, disk: MemoryDisk) -> Option<StoreEngine<MemoryDisk>> {
+fn opened(alloc: Global, disk: MemoryDisk) -> Option<StoreEngine<MemoryDisk, AnyJob>> {
     DurableEngine::new(alloc, Store::open(alloc, disk).ok()?).ok()
 }
 
@@ -52,7 +51,7 @@ fn reweigh(alloc: Global, workers: u32, weights: &[(u32, u32)]) -> Option<Comman
 }
 
 /// Whether so many slots are carried out.
-fn runs(alloc: Global, slots: u32, engine: &mut StoreEngine<MemoryDisk>) -> bool {
+fn runs(alloc: Global, slots: u32, engine: &mut StoreEngine<MemoryDisk, AnyJob>) -> bool {
     for _slot in 0..slots {
         if engine.execute(alloc, Command::Slot).is_err() {
             return false;
@@ -62,7 +61,12 @@ fn runs(alloc: Global, slots: u32, engine: &mut StoreEngine<MemoryDisk>) -> bool
 }
 
 /// Whether the next slot is this one, with this row.
-fn ran(alloc: Global, slot: u64, row: &[u16], engine: &mut StoreEngine<MemoryDisk>) -> bool {
+fn ran(
+    alloc: Global,
+    slot: u64,
+    row: &[u16],
+    engine: &mut StoreEngine<MemoryDisk, AnyJob>,
+) -> bool {
     match engine.execute(alloc, Command::Slot) {
         Ok(
             (
@@ -87,7 +91,7 @@ struct Kept {
 }
 
 /// Whether the last command is this one, with the set of so many workers in force from its slot on.
-fn is_in_force(engine: &StoreEngine<MemoryDisk>, workers: u32, kept: &Kept) -> bool {
+fn is_in_force(engine: &StoreEngine<MemoryDisk, AnyJob>, workers: u32, kept: &Kept) -> bool {
     let store = engine.keeper.state();
     store.number() == kept.number
         && store.from() == kept.from
@@ -102,7 +106,7 @@ fn takes(
     workers: u32,
     weights: &[(u32, u32)],
     kept: &Kept,
-    engine: &mut StoreEngine<MemoryDisk>,
+    engine: &mut StoreEngine<MemoryDisk, AnyJob>,
 ) -> bool {
     let wanted = engine.keeper.disk().clock().saturating_add(kept.calls);
     let Some(command) = reweigh(alloc, workers, weights) else {
@@ -125,7 +129,7 @@ fn refuses(
     workers: u32,
     weights: &[(u32, u32)],
     fault: MachineFault,
-    engine: &mut StoreEngine<MemoryDisk>,
+    engine: &mut StoreEngine<MemoryDisk, AnyJob>,
 ) -> bool {
     let clock = engine.keeper.disk().clock();
     let number = engine.state.number();
@@ -162,7 +166,7 @@ fn has_frame(disk: &mut MemoryDisk) -> bool {
 }
 
 /// Whether the first slots are run, and new weights come into force behind the third, and not before.
-fn begins(alloc: Global, engine: &mut StoreEngine<MemoryDisk>) -> bool {
+fn begins(alloc: Global, engine: &mut StoreEngine<MemoryDisk, AnyJob>) -> bool {
     let unlevel = MachineFault::NotLevel { task: 0 };
     let kept = Kept {
         number: 4,
@@ -178,7 +182,7 @@ fn begins(alloc: Global, engine: &mut StoreEngine<MemoryDisk>) -> bool {
 }
 
 /// Whether it goes on so, with the old weights again from the sixth slot on.
-fn goes_on(alloc: Global, engine: &mut StoreEngine<MemoryDisk>) -> bool {
+fn goes_on(alloc: Global, engine: &mut StoreEngine<MemoryDisk, AnyJob>) -> bool {
     let kept = Kept {
         number: 8,
         from: 6,
@@ -208,7 +212,7 @@ fn new_weights_come_into_force(rt: HostRuntime) {
 }
 
 /// Whether the tests come in their order, each with the disk left alone.
-fn refuses_in_order(alloc: Global, engine: &mut StoreEngine<MemoryDisk>) -> bool {
+fn refuses_in_order(alloc: Global, engine: &mut StoreEngine<MemoryDisk, AnyJob>) -> bool {
     let count = MachineFault::WrongCount;
     let unlevel = MachineFault::NotLevel { task: 0 };
     let workers = MachineFault::NoSet(SetFault::BadWorkers);
@@ -258,7 +262,7 @@ fn left_by(number: u64) -> (u64, u64, u32) {
 }
 
 /// Three slots, two Reweighs at one slot, and a slot.
-fn six_commands(alloc: Global) -> Option<StoreEngine<MemoryDisk>> {
+fn six_commands(alloc: Global) -> Option<StoreEngine<MemoryDisk, AnyJob>> {
     let mut engine = thirds(alloc)?;
     let one = Kept {
         number: 4,
@@ -308,7 +312,7 @@ fn count(steps: u64) -> Option<AnyJob> {
 }
 
 /// Whether a job is given to the first task.
-fn submit(alloc: Global, steps: u64, engine: &mut StoreEngine<MemoryDisk>) -> bool {
+fn submit(alloc: Global, steps: u64, engine: &mut StoreEngine<MemoryDisk, AnyJob>) -> bool {
     match count(steps) {
         Some(job) => engine
             .execute(alloc, Command::Submit { task: 0, job })
@@ -318,7 +322,7 @@ fn submit(alloc: Global, steps: u64, engine: &mut StoreEngine<MemoryDisk>) -> bo
 }
 
 /// The engine at a level slot over the least segments, one of which has so few bytes left that the frame of new weights doesn't fit.
-fn nearly_full(alloc: Global) -> Option<StoreEngine<MemoryDisk>> {
+fn nearly_full(alloc: Global) -> Option<StoreEngine<MemoryDisk, AnyJob>> {
     let mut engine = begun(alloc, 2, &DOUBLE, 4233, 11477, 60_000)?;
     let holds = submit(alloc, 1, &mut engine)
         && engine.execute(alloc, Command::Withdraw { task: 0 }).is_ok()
@@ -377,7 +381,7 @@ fn over_many(
     alloc: Global,
     weights: &[(u32, u32)],
     is_longer: bool,
-) -> Option<StoreEngine<MemoryDisk>> {
+) -> Option<StoreEngine<MemoryDisk, AnyJob>> {
     if is_longer {
         return begun(alloc, 1, weights, 8219, 323707, 1_500_000);
     }
@@ -423,7 +427,7 @@ fn many_tasks_of_one_worker(rt: HostRuntime) {
 }
 
 /// How many steps the first task's job has left.
-fn steps_left(engine: &StoreEngine<MemoryDisk>) -> Option<u32> {
+fn steps_left(engine: &StoreEngine<MemoryDisk, AnyJob>) -> Option<u32> {
     let state = engine.keeper.state();
     if state.jobs().is_empty() {
         return None;

@@ -3,17 +3,16 @@
 
 use crate::folds::{SEGMENT, is_state, thirds};
 use pfx_disk::{Disk, Fate, MemoryDisk};
-use pfx_engine::{DurableEngine, StoreEngine};
+use pfx_engine::{CallFault, DurableEngine, StoreEngine};
 use pfx_kinds::any::AnyJob;
 use pfx_machine::Command;
-use pfx_program::CallFault;
 use pfx_replay::PlainState;
 use pfx_store::Store;
 use pfx_store_file::StoreFault;
 use std::alloc::Global;
 
 /// The engine over a store in memory.
-pub type MemoryEngine = StoreEngine<MemoryDisk>;
+pub type MemoryEngine = StoreEngine<MemoryDisk, AnyJob>;
 
 /// A disk that may be stopped.
 pub trait Stopped: Drop {
@@ -76,13 +75,13 @@ pub trait Engine<D>: Drop {
     fn broken(self, calls: u64) -> (bool, D);
 }
 
-impl<D: Disk + Drop> Engine<D> for StoreEngine<D> {
-    fn begun(alloc: Global, disk: D) -> Option<StoreEngine<D>> {
+impl<D: Disk + Drop> Engine<D> for StoreEngine<D, AnyJob> {
+    fn begun(alloc: Global, disk: D) -> Option<StoreEngine<D, AnyJob>> {
         let store = Store::init(alloc, disk, &thirds(alloc)?, SEGMENT).ok()?;
         DurableEngine::new(alloc, store).ok()
     }
 
-    fn opened(alloc: Global, disk: D) -> Option<StoreEngine<D>> {
+    fn opened(alloc: Global, disk: D) -> Option<StoreEngine<D, AnyJob>> {
         DurableEngine::new(alloc, Store::open(alloc, disk).ok()?).ok()
     }
 

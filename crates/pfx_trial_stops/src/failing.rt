@@ -5,17 +5,16 @@ use crate::courses::Course;
 use crate::engines::{Engine, MemoryEngine, Stopped};
 use crate::folds::{CALLS, COMMANDS, Fold, MADE, command, empty, folds};
 use pfx_disk::{Disk, FaultDisk, MemoryDisk};
-use pfx_engine::StoreEngine;
+use pfx_engine::{CallFault, StoreEngine};
 use pfx_fault::{Cause, Fault};
 use pfx_kinds::any::AnyJob;
 use pfx_machine::Command;
-use pfx_program::CallFault;
 use pfx_recover::OpenFault;
 use pfx_store::Store;
 use std::alloc::Global;
 
 /// The engine over a store on a disk that fails.
-type FaultEngine = StoreEngine<FaultDisk<MemoryDisk>>;
+type FaultEngine = StoreEngine<FaultDisk<MemoryDisk>, AnyJob>;
 
 /// How many calls an opening of the disk after the run takes.
 const OPENING: u64 = 9;

@@ -20,22 +20,25 @@ pub fn new_store<D: Disk + Drop>(alloc: Global, disk: D, segment: u32) -> Option
 }
 
 /// The engine over a store.
-pub fn over<D: Disk + Drop>(alloc: Global, store: Store<D, AnyJob>) -> Option<StoreEngine<D>> {
+pub fn over<D: Disk + Drop>(
+    alloc: Global,
+    store: Store<D, AnyJob>,
+) -> Option<StoreEngine<D, AnyJob>> {
     DurableEngine::new(alloc, store).ok()
 }
 
 /// The engine over a new store with segments of 8,192 bytes.
-pub fn begun<D: Disk + Drop>(alloc: Global, disk: D) -> Option<StoreEngine<D>> {
+pub fn begun<D: Disk + Drop>(alloc: Global, disk: D) -> Option<StoreEngine<D, AnyJob>> {
     over(alloc, new_store(alloc, disk, 8192)?)
 }
 
 /// The engine over a new store on a disk in memory, with room for so many calls.
-pub fn in_memory(alloc: Global, calls: usize) -> Option<StoreEngine<MemoryDisk>> {
+pub fn in_memory(alloc: Global, calls: usize) -> Option<StoreEngine<MemoryDisk, AnyJob>> {
     begun(alloc, empty(alloc, calls)?)
 }
 
 /// The engine over the store that a disk holds.
-pub fn opened<D: Disk + Drop>(alloc: Global, disk: D) -> Option<StoreEngine<D>> {
+pub fn opened<D: Disk + Drop>(alloc: Global, disk: D) -> Option<StoreEngine<D, AnyJob>> {
     over(alloc, Store::open(alloc, disk).ok()?)
 }
 

@@ -3,12 +3,13 @@
 use crate::check::{check, check_pair};
 use crate::engines::{begun, empty, in_memory, opened};
 use pfx_disk::{Disk, FaultDisk, FileDisk, MemoryDisk};
-use pfx_engine::{StoreEngine, laws};
+use pfx_engine::{CallFault, Engine, StoreEngine, laws};
 use pfx_fault::{Cause, Fault};
+use pfx_kinds::any::AnyJob;
 use pfx_kit::places::END;
 use pfx_kit::week::{FIRST_WEEK, SECOND_WEEK, WEEK};
 use pfx_machine::{Command, Reply};
-use pfx_program::{AtRefusal, CallFault, Engine, Form, run_script};
+use pfx_program::{AtRefusal, Form, run_script};
 use pfx_script::Script;
 use std::alloc::Global;
 use std::fs::{File, OpenOptions};
@@ -19,7 +20,7 @@ use std::{env, fs, process};
 fn prints<D: Disk>(
     alloc: Global,
     script: &str,
-    engine: &mut StoreEngine<D>,
+    engine: &mut StoreEngine<D, AnyJob>,
     wanted: &str,
     end: Option<Fault>,
 ) -> bool {
@@ -53,7 +54,7 @@ fn a_second_run_goes_on(rt: HostRuntime) {
         prints(alloc, WEEK, &mut engine, SECOND_WEEK, None),
         "second",
     );
-    laws::frames_lead_to_outcomes();
+    laws::frames_lead_to_outcomes::<AnyJob>();
 }
 
 #[test]
@@ -193,7 +194,7 @@ fn segments_are_turned(rt: HostRuntime) {
 }
 
 /// Whether a slot's mark has the number 1 and the disk's clock, and its reply is of slot 0.
-fn slot_is_marked(alloc: Global, mut engine: StoreEngine<MemoryDisk>) -> bool {
+fn slot_is_marked(alloc: Global, mut engine: StoreEngine<MemoryDisk, AnyJob>) -> bool {
     match engine.execute(alloc, Command::Slot) {
         Ok((mark, Reply::Ran { slot: 0, row: _ })) => {
             engine.last_kept() == Ok(1)
@@ -227,7 +228,11 @@ const MADE: u64 = 11;
 const APPENDED: u64 = 4;
 
 /// The engine on a disk whose call k after the making fails, with its work done or not.
-fn faulty(alloc: Global, k: u64, works: bool) -> Option<StoreEngine<FaultDisk<MemoryDisk>>> {
+fn faulty(
+    alloc: Global,
+    k: u64,
+    works: bool,
+) -> Option<StoreEngine<FaultDisk<MemoryDisk>, AnyJob>> {
     let call = MADE.saturating_add(k);
     let memory = empty(alloc, 200)?;
     let disk = match works {
@@ -240,7 +245,7 @@ fn faulty(alloc: Global, k: u64, works: bool) -> Option<StoreEngine<FaultDisk<Me
 /// Whether the engine has failed so, whatever is asked.
 fn stays_failed(
     alloc: Global,
-    engine: &mut StoreEngine<FaultDisk<MemoryDisk>>,
+    engine: &mut StoreEngine<FaultDisk<MemoryDisk>, AnyJob>,
     fault: Fault,
 ) -> bool {
     let is_settled = engine.settled(alloc) == Err(fault);
@@ -253,7 +258,7 @@ fn stays_failed(
 }
 
 /// Whether what was answered survives, and at most the command that failed with it.
-fn keeps(alloc: Global, engine: StoreEngine<FaultDisk<MemoryDisk>>, marked: u64) -> bool {
+fn keeps(alloc: Global, engine: StoreEngine<FaultDisk<MemoryDisk>, AnyJob>, marked: u64) -> bool {
     match opened(alloc, engine.into_keeper().into_disk().into_inner()) {
         Some(again) => match again.last_kept() {
             Ok(kept) => marked <= kept && kept - marked <= 1,

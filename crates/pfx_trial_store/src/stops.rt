@@ -11,7 +11,7 @@ use pfx_machine::Command;
 use std::alloc::Global;
 
 /// Whether so many slots are carried out.
-fn run_slots(alloc: Global, count: u32, engine: &mut StoreEngine<MemoryDisk>) -> bool {
+fn run_slots(alloc: Global, count: u32, engine: &mut StoreEngine<MemoryDisk, AnyJob>) -> bool {
     for _ in 0..count {
         if engine.execute(alloc, Command::Slot).is_err() {
             return false;
@@ -25,7 +25,7 @@ fn submit(
     alloc: Global,
     task: u16,
     job: Option<AnyJob>,
-    engine: &mut StoreEngine<MemoryDisk>,
+    engine: &mut StoreEngine<MemoryDisk, AnyJob>,
 ) -> bool {
     match job {
         Some(job) => engine.execute(alloc, Command::Submit { task, job }).is_ok(),
@@ -34,7 +34,7 @@ fn submit(
 }
 
 /// Whether the first task's job has these first cells, and so many steps left.
-fn has_first_job(engine: &StoreEngine<MemoryDisk>, cells: u8, left: u32) -> bool {
+fn has_first_job(engine: &StoreEngine<MemoryDisk, AnyJob>, cells: u8, left: u32) -> bool {
     let state = engine.keeper.state();
     if state.jobs().is_empty() {
         return false;
@@ -99,7 +99,7 @@ fn three_slots_are_twelve_calls(rt: HostRuntime) {
 const ROWS: [(u32, u8, u32); 4] = [(1, 0b11, 2), (1, 0b111, 1), (2, 0b1101, 0), (1, 0b1101, 0)];
 
 /// How many rows hold, with the store opened again after each, up to the first that doesn't.
-fn rows_that_hold(alloc: Global, engine: StoreEngine<MemoryDisk>) -> usize {
+fn rows_that_hold(alloc: Global, engine: StoreEngine<MemoryDisk, AnyJob>) -> usize {
     let mut engine = engine;
     for (number, row) in ROWS.iter().enumerate() {
         if !run_slots(alloc, row.0, &mut engine) {
@@ -129,13 +129,13 @@ fn the_file_holds_the_states_of_jobs(rt: HostRuntime) {
 }
 
 /// The engine over a store with the least segments of two workers.
-fn over_least_segments(alloc: Global) -> Option<StoreEngine<MemoryDisk>> {
+fn over_least_segments(alloc: Global) -> Option<StoreEngine<MemoryDisk, AnyJob>> {
     let disk = MemoryDisk::new(alloc, &[], SECOND + 4233, 1000, 60_000).ok()?;
     over(alloc, new_store(alloc, disk, 4233)?)
 }
 
 /// Whether the second segment is in use or the first, and its frames end at this gate.
-fn is_at(engine: &StoreEngine<MemoryDisk>, segment: bool, gate: usize) -> bool {
+fn is_at(engine: &StoreEngine<MemoryDisk, AnyJob>, segment: bool, gate: usize) -> bool {
     let places = engine.keeper.places();
     places.segment == segment && places.gate == gate
 }

@@ -95,7 +95,7 @@ fn byte_at(bytes: &[u8], at: usize) -> u8 {
 }
 
 /// Whether the last command has this number, and each task of three has got so many slots.
-fn stands_at(engine: &StoreEngine<MemoryDisk>, number: u64, got: u64) -> bool {
+fn stands_at(engine: &StoreEngine<MemoryDisk, AnyJob>, number: u64, got: u64) -> bool {
     let ledger = engine.state.columns();
     engine.last_kept() == Ok(number)
         && ledger.total() == 3
@@ -148,7 +148,10 @@ fn a_second_turn_leads_back(rt: HostRuntime) {
 }
 
 /// The engine over the store as a stop now leaves it.
-fn reopened(alloc: Global, store: &Store<MemoryDisk, AnyJob>) -> Option<StoreEngine<MemoryDisk>> {
+fn reopened(
+    alloc: Global,
+    store: &Store<MemoryDisk, AnyJob>,
+) -> Option<StoreEngine<MemoryDisk, AnyJob>> {
     opened(alloc, left(alloc, store)?)
 }
 
@@ -195,7 +198,7 @@ fn turned_once(alloc: Global) -> Option<Store<MemoryDisk, AnyJob>> {
 }
 
 /// Whether the store takes the steps of a checkpoint, and stands as before when it is opened then.
-fn begins_anew(alloc: Global, engine: StoreEngine<MemoryDisk>) -> bool {
+fn begins_anew(alloc: Global, engine: StoreEngine<MemoryDisk, AnyJob>) -> bool {
     let mut store = engine.into_keeper();
     if !are_steps(&mut store, &STEPS) {
         return false;
@@ -239,7 +242,7 @@ fn a_checkpoint_ends_between_slots(rt: HostRuntime) {
 }
 
 /// The engine after five slots and a turn.
-fn with_a_checkpoint(alloc: Global) -> Option<StoreEngine<MemoryDisk>> {
+fn with_a_checkpoint(alloc: Global) -> Option<StoreEngine<MemoryDisk, AnyJob>> {
     let mut store = thirds(alloc, 200)?;
     if append_slots(alloc, 5, &mut store) && store.turn() == Ok(true) {
         over(alloc, store)
@@ -249,7 +252,7 @@ fn with_a_checkpoint(alloc: Global) -> Option<StoreEngine<MemoryDisk>> {
 }
 
 /// Whether a slot takes so many calls, up to its mark.
-fn takes_calls(alloc: Global, engine: &mut StoreEngine<MemoryDisk>, calls: u64) -> bool {
+fn takes_calls(alloc: Global, engine: &mut StoreEngine<MemoryDisk, AnyJob>, calls: u64) -> bool {
     let before = engine.keeper.disk().clock();
     match engine.execute(alloc, Command::Slot) {
         Ok((mark, _reply)) => mark.clock >= before && mark.clock - before == calls,
@@ -275,7 +278,7 @@ fn marked(
     alloc: Global,
     command: Command<AnyJob>,
     marks: &mut Vec<u64>,
-    engine: &mut StoreEngine<MemoryDisk>,
+    engine: &mut StoreEngine<MemoryDisk, AnyJob>,
 ) -> bool {
     match engine.execute(alloc, command) {
         Ok((mark, _reply)) => marks.push(mark.clock).is_ok(),
@@ -284,7 +287,7 @@ fn marked(
 }
 
 /// Whether the task's job of 1,000 steps, if there is one, has stepped as often as its task was chosen.
-fn has_stepped(engine: &StoreEngine<MemoryDisk>, task: u16) -> bool {
+fn has_stepped(engine: &StoreEngine<MemoryDisk, AnyJob>, task: u16) -> bool {
     if engine.state.columns().total() != 3 || engine.state.jobs().len() != 3 || task >= 3 {
         return false;
     }
@@ -296,7 +299,7 @@ fn has_stepped(engine: &StoreEngine<MemoryDisk>, task: u16) -> bool {
 }
 
 /// The number of the last command, if each job has stepped as often as its task was chosen.
-fn kept_whole(engine: &StoreEngine<MemoryDisk>) -> Option<u64> {
+fn kept_whole(engine: &StoreEngine<MemoryDisk, AnyJob>) -> Option<u64> {
     let number = engine.last_kept().ok()?;
     let is_whole = engine.state.columns().slot() == number.saturating_sub(2)
         && has_stepped(engine, 0)
@@ -305,7 +308,7 @@ fn kept_whole(engine: &StoreEngine<MemoryDisk>) -> Option<u64> {
 }
 
 /// The engine over a new store with segments of the least length.
-fn over_least_segments(alloc: Global) -> Option<StoreEngine<MemoryDisk>> {
+fn over_least_segments(alloc: Global) -> Option<StoreEngine<MemoryDisk, AnyJob>> {
     let disk = MemoryDisk::new(alloc, &[], FIRST_SEGMENT + 2 * 4233, 1000, 60_000).ok()?;
     over(alloc, new_store(alloc, disk, 4233)?)
 }
@@ -315,7 +318,7 @@ fn marked_job(
     alloc: Global,
     task: u16,
     marks: &mut Vec<u64>,
-    engine: &mut StoreEngine<MemoryDisk>,
+    engine: &mut StoreEngine<MemoryDisk, AnyJob>,
 ) -> bool {
     match AnyJob::start("count", 1000, b"") {
         Ok(job) => marked(alloc, Command::Submit { task, job }, marks, engine),
@@ -324,7 +327,11 @@ fn marked_job(
 }
 
 /// Whether two jobs are given and sixty slots run, the clocks of whose marks are noted.
-fn run_62(alloc: Global, marks: &mut Vec<u64>, engine: &mut StoreEngine<MemoryDisk>) -> bool {
+fn run_62(
+    alloc: Global,
+    marks: &mut Vec<u64>,
+    engine: &mut StoreEngine<MemoryDisk, AnyJob>,
+) -> bool {
     if !marked_job(alloc, 0, marks, engine) || !marked_job(alloc, 1, marks, engine) {
         return false;
     }

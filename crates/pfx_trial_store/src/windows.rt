@@ -4,9 +4,11 @@ use crate::check::{check, check_at, check_pair};
 use crate::engines::{begun, empty, in_memory, last_of, opened};
 use crate::stops::{kept_by, survivors};
 use pfx_disk::{Disk, Fate, FaultDisk, MemoryDisk};
-use pfx_engine::{StoreEngine, run_durable};
+use pfx_engine::StoreEngine;
 use pfx_fault::{Cause, Fault};
+use pfx_kinds::any::AnyJob;
 use pfx_program::{AtRefusal, Form};
+use pfx_program_store::run_durable;
 use pfx_script::Script;
 use std::alloc::Global;
 use std::io::Write;
@@ -16,7 +18,7 @@ fn run<D: Disk>(
     alloc: Global,
     script: &str,
     window: u32,
-    engine: &mut StoreEngine<D>,
+    engine: &mut StoreEngine<D, AnyJob>,
 ) -> (Vec<u8>, Result<(), Fault>) {
     let mut written = Vec::new(alloc);
     let end = run_durable(
@@ -152,7 +154,11 @@ const MADE: u64 = 11;
 const APPENDED: u64 = 4;
 
 /// The engine on a disk whose call k after the making fails, with its work done or not.
-fn faulty(alloc: Global, k: u64, works: bool) -> Option<StoreEngine<FaultDisk<MemoryDisk>>> {
+fn faulty(
+    alloc: Global,
+    k: u64,
+    works: bool,
+) -> Option<StoreEngine<FaultDisk<MemoryDisk>, AnyJob>> {
     let call = MADE.saturating_add(k);
     let memory = empty(alloc, 300)?;
     let disk = match works {

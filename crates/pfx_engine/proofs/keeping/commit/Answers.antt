@@ -1,8 +1,6 @@
 use Rattle.std.proofs.Common.{◌≡◌, ◌++◌, [], map, refl, sym, ◌∙◌, ap, arith, subst}
 use Rattle.std.specs.Prelude.{Some}
 use Rattle.std.proofs.lemmas.List.{length-map}
-use Rattle.pfx_kinds.specs.AnyKind.{any_kind, any_laws}
-use Rattle.pfx_kinds.specs.declared.any.AnyJob.{AnyJob}
 use Rattle.pfx_machine.specs.Outcome.{outcome}
 use Rattle.pfx_machine.specs.Plain.{Plain}
 use Rattle.pfx_record.specs.Records.{plain}
@@ -20,21 +18,21 @@ pub returns-in_err-_tended-clause-keeps : goal.returns-in_err-_tended-clause-kee
 returns-in_err-_tended-clause-keeps g c honest start H done h all at given =
     let kept = g.K.Keeper.kept in
     let V = g.D.Disk.view in
-    keeps_behind start H (H ++ done) (V (kept c.args.keeper.now).file.disk) (V (kept c.tend_on.new.self).file.disk) (V (kept c.tend_on.new.self).file.disk) h all c.tend_on.ensures.call.takes.later
-    (c.tend_on.ensures.keeps honest start (frames_of start H) (replays_to start (kept c.args.keeper.now).state H h all at)) (keeps_more start H done (V (kept c.tend_on.new.self).file.disk))
+    keeps_behind g.J.Job.kind g.J.Job.laws start H (H ++ done) (V (kept c.args.keeper.now).file.disk) (V (kept c.tend_on.new.self).file.disk) (V (kept c.tend_on.new.self).file.disk) h all c.tend_on.ensures.call.takes.later
+    (c.tend_on.ensures.keeps honest start (frames_of g.J.Job.kind start H) (replays_to g.J.Job.kind g.J.Job.laws start (kept c.args.keeper.now).state H h all at)) (keeps_more g.J.Job.kind start H done (V (kept c.tend_on.new.self).file.disk))
 
 pub put-requires-clause-right : goal.put-requires-clause-right
 put-requires-clause-right g c =
     let kept = g.K.Keeper.kept in
-    subst (λ (t : Plain AnyJob). IsKeepable t (map plain c.args.records.items) c.args.renewal) (sym c.tend_on.ensures.state) c.requires.right
+    subst (λ (t : Plain g.row.J.Denot). IsKeepable g.J.Job.kind t (map plain c.args.records.items) c.args.renewal) (sym c.tend_on.ensures.state) c.requires.right
 
 pub returns-clause-state : goal.returns-clause-state
 returns-clause-state g c done given =
     let kept = g.K.Keeper.kept in
     let s = (kept c.tend_on.new.self).state in
     let same : s ≡ (kept c.args.keeper.now).state = c.tend_on.ensures.state in
-    let put = c.put.ensures.put done (subst (λ (t : Plain AnyJob). AreKeptAs any_kind t done (map plain c.args.records.items)) (sym same) given) in
-    on_ok_then c.put.result (λ taken. taken ∙ ap (λ (t : Plain AnyJob). outcome any_kind t done) same) put.state
+    let put = c.put.ensures.put done (subst (λ (t : Plain g.row.J.Denot). AreKeptAs g.J.Job.kind t done (map plain c.args.records.items)) (sym same) given) in
+    on_ok_then c.put.result (λ taken. taken ∙ ap (λ (t : Plain g.row.J.Denot). outcome g.J.Job.kind t done) same) put.state
 
 pub returns-clause-keeps : goal.returns-clause-keeps
 returns-clause-keeps g c honest start H done h all at given =
@@ -42,28 +40,28 @@ returns-clause-keeps g c honest start H done h all at given =
     let V = g.D.Disk.view in
     let s = (kept c.tend_on.new.self).state in
     let same : s ≡ (kept c.args.keeper.now).state = c.tend_on.ensures.state in
-    let is = subst (λ (t : Plain AnyJob). AreKeptAs any_kind t done (map plain c.args.records.items)) (sym same) given in
+    let is = subst (λ (t : Plain g.row.J.Denot). AreKeptAs g.J.Job.kind t done (map plain c.args.records.items)) (sym same) given in
     let put = c.put.ensures.put done is in
-    let long = kept_length s done (map plain c.args.records.items) is in
+    let long = kept_length g.J.Job.kind s done (map plain c.args.records.items) is in
     let same_long = length-map c.args.records.items plain in
-    keeps_behind start H (H ++ done) (V (kept c.args.keeper.now).file.disk) (V (kept c.tend_on.new.self).file.disk) (V (kept c.put.new.keeper).file.disk) h all c.tend_on.ensures.call.takes.later
-    (c.tend_on.ensures.keeps honest start (frames_of start H) (replays_to start (kept c.args.keeper.now).state H h all at))
-    (keeps_commands start s H done (frame_of any_kind s done) (V (kept c.tend_on.new.self).file.disk) (V (kept c.put.new.keeper).file.disk) h all (same ∙ at) is.accepted is.may (omega (arith, long, same_long, c.requires.some)) (omega (arith, long, same_long, c.requires.few)) refl
-    ((put.commits (c.tend_on.ensures.call.honest.0 honest)).keeps start (frames_of start H) (replays_to start s H h all (same ∙ at))))
+    keeps_behind g.J.Job.kind g.J.Job.laws start H (H ++ done) (V (kept c.args.keeper.now).file.disk) (V (kept c.tend_on.new.self).file.disk) (V (kept c.put.new.keeper).file.disk) h all c.tend_on.ensures.call.takes.later
+    (c.tend_on.ensures.keeps honest start (frames_of g.J.Job.kind start H) (replays_to g.J.Job.kind g.J.Job.laws start (kept c.args.keeper.now).state H h all at))
+    (keeps_commands g.J.Job.kind g.J.Job.laws start s H done (frame_of g.J.Job.kind s done) (V (kept c.tend_on.new.self).file.disk) (V (kept c.put.new.keeper).file.disk) h all (same ∙ at) is.accepted is.may (omega (arith, long, same_long, c.requires.some)) (omega (arith, long, same_long, c.requires.few)) refl
+    ((put.commits (c.tend_on.ensures.call.honest.0 honest)).keeps start (frames_of g.J.Job.kind start H) (replays_to g.J.Job.kind g.J.Job.laws start s H h all (same ∙ at))))
 
 pub returns-clause-acknowledged : goal.returns-clause-acknowledged
 returns-clause-acknowledged g c honest =
     let kept = g.K.Keeper.kept in
     let s = (kept c.tend_on.new.self).state in
     let t = (kept c.put.new.keeper).state in
-    let keepable = subst (λ (u : Plain AnyJob). IsKeepable u (map plain c.args.records.items) c.args.renewal) (sym c.tend_on.ensures.state) c.requires.right in
-    let (done, is) = keepable_kept s (map plain c.args.records.items) c.args.renewal keepable in
+    let keepable = subst (λ (u : Plain g.row.J.Denot). IsKeepable g.J.Job.kind u (map plain c.args.records.items) c.args.renewal) (sym c.tend_on.ensures.state) c.requires.right in
+    let (done, is) = keepable_kept g.J.Job.kind s (map plain c.args.records.items) c.args.renewal keepable in
     let put = c.put.ensures.put done is in
-    let long = kept_length s done (map plain c.args.records.items) is in
+    let long = kept_length g.J.Job.kind s done (map plain c.args.records.items) is in
     let same_long = length-map c.args.records.items plain in
     on_ok_two c.put.result
-    (λ at survives image here. one_recovered s t (frame_of any_kind s done) image
-    (batch_led any_kind any_laws s done c.put.ensures.state is.accepted (omega (arith, long, same_long, c.requires.some)) (omega (arith, long, same_long, c.requires.few)) is.may ∙ ap Some (sym at)) (survives image here))
+    (λ at survives image here. one_recovered g.J.Job.kind s t (frame_of g.J.Job.kind s done) image
+    (batch_led g.J.Job.kind g.J.Job.laws s done c.put.ensures.state is.accepted (omega (arith, long, same_long, c.requires.some)) (omega (arith, long, same_long, c.requires.few)) is.may ∙ ap Some (sym at)) (survives image here))
     put.state ((put.commits (c.tend_on.ensures.call.honest.0 honest)).acknowledged s [] refl)
 
 pub returns-in_err-_tended-clause-calls : goal.returns-in_err-_tended-clause-calls
@@ -71,7 +69,7 @@ returns-in_err-_tended-clause-calls g c =
     let kept = g.K.Keeper.kept in
     λ done given.
     (let V = g.D.Disk.view in
-    takes_step_alone (frame_len (kept c.args.keeper.now).state done) (kept c.args.keeper.now).file.places (V (kept c.args.keeper.now).file.disk) (V (kept c.tend_on.new.self).file.disk) c.tend_on.result c.from_residual.result _ c.from_residual.ensures.1 c.tend_on.ensures.call.takes)
+    takes_step_alone (frame_len g.J.Job.kind (kept c.args.keeper.now).state done) (kept c.args.keeper.now).file.places (V (kept c.args.keeper.now).file.disk) (V (kept c.tend_on.new.self).file.disk) c.tend_on.result c.from_residual.result _ c.from_residual.ensures.1 c.tend_on.ensures.call.takes)
 
 pub returns-clause-calls : goal.returns-clause-calls
 returns-clause-calls g c =
@@ -79,9 +77,9 @@ returns-clause-calls g c =
     λ done given.
     (let V = g.D.Disk.view in
     let old = (kept c.args.keeper.now).state in
-    let put = c.put.ensures.put done (subst (λ (t : Plain AnyJob). AreKeptAs any_kind t done (map plain c.args.records.items)) (sym c.tend_on.ensures.state) given) in
-    takes_both _ (frame_len old done) (kept c.args.keeper.now).file.places (kept c.tend_on.new.self).file.places (V (kept c.args.keeper.now).file.disk) (V (kept c.tend_on.new.self).file.disk) (V (kept c.put.new.keeper).file.disk) c.in_ok-_tended._tended c.put.result
-    (ap (λ (t : Plain AnyJob). frame_len t done) c.tend_on.ensures.state)
+    let put = c.put.ensures.put done (subst (λ (t : Plain g.row.J.Denot). AreKeptAs g.J.Job.kind t done (map plain c.args.records.items)) (sym c.tend_on.ensures.state) given) in
+    takes_both _ (frame_len g.J.Job.kind old done) (kept c.args.keeper.now).file.places (kept c.tend_on.new.self).file.places (V (kept c.args.keeper.now).file.disk) (V (kept c.tend_on.new.self).file.disk) (V (kept c.put.new.keeper).file.disk) c.in_ok-_tended._tended c.put.result
+    (ap (λ (t : Plain g.row.J.Denot). frame_len g.J.Job.kind t done) c.tend_on.ensures.state)
     c.tend_on.ensures.tends.stays c.in_ok-_tended.ensures.tends.fewer c.in_ok-_tended.ensures.call.takes put.call.takes)
 
 pub returns-in_err-_tended-clause-call : goal.returns-in_err-_tended-clause-call
@@ -91,8 +89,8 @@ returns-in_err-_tended-clause-call g c =
 pub returns-clause-call : goal.returns-clause-call
 returns-clause-call g c =
     let kept = g.K.Keeper.kept in
-    let keepable = subst (λ (u : Plain AnyJob). IsKeepable u (map plain c.args.records.items) c.args.renewal) (sym c.tend_on.ensures.state) c.requires.right in
-    let (done, is) = keepable_kept (kept c.tend_on.new.self).state (map plain c.args.records.items) c.args.renewal keepable in
+    let keepable = subst (λ (u : Plain g.row.J.Denot). IsKeepable g.J.Job.kind u (map plain c.args.records.items) c.args.renewal) (sym c.tend_on.ensures.state) c.requires.right in
+    let (done, is) = keepable_kept g.J.Job.kind (kept c.tend_on.new.self).state (map plain c.args.records.items) c.args.renewal keepable in
     let put = c.put.ensures.put done is in
     commit_both g.D.Disk.view _ (kept c.tend_on.new.self) _ _ _ _ _ _ c.tend_on.result _ c.put.result c.in_ok-_tended.was c.tend_on.ensures.call put.call
     (on_err_then c.put.result (λ same. same ∙ c.tend_on.ensures.state) put.same) put.mark

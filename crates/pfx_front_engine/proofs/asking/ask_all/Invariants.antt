@@ -7,6 +7,6 @@ abbrev pub invariant-loop-command : goal.invariant-loop-command
 invariant-loop-command g l = record {
   long : vec_len l.told ≡ length l.yielded;
   room : length l.fn.commands.items ≤ vec_capacity l.told;
-  asked : AreAllAsked g.B.Named.start l.fn.client l.yielded l.told.items l.client;
+  asked : AreAllAsked g.J.Job.kind g.B.Named.start l.fn.client l.yielded l.told.items l.client;
   split : l.fn.commands.items ≡ l.yielded ++ l.command-iterator.rest.items;
 }

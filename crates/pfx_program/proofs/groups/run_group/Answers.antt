@@ -1,10 +1,12 @@
 use Rattle.std.proofs.Common.{rules, ◌≡◌, ◌<◌, ◌≤◌, ◌+◌, Err, length, arith}
 use Rattle.pfx_program.specs.Groups.{group_steps}
 use Rattle.pfx_program.specs.Running.{run_of}
-use Rattle.pfx_program.proofs.GroupLemmas.{empty_added, group_added, group_done, group_empty, group_left, group_unwritten, told_equal, told_group}
+use Rattle.pfx_program.proofs.GroupLemmas.{empty_added, group_added, group_done, group_empty, group_left, group_unwritten, told_group}
+use Rattle.pfx_engine.proofs.Sharing.{told_equal}
 use Rattle.pfx_program.proofs.StepLemmas.{if_err, on_ok}
 use Rattle.pfx_program.proofs.PrintLemmas.{may_told}
 use Rattle.pfx_program.proofs.groups.run_group.Goals as goal
+use Rattle.pfx_kinds.specs.AnyKind.{any_kind}
 
 pub returns-then-is_empty-clause-ok : goal.returns-then-is_empty-clause-ok
 returns-then-is_empty-clause-ok g c =
@@ -26,7 +28,7 @@ returns-in_err-told-clause-err g c =
 
 pub put_told-requires : goal.put_told-requires
 put_told-requires g c =
-    let long = told_equal (g.E.Engine.promise.state c.args.engine.now) c.args.group.items c.in_ok-told.told.items c.in_ok-told.ensures.done.answered in
+    let long = told_equal any_kind (g.E.Engine.promise.state c.args.engine.now) c.args.group.items c.in_ok-told.told.items c.in_ok-told.ensures.done.answered in
     let P = g.E.Engine.promise in
     let H = c.args.group.items in
     let told = c.in_ok-told.told.items in

@@ -2,13 +2,11 @@ use Rattle.std.proofs.Common.{rules, ◌≡◌, ◌<◌, inl, [], List, length, 
 use Rattle.std.proofs.lemmas.List.{length-map}
 use Rattle.pfx_store.specs.Groups.{AreRecordsOf}
 use Rattle.pfx_store.proofs.Grouping.{common_kept}
-use Rattle.pfx_kinds.specs.AnyKind.{any_kind}
-use Rattle.pfx_kinds.specs.declared.any.AnyJob.{AnyJob}
 use Rattle.pfx_machine.specs.Plain.{Plain, IsState}
 use Rattle.pfx_machine.specs.Outcome.{outcome}
 use Rattle.pfx_machine.specs.declared.command.Command.{Command}
 use Rattle.pfx_machine.proofs.Compose.{outcome-none}
-use Rattle.pfx_program.specs.Sharing.{AreTold, accepted_of}
+use Rattle.pfx_engine.specs.Sharing.{AreTold, accepted_of}
 use Rattle.pfx_record.specs.Records.{plain}
 use Rattle.pfx_engine.specs.Keeping.{KeepsFrom}
 use Rattle.pfx_engine.specs.Failing.{stopped_at}
@@ -30,7 +28,7 @@ returns-in-Some-clause-left g c =
       said = [];
       answered = tt;
       state = inl refl;
-      keeps = keeps_none (g.D.Disk.view (kept old.keeper).file.disk) (failed old.keeper) (kept old.keeper).state;
+      keeps = keeps_none g.J.Job.kind (g.D.Disk.view (kept old.keeper).file.disk) (failed old.keeper) (kept old.keeper).state;
     }
 
 pub returns-in_default-run_changes-clause-left : goal.returns-in_default-run_changes-clause-left
@@ -45,7 +43,7 @@ returns-in_default-run_changes-clause-left g c =
       said = [];
       answered = tt;
       state = inl refl;
-      keeps = keeps_none (g.D.Disk.view (kept old.keeper).file.disk) (failed old.keeper) (kept old.keeper).state;
+      keeps = keeps_none g.J.Job.kind (g.D.Disk.view (kept old.keeper).file.disk) (failed old.keeper) (kept old.keeper).state;
     }
 
 pub returns-then-is_empty-clause-done : goal.returns-then-is_empty-clause-done
@@ -56,23 +54,23 @@ returns-then-is_empty-clause-done g c =
     let old = c.args.self.now in
     let at = old.same (sym c.in_default.ensures.answer) in
     let told = c.in-Ok.field-0.told.items in
-    let G : List (Command AnyJob) = accepted_of c.args.commands.items told in
-    let mine : AreRecordsOf any_kind (kept old.keeper).state G (map plain c.in-Ok.field-0.records.items) = subst (λ (s : Plain AnyJob). AreRecordsOf any_kind s G (map plain c.in-Ok.field-0.records.items)) at c.in-Ok.ensures.recorded in
+    let G : List (Command g.row.J.Denot) = accepted_of c.args.commands.items told in
+    let mine : AreRecordsOf g.J.Job.kind (kept old.keeper).state G (map plain c.in-Ok.field-0.records.items) = subst (λ (s : Plain g.row.J.Denot). AreRecordsOf g.J.Job.kind s G (map plain c.in-Ok.field-0.records.items)) at c.in-Ok.ensures.recorded in
     let none : length c.in-Ok.field-0.records.items ≡ 0 = search rules in
-    let empty : G ≡ [] = no_records (kept old.keeper).state G (map plain c.in-Ok.field-0.records.items) mine (length-map c.in-Ok.field-0.records.items plain ∙ none) in
+    let empty : G ≡ [] = no_records g.J.Job.kind (kept old.keeper).state G (map plain c.in-Ok.field-0.records.items) mine (length-map c.in-Ok.field-0.records.items plain ∙ none) in
     record {
-      answered = subst (λ (s : Plain AnyJob). AreTold s c.args.commands.items told) at c.in-Ok.ensures.told;
-      state = sym (ap (outcome any_kind (kept old.keeper).state) empty ∙ outcome-none any_kind (kept old.keeper).state);
-      keeps = subst (λ (l : List (Command AnyJob)). KeepsFrom (V (kept old.keeper).file.disk) (failed old.keeper) (kept old.keeper).state l (length l) (V (kept old.keeper).file.disk) (kept old.keeper).state) (sym empty)
-          (keeps_none (V (kept old.keeper).file.disk) (failed old.keeper) (kept old.keeper).state);
+      answered = subst (λ (s : Plain g.row.J.Denot). AreTold g.J.Job.kind s c.args.commands.items told) at c.in-Ok.ensures.told;
+      state = sym (ap (outcome g.J.Job.kind (kept old.keeper).state) empty ∙ outcome-none g.J.Job.kind (kept old.keeper).state);
+      keeps = subst (λ (l : List (Command g.row.J.Denot)). KeepsFrom g.J.Job.kind (V (kept old.keeper).file.disk) (failed old.keeper) (kept old.keeper).state l (length l) (V (kept old.keeper).file.disk) (kept old.keeper).state) (sym empty)
+          (keeps_none g.J.Job.kind (V (kept old.keeper).file.disk) (failed old.keeper) (kept old.keeper).state);
       settled = search rules;
     }
 
 pub commit-requires-clause-few : goal.commit-requires-clause-few
 commit-requires-clause-few g c =
     let old = c.args.self.now in
-    let G : List (Command AnyJob) = accepted_of c.args.commands.items c.in-Ok.field-0.told.items in
-    let long = records_long plain old.state G c.in-Ok.field-0.records.items c.in-Ok.ensures.recorded in
+    let G : List (Command g.row.J.Denot) = accepted_of c.args.commands.items c.in-Ok.field-0.told.items in
+    let long = records_long g.J.Job.kind plain old.state G c.in-Ok.field-0.records.items c.in-Ok.ensures.recorded in
     let few = accepted_few c.args.commands.items c.in-Ok.field-0.told.items in
     omega (arith, long, few, c.requires.few)
 
@@ -84,13 +82,13 @@ returns-in-Ok-commit-clause-done g c =
     let old = c.args.self.now in
     let at = old.same (sym c.in_default.ensures.answer) in
     let told = c.in-Ok.field-0.told.items in
-    let G : List (Command AnyJob) = accepted_of c.args.commands.items told in
-    let mine : AreRecordsOf any_kind (kept old.keeper).state G (map plain c.in-Ok.field-0.records.items) = subst (λ (s : Plain AnyJob). AreRecordsOf any_kind s G (map plain c.in-Ok.field-0.records.items)) at c.in-Ok.ensures.recorded in
-    let moved : (kept c.commit.new.keeper).state ≡ outcome any_kind (kept old.keeper).state G = c.in-Ok-commit.ensures.state G (common_kept _ _ _ _ mine) in
+    let G : List (Command g.row.J.Denot) = accepted_of c.args.commands.items told in
+    let mine : AreRecordsOf g.J.Job.kind (kept old.keeper).state G (map plain c.in-Ok.field-0.records.items) = subst (λ (s : Plain g.row.J.Denot). AreRecordsOf g.J.Job.kind s G (map plain c.in-Ok.field-0.records.items)) at c.in-Ok.ensures.recorded in
+    let moved : (kept c.commit.new.keeper).state ≡ outcome g.J.Job.kind (kept old.keeper).state G = c.in-Ok-commit.ensures.state G (common_kept _ _ _ _ mine) in
     record {
-      answered = subst (λ (s : Plain AnyJob). AreTold s c.args.commands.items told) at c.in-Ok.ensures.told;
+      answered = subst (λ (s : Plain g.row.J.Denot). AreTold g.J.Job.kind s c.args.commands.items told) at c.in-Ok.ensures.told;
       state = moved;
-      keeps = keeps_all (V (kept old.keeper).file.disk) (V (kept c.commit.new.keeper).file.disk) (failed old.keeper) (kept old.keeper).state (kept c.commit.new.keeper).state G mine.accepted moved c.in-Ok-commit.ensures.call.follows.honest.0
+      keeps = keeps_all g.J.Job.kind (V (kept old.keeper).file.disk) (V (kept c.commit.new.keeper).file.disk) (failed old.keeper) (kept old.keeper).state (kept c.commit.new.keeper).state G mine.accepted moved c.in-Ok-commit.ensures.call.follows.honest.0
           c.in-Ok-commit.ensures.acknowledged;
       settled = search rules;
     }
@@ -103,9 +101,9 @@ returns-in-Err-clause-left g c =
     let old = c.args.self.now in
     let at = old.same (sym c.in_default.ensures.answer) in
     let told = c.in-Ok.field-0.told.items in
-    let G : List (Command AnyJob) = accepted_of c.args.commands.items told in
-    let mine : AreRecordsOf any_kind (kept old.keeper).state G (map plain c.in-Ok.field-0.records.items) = subst (λ (s : Plain AnyJob). AreRecordsOf any_kind s G (map plain c.in-Ok.field-0.records.items)) at c.in-Ok.ensures.recorded in
-    let long = records_long plain (kept old.keeper).state G c.in-Ok.field-0.records.items mine in
+    let G : List (Command g.row.J.Denot) = accepted_of c.args.commands.items told in
+    let mine : AreRecordsOf g.J.Job.kind (kept old.keeper).state G (map plain c.in-Ok.field-0.records.items) = subst (λ (s : Plain g.row.J.Denot). AreRecordsOf g.J.Job.kind s G (map plain c.in-Ok.field-0.records.items)) at c.in-Ok.ensures.recorded in
+    let long = records_long g.J.Job.kind plain (kept old.keeper).state G c.in-Ok.field-0.records.items mine in
     let some : 0 < length c.in-Ok.field-0.records.items = search rules in
     let same : (kept c.commit.new.keeper).state ≡ (kept old.keeper).state = c.in-Err.ensures.call.same in
     record {
@@ -113,9 +111,9 @@ returns-in-Err-clause-left g c =
       rest = [];
       split = sym (append-nil c.args.commands.items);
       said = told;
-      answered = subst (λ (s : Plain AnyJob). AreTold s c.args.commands.items told) at c.in-Ok.ensures.told;
+      answered = subst (λ (s : Plain g.row.J.Denot). AreTold g.J.Job.kind s c.args.commands.items told) at c.in-Ok.ensures.told;
       state = inl same;
-      keeps = keeps_some (V (kept old.keeper).file.disk) (V (kept c.commit.new.keeper).file.disk) (failed old.keeper) (kept old.keeper).state (kept c.commit.new.keeper).state G (subst IsState at c.number-number.ensures.state) mine.accepted
+      keeps = keeps_some g.J.Job.kind (V (kept old.keeper).file.disk) (V (kept c.commit.new.keeper).file.disk) (failed old.keeper) (kept old.keeper).state (kept c.commit.new.keeper).state G (subst IsState at c.number-number.ensures.state) mine.accepted
           (omega (arith, some, long)) c.in-Err.ensures.call.follows.goes.later c.in-Err.ensures.call.follows.honest.0 (λ honest start H h all there. c.in-Err.ensures.keeps honest start H G h all there (common_kept _ _ _ _ mine));
     }
 
@@ -123,10 +121,10 @@ pub invariant_of-self-then-is_empty : goal.invariant_of-self-then-is_empty
 invariant_of-self-then-is_empty g c = record {
   same = λ whole.
       let old = c.args.self.now in
-      let G : List (Command AnyJob) = accepted_of c.args.commands.items c.in-Ok.field-0.told.items in
+      let G : List (Command g.row.J.Denot) = accepted_of c.args.commands.items c.in-Ok.field-0.told.items in
       let none : length c.in-Ok.field-0.records.items ≡ 0 = search rules in
-      let empty : G ≡ [] = no_records old.state G (map plain c.in-Ok.field-0.records.items) c.in-Ok.ensures.recorded (length-map c.in-Ok.field-0.records.items plain ∙ none) in
-      c.in-Ok.ensures.moves ∙ ap (outcome any_kind old.state) empty ∙ outcome-none any_kind old.state ∙ old.same whole;
+      let empty : G ≡ [] = no_records g.J.Job.kind old.state G (map plain c.in-Ok.field-0.records.items) c.in-Ok.ensures.recorded (length-map c.in-Ok.field-0.records.items plain ∙ none) in
+      c.in-Ok.ensures.moves ∙ ap (outcome g.J.Job.kind old.state) empty ∙ outcome-none g.J.Job.kind old.state ∙ old.same whole;
 }
 
 pub returns-in-Some-clause-fails : goal.returns-in-Some-clause-fails
@@ -134,7 +132,7 @@ returns-in-Some-clause-fails g c = rw c.stopped.ensures (c.in-Some.cause, (c.arg
 
 pub returns-in-Err-clause-fails : goal.returns-in-Err-clause-fails
 returns-in-Err-clause-fails g c =
-    rw c.stopped-in-Err.ensures (c.in-Err.cause, (c.commit.new.keeper, c.in-Err.ensures.call.fails), ap (λ (s : Plain AnyJob). stopped_at s.number c.in-Err.cause) c.in-Err.ensures.call.same)
+    rw c.stopped-in-Err.ensures (c.in-Err.cause, (c.commit.new.keeper, c.in-Err.ensures.call.fails), ap (λ (s : Plain g.row.J.Denot). stopped_at s.number c.in-Err.cause) c.in-Err.ensures.call.same)
 
 pub invariant_of-self-2 : goal.invariant_of-self-2
 invariant_of-self-2 g c = record {
@@ -143,8 +141,8 @@ invariant_of-self-2 g c = record {
       let old = c.args.self.now in
       let at = old.same (sym c.in_default.ensures.answer) in
       let ran = c.in-Ok.ensures in
-      let G : List (Command AnyJob) = accepted_of c.args.commands.items c.in-Ok.field-0.told.items in
-      let mine : AreRecordsOf any_kind (kept old.keeper).state G (map plain c.in-Ok.field-0.records.items) = subst (λ (s : Plain AnyJob). AreRecordsOf any_kind s G (map plain c.in-Ok.field-0.records.items)) at ran.recorded in
-      ran.moves ∙ (ap (λ (s : Plain AnyJob). outcome any_kind s G) at
+      let G : List (Command g.row.J.Denot) = accepted_of c.args.commands.items c.in-Ok.field-0.told.items in
+      let mine : AreRecordsOf g.J.Job.kind (kept old.keeper).state G (map plain c.in-Ok.field-0.records.items) = subst (λ (s : Plain g.row.J.Denot). AreRecordsOf g.J.Job.kind s G (map plain c.in-Ok.field-0.records.items)) at ran.recorded in
+      ran.moves ∙ (ap (λ (s : Plain g.row.J.Denot). outcome g.J.Job.kind s G) at
       ∙ sym (worked c.commit.result _ c.commit.ensures.call.fails whole (c.commit.ensures.state G (common_kept _ _ _ _ mine))));
 }

@@ -1,6 +1,4 @@
 use Rattle.std.proofs.Common.{◌≡◌, Ok, Err, sym, ap, subst, ◌∙◌, [], ◌∷◌, ◌+◌, None}
-use Rattle.pfx_kinds.specs.AnyKind.{any_kind}
-use Rattle.pfx_kinds.specs.declared.any.AnyJob.{AnyJob}
 use Rattle.pfx_machine.specs.Plain.{Plain, IsState}
 use Rattle.pfx_machine.specs.Outcome.{outcome}
 use Rattle.pfx_machine.specs.Runs.{answer}
@@ -21,13 +19,13 @@ returns-in-Ok-clause-done g c =
     let whole : failed old.keeper ≡ None = not_failed (failed old.keeper) c.execute.result (c.in-Ok.mark, c.in-Ok.reply) c.in-Ok.is (λ cause was. (c.execute.ensures.stops.stopped cause was).0) in
     let at = old.same whole in
     let next = new.same h.done.whole in
-    let moved : (kept new.keeper).state ≡ outcome any_kind (kept old.keeper).state (c.args.command ∷ []) = sym next ∙ h.done.state ∙ ap (λ (s : Plain AnyJob). outcome any_kind s (c.args.command ∷ [])) at in
-    let accepted : answer any_kind (kept old.keeper).state c.args.command ≡ Ok c.in-Ok.reply = subst (λ (s : Plain AnyJob). answer any_kind s c.args.command ≡ Ok c.in-Ok.reply) at h.done.reply in
+    let moved : (kept new.keeper).state ≡ outcome g.J.Job.kind (kept old.keeper).state (c.args.command ∷ []) = sym next ∙ h.done.state ∙ ap (λ (s : Plain g.row.J.Denot). outcome g.J.Job.kind s (c.args.command ∷ [])) at in
+    let accepted : answer g.J.Job.kind (kept old.keeper).state c.args.command ≡ Ok c.in-Ok.reply = subst (λ (s : Plain g.row.J.Denot). answer g.J.Job.kind s c.args.command ≡ Ok c.in-Ok.reply) at h.done.reply in
     record {
       accepted = accepted;
-      next = h.done.number ∙ ap (λ (s : Plain AnyJob). s.number + 1) at;
+      next = h.done.number ∙ ap (λ (s : Plain g.row.J.Denot). s.number + 1) at;
       state = moved;
-      keeps = keeps_one (V (kept old.keeper).file.disk) (V (kept new.keeper).file.disk) (failed old.keeper) (kept old.keeper).state (kept new.keeper).state c.args.command (c.in-Ok.reply, accepted) moved h.calls.honest.0
+      keeps = keeps_one g.J.Job.kind (V (kept old.keeper).file.disk) (V (kept new.keeper).file.disk) (failed old.keeper) (kept old.keeper).state (kept new.keeper).state c.args.command (c.in-Ok.reply, accepted) moved h.calls.honest.0
           (λ honest image here. (h.commits honest).acknowledged image (subst (λ n. (V (kept new.keeper).file.disk).since n image) (sym h.done.clock_now) here) ∙ ap Ok next);
       settled = h.done.whole;
     }
@@ -40,11 +38,11 @@ returns-in-Err-clause-not_done g c =
     let old = c.args.self.now in
     let new = c.execute.new.self in
     let h = c.in-Err.ensures in
-    not_done (λ engine. V (kept engine.keeper).file.disk) (λ engine. failed engine.keeper) (λ engine. (kept engine.keeper).state) (MayFail failed) c.args.command old new old.state new.state _ _ c.in-Err.fault
+    not_done g.J.Job.kind (λ engine. V (kept engine.keeper).file.disk) (λ engine. failed engine.keeper) (λ engine. (kept engine.keeper).state) (MayFail failed) c.args.command old new old.state new.state _ _ c.in-Err.fault
     old.same h.refused.0 h.refused.1 h.doubt h.stops.fails (λ cause known. (new.keeper, known.0))
-    (λ y. rw y.1 (keeps_none (V (kept old.keeper).file.disk) (failed old.keeper) (kept old.keeper).state, λ whole. whole))
+    (λ y. rw y.1 (keeps_none g.J.Job.kind (V (kept old.keeper).file.disk) (failed old.keeper) (kept old.keeper).state, λ whole. whole))
     (λ cause was. let t = c.execute.ensures.stops.stopped cause was in (err_is c.execute.result _ c.in-Err.fault c.in-Err.is t.0, t.1))
-    (λ accepted. keeps_doubt (V (kept old.keeper).file.disk) (V (kept new.keeper).file.disk) (failed old.keeper) (kept old.keeper).state (kept new.keeper).state c.args.command (subst IsState (c.state.ensures ∙ ap (λ (store : PlainStore _ AnyJob). store.state) c.stored.ensures) c.number-number.ensures.state) accepted h.calls.takes.later h.calls.honest.0 (λ honest. (h.commits honest).keeps))
+    (λ accepted. keeps_doubt g.J.Job.kind (V (kept old.keeper).file.disk) (V (kept new.keeper).file.disk) (failed old.keeper) (kept old.keeper).state (kept new.keeper).state c.args.command (subst IsState (c.state.ensures ∙ ap (λ (store : PlainStore _ g.row.J.Denot). store.state) c.stored.ensures) c.number-number.ensures.state) accepted h.calls.takes.later h.calls.honest.0 (λ honest. (h.commits honest).keeps))
 
 pub returns-in-Ok-clause-commits : goal.returns-in-Ok-clause-commits
 returns-in-Ok-clause-commits g c =

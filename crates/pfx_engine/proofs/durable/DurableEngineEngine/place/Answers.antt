@@ -10,7 +10,7 @@ returns-in_err-_kept-clause-same g c =
     let failed = g.K.Keeper.failed in
     record {
       state = refl;
-      keeps = keeps_none (g.D.Disk.view (kept c.args.self.now.keeper).file.disk) (failed c.args.self.now.keeper) (kept c.args.self.now.keeper).state;
+      keeps = keeps_none g.J.Job.kind (g.D.Disk.view (kept c.args.self.now.keeper).file.disk) (failed c.args.self.now.keeper) (kept c.args.self.now.keeper).state;
     }
 
 pub returns-clause-same : goal.returns-clause-same
@@ -19,7 +19,7 @@ returns-clause-same g c =
     let failed = g.K.Keeper.failed in
     record {
       state = refl;
-      keeps = keeps_none (g.D.Disk.view (kept c.args.self.now.keeper).file.disk) (failed c.args.self.now.keeper) (kept c.args.self.now.keeper).state;
+      keeps = keeps_none g.J.Job.kind (g.D.Disk.view (kept c.args.self.now.keeper).file.disk) (failed c.args.self.now.keeper) (kept c.args.self.now.keeper).state;
     }
 
 pub returns-in_err-_kept-clause-fails : goal.returns-in_err-_kept-clause-fails

@@ -10,7 +10,7 @@ returns-clause-same g c =
     let failed = g.K.Keeper.failed in
     record {
       state = refl;
-      keeps = keeps_none (g.D.Disk.view (kept c.args.self.now.keeper).file.disk) (failed c.args.self.now.keeper) (kept c.args.self.now.keeper).state;
+      keeps = keeps_none g.J.Job.kind (g.D.Disk.view (kept c.args.self.now.keeper).file.disk) (failed c.args.self.now.keeper) (kept c.args.self.now.keeper).state;
     }
 
 pub returns-clause-fails : goal.returns-clause-fails

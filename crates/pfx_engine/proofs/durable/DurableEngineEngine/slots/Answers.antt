@@ -1,16 +1,14 @@
 use Rattle.std.proofs.Common.{rules, ◌≡◌, inl, inr, List, ℕ, map, refl, sym, ap, subst, ◌∙◌, arith, None}
 use Rattle.pfx_store.specs.Groups.{AreRecordsOf}
 use Rattle.pfx_store.proofs.Grouping.{common_kept}
-use Rattle.pfx_kinds.specs.AnyKind.{any_kind}
-use Rattle.pfx_kinds.specs.declared.any.AnyJob.{AnyJob}
 use Rattle.pfx_machine.specs.Plain.{Plain, IsState}
 use Rattle.pfx_machine.specs.Outcome.{outcome}
 use Rattle.pfx_machine.specs.declared.command.Command.{Command}
 use Rattle.pfx_fault.specs.declared.refusals.Fault.TheVariants as fault
-use Rattle.pfx_program.specs.declared.engine.CallFault.TheVariants as callfault
+use Rattle.pfx_engine.specs.declared.engine.CallFault.TheVariants as callfault
 use Rattle.std.proofs.lemmas.Bool.{true≢false}
-use Rattle.pfx_program.specs.Promises.{AreAnswered, slots_for}
-use Rattle.pfx_program.proofs.SlotLemmas.{length_slots}
+use Rattle.pfx_engine.specs.Promises.{AreAnswered, slots_for}
+use Rattle.pfx_engine.proofs.Slots.{length_slots}
 use Rattle.pfx_record.specs.Records.{plain}
 use Rattle.pfx_engine.specs.Failing.{MayFail, stopped_at}
 use Rattle.pfx_engine.specs.Keeping.{KeepsFrom}
@@ -25,14 +23,14 @@ returns-in-Some-clause-not_done g c =
     let kept = g.K.Keeper.kept in
     let failed = g.K.Keeper.failed in
     let old = c.args.self.now in
-    rw c.stopped.ensures ((c.in-Some.cause, (old.keeper, sym c.in-Some.ensures.answer), refl), inl (record { state = refl; keeps = keeps_none (g.D.Disk.view (kept old.keeper).file.disk) (failed old.keeper) (kept old.keeper).state }))
+    rw c.stopped.ensures ((c.in-Some.cause, (old.keeper, sym c.in-Some.ensures.answer), refl), inl (record { state = refl; keeps = keeps_none g.J.Job.kind (g.D.Disk.view (kept old.keeper).file.disk) (failed old.keeper) (kept old.keeper).state }))
 
 pub returns-then-self-clause-not_done : goal.returns-then-self-clause-not_done
 returns-then-self-clause-not_done g c =
     let kept = g.K.Keeper.kept in
     let failed = g.K.Keeper.failed in
     let old = c.args.self.now in
-    (tt, record { state = refl; keeps = keeps_none (g.D.Disk.view (kept old.keeper).file.disk) (failed old.keeper) (kept old.keeper).state })
+    (tt, record { state = refl; keeps = keeps_none g.J.Job.kind (g.D.Disk.view (kept old.keeper).file.disk) (failed old.keeper) (kept old.keeper).state })
 
 pub run_slots-requires : goal.run_slots-requires
 run_slots-requires g c = omega (arith, c.min.ensures, c.requires.some)
@@ -40,14 +38,14 @@ run_slots-requires g c = omega (arith, c.min.ensures, c.requires.some)
 pub commit-requires-clause-some : goal.commit-requires-clause-some
 commit-requires-clause-some g c =
     let ran = c.in-Ok.ensures.ran in
-    let long = run_long plain c.args.self.now.state c.run_slots.new.state c.min.result c.in-Ok.field-0.said.items c.in-Ok.field-0.records.items ran in
+    let long = run_long g.J.Job.kind plain c.args.self.now.state c.run_slots.new.state c.min.result c.in-Ok.field-0.said.items c.in-Ok.field-0.records.items ran in
     let some = ran.some in
     omega (arith, long, some)
 
 pub commit-requires-clause-few : goal.commit-requires-clause-few
 commit-requires-clause-few g c =
     let ran = c.in-Ok.ensures.ran in
-    let long = run_long plain c.args.self.now.state c.run_slots.new.state c.min.result c.in-Ok.field-0.said.items c.in-Ok.field-0.records.items ran in
+    let long = run_long g.J.Job.kind plain c.args.self.now.state c.run_slots.new.state c.min.result c.in-Ok.field-0.said.items c.in-Ok.field-0.records.items ran in
     let few = ran.few in
     omega (arith, long, few, c.min.ensures)
 
@@ -58,8 +56,8 @@ returns-in-Err-clause-not_done g c =
     let V = g.D.Disk.view in
     let old = c.args.self.now in
     let whole : failed old.keeper ≡ None = sym c.in_default.ensures.answer in
-    slots_not_run (λ engine. V (kept engine.keeper).file.disk) (λ engine. failed engine.keeper) (λ engine. (kept engine.keeper).state) (MayFail failed) c.args.count old _ old.state c.run_slots.new.state _ c.in-Err.why
-    (old.same whole) c.in-Err.ensures.refused c.in-Err.ensures.why (record { state = refl; keeps = keeps_none (V (kept old.keeper).file.disk) (failed old.keeper) (kept old.keeper).state }) (λ h. h)
+    slots_not_run g.J.Job.kind (λ engine. V (kept engine.keeper).file.disk) (λ engine. failed engine.keeper) (λ engine. (kept engine.keeper).state) (MayFail failed) c.args.count old _ old.state c.run_slots.new.state _ c.in-Err.why
+    (old.same whole) c.in-Err.ensures.refused c.in-Err.ensures.why (record { state = refl; keeps = keeps_none g.J.Job.kind (V (kept old.keeper).file.disk) (failed old.keeper) (kept old.keeper).state }) (λ h. h)
 
 pub returns-in-Ok-commit-clause-done : goal.returns-in-Ok-commit-clause-done
 returns-in-Ok-commit-clause-done g c =
@@ -70,17 +68,17 @@ returns-in-Ok-commit-clause-done g c =
     let at = old.same (sym c.in_default.ensures.answer) in
     let ran = c.in-Ok.ensures.ran in
     let said = c.in-Ok.field-0.said.items in
-    let G : List (Command AnyJob) = slots_for said in
+    let G : List (Command g.row.J.Denot) = slots_for said in
     let few = ran.few in
-    let mine : AreRecordsOf any_kind (kept old.keeper).state G (map plain c.in-Ok.field-0.records.items) = subst (λ (s : Plain AnyJob). AreRecordsOf any_kind s G (map plain c.in-Ok.field-0.records.items)) at ran.recorded in
-    let moved : (kept c.commit.new.keeper).state ≡ outcome any_kind (kept old.keeper).state G = c.in-Ok-commit.ensures.state G (common_kept _ _ _ _ mine) in
+    let mine : AreRecordsOf g.J.Job.kind (kept old.keeper).state G (map plain c.in-Ok.field-0.records.items) = subst (λ (s : Plain g.row.J.Denot). AreRecordsOf g.J.Job.kind s G (map plain c.in-Ok.field-0.records.items)) at ran.recorded in
+    let moved : (kept c.commit.new.keeper).state ≡ outcome g.J.Job.kind (kept old.keeper).state G = c.in-Ok-commit.ensures.state G (common_kept _ _ _ _ mine) in
     record {
       some = ran.some;
       few = omega (arith, few, c.min.ensures);
-      answered = subst (λ (s : Plain AnyJob). AreAnswered s said) at ran.answered;
+      answered = subst (λ (s : Plain g.row.J.Denot). AreAnswered g.J.Job.kind s said) at ran.answered;
       state = moved;
-      keeps = subst (λ (n : ℕ). KeepsFrom (V (kept old.keeper).file.disk) (failed old.keeper) (kept old.keeper).state G n (V (kept c.commit.new.keeper).file.disk) (kept c.commit.new.keeper).state) (length_slots said)
-          (keeps_all (V (kept old.keeper).file.disk) (V (kept c.commit.new.keeper).file.disk) (failed old.keeper) (kept old.keeper).state (kept c.commit.new.keeper).state G mine.accepted moved c.in-Ok-commit.ensures.call.follows.honest.0 c.in-Ok-commit.ensures.acknowledged);
+      keeps = subst (λ (n : ℕ). KeepsFrom g.J.Job.kind (V (kept old.keeper).file.disk) (failed old.keeper) (kept old.keeper).state G n (V (kept c.commit.new.keeper).file.disk) (kept c.commit.new.keeper).state) (length_slots said)
+          (keeps_all g.J.Job.kind (V (kept old.keeper).file.disk) (V (kept c.commit.new.keeper).file.disk) (failed old.keeper) (kept old.keeper).state (kept c.commit.new.keeper).state G mine.accepted moved c.in-Ok-commit.ensures.call.follows.honest.0 c.in-Ok-commit.ensures.acknowledged);
       settled = search rules;
     }
 
@@ -93,19 +91,19 @@ returns-in-Err-commit-clause-not_done g c =
     let at = old.same (sym c.in_default.ensures.answer) in
     let ran = c.in-Ok.ensures.ran in
     let said = c.in-Ok.field-0.said.items in
-    let G : List (Command AnyJob) = slots_for said in
+    let G : List (Command g.row.J.Denot) = slots_for said in
     let few = ran.few in
     let some = ran.some in
-    let mine : AreRecordsOf any_kind (kept old.keeper).state G (map plain c.in-Ok.field-0.records.items) = subst (λ (s : Plain AnyJob). AreRecordsOf any_kind s G (map plain c.in-Ok.field-0.records.items)) at ran.recorded in
+    let mine : AreRecordsOf g.J.Job.kind (kept old.keeper).state G (map plain c.in-Ok.field-0.records.items) = subst (λ (s : Plain g.row.J.Denot). AreRecordsOf g.J.Job.kind s G (map plain c.in-Ok.field-0.records.items)) at ran.recorded in
     let same : (kept c.commit.new.keeper).state ≡ (kept old.keeper).state = c.in-Err-commit.ensures.call.same in
     rw c.stopped-in-Err-commit.ensures (
-      (c.in-Err-commit.cause, (c.commit.new.keeper, c.in-Err-commit.ensures.call.fails), ap (λ (s : Plain AnyJob). stopped_at s.number c.in-Err-commit.cause) same),
+      (c.in-Err-commit.cause, (c.commit.new.keeper, c.in-Err-commit.ensures.call.fails), ap (λ (s : Plain g.row.J.Denot). stopped_at s.number c.in-Err-commit.cause) same),
       inr (record {
         said = said;
         few = omega (arith, few, c.min.ensures);
-        answered = subst (λ (s : Plain AnyJob). AreAnswered s said) at ran.answered;
+        answered = subst (λ (s : Plain g.row.J.Denot). AreAnswered g.J.Job.kind s said) at ran.answered;
         state = inl same;
-        keeps = keeps_some (V (kept old.keeper).file.disk) (V (kept c.commit.new.keeper).file.disk) (failed old.keeper) (kept old.keeper).state (kept c.commit.new.keeper).state G (subst IsState at c.number-number.ensures.state) mine.accepted
+        keeps = keeps_some g.J.Job.kind (V (kept old.keeper).file.disk) (V (kept c.commit.new.keeper).file.disk) (failed old.keeper) (kept old.keeper).state (kept c.commit.new.keeper).state G (subst IsState at c.number-number.ensures.state) mine.accepted
             (omega (arith, some, length_slots said)) c.in-Err-commit.ensures.call.follows.goes.later c.in-Err-commit.ensures.call.follows.honest.0 (λ honest start H h all there. c.in-Err-commit.ensures.keeps honest start H G h all there (common_kept _ _ _ _ mine));
       }),
     )
@@ -162,7 +160,7 @@ returns-in-Err-commit-clause-stops g c =
     let h = c.in-Err-commit.ensures.call in
     record {
       stops = stops_failing n was _ _ c.stopped-in-Err-commit.result c.in-Err-commit.cause c.in_default.ensures.answer
-          (c.stopped-in-Err-commit.ensures ∙ ap (λ (s : Plain AnyJob). stopped_at s.number c.in-Err-commit.cause) h.same) h.fails;
+          (c.stopped-in-Err-commit.ensures ∙ ap (λ (s : Plain g.row.J.Denot). stopped_at s.number c.in-Err-commit.cause) h.same) h.fails;
       starved = λ none starved. absurd (true≢false (sym starved ∙ c.if-self.false));
     }
 
@@ -173,8 +171,8 @@ invariant_of-self-in-Ok g c = record {
       let old = c.args.self.now in
       let at = old.same (sym c.in_default.ensures.answer) in
       let ran = c.in-Ok.ensures.ran in
-      let G : List (Command AnyJob) = slots_for c.in-Ok.field-0.said.items in
-      let mine : AreRecordsOf any_kind (kept old.keeper).state G (map plain c.in-Ok.field-0.records.items) = subst (λ (s : Plain AnyJob). AreRecordsOf any_kind s G (map plain c.in-Ok.field-0.records.items)) at ran.recorded in
-      ran.state ∙ (ap (λ (s : Plain AnyJob). outcome any_kind s G) at
+      let G : List (Command g.row.J.Denot) = slots_for c.in-Ok.field-0.said.items in
+      let mine : AreRecordsOf g.J.Job.kind (kept old.keeper).state G (map plain c.in-Ok.field-0.records.items) = subst (λ (s : Plain g.row.J.Denot). AreRecordsOf g.J.Job.kind s G (map plain c.in-Ok.field-0.records.items)) at ran.recorded in
+      ran.state ∙ (ap (λ (s : Plain g.row.J.Denot). outcome g.J.Job.kind s G) at
       ∙ sym (worked c.commit.result _ c.commit.ensures.call.fails whole (c.commit.ensures.state G (common_kept _ _ _ _ mine))));
 }

@@ -10,7 +10,7 @@ returns-in_err-_number-clause-same g c =
     let failed = g.K.Keeper.failed in
     record {
       state = refl;
-      keeps = keeps_none (g.D.Disk.view (kept c.args.self.now.keeper).file.disk) (failed c.args.self.now.keeper) (kept c.args.self.now.keeper).state;
+      keeps = keeps_none g.J.Job.kind (g.D.Disk.view (kept c.args.self.now.keeper).file.disk) (failed c.args.self.now.keeper) (kept c.args.self.now.keeper).state;
     }
 
 pub returns-in-Ok-clause-same : goal.returns-in-Ok-clause-same
@@ -19,7 +19,7 @@ returns-in-Ok-clause-same g c =
     let failed = g.K.Keeper.failed in
     record {
       state = refl;
-      keeps = keeps_none (g.D.Disk.view (kept c.args.self.now.keeper).file.disk) (failed c.args.self.now.keeper) (kept c.args.self.now.keeper).state;
+      keeps = keeps_none g.J.Job.kind (g.D.Disk.view (kept c.args.self.now.keeper).file.disk) (failed c.args.self.now.keeper) (kept c.args.self.now.keeper).state;
     }
 
 pub returns-in-Err-clause-same : goal.returns-in-Err-clause-same
@@ -28,7 +28,7 @@ returns-in-Err-clause-same g c =
     let failed = g.K.Keeper.failed in
     record {
       state = refl;
-      keeps = keeps_none (g.D.Disk.view (kept c.args.self.now.keeper).file.disk) (failed c.args.self.now.keeper) (kept c.args.self.now.keeper).state;
+      keeps = keeps_none g.J.Job.kind (g.D.Disk.view (kept c.args.self.now.keeper).file.disk) (failed c.args.self.now.keeper) (kept c.args.self.now.keeper).state;
     }
 
 pub returns-in_err-_number-clause-fails : goal.returns-in_err-_number-clause-fails

@@ -1,7 +1,6 @@
 use Rattle.std.proofs.Common.{refl, sym, subst}
-use Rattle.pfx_kinds.specs.declared.any.AnyJob.{AnyJob}
 use Rattle.pfx_machine.specs.Plain.{Plain}
-use Rattle.pfx_program.specs.Promises.{Shows}
+use Rattle.pfx_engine.specs.Promises.{Shows}
 use Rattle.pfx_engine.specs.KeepingLaws.{keeps_none}
 use Rattle.pfx_engine.proofs.Promising.{kept_fault, kept_whole, look_failed, look_fine, look_starved}
 use Rattle.pfx_engine.specs.Failing.{MayFail}
@@ -13,7 +12,7 @@ returns-in-Err-clause-same g c =
     let failed = g.K.Keeper.failed in
     record {
       state = refl;
-      keeps = keeps_none (g.D.Disk.view (kept c.args.self.now.keeper).file.disk) (failed c.args.self.now.keeper) (kept c.args.self.now.keeper).state;
+      keeps = keeps_none g.J.Job.kind (g.D.Disk.view (kept c.args.self.now.keeper).file.disk) (failed c.args.self.now.keeper) (kept c.args.self.now.keeper).state;
     }
 
 pub returns-in-Ok-clause-shows : goal.returns-in-Ok-clause-shows
@@ -21,7 +20,7 @@ returns-in-Ok-clause-shows g c =
     let kept = g.K.Keeper.kept in
     let failed = g.K.Keeper.failed in
     let whole = kept_whole (failed c.args.self.now.keeper) (kept c.args.self.now.keeper).state.number c.in_default.field-0 (sym c.in_default.ensures.answer) in
-    subst (λ (s : Plain AnyJob). Shows s c.in-Ok.board) (c.args.self.now.same whole) (record { number = c.in-Ok.ensures.number; slot = c.in-Ok.ensures.slot; from = c.in-Ok.ensures.from; lines = c.in-Ok.ensures.lines })
+    subst (λ (s : Plain g.row.J.Denot). Shows g.J.Job.kind s c.in-Ok.board) (c.args.self.now.same whole) (record { number = c.in-Ok.ensures.number; slot = c.in-Ok.ensures.slot; from = c.in-Ok.ensures.from; lines = c.in-Ok.ensures.lines })
 
 pub returns-in-Ok-clause-same : goal.returns-in-Ok-clause-same
 returns-in-Ok-clause-same g c =
@@ -29,7 +28,7 @@ returns-in-Ok-clause-same g c =
     let failed = g.K.Keeper.failed in
     record {
       state = refl;
-      keeps = keeps_none (g.D.Disk.view (kept c.args.self.now.keeper).file.disk) (failed c.args.self.now.keeper) (kept c.args.self.now.keeper).state;
+      keeps = keeps_none g.J.Job.kind (g.D.Disk.view (kept c.args.self.now.keeper).file.disk) (failed c.args.self.now.keeper) (kept c.args.self.now.keeper).state;
     }
 
 pub returns-in-Err-board-clause-same : goal.returns-in-Err-board-clause-same
@@ -38,7 +37,7 @@ returns-in-Err-board-clause-same g c =
     let failed = g.K.Keeper.failed in
     record {
       state = refl;
-      keeps = keeps_none (g.D.Disk.view (kept c.args.self.now.keeper).file.disk) (failed c.args.self.now.keeper) (kept c.args.self.now.keeper).state;
+      keeps = keeps_none g.J.Job.kind (g.D.Disk.view (kept c.args.self.now.keeper).file.disk) (failed c.args.self.now.keeper) (kept c.args.self.now.keeper).state;
     }
 
 pub returns-in-Err-clause-fails : goal.returns-in-Err-clause-fails

@@ -2,7 +2,6 @@ use Rattle.pfx_front_engine.proofs.Answering.{engine_fault}
 use Rattle.pfx_front_engine.proofs.Promising.{all_done, all_doubted, some_left}
 use Rattle.pfx_front_engine.specs.declared.engine.FrontEngine.{FrontEngine}
 use Rattle.pfx_front.specs.Sole.{state_of}
-use Rattle.pfx_kinds.specs.AnyKind.{any_kind}
 use Rattle.pfx_front_engine.proofs.engine.FrontEngineEngine.all.Goals as goal
 
 pub returns-in-Err-clause-left : goal.returns-in-Err-clause-left
@@ -10,7 +9,7 @@ returns-in-Err-clause-left g c =
     some_left {E = FrontEngine g.row.B.Denot g.row.K.Denot g.row.R.Denot g.row.K-Seat.Denot g.B.Since g.B.Named g.B.Room g.B.Begun g.B.Naming g.B.Charted} (λ e. e.client) g.B.Named.start _ _ c.args.commands.items c.in-Err.ensures.err
 
 pub returns-in-Err-clause-fails : goal.returns-in-Err-clause-fails
-returns-in-Err-clause-fails g c = engine_fault g.B.Named.start c.ask_all.new.client (state_of any_kind g.B.Named.start c.args.self.now.client) c.in-Err.fault c.in-Err.ensures.fails
+returns-in-Err-clause-fails g c = engine_fault g.J.Job.kind g.B.Named.start c.ask_all.new.client (state_of g.J.Job.kind g.B.Named.start c.args.self.now.client) c.in-Err.fault c.in-Err.ensures.fails
 
 pub returns-in-Ok-settle-clause-done : goal.returns-in-Ok-settle-clause-done
 returns-in-Ok-settle-clause-done g c =
@@ -23,4 +22,4 @@ returns-in-Err-settle-clause-left g c =
     c.in-Ok.ensures.ok
 
 pub returns-in-Err-settle-clause-fails : goal.returns-in-Err-settle-clause-fails
-returns-in-Err-settle-clause-fails g c = engine_fault g.B.Named.start c.settle.new.client (state_of any_kind g.B.Named.start c.args.self.now.client) c.in-Err-settle.fault c.in-Err-settle.ensures.fails
+returns-in-Err-settle-clause-fails g c = engine_fault g.J.Job.kind g.B.Named.start c.settle.new.client (state_of g.J.Job.kind g.B.Named.start c.args.self.now.client) c.in-Err-settle.fault c.in-Err-settle.ensures.fails

@@ -1,0 +1,6 @@
+mod EndingLemmas
+mod RunningLemmas
+mod NotingLemmas
+mod RefutedNoting
+mod CauseLemmas
+mod ServingLemmas

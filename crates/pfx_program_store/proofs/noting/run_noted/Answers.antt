@@ -1,0 +1,61 @@
+use Rattle.std.specs.Prelude.{if◌then◌else◌}
+use Rattle.std.proofs.Common.{◌≡◌, false, None, Some, Ok, Err, max, sym, ap, subst, ◌∙◌}
+use Rattle.pfx_chronicle.specs.Chart.{charted_honest, last_only, noted_view}
+use Rattle.pfx_program_store.proofs.NotingLemmas.{device_only, noted_none, noted_run}
+use Rattle.pfx_engine.specs.Failing.{MayFail}
+use Rattle.pfx_program_store.specs.Noting.{IsNotedRun}
+use Rattle.pfx_fault.specs.declared.parts.Cause.TheVariants as cause
+use Rattle.pfx_fault.specs.declared.refusals.Fault.TheVariants as fault
+use Rattle.pfx_store.specs.Keepers.{failure_of}
+use Rattle.pfx_program_store.proofs.noting.run_noted.Goals as goal
+
+pub returns-in-Err : goal.returns-in-Err
+returns-in-Err g c =
+    let held = g.B.Charted.held in
+    let image = g.B.Charted.image in
+    let view = noted_view held image g.B.Charted.clock g.B.Charted.failures in
+    let along = c.told.ensures.along in
+    let noted = c.noted-noted.result in
+    let whole : noted.file.broken ≡ false = ap (λ s. s.file.broken) c.noted-noted.ensures in
+    let state : noted.state ≡ c.args.store.state = ap (λ s. s.state) c.noted-noted.ensures in
+    record {
+      ran = subst (λ t. IsNotedRun (λ why. why ≡ cause.Device) c.args.form c.args.at_refusal c.args.store.state c.args.script.now c.args.script.now.failed (g.W.Write.contents c.args.output.now) (g.W.Write.contents c.args.output.now) held image c.moment.result
+          (g.D.Disk.view c.told.result.file.disk) t (Err fault.NoMemory)) (sym (c.told.ensures.state.0 ∙ ap (λ s. s.state) c.in-Err.ensures.given_back ∙ state))
+          (noted_none (λ why. why ≡ cause.Device) c.args.form c.args.at_refusal c.args.store.state c.args.script.now c.args.script.now.failed (g.W.Write.contents c.args.output.now) held image c.moment.result
+          (g.D.Disk.view c.told.result.file.disk) (view c.in-Err.back.file.disk).now
+          (λ honest. (along.follows honest).premise)
+          (λ so left behind. subst (λ d. (view d).now left) c.disk.ensures (c.moment.ensures.images so left behind))
+          (λ honest left here. ((along.follows honest).premise, (along.follows honest).images left here))
+          (λ so left here. c.is_broken-broken.ensures.recovered whole (charted_honest held image g.B.Charted.clock g.B.Charted.failures noted.file.disk.made noted.file.disk.late noted.file.disk.failed so) left
+          (subst (λ s. (view s.file.disk).now left) c.in-Err.ensures.given_back here) ∙ ap Ok state));
+    }
+
+pub returns-in-Ok : goal.returns-in-Ok
+returns-in-Ok g c =
+    let held = g.B.Charted.held in
+    let image = g.B.Charted.image in
+    let clock = g.B.Charted.clock in
+    let failures = g.B.Charted.failures in
+    let view = noted_view held image clock failures in
+    let along = c.told-in-Ok.ensures.along in
+    let noted = c.noted-noted.result in
+    let begun = c.in-Ok.engine in
+    let whole : noted.file.broken ≡ false = ap (λ s. s.file.broken) c.noted-noted.ensures in
+    let at : begun.keeper.state ≡ c.args.store.state = ap (λ s. s.state) c.in-Ok.ensures.keeper ∙ ap (λ s. s.state) c.noted-noted.ensures in
+    record {
+      ran = subst (λ t. IsNotedRun (λ why. why ≡ cause.Device) c.args.form c.args.at_refusal c.args.store.state c.args.script.now c.run_durable-result.new.script.failed (g.W.Write.contents c.args.output.now) (g.W.Write.contents c.run_durable-result.new.output) held image
+          c.moment-in-Ok.result (g.D.Disk.view c.told-in-Ok.result.file.disk) t c.run_durable-result.result) (sym (c.told-in-Ok.ensures.state.0 ∙ ap (λ s. s.state) c.into_keeper-after.ensures))
+          (subst (λ s. IsNotedRun (λ why. why ≡ cause.Device) c.args.form c.args.at_refusal s c.args.script.now c.run_durable-result.new.script.failed (g.W.Write.contents c.args.output.now) (g.W.Write.contents c.run_durable-result.new.output) held image
+          c.moment-in-Ok.result (g.D.Disk.view c.told-in-Ok.result.file.disk) c.run_durable-result.new.engine.keeper.state c.run_durable-result.result) at
+          (noted_run (MayFail (λ store. failure_of store)) (λ why. why ≡ cause.Device) device_only held image c.moment-in-Ok.result (g.D.Disk.view c.told-in-Ok.result.file.disk) (λ honest. (along.follows honest).premise)
+          (λ engine. view engine.keeper.file.disk) (λ engine. failure_of engine.keeper) (λ engine. engine.keeper.state) c.args.form c.args.at_refusal
+          (max c.args.window c.args.group) c.args.script.now c.run_durable-result.new.script.failed begun c.run_durable-result.new.engine (g.W.Write.contents c.args.output.now) (g.W.Write.contents c.run_durable-result.new.output)
+          c.run_durable-result.result c.run_durable-result.ensures.runs
+          (ap (λ s. failure_of s) c.in-Ok.ensures.keeper ∙ ap (λ b. if b then Some cause.Device else None) whole)
+          (λ so. charted_honest held image clock failures begun.keeper.file.disk.made begun.keeper.file.disk.late begun.keeper.file.disk.failed so)
+          (λ so left is. c.is_broken-broken.ensures.recovered whole (charted_honest held image clock failures noted.file.disk.made noted.file.disk.late noted.file.disk.failed so) left
+          (subst (λ s. (view s.file.disk).now left) c.in-Ok.ensures.keeper (last_only held image clock failures begun.keeper.file.disk.made begun.keeper.file.disk.late begun.keeper.file.disk.failed left is))
+          ∙ ap Ok (sym (ap (λ s. s.state) c.in-Ok.ensures.keeper)))
+          (λ so left behind. subst (λ s. (view s.file.disk).now left) c.into_keeper-after.ensures (subst (λ d. (view d).now left) c.disk-in-Ok.ensures (c.moment-in-Ok.ensures.images so left behind)))
+          (λ honest left here. subst (λ s. (view s.file.disk).now left) c.into_keeper-after.ensures ((along.follows honest).premise, (along.follows honest).images left here))));
+    }
