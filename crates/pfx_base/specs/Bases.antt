@@ -8,6 +8,7 @@ use Rattle.pfx_disk.specs.declared.gates.TheConstants.{GATE_OPEN}
 use Rattle.pfx_recovery.specs.Codec.{Codec}
 use Rattle.pfx_recovery.specs.Recovery.{Found, found}
 use Rattle.pfx_segment.specs.Frames.{IsFrame}
+use Rattle.pfx_recovery.specs.declared.head.TheConstants.{SEGMENT_HEAD}
 use Rattle.pfx_store_file.specs.Files.{File}
 use Rattle.pfx_store_file.specs.Holding.{IsStart}
 
@@ -24,8 +25,8 @@ module _ {H S : Type 0} (K : Codec H S) where
       → ((image : List ℕ) → old.since c image → IsBased most image)
       → (image : List ℕ) → new.since c image → IsBased most image
 
-  -- Calls of a disk, one after the other: at each moment of them an image is recovered from a checkpoint of at most this number, or any greater
-  -- one; and once all of them were made this is so.
+  -- Calls of a disk, one after the other: at each moment of them an image is recovered from a checkpoint of at most this number, or any
+  -- greater one; and once all of them were made this is so.
   pub record HasBase (number : ℕ) (acts : List Act) (old new : View) (made : Type 0) : Type 0 where
     pub during : HasKeptTo acts old new → (most : ℕ) → number ≤ most → KeepsBase most old new
     pub then : HasMade acts old new → made
@@ -37,7 +38,8 @@ module _ {H S : Type 0} (K : Codec H S) where
 
     -- the body of the checkpoint in progress, if there is one, is spelled so
     abbrev pub Spells : List ℕ → Type 0
-    Spells spelling = f.parts.turned ≡ true → (K.read_state f.head spelling ≡ Some f.parts.middle) × (length spelling ≡ (K.layout f.head).body)
+    Spells spelling = f.parts.turned ≡ true → (K.read_state f.head spelling ≡ Some f.parts.middle)
+        × (length spelling ≡ (K.layout f.head).body)
 
     -- The disk is one after some calls: a read gives this file at this state, with what was written of the checkpoint in progress, and each
     -- image that a stop may leave is one of it.
@@ -52,5 +54,5 @@ module _ {H S : Type 0} (K : Codec H S) where
     pub record IsNextFrame (s : S) (body start : List ℕ) (t : S) : Type 0 where
       pub frame : IsFrame (GATE_OPEN ∷ body)
       pub leads : K.apply s (GATE_OPEN ∷ body) ≡ Some t
-      pub small : length (body ++ 0 ∷ []) + 9 < (K.layout f.head).segment
+      pub small : length (body ++ 0 ∷ []) + SEGMENT_HEAD < (K.layout f.head).segment
       pub starts : IsStart K (K.number s + 1) start

@@ -16,8 +16,8 @@ pub fn files_are_based<H, S>()
         → IsFile K s f image → IsBased K (turn_number K f) image }
 {}
 
-/// The next step of the checkpoint in progress, or any part of it: at each moment an image is recovered from a checkpoint of at most the number
-/// of the last turn. Once it was taken the file after it is on the disk. It isn't a turn.
+/// The next step of the checkpoint in progress, or any part of it: at each moment an image is recovered from a checkpoint of at most the
+/// number of the last turn. Once it was taken the file after it is on the disk. It isn't a turn.
 pub fn tend_keeps_the_base<D: Disk, H, S>(old: &D, new: &D)
     ensures base { (K : Codec H S) → Laws K → (f : File H S) → (s : S) → (spelling : List ℕ) → Spells K f spelling
         → IsOn K f spelling s (D.view old.now) → HasBase K (turn_number K f) (tend_acts K f spelling) (D.view old.now) (D.view new.now)
@@ -25,8 +25,8 @@ pub fn tend_keeps_the_base<D: Disk, H, S>(old: &D, new: &D)
     ensures number { (K : Codec H S) → (f : File H S) → turn_number K (tended_file K f) ≡ turn_number K f }
 {}
 
-/// A turn, or any part of it: at each moment an image is recovered from a checkpoint of at most the number of the turn before. Once it was made
-/// the file after it is on the disk, and was turned at the state.
+/// A turn, or any part of it: at each moment an image is recovered from a checkpoint of at most the number of the turn before. Once it
+/// was made the file after it is on the disk, and was turned at the state.
 pub fn turn_keeps_the_base<D: Disk, H, S>(old: &D, new: &D)
     ensures base { (K : Codec H S) → Laws K → (f : File H S) → (s : S) → (spelling start next : List ℕ)
         → f.parts.turned ≡ false → 0 < length f.parts.frames → IsStart K (K.number s + 1) start
@@ -35,8 +35,9 @@ pub fn turn_keeps_the_base<D: Disk, H, S>(old: &D, new: &D)
     ensures number { (K : Codec H S) → (f : File H S) → (s : S) → turn_number K (turned_file K f s) ≡ K.number s }
 {}
 
-/// An append, or any part of it, with or without a turn: at each moment an image is recovered from a checkpoint of at most the number of the
-/// last turn before it. Once it was made the file with the frame is on the disk; it was turned at the state, if the frame had no room.
+/// An append, or any part of it, with or without a turn: at each moment an image is recovered from a checkpoint of at most the number of
+/// the last turn before it. Once it was made the file with the frame is on the disk; it was turned at the state, if the frame had no
+/// room.
 pub fn append_keeps_the_base<D: Disk, H, S>(old: &D, new: &D)
     ensures base { (K : Codec H S) → Laws K → (f : File H S) → (s t : S) → (body start : List ℕ) → (spell : S → List ℕ)
         → IsNextFrame K f s body start t → Spells K f (spell f.parts.middle)

@@ -32,9 +32,10 @@ pub record IsNextPiece (head body first : List ℕ) (segment at : ℕ) (disk : V
   pub place : IsBehindFirst head body first segment at
   pub end : IsHonest disk → length disk.contents ≡ at
 
--- One call that writes it: a first gate that was closed stays so at any moment of it, and if the file stood there up to this place, with its
--- first gate closed, it does up to the end of the piece once the call succeeded.
-pub record WritesPiece {T : Type 0} (head body first : List ℕ) (segment at : ℕ) (old new : View) (result : Result T DeviceFailed) : Type 0 where
+-- One call that writes it: a first gate that was closed stays so at any moment of it, and if the file stood there up to this place, with
+-- its first gate closed, it does up to the end of the piece once the call succeeded.
+pub record WritesPiece {T : Type 0} (head body first : List ℕ) (segment at : ℕ) (old new : View) (result : Result T DeviceFailed)
+    : Type 0 where
   pub call : IsOneCall old new result
   pub leaves : IsHonest old → Leaves StaysClosed old new
   pub written : IsHonest old → (L : Layout) → HasLengths L head body segment
@@ -43,7 +44,8 @@ pub record WritesPiece {T : Type 0} (head body first : List ℕ) (segment at : �
 
 -- Calls that write a new file with its first gate closed, so many: a stop at any moment of them leaves what was there in this relation
 -- to it, and once they succeeded all of the file stands there.
-pub record WritesUnopened {T E : Type 0} (calls : ℕ) (step : List ℕ → List ℕ → Type 0) (head body first : List ℕ) (segment : ℕ) (old new : View)
+pub record WritesUnopened {T E : Type 0} (calls : ℕ) (step : List ℕ → List ℕ → Type 0) (head body first : List ℕ) (segment : ℕ)
+    (old new : View)
     (result : Result T E) : Type 0 where
   pub call : IsCall calls (IsErr result) old new result
   pub leaves : IsHonest old → Leaves step old new

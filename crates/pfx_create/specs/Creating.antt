@@ -2,16 +2,17 @@
 use Rattle.std.specs.Prelude.{◌≡◌, ◌≤◌, ◌<◌, ◌⊎◌, ℕ, ◌+◌, ◌*◌, ◌^◌, List, [], ◌∷◌, length, drop, slice_index}
 use Rattle.pfx_disk.specs.declared.gates.TheConstants.{GATE_OPEN}
 use Rattle.pfx_disk.specs.Gates.{IsClosed}
+use Rattle.pfx_recovery.specs.declared.head.TheConstants.{SEGMENT_HEAD}
 use Rattle.pfx_recovery.specs.Layout.{Layout, IsClosedAt}
 
 -- how long a file with this header, this body of a checkpoint area and segments of this length is
 abbrev pub len_of : List ℕ → List ℕ → ℕ → ℕ
 len_of head body segment = length head + 2 * (1 + length body) + 2 * segment
 
--- the first segment's number has eight bytes, a segment more than nine, and the file fewer than 2^62
+-- the first segment's number has eight bytes, a segment more than its head, and the file fewer than 2^62
 pub record IsInLimits (head body first : List ℕ) (segment : ℕ) : Type 0 where
   pub number : length first ≡ 8
-  pub room : 9 < segment
+  pub room : SEGMENT_HEAD < segment
   pub short : len_of head body segment < 2 ^ 62
 
 -- a place behind the first byte of such a file
@@ -26,8 +27,8 @@ pub record IsPartTo (head body first : List ℕ) (segment end : ℕ) : Type 0 wh
   pub short : len_of head body segment < 2 ^ 62
   pub inside : end ≤ len_of head body segment
 
--- A new file can be made with this header, this body of its first checkpoint area, this number of its first segment and such segments: they are
--- in the limits, and the header begins with its open gate.
+-- A new file can be made with this header, this body of its first checkpoint area, this number of its first segment and such segments:
+-- they are in the limits, and the header begins with its open gate.
 pub record CanBeMade (head body first : List ℕ) (segment : ℕ) : Type 0 where
   pub limits : IsInLimits head body first segment
   pub gate : slice_index head 0 ≡ GATE_OPEN

@@ -5,10 +5,12 @@ use Rattle.pfx_recovery.specs.Codec.{Codec}
 use Rattle.pfx_recovery.specs.Refusals.{Refusal, NotAStore}
 use Rattle.pfx_recovery.specs.ToyCodec.{toy}
 
+-- the header at the front of these bytes
 abbrev pub gated_head : List ℕ → Result ℕ Refusal
 gated_head [] = Err NotAStore
 gated_head (gate ∷ []) = Err NotAStore
 gated_head (gate ∷ room ∷ bytes) = if gate == GATE_OPEN then Ok room else Err NotAStore
 
+-- the codec of small files with such a header
 abbrev pub gated_toy : Codec ℕ (List ℕ)
 gated_toy = record toy { read_head = gated_head }

@@ -12,8 +12,8 @@ use crate::pieces::write_unopened;
 use pfx_disk::{Disk, GATE_OPEN};
 
 /// Makes a new file on an empty disk, with this header, this body of its first checkpoint area, this number of its first segment, in
-/// eight bytes, and segments of this length in bytes. The header begins with its open gate, a segment has more than 9 bytes, and the
-/// file fewer than 2^62.
+/// eight bytes, and segments of this length in bytes. The header begins with its open gate, a segment has more bytes than its
+/// head, and the file fewer than 2^62.
 ///
 /// It asks for the disk's length, and answers `NotEmpty` if that isn't 0, with nothing written. Else it writes a closed
 /// first gate and syncs, writes all else in pieces and syncs, and opens the gate and syncs. It answers `Device` only if the

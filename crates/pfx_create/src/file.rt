@@ -12,6 +12,7 @@ ghost use Rattle.pfx_create.specs.NewPlaces.{AreNew};
 use crate::creation::create;
 use crate::fault::CreateFault;
 use pfx_disk::Disk;
+use pfx_recovery::SEGMENT_HEAD;
 use pfx_store_file::{Checkpoint, Places, Sizes, StoreFile};
 
 /// The places of a new file whose parts are so long.
@@ -24,7 +25,7 @@ pub fn new_places(sizes: Sizes) -> Places
         area: false,
         segment: false,
         checkpoint: Checkpoint::Ended,
-        gate: first + 9,
+        gate: first + SEGMENT_HEAD,
         end: first + sizes.segment,
         area_open: false,
         segment_open: false,

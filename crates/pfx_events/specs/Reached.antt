@@ -5,7 +5,8 @@ use Rattle.pfx_machine.specs.Plain.{Plain}
 use Rattle.pfx_machine.specs.declared.command.Command.{Command}
 use Rattle.pfx_world.specs.Calls.{MayLeave}
 use Rattle.pfx_world.specs.Claims.{IsReceipted, IsOrderly, IsShown, HasSurvived, IsRecovered, IsLater}
-use Rattle.pfx_world.specs.Events.{Event, Ask, Begin, Step, Give, Seal, Abandon, Take, Tend, Device, Publish, Mark, Fail, Receipt, Look, Stop}
+use Rattle.pfx_world.specs.Events.{Event, Ask, Begin, Step, Give, Seal, Abandon, Take, Tend, Device, Publish, Mark, Fail, Receipt, Look}
+use Rattle.pfx_world.specs.Events.{Stop}
 use Rattle.pfx_world.specs.Events.{MayHappen, CanRun, happens, run}
 use Rattle.pfx_world.specs.Setting.{Setting, Settled}
 use Rattle.pfx_world.specs.World.{World, new_world}

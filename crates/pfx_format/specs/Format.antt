@@ -13,11 +13,17 @@ use Rattle.pfx_recovery.specs.Layout.{Layout}
 use Rattle.pfx_format.specs.Areas.{read_area}
 use Rattle.pfx_format.specs.Frames.{number_after, state_after}
 
--- Where the parts of a file with this header lie. A layout asks for more room in a segment than nine bytes, which each
--- segment of a header has.
+-- Where the parts of a file with this header lie. A layout asks for more room in a segment than its head takes, which
+-- each segment of a header has.
 abbrev pub layout : Header → Layout
-layout h = record { head = header_len h.set; body = whole_len h.set.real; segment = max 10 h.segment; room = omega (arith, le-max_left 10 h.segment) }
+layout h = record {
+  head = header_len h.set;
+  body = whole_len h.set.real;
+  segment = max 10 h.segment;
+  room = omega (arith, le-max_left 10 h.segment);
+}
 
+-- what the bytes of a file's parts stand for
 abbrev pub format : {J : Type 0} → Kind J → Codec Header (Plain J)
 format K = record {
   read_head = read_header this_version;

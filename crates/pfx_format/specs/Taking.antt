@@ -17,4 +17,5 @@ AreTaken {J} K form body count s t = (read : List (Recorded J)) × AreRecords K 
 -- the body isn't filled by so many records, or the first of them aren't right at the state
 abbrev pub AreWrong : {J : Type 0} → Kind J → Form → List ℕ → ℕ → machine.Plain J → Type 0
 AreWrong {J} K form body count s = ((at : ℕ) × (what : FramePart) × StopAt K form body count at what)
-    ⊎ ((read : List (Recorded J)) × IsTrue (all_fit form read) × Begins body (records_bytes K read) × (length read ≤ count) × (applied K s read ≡ None))
+    ⊎ ((read : List (Recorded J)) × IsTrue (all_fit form read) × Begins body (records_bytes K read) × (length read ≤ count)
+    × (applied K s read ≡ None))

@@ -12,7 +12,7 @@ use Rattle.pfx_recover.specs.declared.faults.HeadFault.TheVariants as head
 use Rattle.pfx_recover.specs.declared.faults.OpenFault.{OpenFault}
 use Rattle.pfx_recover.specs.declared.faults.OpenFault.TheVariants as fault
 
--- what a refusal means
+-- what a part that a refusal names means
 abbrev pub part_of : Part → means.Part
 part_of part.Header = means.Header
 part_of part.Length = means.Length
@@ -21,16 +21,18 @@ part_of part.Segment = means.Segment
 part_of part.Frame = means.Frame
 part_of part.Record = means.Record
 
+-- what a refusal means
 abbrev pub refusal_of : Refusal → means.Refusal
 refusal_of refusal.NotAStore = means.NotAStore
 refusal_of (refusal.WrongVersion version) = means.WrongVersion version
 refusal_of (refusal.Damaged at what) = means.Damaged at (part_of what)
 
--- the faults of those who read a header, and of those who read a frame, as faults of opening
+-- the faults of those who read a header, as faults of opening
 abbrev pub of_head : HeadFault → OpenFault
 of_head (head.Refused e) = fault.Refused e
 of_head head.NoMemory = fault.NoMemory
 
+-- the faults of those who read a frame, as faults of opening
 abbrev pub of_frame : ReadFault → OpenFault
 of_frame frame.NoMemory = fault.NoMemory
 of_frame frame.Device = fault.Device

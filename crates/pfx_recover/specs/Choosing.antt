@@ -27,7 +27,8 @@ module _ {H S : Type 0} (K : Codec H S) (h : H) (bytes : List ℕ) where
   -- the state in this checkpoint area
   abbrev pub area_state : Bool → Result S Refusal
   area_state second =
-      on_some (K.read_state h (body_at (K.layout h) (area_at (K.layout h) second) bytes)) (Damaged (area_at (K.layout h) second) Checkpoint) (λ s. Ok s)
+      on_some (K.read_state h (body_at (K.layout h) (area_at (K.layout h) second) bytes))
+      (Damaged (area_at (K.layout h) second) Checkpoint) (λ s. Ok s)
 
   -- it is the segment that was to be chosen, the other's gate stands so, and the other has this number
   pub record IsSegment (choice : Choice) (read : Result Bool Refusal) : Type 0 where

@@ -5,6 +5,7 @@ use Rattle.pfx_recovery.specs.Layout.{Layout}
 use Rattle.pfx_store_file.specs.Sizes.{HasSizes}
 use Rattle.pfx_store_file.specs.declared.sizes.Sizes.{Sizes}
 
+-- what reading a file needs of its format, beside the laws
 pub record Bounds {H S : Type 0} (K : Codec H S) (fits : H → S → Type 0) (most : ℕ) : Type 0 where
   -- so many bytes at the front are enough for each header
   pub front : (bytes : List ℕ) → K.read_head (take most bytes) ≡ K.read_head bytes

@@ -8,6 +8,7 @@ use Rattle.pfx_recovery.specs.Layout.{Layout}
 use Rattle.pfx_recovery.specs.Codec.{Codec}
 use Rattle.pfx_recovery.specs.ToyCodec.{toy_head}
 
+-- a header of two bytes, checkpoint areas of eight behind their gates, and segments of ten and the room
 abbrev pub small_layout : ℕ → Layout
 small_layout room = record { head = 2; body = 8; segment = 10 + room; room = omega arith }
 
@@ -15,19 +16,25 @@ small_layout room = record { head = 2; body = 8; segment = 10 + room; room = ome
 abbrev pub small : ℕ → ℕ → Option (ℕ × ℕ)
 small number sum = if nat_lt number 200 then (if nat_lt sum 100 then Some (number, sum) else None) else None
 
+-- the state in a checkpoint area's body
 abbrev pub small_state : ℕ → List ℕ → Option (ℕ × ℕ)
 small_state room body = small (slice_index body 0) (slice_index body 1)
 
+-- a frame has one command, of the next number
 abbrev pub small_after : ℕ → List ℕ → Option ℕ
 small_after n frame = if slice_index frame 5 == n + 1 then (if nat_lt (n + 1) 200 then Some (n + 1) else None) else None
 
+-- its byte, if it isn't 0, is added to the sum
 abbrev pub small_apply : ℕ × ℕ → List ℕ → Option (ℕ × ℕ)
-small_apply s frame = if slice_index frame 5 == s.0 + 1 then (if slice_index frame 15 == 0 then None else small (s.0 + 1) (s.1 + slice_index frame 15))
+small_apply s frame = if slice_index frame 5 == s.0 + 1
+    then (if slice_index frame 15 == 0 then None else small (s.0 + 1) (s.1 + slice_index frame 15))
     else None
 
+-- a number and a sum that are small enough
 abbrev pub is_small : ℕ → ℕ × ℕ → Type 0
 is_small room s = (s.0 < 200) × (s.1 < 100)
 
+-- the codec of these
 abbrev pub small_codec : Codec ℕ (ℕ × ℕ)
 small_codec = record {
   read_head = toy_head;

@@ -1,5 +1,6 @@
 -- The codec of small files meets the laws. Its headers are those of pfx_recovery's toy, and so are their laws.
-use Rattle.std.proofs.Common.{◌≡◌, ℕ, ◌+◌, ◌<◌, ◌≤◌, List, [], ◌∷◌, length, get_or, take, refl, sym, ◌∙◌, ap, subst, arith, cond, nat_lt, ◌==◌, Bool, true}
+use Rattle.std.proofs.Common.{◌≡◌, ℕ, ◌+◌, ◌<◌, ◌≤◌, List, [], ◌∷◌, length, get_or, take, refl, sym, ◌∙◌, ap, subst, arith, cond, nat_lt}
+use Rattle.std.proofs.Common.{◌==◌, Bool, true}
 use Rattle.std.proofs.Common.{false, Some, None, Ok, Err}
 use Rattle.std.proofs.lemmas.Bool.{eqb-true, ltb-true, lt-ltb}
 use Rattle.pfx_recovery.specs.Codec.{Laws}
@@ -34,13 +35,15 @@ applied s frame t is =
     let e = if_some (get_or frame 5 0 == s.0 + 1) (cond (get_or frame 15 0 == 0) None (small (s.0 + 1) (s.1 + get_or frame 15 0))) t is in
     (eqb-true (get_or frame 5 0) (s.0 + 1) e.0, by (get_or frame 15 0 == 0) e.1)
   where
-    by : (nothing : Bool) → cond nothing None (small (s.0 + 1) (s.1 + get_or frame 15 0)) ≡ Some t → small (s.0 + 1) (s.1 + get_or frame 15 0) ≡ Some t
+    by : (nothing : Bool) → cond nothing None (small (s.0 + 1) (s.1 + get_or frame 15 0)) ≡ Some t
+        → small (s.0 + 1) (s.1 + get_or frame 15 0) ≡ Some t
     by true is = not_none t is
     by false is = is
 
 after_next : (n : ℕ) (frame : List ℕ) (m : ℕ) → get_or frame 5 0 ≡ n + 1 → n + 1 < 200 → n + 1 ≡ m → small_after n frame ≡ Some m
 after_next n frame m is below same = rw (same_true (get_or frame 5 0) (n + 1) is) (rw (lt-ltb (n + 1) 200 below) (ap some same))
 
+-- the codec keeps the laws
 pub laws_hold : Laws small_codec
 laws_hold = record {
   head_whole = λ h bytes is. toy_meets.head_whole h bytes is;
@@ -50,13 +53,15 @@ laws_hold = record {
   later = λ n frame m is. omega (arith, (after_is n frame m is).1);
   after = λ s frame t is.
       let e = applied s frame t is in
-      after_next s.0 frame t.0 e.0 (small_is (s.0 + 1) (s.1 + get_or frame 15 0) t e.1).1 (number_of (s.0 + 1) (s.1 + get_or frame 15 0) t e.1);
+      after_next s.0 frame t.0 e.0 (small_is (s.0 + 1) (s.1 + get_or frame 15 0) t e.1).1
+      (number_of (s.0 + 1) (s.1 + get_or frame 15 0) t e.1);
 }
 
 first : (bytes : List ℕ) → get_or (take 8 bytes) 0 0 ≡ get_or bytes 0 0
 first [] = refl
 first (b ∷ bytes) = refl
 
+-- and the bounds
 pub bounds_hold : Bounds small_codec is_small 2
 bounds_hold = record {
   front = front;

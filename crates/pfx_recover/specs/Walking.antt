@@ -1,5 +1,6 @@
 -- The frames of a segment, as they were read, and the places of a file that was read.
-use Rattle.std.specs.Prelude.{◌≡◌, ◌<◌, ◌≤◌, ◌+◌, ◌^◌, ◌⊎◌, ℕ, List, Bool, false, All, length, take, drop, Some, None, Result, Ok, IfOk, IsErrOf}
+use Rattle.std.specs.Prelude.{◌≡◌, ◌<◌, ◌≤◌, ◌+◌, ◌^◌, ◌⊎◌, ℕ, List, Bool, false, All, length, take, drop, Some, None, Result, Ok, IfOk}
+use Rattle.std.specs.Prelude.{IsErrOf}
 use Rattle.std.specs.List.{concat}
 use Rattle.pfx_recovery.specs.Codec.{Codec}
 use Rattle.pfx_disk.specs.Disk.{View}
@@ -52,9 +53,9 @@ pub record CanBeWalked (first last : ℕ) (held : List ℕ) : Type 0 where
   pub place : first + length held < 2 ^ 64
   pub number : last < 2 ^ 48
 
--- How many of these bytes the frames take that they begin with, and their last number: no call of the disk fails; the closed gate after them
--- is one of the bytes, and the number below 2^48; and if the bytes stand from this place on, these frames are read there, or refused for the
--- same reason.
+-- How many of these bytes the frames take that they begin with, and their last number: no call of the disk fails; the closed gate after
+-- them is one of the bytes, and the number below 2^48; and if the bytes stand from this place on, these frames are read there, or refused
+-- for the same reason.
 pub record WalksHeld {H S : Type 0} (K : Codec H S) (first number : ℕ) (held : List ℕ) (result : Result (ℕ × ℕ) OpenFault) : Type 0 where
   pub device : ¬ IsErrOf result Device
   pub ends : IfOk result (λ walked. (walked.0 < length held) × (walked.1 < 2 ^ 48))
@@ -77,7 +78,8 @@ pub record IsWalked (first end : ℕ) (walked : Walked) : Type 0 where
 
 -- The frames from this gate on were read, after the command of this number: by calls that only read; and whatever bytes the disk keeps,
 -- they are the ones there, or refused for the same reason.
-pub record ReadsFrames {H S : Type 0} (K : Codec H S) (first end number : ℕ) (old new : View) (result : Result Walked OpenFault) : Type 0 where
+pub record ReadsFrames {H S : Type 0} (K : Codec H S) (first end number : ℕ) (old new : View) (result : Result Walked OpenFault)
+    : Type 0 where
   pub call : OnlyReads old new result
   pub walked : IfOk result (IsWalked first end)
   pub exact : (bytes : List ℕ) → IsKept bytes old → (n : ℕ) → end ≤ n
@@ -91,7 +93,8 @@ pub record StandIn (L : Layout) (second : Bool) (walked : Walked) : Type 0 where
 
 -- These are the checkpoint area and the segment in use, how the gates of the others stand, and the next frame's gate; and so far is the
 -- checkpoint in progress.
-pub record AreInUse (L : Layout) (in_area other_area : Bool) (checkpoint : Checkpoint) (second other_segment : Bool) (next : ℕ) (places : Places) : Type 0 where
+pub record AreInUse (L : Layout) (in_area other_area : Bool) (checkpoint : Checkpoint) (second other_segment : Bool) (next : ℕ)
+    (places : Places) : Type 0 where
   pub fits : HasSizes L places.sizes
   pub area : places.area ≡ in_area
   pub area_open : places.area_open ≡ other_area

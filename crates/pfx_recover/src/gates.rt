@@ -5,6 +5,7 @@ ghost use Rattle.pfx_recover.specs.Looking.{IsGateHead, IsKept, LooksAt, Reaches
 
 use crate::choosing::Numbered;
 use pfx_disk::{DeviceFailed, Disk, GATE_OPEN};
+use pfx_recovery::SEGMENT_HEAD;
 
 /// How a gate stands, and the eight bytes behind it.
 #[derive(Clone, Copy)]
@@ -28,11 +29,11 @@ impl GateHead {
 
 /// The gate of a checkpoint area or a segment and the bytes behind it, by one call of the disk.
 pub(crate) fn read_gate<D: Disk>(disk: &mut D, at: usize) -> Result<GateHead, DeviceFailed>
-    requires inside { Reaches (at + 9) (D.view disk.old) }
+    requires inside { Reaches (at + SEGMENT_HEAD) (D.view disk.old) }
     ensures { LooksAt (D.view disk.old) (D.view disk.new) result (λ head.
         (bytes : List ℕ) → IsKept bytes (D.view disk.old) → IsGateHead at bytes head) }
 {
-    let mut read = [0; 9];
+    let mut read = [0; SEGMENT_HEAD];
     disk.read(at, &mut read)?;
     let mut bytes = [0; 8];
     bytes.copy_from_slice(&read[1..]);

@@ -15,8 +15,16 @@ use crate::outline::Outline;
 use crate::records::replay_frames;
 use crate::walked::Walked;
 use pfx_fault::Part;
+use pfx_recovery::SEGMENT_HEAD;
 use pfx_store_file::{Checkpoint, Places};
 use std::alloc::Global;
+
+/// The checkpoint area that is taken, and the state that it holds.
+#[derive(Drop)]
+pub(crate) struct Base<F: Format> {
+    pub area: Choice,
+    pub state: F::State,
+}
 
 /// What a file holds.
 #[derive(Drop)]
@@ -60,21 +68,21 @@ fn places_of<F: Format>(
 pub(crate) fn read_single<F: Format>(
     alloc: Global,
     file: &Outline<F>,
-    area: Choice,
+    base: Base<F>,
     segment: Choice,
-    state: F::State,
     walked: Walked,
 ) -> Result<Contents<F>, OpenFault>
-    requires { ComeAfter F.codec F.fits file.now.header state segment.second walked }
+    requires { ComeAfter F.codec F.fits file.now.header base.state segment.second walked }
     ensures { MakesContents F.codec F.fits file.now.header result (λ bytes.
-        IsArea F.codec file.now.header bytes area (area_taken F.codec file.now.header bytes)
+        IsArea F.codec file.now.header bytes base.area (area_taken F.codec file.now.header bytes)
         → (n : ℕ)
         → IsSegment F.codec file.now.header bytes segment (segment_begun F.codec file.now.header bytes n)
         → (frames : List (List ℕ)) → Fill frames (frames_of walked)
         → Gives (λ c. IsFound F.codec file.now.header bytes c.places c.state c.middle)
-        (from_one F.codec file.now.header bytes area.second state segment.second frames walked.last) result) }
+        (from_one F.codec file.now.header bytes base.area.second base.state segment.second frames walked.last) result) }
 {
-    let first = file.sizes.segment_at(segment.second) + 9;
+    let Base { area, state } = base;
+    let first = file.sizes.segment_at(segment.second) + SEGMENT_HEAD;
     let reached = replay_frames::<F>(alloc, first, state, walked.frames())?;
     if !segment.is_passed(walked.last) {
         return Err(OpenFault::Refused(Refusal::Damaged {
@@ -100,23 +108,23 @@ pub(crate) fn read_single<F: Format>(
 pub(crate) fn read_double<F: Format>(
     alloc: Global,
     file: &Outline<F>,
-    area: Choice,
+    base: Base<F>,
     second: bool,
-    state: F::State,
     before: Walked,
     walked: Walked,
 ) -> Result<Contents<F>, OpenFault>
-    requires before { ComeAfter F.codec F.fits file.now.header state second before }
+    requires before { ComeAfter F.codec F.fits file.now.header base.state second before }
     requires stand { StandIn (F.codec.layout file.now.header) (not second) walked }
     ensures { MakesContents F.codec F.fits file.now.header result (λ bytes.
-        IsArea F.codec file.now.header bytes area (area_taken F.codec file.now.header bytes)
+        IsArea F.codec file.now.header bytes base.area (area_taken F.codec file.now.header bytes)
         → IsOpenAt (segment_at (F.codec.layout file.now.header) second) bytes
         → (first next : List (List ℕ)) → Fill first (frames_of before) → Fill next (frames_of walked)
         → Gives (λ c. IsFound F.codec file.now.header bytes c.places c.state c.middle)
-        (from_two F.codec file.now.header bytes area.second state second first next) result) }
+        (from_two F.codec file.now.header bytes base.area.second base.state second first next) result) }
 {
-    let first = file.sizes.segment_at(second) + 9;
-    let next = file.sizes.segment_at(!second) + 9;
+    let Base { area, state } = base;
+    let first = file.sizes.segment_at(second) + SEGMENT_HEAD;
+    let next = file.sizes.segment_at(!second) + SEGMENT_HEAD;
     let between = replay_frames::<F>(alloc, first, state, before.frames())?;
     let mut middle = vec![in alloc; 0; file.sizes.body]?;
     F::encode(&file.header, &between, &mut middle);

@@ -10,16 +10,16 @@ ghost use Rattle.pfx_recover.specs.Looking.{OnlyReads, Reaches, ReadsKept};
 ghost use Rattle.pfx_recover.specs.Walking.{StandIn, Fill, frames_of};
 
 use crate::areas::{read_area, take_area};
-use crate::choosing::Choice;
 use crate::faults::{OpenFault, Refusal};
 use crate::format::Format;
 use crate::frames::read_frames;
 use crate::outline::Outline;
-use crate::parts::{Contents, read_double, read_single};
+use crate::parts::{Base, Contents, read_double, read_single};
 use crate::segments::find_segment;
 use crate::walked::Walked;
 use pfx_disk::Disk;
 use pfx_fault::Part;
+use pfx_recovery::SEGMENT_HEAD;
 use std::alloc::Global;
 
 // The segments, after the checkpoint area's state: the heads of the one that begins behind it, and those of the other one, if that
@@ -28,28 +28,27 @@ fn read_segments<F: Format, D: Disk>(
     alloc: Global,
     disk: &mut D,
     file: &Outline<F>,
-    area: Choice,
-    state: F::State,
+    base: Base<F>,
 ) -> Result<Contents<F>, OpenFault>
     requires inside { Reaches (total_len file.now.sizes) (D.view disk.old) }
-    requires state { IsHeldState F.codec F.fits file.now.header state }
+    requires state { IsHeldState F.codec F.fits file.now.header base.state }
     ensures { ReadsContents F.codec F.fits file.now.header (D.view disk.old) (D.view disk.new) result (λ bytes.
-        IsArea F.codec file.now.header bytes area (area_taken F.codec file.now.header bytes)
+        IsArea F.codec file.now.header bytes base.area (area_taken F.codec file.now.header bytes)
         → Gives (λ c. IsFound F.codec file.now.header bytes c.places c.state c.middle)
-        (from_state F.codec file.now.header bytes area.second state) result) }
+        (from_state F.codec file.now.header bytes base.area.second base.state) result) }
 {
-    let number = F::number(&state);
+    let number = F::number(&base.state);
     let segment = find_segment(disk, file, number + 1)?;
     let at = file.sizes.segment_at(segment.second);
     let end = at + file.sizes.segment;
-    let walked = read_frames::<F, D>(alloc, disk, at + 9, end, number)?;
+    let walked = read_frames::<F, D>(alloc, disk, at + SEGMENT_HEAD, end, number)?;
     if !segment.goes_on(walked.last) {
-        return read_single(alloc, file, area, segment, state, walked);
+        return read_single(alloc, file, base, segment, walked);
     }
     let at = file.sizes.segment_at(!segment.second);
     let end = at + file.sizes.segment;
-    let next = read_frames::<F, D>(alloc, disk, at + 9, end, walked.last)?;
-    read_double(alloc, file, area, segment.second, state, walked, next)
+    let next = read_frames::<F, D>(alloc, disk, at + SEGMENT_HEAD, end, walked.last)?;
+    read_double(alloc, file, base, segment.second, walked, next)
 }
 
 // The checkpoint area that is taken, and what follows on it.
@@ -65,7 +64,7 @@ fn read_contents<F: Format, D: Disk>(
 {
     let area = take_area(disk, file)?;
     let state = read_area(alloc, disk, file, area.second)?;
-    read_segments(alloc, disk, file, area, state)
+    read_segments(alloc, disk, file, Base { area, state })
 }
 
 // The header, of a file of this length.

@@ -1,13 +1,12 @@
 -- A store's file, after each of its acts.
-use Rattle.std.specs.Prelude.{◌≡◌, ℕ, ◌+◌, ◌≤◌, List, [], ◌++◌, length, true, false, if◌then◌else◌, Option, Some, Vec}
+use Rattle.std.specs.Prelude.{◌≡◌, ℕ, ◌+◌, List, [], ◌++◌, length, Bool, true, false, if◌then◌else◌, Option, Some, Vec, refl}
 use Rattle.std.specs.declared.alloc.Global.{Global}
-use Rattle.std.proofs.Common.{sym, ◌∙◌, ap, ap₂, subst, arith, inl, inr, ⊎_elim}
-use Rattle.std.proofs.lemmas.Bool.{cases_lt, true≢false, lt-ltb, le-ltb}
+use Rattle.std.proofs.Common.{sym, ◌∙◌, ap, ap₂, subst, arith, ⊎_elim}
+use Rattle.std.proofs.lemmas.Bool.{cases_lt, lt-ltb, le-ltb}
 use Rattle.pfx_checkpoint.specs.Whole.{whole_bytes}
 use Rattle.pfx_disk.specs.CallsMade.{HasMade, HasBrokenOff, HasKeptTo}
 use Rattle.pfx_disk.specs.Disk.{View}
 use Rattle.pfx_disk.specs.Stop.{Act}
-use Rattle.pfx_disk.proofs.CallsMade.{made_none, made_then, broken_first, broken_then, within_first, within_then}
 use Rattle.pfx_format.specs.Areas.{read_area}
 use Rattle.pfx_format.specs.Format.{format}
 use Rattle.pfx_format.proofs.Keeping.{read_of}
@@ -17,18 +16,25 @@ use Rattle.pfx_machine.specs.Plain.{Plain}
 use Rattle.pfx_recovery.specs.Layout.{segment_end}
 use Rattle.pfx_recover.specs.Finding.{IsOpened}
 use Rattle.pfx_recovery.specs.Store.{Parts, IsStore}
-use Rattle.pfx_store_file.specs.Acts.{tend_acts, tended_file, end_acts, ended_file, turn_acts, turned_file, gate_of, has_room, framed_file, append_acts, appended_file}
+use Rattle.pfx_store_file.specs.Acts.{tend_acts, tended_file, end_acts, ended_file, turn_acts, turned_file, gate_of, has_room, roomy_file, framed_file, append_acts, appended_file}
 use Rattle.pfx_store_file.specs.Files.{AreOf, file_in}
+use Rattle.pfx_segment.specs.Acts.{put_acts}
 use Rattle.pfx_store_file.specs.Fitting.{HasRoom}
+use Rattle.pfx_store_file.specs.Tending.{FindsRoom}
 use Rattle.pfx_store_file.specs.declared.places.Places.{Places}
-use Rattle.pfx_store_file.proofs.Ends.{tended_kept, has_ended}
-use Rattle.pfx_store_file.proofs.Joins.{tend_same, end_same, joined_acts, joined_file}
-use Rattle.pfx_store.specs.Files.{FileOf, HasFile, spelled, start_of, behind_of, appending, appended, tending, turning, ending, ended, file_found, recovered_file}
+use Rattle.pfx_store_file.proofs.Ends.{tended_kept}
+use Rattle.pfx_store_file.proofs.Joins.{tend_same, end_same}
+use Rattle.pfx_store.specs.Files.{FileOf, HasFile, spelled, start_of, behind_of, appending, appended, tending, turning, file_found, recovered_file}
 use Rattle.pfx_store.specs.Standing.{IsBehind}
+use Rattle.pfx_store.specs.Working.{SpellsTurn}
 
 -- what stands behind a frame's gate is that
 pub behind_same : (frame bytes : List ℕ) → IsBehind frame bytes → behind_of frame ≡ bytes
 behind_same frame bytes is = ap behind_of is.1 ∙ sym is.2.split
+
+-- a file's body is one that is the same
+pub has_spelled : {J : Type 0} (K : Kind J) (f : FileOf J) (places : Places) (a b : List ℕ) → a ≡ b → HasFile K f places b → HasFile K f places a
+has_spelled K f places a b same has = subst (λ (l : List ℕ). HasFile K f places l) (sym same) has
 
 module _ {J : Type 0} (K : Kind J) (f : FileOf J) (places : Places) (body : List ℕ) (has : HasFile K f places body) where
   tends_so : tend_acts (format K) f body ≡ tending K f
@@ -65,92 +71,44 @@ module _ {J : Type 0} (K : Kind J) (f : FileOf J) (places : Places) (body : List
         le-ltb (gate_of (format K) f + n) (segment_end ((format K).layout f.head) f.parts.segment)
         (⊎_elim (λ room. absurd (none (omega (arith, room, g, e)))) (λ full. full) (cases_lt (gate_of (format K) f + n) (segment_end ((format K).layout f.head) f.parts.segment)))
 
-    there_acts : HasRoom n places → ending K f n ≡ []
-    there_acts room = ap (λ b. if b then [] else end_acts (format K) f (spelled K f)) (room_is room)
+  -- A frame appended.
+  module _ (s : Plain J) (frame start bytes : List ℕ) (starts : start ≡ start_of s) (behind : bytes ≡ behind_of frame) where
+    appends_so : append_acts (format K) f s body start bytes ≡ appending K f s frame
+    appends_so =
+        ap₂ (λ b e. append_acts (format K) f s body b e) starts behind
+        ∙ ap (λ l. (if has_room (format K) f (length (behind_of frame)) then [] else (l ++ turn_acts (format K) (ended_file (format K) f) (start_of s)))
+        ++ put_acts (gate_of (format K) (roomy_file (format K) (length (behind_of frame)) f s)) (behind_of frame)) ends_so
 
-    there_file : HasRoom n places → ended K f n ≡ f
-    there_file room = ap (λ b. if b then f else ended_file (format K) f) (room_is room)
+    module _ (old new : View) where
+      pub append_made : HasMade (append_acts (format K) f s body start bytes) old new → HasMade (appending K f s frame) old new
+      append_made made = subst (λ l. HasMade l old new) appends_so made
 
-    full_acts : ¬ HasRoom n places → ending K f n ≡ end_acts (format K) f body
-    full_acts none = ap (λ b. if b then [] else end_acts (format K) f (spelled K f)) (full_is none) ∙ sym ends_so
+      pub append_broken : HasBrokenOff (append_acts (format K) f s body start bytes) old new → HasBrokenOff (appending K f s frame) old new
+      append_broken broken = subst (λ l. HasBrokenOff l old new) appends_so broken
 
-    full_file : ¬ HasRoom n places → ended K f n ≡ ended_file (format K) f
-    full_file none = ap (λ b. if b then f else ended_file (format K) f) (full_is none)
+      pub append_within : HasKeptTo (append_acts (format K) f s body start bytes) old new → HasKeptTo (appending K f s frame) old new
+      append_within within = subst (λ l. HasKeptTo l old new) appends_so within
 
-    pub there_made : (a : View) → HasRoom n places → HasMade (ending K f n) a a
-    there_made a room = subst (λ l. HasMade l a a) (sym (there_acts room)) (made_none a)
+    module _ (other : List ℕ) where
+      -- the body of the checkpoint in progress is as it was, if there was room, and else the state's
+      abbrev Spelled : FileOf J → Type 0
+      Spelled g = g.parts.turned ≡ true → other ≡ whole_bytes K g.parts.middle
 
-    pub room_there : HasRoom n places → HasFile K (ended K f n) places body
-    room_there room = subst (λ g. HasFile K g places body) (sym (there_file room)) has
+      spelled_by : (turned : Bool) → (turned ≡ false → HasRoom (length (behind_of frame)) places) → (turned ≡ true → ¬ HasRoom (length (behind_of frame)) places) →
+          SpellsTurn K turned s body other → Spelled (appended K f s frame)
+      spelled_by false there full spells = subst (λ b. Spelled (framed_file (format K) (if b then f else turned_file (format K) (ended_file (format K) f) s) frame))
+          (sym (room_is (length (behind_of frame)) (there refl))) (λ turned. spells.same refl ∙ has.spells turned)
+      spelled_by true there full spells = subst (λ b. Spelled (framed_file (format K) (if b then f else turned_file (format K) (ended_file (format K) f) s) frame))
+          (sym (full_is (length (behind_of frame)) (full refl))) (λ turned. spells.spelled refl)
 
-    module _ (none : ¬ HasRoom n places) (a b : View) where
-      pub end_made : HasMade (end_acts (format K) f body) a b → HasMade (ending K f n) a b
-      end_made made = subst (λ l. HasMade l a b) (sym (full_acts none)) made
-
-      pub end_broken : HasBrokenOff (end_acts (format K) f body) a b → HasBrokenOff (ending K f n) a b
-      end_broken broken = subst (λ l. HasBrokenOff l a b) (sym (full_acts none)) broken
-
-      pub end_within : HasKeptTo (end_acts (format K) f body) a b → HasKeptTo (ending K f n) a b
-      end_within within = subst (λ l. HasKeptTo l a b) (sym (full_acts none)) within
-
-      pub end_file : (after : Places) (other : List ℕ) → AreOf (format K) (ended_file (format K) f) after → HasFile K (ended K f n) after other
-      end_file after other are = subst (λ g. HasFile K g after other) (sym (full_file none)) (record {
-        are = are;
-        spells = λ turned. absurd (true≢false (sym turned ∙ has_ended (format K) f));
-      })
-
-  -- A frame appended behind that.
-  module _ (s : Plain J) (frame : List ℕ) (n : ℕ) (long : length (behind_of frame) ≡ n) (other start bytes : List ℕ) (starts : start ≡ start_of s) (behind : bytes ≡ behind_of frame) where
-    abbrev rest : List Act
-    rest = append_acts (format K) (ended K f n) s other start bytes
-
-    joins : ending K f n ++ rest ≡ appending K f s frame
-    joins =
-        ap₂ (λ b e. ending K f n ++ append_acts (format K) (ended K f n) s other b e) starts behind
-        ∙ subst (λ m. ending K f m ++ append_acts (format K) (ended K f m) s other (start_of s) (behind_of frame) ≡ appending K f s frame) long
-        (joined_acts (format K) f s (spelled K f) other (start_of s) (behind_of frame) frame)
-
-    joins_file : appended_file (format K) (ended K f n) s bytes frame ≡ appended K f s frame
-    joins_file =
-        ap (λ e. appended_file (format K) (ended K f n) s e frame) behind
-        ∙ subst (λ m. appended_file (format K) (ended K f m) s (behind_of frame) frame ≡ appended K f s frame) long
-        (joined_file (format K) f s (spelled K f) other (start_of s) (behind_of frame) frame)
-
-    pub room_broken : (a b : View) → HasBrokenOff (ending K f n) a b → HasBrokenOff (appending K f s frame) a b
-    room_broken a b broken = subst (λ l. HasBrokenOff l a b) joins (broken_first (ending K f n) rest a b broken)
-
-    pub room_within : (a b : View) → HasKeptTo (ending K f n) a b → HasKeptTo (appending K f s frame) a b
-    room_within a b within = subst (λ l. HasKeptTo l a b) joins (within_first (ending K f n) rest a b within)
-
-    module _ (a b c : View) (made : HasMade (ending K f n) a b) where
-      pub append_made : HasMade rest b c → HasMade (appending K f s frame) a c
-      append_made second = subst (λ l. HasMade l a c) joins (made_then (ending K f n) rest a b c made second)
-
-      pub append_broken : HasBrokenOff rest b c → HasBrokenOff (appending K f s frame) a c
-      append_broken second = subst (λ l. HasBrokenOff l a c) joins (broken_then (ending K f n) rest a b c made second)
-
-      pub append_within : a.clock ≤ b.clock → HasKeptTo (ending K f n) a b → HasKeptTo rest b c → HasKeptTo (appending K f s frame) a c
-      append_within later first second = subst (λ l. HasKeptTo l a c) joins (within_then (ending K f n) rest a b c made later first second)
-
-    -- the body of the checkpoint in progress is as it was, if there was room, and else the state's
-    abbrev Spelled : FileOf J → Type 0
-    Spelled g = g.parts.turned ≡ true → other ≡ whole_bytes K g.parts.middle
-
-    spelled_by : (HasRoom n places → other ≡ body) → (¬ HasRoom n places → other ≡ whole_bytes K s) → Spelled (appended K f s frame)
-    spelled_by there full = elim (cases_lt (places.gate + n) places.end) [
-      | inl room ↦ subst (λ b. Spelled (framed_file (format K) (if b then f else turned_file (format K) (ended_file (format K) f) s) frame))
-          (sym (subst (λ m. has_room (format K) f m ≡ true) (sym long) (room_is n room))) (λ turned. there room ∙ has.spells turned)
-      | inr more ↦
-          let none : ¬ HasRoom n places = λ room. omega (arith, more, room) in
-          subst (λ b. Spelled (framed_file (format K) (if b then f else turned_file (format K) (ended_file (format K) f) s) frame))
-          (sym (subst (λ m. has_room (format K) f m ≡ false) (sym long) (full_is n none))) (λ turned. full none)
-    ]
-
-    pub append_file : (after : Places) → (HasRoom n places → other ≡ body) → (¬ HasRoom n places → other ≡ whole_bytes K s) → AreOf (format K) (appended_file (format K) (ended K f n) s bytes frame) after → HasFile K (appended K f s frame) after other
-    append_file after there full are = record {
-      are = subst (λ g. AreOf (format K) g after) joins_file are;
-      spells = spelled_by there full;
-    }
+      pub append_file : (turned : Bool) (after : Places) → FindsRoom turned (length bytes) places after → SpellsTurn K turned s body other →
+          AreOf (format K) (appended_file (format K) f s bytes frame) after → HasFile K (appended K f s frame) after other
+      append_file turned after finds spells are =
+          let found = subst (λ (l : List ℕ). FindsRoom turned (length l) places after) behind finds in
+          record {
+            are = subst (λ (l : List ℕ). AreOf (format K) (appended_file (format K) f s l frame) after) behind are;
+            spells = spelled_by turned found.there found.full spells;
+          }
 
   -- a turn
   module _ (s : Plain J) (start : List ℕ) (starts : start ≡ start_of s) (old new : View) where

@@ -1,8 +1,8 @@
 -- Stores that stand, after the calls of their files.
 use Rattle.std.specs.Prelude.{◌≡◌, ◌≤◌, ◌+◌, ℕ, List, [], ◌∷◌, ◌++◌, length, if◌then◌else◌, Bool, true, false, Option, Some, None, Result, Ok, Err, OnOk, IsErrAnd, Vec, refl}
 use Rattle.std.specs.declared.alloc.Global.{Global}
-use Rattle.std.proofs.Common.{sym, ◌∙◌, ap, arith, length-append, subst, inl, inr}
-use Rattle.std.proofs.lemmas.Bool.{cases_lt, true≢false}
+use Rattle.std.proofs.Common.{sym, ◌∙◌, ap, arith, length-append, subst}
+use Rattle.std.proofs.lemmas.Bool.{true≢false}
 use Rattle.std.proofs.lemmas.List.{take-append-le}
 use Rattle.pfx_checkpoint.specs.Whole.{whole_bytes}
 use Rattle.pfx_disk.specs.Disk.{View}
@@ -16,11 +16,13 @@ use Rattle.pfx_recovery.specs.Recovery.{Found, found, found_of, on_ok, recovered
 use Rattle.pfx_recovery.specs.Store.{Parts, Replays, finished, turned_at, with_frame}
 use Rattle.pfx_store_file.specs.Checkpoints.{in_progress}
 use Rattle.pfx_store_file.specs.Holding.{Holds, KeepsAll}
-use Rattle.pfx_store_file.specs.Tending.{settled, settled_unless, made_room}
+use Rattle.pfx_store_file.specs.Tending.{FindsRoom, settled, settled_unless, made_room}
 use Rattle.pfx_store_file.specs.declared.places.Places.{Places}
-use Rattle.pfx_store_file.proofs.Keeping.{keeps_then, room_there, room_made}
-use Rattle.pfx_store.specs.Standing.{IsReady, Stands}
-use Rattle.pfx_store.specs.Working.{IsOfStore}
+use Rattle.pfx_store_file.specs.declared.progress.Checkpoint.{Checkpoint}
+use Rattle.pfx_store_file.specs.declared.progress.Checkpoint.TheVariants.{Pending, Writing}
+use Rattle.pfx_store_file.proofs.Keeping.{room_there, room_made}
+use Rattle.pfx_store.specs.Standing.{Stands}
+use Rattle.pfx_store.specs.Working.{IsOfStore, SpellsTurn}
 use Rattle.pfx_store.proofs.Areas.{spelled_read}
 
 -- how the body of a checkpoint is spelled matters only if one is in progress
@@ -88,26 +90,40 @@ goes_on_of h s t same of = record {
   room = subst (λ n. least_segment t.ledger.set.workers ≤ n) (same.segment ∙ of.segment) same.fits;
 }
 
--- A frame more, which leads to the state t.
-module _ {J : Type 0} (K : Kind J) (L : Laws K) (n : ℕ) (old new : Places) (s t : Plain J) (spelled frame : List ℕ) (before behind : View) where
-  keeps_middle : (h : Header) (p : Parts (Plain J)) → IsState s → IsOf h s → (p.turned ≡ true → read_area K h spelled ≡ Some p.middle) → IsReady K n old s spelled →
-      (made_room n old p s).turned ≡ true → read_area K h spelled ≡ Some (made_room n old p s).middle
-  keeps_middle h p state set middle ready = elim (cases_lt (old.gate + n) old.end) [
-    | inl less ↦ subst (λ (q : Parts (Plain J)). q.turned ≡ true → read_area K h spelled ≡ Some q.middle) (sym (room_there n old p s less)) middle
-    | inr more ↦ elim ready [
-      | inl room ↦ absurd (omega (arith, more, room))
-      | inr is ↦ subst (λ (q : Parts (Plain J)). q.turned ≡ true → read_area K h spelled ≡ Some q.middle) (sym (room_made n old p s (λ room. omega (arith, more, room)))) (λ turned. spelled_read K L h s spelled state set is.1)
-    ]
-  ]
+-- nor where one is in progress of which nothing has been written
+begun_not : {C : Type 0} (c : Checkpoint) (done : ℕ) → c ≡ Pending → c ≡ Writing done → C
+begun_not c done pending writing = cc
 
-  pub stands_behind : (st : Stands K old s spelled before) → IsState s → IsOfStore s t → IsReady K n old s spelled →
-      Holds (format K) st.header new (with_frame (made_room n old st.parts s) frame) t spelled behind → Stands K new t spelled behind
-  stands_behind st state same ready holds = record {
+respelled_pending : {J : Type 0} (K : Kind J) (h : Header) (places : Places) (p : Parts (Plain J)) (s : Plain J) (a b : List ℕ) (disk : View) → Holds (format K) h places p s a disk → places.checkpoint ≡ Pending → Holds (format K) h places p s b disk
+respelled_pending K h places p s a b disk holds pending = record {
+  honest = holds.honest;
+  fits = holds.fits;
+  area = holds.area;
+  segment = holds.segment;
+  turned = holds.turned;
+  gate = holds.gate;
+  end = holds.end;
+  images = holds.images;
+  begun = λ done is. begun_not places.checkpoint done pending is;
+}
+
+-- A frame more, which leads to the state t, and the state at the turn spelled where the file was turned for it.
+module _ {J : Type 0} (K : Kind J) (L : Laws K) (n : ℕ) (old new : Places) (s t : Plain J) (spelled other frame : List ℕ) (before behind : View) where
+  pub stands_appended : (turned : Bool) → (st : Stands K old s spelled before) → IsState s → IsOfStore s t → FindsRoom turned n old new → SpellsTurn K turned s spelled other →
+      Holds (format K) st.header new (with_frame (made_room n old st.parts s) frame) t spelled behind → Stands K new t other behind
+  stands_appended false st state of finds spells holds = subst (λ (l : List ℕ). Stands K new t l behind) (sym (spells.same refl)) (record {
     header = st.header;
     parts = with_frame (made_room n old st.parts s) frame;
     holds = holds;
-    of = goes_on_of st.header s t same st.of;
-    middle = keeps_middle st.header st.parts state st.of st.middle ready;
+    of = goes_on_of st.header s t of st.of;
+    middle = subst (λ (q : Parts (Plain J)). q.turned ≡ true → read_area K st.header spelled ≡ Some q.middle) (sym (room_there n old st.parts s (finds.there refl))) st.middle;
+  })
+  stands_appended true st state of finds spells holds = record {
+    header = st.header;
+    parts = with_frame (made_room n old st.parts s) frame;
+    holds = respelled_pending K st.header new (with_frame (made_room n old st.parts s) frame) t spelled other behind holds (finds.takes.full (finds.full refl)).pending;
+    of = goes_on_of st.header s t of st.of;
+    middle = subst (λ (q : Parts (Plain J)). q.turned ≡ true → read_area K st.header other ≡ Some q.middle) (sym (room_made n old st.parts s (finds.full refl))) (λ turned. spelled_read K L st.header s other state st.of (spells.spelled refl));
   }
 
 -- what survives survives with a frame more to come
@@ -126,11 +142,6 @@ keeps_more K start all frame a b keeps c n le before image is =
 -- if nothing is done
 pub keeps_still : {J : Type 0} (K : Kind J) (start : Plain J) (all : List (List ℕ)) (a : View) → KeepsAll (format K) start all all a a
 keeps_still K start all a c n le before image is = before image is
-
--- room made, and then a frame more
-pub keeps_appended : {J : Type 0} (K : Kind J) (start : Plain J) (all : List (List ℕ)) (frame other : List ℕ) (a b c : View) → a.clock ≤ b.clock → KeepsAll (format K) start all all a b → frame ≡ other → KeepsAll (format K) start all (all ++ other ∷ []) b c → KeepsAll (format K) start all (all ++ frame ∷ []) a c
-keeps_appended K start all frame other a b c later one same two =
-    keeps_then (format K) start all all (all ++ frame ∷ []) a b c later one (subst (λ (f : List ℕ). KeepsAll (format K) start all (all ++ f ∷ []) b c) (sym same) two)
 
 -- a store that was opened
 pub middle_spelled : {J : Type 0} (K : Kind J) (h : Header) (p : Parts (Plain J)) (middle : Option (Vec ℕ Global)) (spelled : List ℕ) → IsMiddle (format K) h p middle →

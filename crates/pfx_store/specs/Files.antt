@@ -1,5 +1,5 @@
 -- A store's file in this format, the calls of its acts, and the file that is found in an image.
-use Rattle.std.specs.Prelude.{◌≡◌, ℕ, ◌+◌, if◌then◌else◌, List, [], ◌∷◌, ◌++◌, drop, true, Option, Some, None, Result, Ok, Err}
+use Rattle.std.specs.Prelude.{◌≡◌, ℕ, ◌+◌, List, [], ◌∷◌, ◌++◌, drop, true, Option, Some, None, Result, Ok, Err}
 use Rattle.pfx_checkpoint.specs.Whole.{whole_bytes}
 use Rattle.pfx_disk.specs.Stop.{Act}
 use Rattle.pfx_format.specs.Format.{format}
@@ -9,7 +9,7 @@ use Rattle.pfx_machine.specs.Plain.{Plain}
 use Rattle.pfx_record.specs.Numbers.{number_bytes}
 use Rattle.pfx_recovery.specs.Recovery.{Found, found}
 use Rattle.pfx_recovery.specs.Refusals.{Refusal}
-use Rattle.pfx_store_file.specs.Acts.{tend_acts, end_acts, ended_file, turn_acts, has_room, append_acts, appended_file}
+use Rattle.pfx_store_file.specs.Acts.{tend_acts, turn_acts, append_acts, appended_file}
 use Rattle.pfx_store_file.specs.Files.{File, AreOf, file_in}
 use Rattle.pfx_store_file.specs.declared.places.Places.{Places}
 
@@ -35,10 +35,11 @@ abbrev pub behind_of : List ℕ → List ℕ
 behind_of frame = drop 1 frame ++ 0 ∷ []
 
 module _ {J : Type 0} (K : Kind J) (f : FileOf J) where
-  -- the calls that append a frame at a state, and the file after them
+  -- the calls that append a frame at a state
   abbrev pub appending : Plain J → List ℕ → List Act
   appending s frame = append_acts (format K) f s (spelled K f) (start_of s) (behind_of frame)
 
+  -- the file after them
   abbrev pub appended : Plain J → List ℕ → FileOf J
   appended s frame = appended_file (format K) f s (behind_of frame) frame
 
@@ -49,13 +50,6 @@ module _ {J : Type 0} (K : Kind J) (f : FileOf J) where
   -- the calls of a turn at a state
   abbrev pub turning : Plain J → List Act
   turning s = turn_acts (format K) f (start_of s)
-
-  -- if a frame of n bytes has no room, the calls that end the checkpoint in progress, and the file after them
-  abbrev pub ending : ℕ → List Act
-  ending n = if has_room (format K) f n then [] else end_acts (format K) f (spelled K f)
-
-  abbrev pub ended : ℕ → FileOf J
-  ended n = if has_room (format K) f n then f else ended_file (format K) f
 
 -- the file that was found in an image, with the gates as they stand there
 abbrev pub file_found : {J : Type 0} → Kind J → List ℕ → Result (Found Header (Plain J)) Refusal → Option (Plain J × FileOf J)

@@ -25,6 +25,7 @@ module _ {J : Type 0} (K : Kind J) (start : Plain J) (all : List (List ℕ)) whe
     pub past : mark.clock ≤ disk.clock
     pub images : (image : List ℕ) → disk.since mark.clock image → Survives (format K) start all count image
 
+  -- each of these marks is kept
   abbrev pub AreKept : List Mark → View → Type 0
   AreKept [] disk = ⊤
   AreKept (mark ∷ marks) disk = IsKept mark disk × AreKept marks disk

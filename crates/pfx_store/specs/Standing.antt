@@ -1,6 +1,5 @@
 -- A store that isn't broken, and its disk.
-use Rattle.std.specs.Prelude.{◌≡◌, ℕ, List, ◌∷◌, ◌⊎◌, Some, true}
-use Rattle.pfx_checkpoint.specs.Whole.{whole_bytes}
+use Rattle.std.specs.Prelude.{◌≡◌, ℕ, List, ◌∷◌, Some, true}
 use Rattle.pfx_disk.specs.Disk.{View}
 use Rattle.pfx_disk.specs.declared.gates.TheConstants.{GATE_OPEN}
 use Rattle.pfx_format.specs.Areas.{read_area}
@@ -9,10 +8,8 @@ use Rattle.pfx_header.specs.Headers.{Header}
 use Rattle.pfx_jobs.specs.Kind.{Kind}
 use Rattle.pfx_machine.specs.Plain.{Plain}
 use Rattle.pfx_recovery.specs.Store.{Parts}
-use Rattle.pfx_store_file.specs.Fitting.{HasRoom}
 use Rattle.pfx_store_file.specs.Holding.{Holds, IsPending}
 use Rattle.pfx_store_file.specs.declared.places.Places.{Places}
-use Rattle.pfx_store_file.specs.declared.progress.Checkpoint.TheVariants.{Ended}
 
 -- Under some header and with some parts the store holds on the disk at this state, which is of the header; if a
 -- checkpoint is in progress, its body is that of the state at the turn.
@@ -22,10 +19,6 @@ pub record Stands {J : Type 0} (K : Kind J) (places : Places) (s : Plain J) (spe
   pub holds : Holds (format K) header places parts s spelled disk
   pub of : IsOf header s
   pub middle : parts.turned ≡ true → read_area K header spelled ≡ Some parts.middle
-
--- a frame of n bytes has room, or a turn can make some: no checkpoint is in progress, and the body of one is this state's
-abbrev pub IsReady : {J : Type 0} → Kind J → ℕ → Places → Plain J → List ℕ → Type 0
-IsReady K n places s spelled = HasRoom n places ⊎ ((places.checkpoint ≡ Ended) × (spelled ≡ whole_bytes K s))
 
 -- these bytes, with a closed gate behind them, are what stands behind the gate of this frame
 abbrev pub IsBehind : List ℕ → List ℕ → Type 0

@@ -1,5 +1,6 @@
 -- What the calls of a store do.
-use Rattle.std.specs.Prelude.{◌≡◌, ◌↔◌, ◌≤◌, ◌<◌, ◌+◌, ◌-◌, ◌++◌, ℕ, List, [], ◌∷◌, length, min, take, slice_index, true, false, Bool, Option}
+use Rattle.std.specs.Prelude.{◌≡◌, ◌↔◌, ◌≤◌, ◌<◌, ◌+◌, ◌-◌, ◌++◌, ℕ, List, [], ◌∷◌, length, min, take, slice_index, true, false, Bool}
+use Rattle.std.specs.Prelude.{Option}
 use Rattle.std.specs.Prelude.{Result, Ok, Some, None, Vec, OnOk, OnErr, IfOk, IfErr, IsErrOf, IsTrue, MatchResult}
 use Rattle.std.specs.declared.alloc.Global.{Global}
 use Rattle.byteorder.specs.Endian.{little_number}
@@ -21,12 +22,13 @@ use Rattle.pfx_recovery.specs.Recovery.{Found, found, recovered}
 use Rattle.pfx_recovery.specs.Store.{Replays}
 use Rattle.pfx_redo.specs.Applying.{applied}
 use Rattle.pfx_segment.specs.Segment.{Takes}
+use Rattle.pfx_recovery.specs.declared.head.TheConstants.{SEGMENT_HEAD}
 use Rattle.pfx_store_file.specs.Calls.{Works}
 use Rattle.pfx_store_file.specs.Checkpoints.{in_progress, written}
-use Rattle.pfx_store_file.specs.Fitting.{HasRoom, IsTurnable}
+use Rattle.pfx_store_file.specs.Fitting.{IsTurnable}
 use Rattle.pfx_store_file.specs.Sizes.{total_len}
 use Rattle.pfx_store_file.specs.Holding.{KeepsAll, Survives}
-use Rattle.pfx_store_file.specs.Tending.{IsTurned, StaysPut, TakesFrame, append_calls, calls_left, calls_of, next_step, pieces, room_calls, steps_left}
+use Rattle.pfx_store_file.specs.Tending.{IsTurned, StaysPut, TakesFrame, calls_left, calls_of, next_step, pieces, steps_left}
 use Rattle.pfx_store_file.specs.declared.progress.Checkpoint.TheVariants.{Ended, Writing}
 use Rattle.pfx_store_file.specs.declared.checkpoint.TheConstants.{PIECE}
 use Rattle.pfx_store_file.specs.declared.checkpoint.Tended.TheVariants.{Piece}
@@ -38,7 +40,7 @@ use Rattle.pfx_store.specs.declared.making.InitFault.TheVariants as init
 use Rattle.pfx_store.specs.Files.{FileOf, HasFile, recovered_file}
 use Rattle.pfx_store.specs.Making.{IsBeforeAnyCall, IsSizeFault, making_calls}
 use Rattle.pfx_store.specs.Marks.{Covers}
-use Rattle.pfx_store.specs.Standing.{IsReady, Stands}
+use Rattle.pfx_store.specs.Standing.{Stands}
 use Rattle.pfx_store.specs.Stores.{PlainStore}
 use Rattle.pfx_store.specs.declared.store.Mark.{Mark}
 use Rattle.pfx_weights.specs.Sets.{FilledSet}
@@ -55,8 +57,8 @@ pub record IsNext {J : Type 0} (K : Kind J) (s : Plain J) (m r n : ℕ) (records
   pub first : n ≡ s.number + 1
   pub right : (t : Plain J) × (applied K s records ≡ Some t)
 
--- The record may come next at a state: it is one of new weights, alone, and this is their set; rows are of the state's workers, as many tasks
--- are said to be real as the state has, the first number is the next, and the record is right.
+-- The record may come next at a state: it is one of new weights, alone, and this is their set; rows are of the state's workers, as many
+-- tasks are said to be real as the state has, the first number is the next, and the record is right.
 pub record IsRenewal {J : Type 0} (K : Kind J) (s : Plain J) (m r n : ℕ) (records : List (Recorded J)) (set : FilledSet) : Type 0 where
   pub workers : m ≡ s.ledger.set.workers
   pub real : r ≡ s.ledger.set.real
@@ -79,6 +81,12 @@ pub record IsEncoded {J : Type 0} (K : Kind J) (s : Plain J) (old new : List ℕ
   pub spelled : new ≡ whole_bytes K s
   pub long : length new ≡ length old
   pub state : IsState s
+
+-- if the file was turned at this state its bytes stand where those of another one stood; if not, these stand as they did
+pub record SpellsTurn {J : Type 0} (K : Kind J) (turned : Bool) (s : Plain J) (old new : List ℕ) : Type 0 where
+  pub same : turned ≡ false → new ≡ old
+  pub spelled : turned ≡ true → new ≡ whole_bytes K s
+  pub long : length new ≡ length old
 
 -- these bytes are a frame, with the closed gate of the next one behind it, and there is no less room for bytes than before
 pub record IsSpelled (frame bytes : List ℕ) (old_room new_room : ℕ) : Type 0 where
@@ -105,7 +113,8 @@ pub record IsBody (given : Option (Vec ℕ Global)) (len : ℕ) (body : List ℕ
 
 -- At every moment of a call what survived before survives, with this frame or without; and once it succeeded each image has it.
 pub record Commits {J T E : Type 0} (K : Kind J) (s : Plain J) (frame : List ℕ) (result : Result T E) (old new : View) : Type 0 where
-  pub keeps : (start : Plain J) → (all : List (List ℕ)) → Replays (format K) start all s → KeepsAll (format K) start all (all ++ frame ∷ []) old new
+  pub keeps : (start : Plain J) → (all : List (List ℕ)) → Replays (format K) start all s
+      → KeepsAll (format K) start all (all ++ frame ∷ []) old new
   pub acknowledged : (start : Plain J) → (all : List (List ℕ)) → Replays (format K) start all s
       → OnOk result ((image : List ℕ) → new.since new.clock image → Survives (format K) start (all ++ frame ∷ []) (length all + 1) image)
 
@@ -132,8 +141,8 @@ module _ {D J T : Type 0} (view : D → View) (old new : PlainStore D J) (result
     pub file : (f : FileOf J) → HasFile K f old.file.places old.spelled → IsHonest (view old.file.disk)
         → went_well (HasFile K (next f) new.file.places new.spelled)
 
--- A batch whose frame has n bytes was taken: the records move the state on, unless the call failed; the places take the frame; and the mark has
--- the last command's number and the disk's clock at the return.
+-- A batch whose frame has n bytes was taken: the records move the state on, unless the call failed; the places take the frame; and the
+-- mark has the last command's number and the disk's clock at the return.
 pub record TakesBatch {D J : Type 0} (view : D → View) (K : Kind J) (records : List (Recorded J)) (n : ℕ) (old new : PlainStore D J)
     (result : Result Mark StoreFault) : Type 0 where
   pub state : MovesBy K records result old.state new.state
@@ -148,19 +157,23 @@ pub record IsUnmade {D : Type 0} (view : D → View) (m segment : ℕ) (disk : D
   pub one_call : e.0 ≡ init.NotEmpty → (view e.1).clock ≡ (view disk).clock + 1
   pub unasked : IsBeforeAnyCall e.0 → e.1 ≡ disk
 
--- The nine bytes behind the gate of a segment whose first command comes behind this number: the next number, and a closed gate.
+-- The bytes behind the gate of a segment whose first command comes behind this number: the next number, and a closed gate.
 pub record BeginsBehind (last : ℕ) (start : List ℕ) : Type 0 where
-  pub long : length start ≡ 9
+  pub long : length start ≡ SEGMENT_HEAD
   pub number : little_number 8 (take 8 start) ≡ last + 1
   pub closed : slice_index start 8 ≡ 0
   pub bytes : start ≡ number_bytes 8 (last + 1) ++ 0 ∷ []
 
 -- So many calls of the disk made the store, the last of them a sync, after which a stop leaves what is read; no answer took more; an honest
 -- disk is one before as after.
-pub record IsMaking {D J : Type 0} (view : D → View) (calls : ℕ) (disk : D) (result : Result (PlainStore D J) (InitFault × D)) : Type 0 where
-  pub calls_made : IfOk result (λ store. (view store.file.disk).clock ≡ (view disk).clock + 6 + pieces (total_len store.file.places.sizes - 1))
-  pub honest : MatchResult result (λ store. IsHonest (view disk) ↔ IsHonest (view store.file.disk)) (λ e. IsHonest (view disk) ↔ IsHonest (view e.1))
-  pub takes : MatchResult result (λ store. Takes calls (view disk) (view store.file.disk) result) (λ e. Takes calls (view disk) (view e.1) result)
+pub record IsMaking {D J : Type 0} (view : D → View) (calls : ℕ) (disk : D) (result : Result (PlainStore D J) (InitFault × D))
+    : Type 0 where
+  pub calls_made : IfOk result (λ store. (view store.file.disk).clock ≡ (view disk).clock + 6
+      + pieces (total_len store.file.places.sizes - 1))
+  pub honest : MatchResult result (λ store. IsHonest (view disk) ↔ IsHonest (view store.file.disk))
+      (λ e. IsHonest (view disk) ↔ IsHonest (view e.1))
+  pub takes : MatchResult result (λ store. Takes calls (view disk) (view store.file.disk) result)
+      (λ e. Takes calls (view disk) (view e.1) result)
   pub only : IsHonest (view disk) → IfOk result (λ store. Only (view store.file.disk).contents (view store.file.disk))
 
 -- the new store of a state, with segments of its length, within the limits; it isn't broken, and no checkpoint is in progress
@@ -178,7 +191,8 @@ IsNew set segment store = IsBegun (empty set segment) store
 -- What comes of making a store that begins at a state: what each fault means; it is made on an empty disk alone, and one that holds bytes
 -- is left as it was; how many calls it takes; the new store, which stands for the state; and that each image since the disk was empty is no
 -- store's, or the state's.
-pub record MakesStore {D J : Type 0} (view : D → View) (K : Kind J) (s : Plain J) (disk : D) (result : Result (PlainStore D J) (InitFault × D))
+pub record MakesStore {D J : Type 0} (view : D → View) (K : Kind J) (s : Plain J) (disk : D)
+    (result : Result (PlainStore D J) (InitFault × D))
     : Type 0 where
   pub unmade : IfErr result (λ e. IsUnmade view s.ledger.set.workers s.segment disk e)
   pub vacant : IsHonest (view disk) → MatchResult result (λ _. (view disk).contents ≡ [])
@@ -199,7 +213,8 @@ pub record IsDurable {J : Type 0} (K : Kind J) (broken : Bool) (s : Plain J) (di
 pub record Opens {D J : Type 0} (view : D → View) (K : Kind J) (disk : D) (result : Result (PlainStore D J) (OpenFault × D)) : Type 0 where
   pub made : IfOk result (λ store. HasMade (Sync ∷ []) (view disk) (view store.file.disk))
   pub broken_off : IfErr result (λ e. HasBrokenOff (Sync ∷ []) (view disk) (view e.1))
-  pub between : MatchResult result (λ store. HasKeptTo (Sync ∷ []) (view disk) (view store.file.disk)) (λ e. HasKeptTo (Sync ∷ []) (view disk) (view e.1))
+  pub between : MatchResult result (λ store. HasKeptTo (Sync ∷ []) (view disk) (view store.file.disk))
+      (λ e. HasKeptTo (Sync ∷ []) (view disk) (view e.1))
   pub only : IfOk result (λ store. Only (view disk).contents (view store.file.disk))
   pub file : IfOk result (λ store. (f : FileOf J)
       × (recovered_file K (view disk).contents ≡ Some (store.state, f)) × HasFile K f store.file.places store.spelled)
@@ -209,7 +224,8 @@ pub record Tends {D J E : Type 0} (old new : PlainStore D J) (result : Result Te
   pub step : IfOk result (λ tended. tended ≡ next_step old.file.places)
   pub stays : StaysPut old.file.places new.file.places
   pub nothing : old.file.places.checkpoint ≡ Ended → (new.file ≡ old.file) × (new.spelled ≡ old.spelled)
-  pub piece : result ≡ Ok Piece → new.file.places.checkpoint ≡ Writing (min old.file.places.sizes.body (written old.file.places.checkpoint + PIECE))
+  pub piece : result ≡ Ok Piece → new.file.places.checkpoint
+      ≡ Writing (min old.file.places.sizes.body (written old.file.places.checkpoint + PIECE))
   pub nearer : in_progress old.file.places.checkpoint ≡ true → OnOk result (steps_left old.file.places ≡ 1 + steps_left new.file.places)
   pub fewer : OnOk result (calls_left old.file.places ≡ calls_of (next_step old.file.places) + calls_left new.file.places)
 
@@ -219,15 +235,6 @@ pub record Turns {D J : Type 0} (old new : PlainStore D J) (result : Result Bool
   pub refused : result ≡ Ok false → (new.file ≡ old.file) × (new.spelled ≡ old.spelled)
   pub turned : result ≡ Ok true → IsTurned new.file.places
 
--- If a frame of n bytes had room nothing is done. Else the checkpoint in progress was ended, and the file is ready for a
--- turn; what is left of the append's calls is those after it.
-pub record MakesRoom {D J T : Type 0} (K : Kind J) (n : ℕ) (old new : PlainStore D J) (result : Result T StoreFault) : Type 0 where
-  pub there : HasRoom n old.file.places → new.file.places ≡ old.file.places
-  pub same : HasRoom n old.file.places → new.spelled ≡ old.spelled
-  pub full : HasRoom n new.file.places → HasRoom n old.file.places
-  pub left : OnOk result (room_calls n old.file.places + append_calls n new.file.places ≡ append_calls n old.file.places)
-  pub ready : OnOk result (IsReady K n new.file.places new.state new.spelled)
-
 -- What was found in these bytes: the state that recovery gives, whether a checkpoint is in progress, and the file; the store stands for it.
 pub record Finds {D J : Type 0} (view : D → View) (K : Kind J) (bytes : List ℕ) (store : PlainStore D J) : Type 0 where
   pub recovers : recovered (format K) bytes ≡ Ok store.state
@@ -235,8 +242,8 @@ pub record Finds {D J : Type 0} (view : D → View) (K : Kind J) (bytes : List �
   pub stands : Stands K store.file.places store.state store.spelled (view store.file.disk)
   pub file : (f : FileOf J) × (recovered_file K bytes ≡ Some (store.state, f)) × HasFile K f store.file.places store.spelled
 
--- The state stays. A store that stands for it goes on so once the call succeeds; and at every moment of it, whatever it answers, what survived
--- before survives.
+-- The state stays. A store that stands for it goes on so once the call succeeds; and at every moment of it, whatever it answers, what
+-- survived before survives.
 pub record StandsOn {D J T : Type 0} (view : D → View) (K : Kind J) (old new : PlainStore D J) (result : Result T StoreFault) : Type 0 where
   pub state : new.state ≡ old.state
   pub goes_on : Stands K old.file.places old.state old.spelled (view old.file.disk)
@@ -247,7 +254,8 @@ pub record StandsOn {D J T : Type 0} (view : D → View) (K : Kind J) (old new :
 
 -- A store that stands for its state goes on so after the frame once the call succeeded; and at every moment of it what survived before
 -- survives, with the frame or without.
-pub record StandsAfter {D J T : Type 0} (view : D → View) (K : Kind J) (frame : List ℕ) (old new : PlainStore D J) (result : Result T StoreFault) : Type 0 where
+pub record StandsAfter {D J T : Type 0} (view : D → View) (K : Kind J) (frame : List ℕ) (old new : PlainStore D J)
+    (result : Result T StoreFault) : Type 0 where
   pub goes_on : Stands K old.file.places old.state old.spelled (view old.file.disk)
       → OnOk result (Stands K new.file.places new.state new.spelled (view new.file.disk))
   pub commits : Stands K old.file.places old.state old.spelled (view old.file.disk)

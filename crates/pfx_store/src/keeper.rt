@@ -39,15 +39,16 @@ pub trait Keeper<D: Disk, J: Job> {
 
     /// Keeps a batch: from the mark on it is durable. It takes no memory.
     ///
-    /// The batch is one that the store's `append` takes. `Device` breaks the store; `Log` says that the disk of the log failed, and that nothing was done to
-    /// the store; both keep the state. What has failed answers what it answered then, and does nothing.
+    /// The batch is one that the store's `append` takes. `Device` breaks the store; `Log` says that the disk of the log failed, and that
+    /// nothing was done to the store; both keep the state. What has failed answers what it answered then, and does nothing.
     fn keep(&mut self, batch: &Batch<J>) -> Result<Mark, Cause>
         requires next { IsNext J.kind (kept self.old).state batch.now.workers batch.now.real batch.now.first
             (map plain batch.now.records.items) }
         ensures { Keeps D.view J.kind (map plain batch.now.records.items) (batch_bytes J.kind (batch_of batch.now.first batch.now.records.items))
             (kept self.old) (kept self.new) (failed self.old) (failed self.new) result };
 
-    /// Keeps the record of new weights, alone in its frame, and puts their set in force, which was prepared at this state; in all else it does what `keep` does.
+    /// Keeps the record of new weights, alone in its frame, and puts their set in force, which was prepared at this state; in all else it
+    /// does what `keep` does.
     fn keep_reweigh(&mut self, batch: &Batch<J>, renewal: Renewal) -> Result<Mark, Cause>
         requires next { IsRenewal J.kind (kept self.old).state batch.now.workers batch.now.real batch.now.first
             (map plain batch.now.records.items) renewal }

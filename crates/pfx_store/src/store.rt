@@ -5,12 +5,12 @@ ghost use Rattle.pfx_header.specs.Headers.{least_segment};
 ghost use Rattle.pfx_machine.specs.Reweighing.{renewed};
 ghost use Rattle.pfx_record.specs.Batches.{batch_bytes, batch_most, batch_of};
 ghost use Rattle.pfx_record.specs.Records.{plain};
-ghost use Rattle.pfx_store_file.specs.Tending.{append_calls, room_calls};
-ghost use Rattle.pfx_store.specs.Files.{appending, appended, ending, ended};
+ghost use Rattle.pfx_store_file.specs.Tending.{append_calls};
+ghost use Rattle.pfx_store.specs.Files.{appending, appended};
 ghost use Rattle.pfx_store.specs.Standing.{IsBehind};
 ghost use Rattle.pfx_store.specs.Stores.{stored};
-ghost use Rattle.pfx_store.specs.Working.{BeginsBehind, IsCall, IsComing, IsEncoded, IsSpelled, LeadsOn, Makes, MakesRoom};
-ghost use Rattle.pfx_store.specs.Working.{StandsAfter, StandsOn, TakesBatch};
+ghost use Rattle.pfx_store.specs.Working.{BeginsBehind, IsCall, IsComing, IsEncoded, IsSpelled, LeadsOn, Makes, SpellsTurn};
+ghost use Rattle.pfx_store.specs.Working.{StandsAfter, TakesBatch};
 
 use crate::format::FileHeader;
 use crate::journal::Journal;
@@ -20,7 +20,8 @@ use pfx_checkpoint::freeze_whole;
 use pfx_disk::Disk;
 use pfx_jobs::job::Job;
 use pfx_machine::State;
-use pfx_record::{Batch, batch_len, write_batch};
+use pfx_record::{Batch, write_batch};
+use pfx_recovery::SEGMENT_HEAD;
 use pfx_redo::apply_all;
 use pfx_store_file::StoreFault;
 
@@ -34,11 +35,11 @@ pub struct Mark {
 }
 
 // The bytes behind the gate of a segment whose first command comes behind this number.
-pub(crate) fn start_behind(number: u64) -> [u8; 9]
+pub(crate) fn start_behind(number: u64) -> [u8; SEGMENT_HEAD]
     requires { number < 2 ^ 48 }
     ensures { BeginsBehind number result }
 {
-    let mut start = [0; 9];
+    let mut start = [0; SEGMENT_HEAD];
     LittleEndian::write_u64(&mut start[..8], number + 1);
     start
 }
@@ -50,6 +51,16 @@ pub(crate) fn encode<J: Job>(state: &State<J>, spelled: &mut Vec<u8>)
 {
     let _number = state.number();
     freeze_whole(state, spelled);
+}
+
+// Encodes the state at a turn for the checkpoint that begins there, where the file was turned.
+fn encode_turn<J: Job>(turned: bool, state: &State<J>, spelled: &mut Vec<u8>)
+    requires { length spelled.old.items ≡ whole_len state.now.ledger.set.real }
+    ensures { SpellsTurn J.kind turned state.now spelled.old.items spelled.new.items }
+{
+    if turned {
+        encode(state, spelled);
+    }
 }
 
 // Encodes a frame, with the closed gate of the next one behind it.
@@ -108,29 +119,6 @@ fn take_over<J: Job>(
 }
 
 impl<D: Disk, J: Job> Journal<D, J> {
-    // Where a frame of n bytes has no room, in a file that isn't broken: ends the checkpoint in progress, and encodes the state for the
-    // next one.
-    fn make_room(&mut self, n: usize) -> Result<(), StoreFault>
-        requires whole { self.old.file.broken ≡ false }
-        ensures call { IsCall D.view (stored self.old) (stored self.new) result (room_calls n self.old.file.places) }
-        ensures frame { self.new.frame ≡ self.old.frame }
-        ensures room { MakesRoom J.kind n (stored self.old) (stored self.new) result }
-
-        // The state stays, and the store goes on. At every moment of the call, whatever it answers, what survived before survives.
-        ensures stands { StandsOn D.view J.kind (stored self.old) (stored self.new) result }
-
-        // These calls of the disk, and the file after them.
-        ensures acts { Makes D.view (stored self.old) (stored self.new) result J.kind (λ f. ending J.kind f n) (λ f. ended J.kind f n) (OnOk result) }
-    {
-        if self.file.has_room(n) {
-            return Ok(());
-        }
-        self.file
-            .end_checkpoint::<FileHeader, State<J>>(&self.spelled)?;
-        encode(&self.state, &mut self.spelled);
-        Ok(())
-    }
-
     // Appends a batch, or one of new weights with what was prepared for them, as a store does.
     pub(crate) fn append(
         &mut self,
@@ -154,19 +142,16 @@ impl<D: Disk, J: Job> Journal<D, J> {
             Makes D.view (stored self.old) (stored self.new) result J.kind (λ f. appending J.kind f self.old.state frame)
             (λ f. appended J.kind f self.old.state frame) (OnOk result) }
     {
-        if self.file.broken {
-            return Err(StoreFault::Broken);
-        }
-        let len = batch_len(batch);
-        self.make_room(len)?;
         encode_frame(batch, &mut self.frame);
         let start = start_behind(self.state.number());
-        self.file
+        let turned = self
+            .file
             .append_or_turn::<FileHeader, State<J>>(
                 &self.spelled,
                 &start,
                 behind_gate(batch, &self.frame),
             )?;
+        encode_turn(turned, &self.state, &mut self.spelled);
         take_over(&mut self.state, &mut self.frame, batch, renewal);
         Ok(Mark {
             number: self.state.number(),

@@ -28,16 +28,17 @@ pub record HasBehind {J : Type 0} (K : Kind J) (last : ℕ) (frames : List (List
   pub stand : StandBehind (format K) file.parts.base.number (all_frames file.parts) last frames
 
 module _ {J : Type 0} (K : Kind J) (start : Plain J) (all : List (List ℕ)) where
-  -- The log's blocks have the first so many of these frames, as they are and without a gap; they lead from the start to this state, whose number
-  -- is the log's last.
+  -- The log's blocks have the first so many of these frames, as they are and without a gap; they lead from the start to this state, whose
+  -- number is the log's last.
   pub record HasKept (kept : ℕ) (behind : Plain J) (log : Log) : Type 0 where
     pub few : kept ≤ length all
     pub frames : frames_in log.blocks ≡ in_a_row (take kept all)
     pub leads : Replays (format K) start (take kept all) behind
     pub number : behind.number ≡ last_number log
 
-  -- The one image holds a log that has kept the first of these frames. The other one is recovered to the state behind so many of them, at least, with
-  -- those of the log among them; and it has the others, as they are: they are what is read there behind the log's last number.
+  -- The one image holds a log that has kept the first of these frames. The other one is recovered to the state behind so many of them, at
+  -- least, with those of the log among them; and it has the others, as they are: they are what is read there behind the log's last
+  -- number.
   pub record AreCovered (n : ℕ) (logged filed : List ℕ) : Type 0 where
     pub log : Log
     pub holds : Holds logged log

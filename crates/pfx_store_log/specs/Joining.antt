@@ -14,6 +14,7 @@ pub record Gathering : Type 0 where
   pub begin : ℕ
   pub number : ℕ
 
+-- what is gathered, as contracts see it
 abbrev pub gathering : Gathered → Gathering
 gathering g = record { bytes = g.frames.items; begin = g.begin; number = g.number }
 
@@ -36,7 +37,8 @@ module _ {H S : Type 0} (K : Codec H S) where
   -- the frames lead from one gathering to the other
   abbrev pub Gathers : ℕ → Gathering → List (List ℕ) → Gathering → Type 0
   Gathers last g [] next = g ≡ next
-  Gathers last g (frame ∷ frames) next = (k : ℕ) × (K.after g.number frame ≡ Some k) × Gathers last (gathered_more last k frame g) frames next
+  Gathers last g (frame ∷ frames) next = (k : ℕ) × (K.after g.number frame ≡ Some k)
+      × Gathers last (gathered_more last k frame g) frames next
 
   -- these bytes are the frames behind the number
   abbrev pub AreBehind : ℕ → List (List ℕ) → ℕ → List ℕ → Type 0

@@ -20,8 +20,8 @@ use Rattle.pfx_store_log.specs.Joining.{AreBehind}
 use Rattle.pfx_store_log.specs.declared.joining.JoinFault.{JoinFault}
 use Rattle.pfx_store_log.specs.declared.joining.JoinFault.TheVariants as fault
 
--- The log and the file go on together, up to the file's state: the log has kept the first of these frames, and the others are what is read of the
--- file behind its end.
+-- The log and the file go on together, up to the file's state: the log has kept the first of these frames, and the others are what is
+-- read of the file behind its end.
 pub record GoOn {J : Type 0} (K : Kind J) (start : Plain J) (all : List (List ℕ)) (log : Log) (bytes : List ℕ) : Type 0 where
   pub kept : ℕ
   pub behind : Plain J
@@ -31,14 +31,17 @@ pub record GoOn {J : Type 0} (K : Kind J) (start : Plain J) (all : List (List �
 
 -- At each moment of a call, whatever it answers, each image left of the log with each one left of the file has all of these frames.
 abbrev pub StayCovered : {J : Type 0} → Kind J → Plain J → List (List ℕ) → View → View → View → View → Type 0
-StayCovered K start all log new_log file new_file = (logged filed : List ℕ) → new_log.since log.clock logged → new_file.since file.clock filed → AreCovered K start all (length all) logged filed
+StayCovered K start all log new_log file new_file = (logged filed : List ℕ) → new_log.since log.clock logged
+    → new_file.since file.clock filed → AreCovered K start all (length all) logged filed
 
 -- each image left of the log holds it as it was, or with a block more
 abbrev pub HoldsOn : Log → Log → View → View → Type 0
 HoldsOn held more old new = (image : List ℕ) → new.since old.clock image → Holds image held ⊎ Holds image more
 
--- A store that was opened on a disk that held these bytes, of which a stop leaves them alone; and the frames that it has behind this number.
-pub record IsOpenBehind {D J : Type 0} (K : Kind J) (view : D → View) (bytes : List ℕ) (last : ℕ) (store : PlainStore D J) (frames : List ℕ) : Type 0 where
+-- A store that was opened on a disk that held these bytes, of which a stop leaves them alone; and the frames that it has behind this
+-- number.
+pub record IsOpenBehind {D J : Type 0} (K : Kind J) (view : D → View) (bytes : List ℕ) (last : ℕ) (store : PlainStore D J)
+    (frames : List ℕ) : Type 0 where
   pub whole : store.file.broken ≡ false
   pub honest : IsHonest (view store.file.disk)
   pub contents : (view store.file.disk).contents ≡ bytes
@@ -48,7 +51,8 @@ pub record IsOpenBehind {D J : Type 0} (K : Kind J) (view : D → View) (bytes :
   pub state : file.state ≡ store.state
   pub behind : AreBehind (format K) file.parts.base.number (all_frames file.parts) last frames
 
--- why no store is opened of these bytes beside a log that ends with this number: a fault of the log comes only where it has to be brought up
+-- why no store is opened of these bytes beside a log that ends with this number: a fault of the log comes only where it has to be brought
+-- up
 abbrev pub IsOpenFault : {J : Type 0} → Kind J → List ℕ → ℕ → JoinFault → Type 0
 IsOpenFault K bytes last (fault.File e) = IsRefusal e (λ refusal. recovered (format K) bytes ≡ Err refusal)
 IsOpenFault {J = J} K bytes last (fault.LogGap log file) = (log ≡ last)

@@ -1,5 +1,6 @@
 -- A store beside its log, and what its calls do.
-use Rattle.std.specs.Prelude.{◌≡◌, ◌≤◌, ◌<◌, ◌⊎◌, ◌+◌, ◌++◌, ℕ, List, [], length, drop, false, Bool, if◌then◌else◌, Option, None, Some, Result, OnOk, OnErr, Ok}
+use Rattle.std.specs.Prelude.{◌≡◌, ◌≤◌, ◌<◌, ◌⊎◌, ◌+◌, ◌++◌, ℕ, List, [], length, drop, false, Bool, if◌then◌else◌, Option, None, Some}
+use Rattle.std.specs.Prelude.{Result, OnOk, OnErr, Ok}
 use Rattle.pfx_base.specs.Bases.{IsOn, turn_number}
 use Rattle.pfx_disk.specs.Disk.{View, IsHonest, Only}
 use Rattle.pfx_disk.specs.declared.device.Disk.{Ghosts as DiskGhosts}
@@ -37,16 +38,21 @@ pub record IsBatchOf {J : Type 0} (K : Kind J) (s : Plain J) (H : List (Command 
 
 -- what has failed: the store's disk, or else the log's, or the log couldn't be brought up
 abbrev pub failure_by : Bool → Bool → Bool → Option Cause
-failure_by broken log_broken stopped = if broken then Some cause.Device else (if log_broken then Some cause.Log else (if stopped then Some cause.Log else None))
+failure_by broken log_broken stopped = if broken then Some cause.Device
+    else (if log_broken then Some cause.Log else (if stopped then Some cause.Log else None))
 
-abbrev pub failure_beside : {D L J : Type 0} {d : DiskGhosts D} {l : DiskGhosts L} {k : JobGhosts J} → LoggedStore D L J d l k → Option Cause
+-- what has failed of a store beside its log
+abbrev pub failure_beside : {D L J : Type 0} {d : DiskGhosts D} {l : DiskGhosts L} {k : JobGhosts J} → LoggedStore D L J d l k
+    → Option Cause
 failure_beside beside = failure_by beside.store.file.broken beside.log.broken beside.stopped
 
--- a frame of n bytes has room, or all frames up to the last are in the log
-pub record IsUpToDate {D L J : Type 0} {d : DiskGhosts D} {l : DiskGhosts L} {k : JobGhosts J} (beside : LoggedStore D L J d l k) : Type 0 where
+-- all frames up to the last are in the log
+pub record IsUpToDate {D L J : Type 0} {d : DiskGhosts D} {l : DiskGhosts L} {k : JobGhosts J} (beside : LoggedStore D L J d l k)
+    : Type 0 where
   pub copied : beside.copy.items ≡ []
   pub number : beside.store.state.number ≤ beside.log.place.last
 
+-- a frame of n bytes has room, or the log is up to date
 abbrev pub IsReady : {D L J : Type 0} {d : DiskGhosts D} {l : DiskGhosts L} {k : JobGhosts J} → ℕ → LoggedStore D L J d l k → Type 0
 IsReady n beside = HasRoom n beside.store.file.places ⊎ IsUpToDate beside
 
@@ -64,20 +70,24 @@ module _ {J : Type 0} (K : Kind J) (start : Plain J) (all : List (List ℕ)) (lo
     pub copied : copy ≡ in_a_row (drop kept all)
     pub leads : Replays (format K) behind (drop kept all) s
 
-  -- A store and a log that may go on together: a stop leaves what a read of the store's disk gives; the log is open, and has kept the frames up to the
-  -- store's state, but for these bytes, the frames that are read of the store's disk behind the log's end; and the last turn of the file comes no later.
-  pub record CanJoin {D L : Type 0} {l : DiskGhosts L} (view : D → View) (store : PlainStore D J) (file : LogFile L l) (copy : List ℕ) : Type 0 where
+  -- A store and a log that may go on together: a stop leaves what a read of the store's disk gives; the log is open, and has kept the
+  -- frames up to the store's state, but for these bytes, the frames that are read of the store's disk behind the log's end; and the last
+  -- turn of the file comes no later.
+  pub record CanJoin {D L : Type 0} {l : DiskGhosts L} (view : D → View) (store : PlainStore D J) (file : LogFile L l) (copy : List ℕ)
+      : Type 0 where
     pub whole : store.file.broken ≡ false
     pub honest : IsHonest (view store.file.disk)
     pub only : Only (view store.file.disk).contents (view store.file.disk)
     pub opened : IsOpen log file
     pub kept : IsKeptUpTo copy store.state
     pub reads : HasBehind K (last_number log) (drop kept.kept all) (view store.file.disk).contents
-    pub turned : (f : Found Header (Plain J)) → found (format K) (view store.file.disk).contents ≡ Ok f → f.parts.middle.number ≤ last_number log
+    pub turned : (f : Found Header (Plain J)) → found (format K) (view store.file.disk).contents ≡ Ok f
+        → f.parts.middle.number ≤ last_number log
 
-  -- The store is whole, on an honest disk that its file is on; the log is open, and has kept the frames up to the store's state, but for those that are
-  -- copied, which are what the file has behind the log's end; and the last turn of the file comes no later.
-  pub record IsLogged {D L : Type 0} {d : DiskGhosts D} {l : DiskGhosts L} {k : JobGhosts J} (beside : LoggedStore D L J d l k) : Type 0 where
+  -- The store is whole, on an honest disk that its file is on; the log is open, and has kept the frames up to the store's state, but for
+  -- those that are copied, which are what the file has behind the log's end; and the last turn of the file comes no later.
+  pub record IsLogged {D L : Type 0} {d : DiskGhosts D} {l : DiskGhosts L} {k : JobGhosts J} (beside : LoggedStore D L J d l k)
+      : Type 0 where
     pub whole : beside.store.file.broken ≡ false
     pub honest : IsHonest (d.view beside.store.file.disk)
     pub file : FileOf J
@@ -88,22 +98,24 @@ module _ {J : Type 0} (K : Kind J) (start : Plain J) (all : List (List ℕ)) (lo
     pub kept : IsKeptUpTo beside.copy.items beside.store.state
     pub reads : StandBehind (format K) file.parts.base.number (all_frames file.parts) (last_number log) (drop kept.kept all)
 
--- At each moment of a call, whatever it answers, each image that a stop may leave of the log, with each one that it may leave of the file, has these
--- frames, so many of them at least.
+-- At each moment of a call, whatever it answers, each image that a stop may leave of the log, with each one that it may leave of the
+-- file, has these frames, so many of them at least.
 abbrev pub Covers : {D L J : Type 0} {d : DiskGhosts D} {l : DiskGhosts L} {k : JobGhosts J} → Kind J → Plain J → List (List ℕ) → ℕ
     → LoggedStore D L J d l k → LoggedStore D L J d l k → Type 0
 Covers {d = d} {l = l} K start all n old new = (logged filed : List ℕ) → (l.view new.log.disk).since (l.view old.log.disk).clock logged
     → (d.view new.store.file.disk).since (d.view old.store.file.disk).clock filed → AreCovered K start all n logged filed
 
 -- Once a call succeeded the store is logged with these frames, and at each moment of it so many of them were covered.
-pub record KeepsLogged {D L J T E : Type 0} {d : DiskGhosts D} {l : DiskGhosts L} {k : JobGhosts J} (K : Kind J) (start : Plain J) (all : List (List ℕ)) (n : ℕ)
+pub record KeepsLogged {D L J T E : Type 0} {d : DiskGhosts D} {l : DiskGhosts L} {k : JobGhosts J} (K : Kind J) (start : Plain J)
+    (all : List (List ℕ)) (n : ℕ)
     (old new : LoggedStore D L J d l k) (result : Result T E) : Type 0 where
   pub logged : OnOk result ((log : Log) × IsLogged K start all log new)
   pub covered : Covers K start all n old new
 
--- A call that brings the log up, on its disk alone, and then keeps a frame, on the store's disk alone: at each moment of the one, and of the other, all
--- these frames were covered. If it isn't brought up nothing more is done.
-pub record KeepsBoth {D L J T E : Type 0} {d : DiskGhosts D} {l : DiskGhosts L} {k : JobGhosts J} (K : Kind J) (start : Plain J) (all more : List (List ℕ))
+-- A call that brings the log up, on its disk alone, and then keeps a frame, on the store's disk alone: at each moment of the one, and of
+-- the other, all these frames were covered. If it isn't brought up nothing more is done.
+pub record KeepsBoth {D L J T E : Type 0} {d : DiskGhosts D} {l : DiskGhosts L} {k : JobGhosts J} (K : Kind J) (start : Plain J)
+    (all more : List (List ℕ))
     (old new : LoggedStore D L J d l k) (result : Result T E) : Type 0 where
   pub middle : LoggedStore D L J d l k
   pub log_alone : middle.store ≡ old.store

@@ -13,8 +13,8 @@ use pfx_jobs::job::Job;
 use pfx_log::LogFile;
 use pfx_store::Store;
 
-/// A store beside its log, with the frames that the store has and the log hasn't. They are of the segment that frames go to, and have room in memory
-/// up to its end; so has the block that they become.
+/// A store beside its log, with the frames that the store has and the log hasn't. They are of the segment that frames go to, and have
+/// room in memory up to its end; so has the block that they become.
 #[derive(Drop)]
 pub struct LoggedStore<D: Disk, L: Disk, J: Job> {
     /// The store.

@@ -28,6 +28,7 @@ use pfx_format::{number_after, number_of};
 use pfx_jobs::job::Job;
 use pfx_log::AppendFault;
 use pfx_recover::{OpenFault, Refusal};
+use pfx_recovery::SEGMENT_HEAD;
 use pfx_segment::read_one;
 use pfx_store_file::{Places, StoreFile};
 use std::alloc::{AllocError, Global};
@@ -96,8 +97,8 @@ impl Gathered {
 
 // The number before the one that a segment at this place begins with.
 fn number_before<D: Disk>(disk: &mut D, at: usize) -> Result<u64, OpenFault>
-    requires inside { Reaches (at + 9) (D.view disk.old) }
-    requires place { at + 9 < 2 ^ 64 }
+    requires inside { Reaches (at + SEGMENT_HEAD) (D.view disk.old) }
+    requires place { at + SEGMENT_HEAD < 2 ^ 64 }
     ensures call { OnlyReads (D.view disk.old) (D.view disk.new) result }
     ensures small { IfOk result (λ number. number < 2 ^ 48) }
     ensures exact { IsHonest (D.view disk.old) → (n : ℕ) → n < 2 ^ 48 → little_number 8 (first_at at (D.view disk.old).contents) ≡ n + 1
@@ -181,19 +182,34 @@ fn gather_file<J: Job, D: Disk>(
         begin: number,
         number,
     };
-    let before = gather::<J, D>(alloc, disk, at + 9, at + places.sizes.segment, last, none)?;
+    let before = gather::<J, D>(
+        alloc,
+        disk,
+        at + SEGMENT_HEAD,
+        at + places.sizes.segment,
+        last,
+        none,
+    )?;
     if !places.checkpoint.in_progress() {
         return Ok(before);
     }
     let at = places.sizes.segment_at(places.segment);
-    gather::<J, D>(alloc, disk, at + 9, at + places.sizes.segment, last, before)
+    gather::<J, D>(
+        alloc,
+        disk,
+        at + SEGMENT_HEAD,
+        at + places.sizes.segment,
+        last,
+        before,
+    )
 }
 
-/// The frames that an opened file has behind the last number of a log, one behind the other: those that the log hasn't. Its segments are read once
-/// more, and nothing is written.
+/// The frames that an opened file has behind the last number of a log, one behind the other: those that the log hasn't. Its segments are
+/// read once more, and nothing is written.
 ///
-/// `LogGap` says that there are none: the file begins behind that number or ends before it, or a frame has it within; `file` is the number behind
-/// which the file's next frames begin, or its last number if it ends before. `Log` never comes. `File` comes only if the disk failed, or an allocation.
+/// `LogGap` says that there are none: the file begins behind that number or ends before it, or a frame has it within; `file` is the
+/// number behind which the file's next frames begin, or its last number if it ends before. `Log` never comes. `File` comes only if the
+/// disk failed, or an allocation.
 pub fn frames_behind<J: Job, D: Disk>(
     alloc: Global,
     file: &mut StoreFile<D>,

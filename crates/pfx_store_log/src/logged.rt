@@ -3,7 +3,8 @@
 // Why it is so:
 // - **An append to the log takes no memory** (`append_in`): the room for a block is taken with the store's. So want of memory can't come
 //   when a state has moved on and its command isn't kept.
-ghost use Rattle.std.specs.Prelude.{◌≡◌, ◌≤◌, ◌+◌, ◌++◌, ◌∷◌, [], ℕ, List, length, map, vec_capacity, ◌↔◌, OnOk, OnErr, IfOk, IfErr, IsErrOf, IsTrue, false, true};
+ghost use Rattle.std.specs.Prelude.{◌≡◌, ◌≤◌, ◌+◌, ◌++◌, ◌∷◌, [], ℕ, List, length, map, vec_capacity, ◌↔◌, OnOk, OnErr, IfOk, IfErr};
+ghost use Rattle.std.specs.Prelude.{IsErrOf, IsTrue, false, true};
 ghost use Rattle.pfx_disk.specs.Disk.{IsHonest};
 ghost use Rattle.pfx_format.specs.Format.{format};
 ghost use Rattle.pfx_log.specs.Files.{IsLeftBy, IsOpen};
@@ -45,8 +46,8 @@ fn copied(alloc: Global, room: usize, frames: &[u8]) -> Result<Vec<u8>, AllocErr
 }
 
 impl<D: Disk, L: Disk, J: Job> LoggedStore<D, L, J> {
-    /// A store and a log that go on together. `frames` are those that the store has behind the log's last number, one behind the other; they are in the
-    /// segment that frames go to. If an allocation failed, the two are given back.
+    /// A store and a log that go on together. `frames` are those that the store has behind the log's last number, one behind the other;
+    /// they are in the segment that frames go to. If an allocation failed, the two are given back.
     pub fn new(
         alloc: Global,
         store: Store<D, J>,
@@ -81,10 +82,11 @@ impl<D: Disk, L: Disk, J: Job> LoggedStore<D, L, J> {
         }
     }
 
-    /// Brings the log up to the store's state: the frames that are copied are appended to it as a block, by four calls of its disk, if there are any.
+    /// Brings the log up to the store's state: the frames that are copied are appended to it as a block, by four calls of its disk, if
+    /// there are any.
     ///
-    /// It takes no memory, and never answers `NoMemory`. `Device` comes only if the log's disk failed, and breaks the log; after a fault the store is stopped,
-    /// and its frames stay copied. Nothing is done to the store.
+    /// It takes no memory, and never answers `NoMemory`. `Device` comes only if the log's disk failed, and breaks the log; after a fault
+    /// the store is stopped, and its frames stay copied. Nothing is done to the store.
     pub fn keep_up(&mut self) -> Result<(), AppendFault>
         ensures store { self.new.store ≡ self.old.store }
         ensures up { OnOk result (IsUpToDate self.new) }
@@ -112,7 +114,8 @@ impl<D: Disk, L: Disk, J: Job> LoggedStore<D, L, J> {
         result
     }
 
-    /// Whether the batch's frame has room in the segment that frames go to: else the store turns before it, and `keep_up` has to come first.
+    /// Whether the batch's frame has room in the segment that frames go to: else the store turns before it, and `keep_up` has to come
+    /// first.
     pub fn has_room(&self, batch: &Batch<J>) -> bool
         ensures { IsTrue result ↔ HasRoom (length (batch_bytes J.kind (batch_of batch.now.first batch.now.records.items))) self.now.store.file.places }
     {
@@ -122,8 +125,8 @@ impl<D: Disk, L: Disk, J: Job> LoggedStore<D, L, J> {
 
     /// Appends a batch, as the store does: it makes the same calls, takes no memory, and asks nothing of the log.
     ///
-    /// Its frame has room, or the log is kept up. The frame is copied once it is durable. At every moment what a stop may leave of the log and of the file
-    /// has every frame up to the last one, or the batch's too.
+    /// Its frame has room, or the log is kept up. The frame is copied once it is durable. At every moment what a stop may leave of the
+    /// log and of the file has every frame up to the last one, or the batch's too.
     pub fn append(&mut self, batch: &Batch<J>) -> Result<Mark, StoreFault>
         requires next { IsNext J.kind self.old.store.state batch.now.workers batch.now.real batch.now.first (map plain batch.now.records.items) }
         requires ready { let n = length (batch_bytes J.kind (batch_of batch.now.first batch.now.records.items)) in IsReady n self.old }
@@ -160,8 +163,8 @@ impl<D: Disk, L: Disk, J: Job> LoggedStore<D, L, J> {
         result
     }
 
-    /// Appends the record of new weights and puts their set in force, as the store does: it makes the same calls, takes no memory, and asks nothing of
-    /// the log.
+    /// Appends the record of new weights and puts their set in force, as the store does: it makes the same calls, takes no memory, and
+    /// asks nothing of the log.
     ///
     /// Its frame has room, or the log is kept up. It keeps what `append` keeps.
     pub fn append_reweigh(&mut self, batch: &Batch<J>, renewal: Renewal) -> Result<Mark, StoreFault>

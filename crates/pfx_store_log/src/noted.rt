@@ -12,11 +12,11 @@ use pfx_disk::Disk;
 use pfx_jobs::job::Job;
 
 impl<D: Disk, L: Disk, J: Job> LoggedStore<D, L, J> {
-    /// The same store beside its log, on a disk that tells its calls from now on, under a name that says what the disk held. The log is as it was, and
-    /// its disk tells nothing.
+    /// The same store beside its log, on a disk that tells its calls from now on, under a name that says what the disk held. The log is
+    /// as it was, and its disk tells nothing.
     ///
-    /// It takes what `noted` of a store takes: a list of that name, a store that isn't broken, and a name with the moment and the failures of the disk, and
-    /// with what the disk held, of which an honest disk is shown to meet the premise.
+    /// It takes what `noted` of a store takes: a list of that name, a store that isn't broken, and a name with the moment and the
+    /// failures of the disk, and with what the disk held, of which an honest disk is shown to meet the premise.
     pub fn noted<B: Charted>(self, list: Opened) -> LoggedStore<Chronicle<D, B>, L, J>
         requires list { list.seen.book ≡ B.calls }
         requires whole { self.store.file.broken ≡ false }
@@ -53,7 +53,8 @@ impl<D: Disk, L: Disk, J: Job> LoggedStore<D, L, J> {
 }
 
 impl<D: Disk, B: Charted, L: Disk, J: Job> LoggedStore<Chronicle<D, B>, L, J> {
-    /// The store beside its log on the disk itself, which has gone along with what was told of it. If a call has failed the store is broken.
+    /// The store beside its log on the disk itself, which has gone along with what was told of it. If a call has failed the store is
+    /// broken.
     pub fn told(self) -> LoggedStore<D, L, J>
         ensures disk { result.store.file.disk ≡ self.store.file.disk.disk }
         ensures broken { (result.store.file.broken ≡ false) ↔ ((self.store.file.broken ≡ false) × (self.store.file.disk.failed ≡ false)) }

@@ -21,6 +21,7 @@ use pfx_disk::Disk;
 use pfx_jobs::job::Job;
 use pfx_log::{AppendFault, LogFile};
 use pfx_recover::{OpenFault, Opened, open};
+use pfx_recovery::SEGMENT_HEAD;
 use pfx_store::{FileFormat, Store};
 use pfx_store_file::{Places, StoreFile};
 use std::alloc::Global;
@@ -30,7 +31,7 @@ fn fit(copied: usize, places: &Places) -> bool
     ensures { IsTrue result ↔ FitsIn copied places.now }
 {
     let room = places.sizes.segment;
-    copied <= room && copied + 9 + places.end <= places.gate + room
+    copied <= room && copied + SEGMENT_HEAD + places.end <= places.gate + room
 }
 
 // The store of an opened file, and the frames that the file has behind this number.
@@ -159,11 +160,12 @@ fn go_on<D: Disk, L: Disk, J: Job>(
 }
 
 impl<D: Disk, L: Disk, J: Job> LoggedStore<D, L, J> {
-    /// Opens a store beside its log. The file is synced and read twice, and nothing is written to it. Where the log ends before the last turn it is
-    /// brought up by one append. With a fault the disk and the log come back.
+    /// Opens a store beside its log. The file is synced and read twice, and nothing is written to it. Where the log ends before the last
+    /// turn it is brought up by one append. With a fault the disk and the log come back.
     ///
-    /// `LogGap` says that the file has no frames behind the log's end. `File` says what the store's opening says, and `Log` what an append to the log says,
-    /// which comes only where the log ends before the last turn: `Device` and `Broken` leave a broken log, and each other fault one as it was.
+    /// `LogGap` says that the file has no frames behind the log's end. `File` says what the store's opening says, and `Log` what an
+    /// append to the log says, which comes only where the log ends before the last turn: `Device` and `Broken` leave a broken log, and
+    /// each other fault one as it was.
     pub fn open(
         alloc: Global,
         disk: D,

@@ -172,15 +172,38 @@ fn run<D: Disk>(file: &mut StoreFile<D>, clocks: &mut [u64; 6]) -> Result<(), St
     clocks[1] = file.disk.clock();
     file.append::<u8, (u8, u8)>(&frame(2, 6))?;
     clocks[2] = file.disk.clock();
-    file.append_or_turn::<u8, (u8, u8)>(&[0, 0], &start(3), &frame(3, 7))?;
+    let _turned = file.append_or_turn::<u8, (u8, u8)>(&[0, 0], &start(3), &frame(3, 7))?;
     clocks[3] = file.disk.clock();
     let _closed = file.tend::<u8, (u8, u8)>(&[2, 11])?;
-    file.append_or_turn::<u8, (u8, u8)>(&[2, 11], &start(4), &frame(4, 8))?;
+    let _fits = file.append_or_turn::<u8, (u8, u8)>(&[2, 11], &start(4), &frame(4, 8))?;
     clocks[4] = file.disk.clock();
     let _piece = file.tend::<u8, (u8, u8)>(&[2, 11])?;
-    file.append_or_turn::<u8, (u8, u8)>(&[2, 11], &start(5), &frame(5, 9))?;
+    let _fits = file.append_or_turn::<u8, (u8, u8)>(&[2, 11], &start(5), &frame(5, 9))?;
     clocks[5] = file.disk.clock();
     Ok(())
+}
+
+/// What the third frame's append and the fourth's answer: whether the file was turned for it.
+fn turns_of(alloc: Global) -> Option<(bool, bool)> {
+    let mut file = file_in_memory(alloc)?;
+    file.append::<u8, (u8, u8)>(&frame(1, 5)).ok()?;
+    file.append::<u8, (u8, u8)>(&frame(2, 6)).ok()?;
+    let third = file
+        .append_or_turn::<u8, (u8, u8)>(&[0, 0], &start(3), &frame(3, 7))
+        .ok()?;
+    let fourth = file
+        .append_or_turn::<u8, (u8, u8)>(&[2, 11], &start(4), &frame(4, 8))
+        .ok()?;
+    Some((third, fourth))
+}
+
+#[test]
+fn an_append_tells_whether_it_turned(rt: HostRuntime) {
+    check(
+        &rt,
+        turns_of(rt.alloc()) == Some((true, false)),
+        "the third alone",
+    );
 }
 
 /// The file with one frame, turned.
