@@ -1,28 +1,15 @@
 -- Commands that are run one after the other, and what each is told.
-use Rattle.std.proofs.Common.{◌≡◌, ◌<◌, ◌≤◌, ◌⊎◌, inl, inr, ℕ, suc, ◌+◌, List, [], ◌∷◌, ◌++◌, length, length-append, nat_lt, if◌then◌else◌, Bool, true, false, Option, Some, None, Result, Ok, Err, refl, sym, ap, subst, ◌∙◌, append_assoc, append-nil, add-zero, take, drop, get_or, arith}
-use Rattle.std.specs.Prelude.{slice_get, IfSome}
-use Rattle.std.specs.Option.{option_map}
-use Rattle.std.specs.Io.KnownBytes.{Appends}
-use Rattle.std.proofs.lemmas.Bool.{lt-ltb}
-use Rattle.std.proofs.lemmas.List.{take-append-drop, take_more, length-take-le}
-use Rattle.pfx_fault.specs.declared.refusals.Fault.{Fault}
-use Rattle.pfx_fault.specs.declared.refusals.Fault.TheVariants as fault
+use Rattle.std.proofs.Common.{◌≡◌, ℕ, suc, ◌+◌, List, [], ◌∷◌, ◌++◌, length, None, Ok, Err, refl, sym, ap, subst, ◌∙◌, arith}
 use Rattle.pfx_machine.specs.Plain.{Plain}
 use Rattle.pfx_machine.specs.Outcome.{outcome}
 use Rattle.pfx_machine.specs.Refusals.{IsFaultOf, TakesMemory, refusal, reply}
 use Rattle.pfx_machine.specs.Runs.{answer, answer_by}
-use Rattle.pfx_machine.specs.Steps.{job_step, state_step, happening_in}
-use Rattle.pfx_machine.specs.declared.plain.Happening.{Happening}
-use Rattle.pfx_machine.specs.declared.plain.Happening.TheVariants.{Given as given, Taken as taken}
 use Rattle.pfx_machine.specs.declared.command.Command.{Command}
 use Rattle.pfx_machine.specs.declared.command.Command.TheVariants.{Submit, Slot, Withdraw, Reweigh}
 use Rattle.pfx_machine.specs.declared.command.Reply.{Reply}
 use Rattle.pfx_machine.specs.declared.faults.MachineFault.{MachineFault}
 use Rattle.pfx_machine.proofs.Compose.{outcome-none, outcome-outcome}
-use Rattle.pfx_machine.proofs.Snoc.{outcome-snoc}
-use Rattle.pfx_engine.specs.Promises.{Promise, Laws, IsEngineFault, IsSame}
-use Rattle.std.specs.Option.{option_or}
-use Rattle.pfx_engine.specs.Sharing.{AreChanges, IsChange, AreAllDone, AreAllLeft, AreTold, Told, accepted_of}
+use Rattle.pfx_engine.specs.Sharing.{AreChanges, IsChange, AreTold, Told, accepted_of}
 use Rattle.pfx_jobs.specs.Kind.{Kind, Laws}
 
 -- none of them takes memory

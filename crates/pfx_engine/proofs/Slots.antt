@@ -12,10 +12,10 @@ use Rattle.pfx_machine.proofs.Compose.{outcome-none, outcome-outcome}
 use Rattle.pfx_engine.specs.Promises.{AreAnswered, slots_for}
 use Rattle.pfx_jobs.specs.Kind.{Kind, Laws}
 
-pub length_slots : (said : List (ℕ × Reply)) → length (slots_for said) ≡ length said
-length_slots said = length-map said (λ x. Slot)
+pub length_slots : (J : Type 0) (said : List (ℕ × Reply)) → length (slots_for {J = J} said) ≡ length said
+length_slots J said = length-map said (λ x. Slot)
 
-pub slots_more : {J : Type 0} (said : List (ℕ × Reply)) (x : ℕ × Reply) → slots_for (said ++ x ∷ []) ≡ slots_for said ++ Slot ∷ []
+pub slots_more : {J : Type 0} (said : List (ℕ × Reply)) (x : ℕ × Reply) → slots_for {J = J} (said ++ x ∷ []) ≡ slots_for said ++ Slot ∷ []
 slots_more [] x = refl
 slots_more {J = J} (y ∷ said) x = ap (λ (l : List (Command J)). Slot ∷ l) (slots_more said x)
 

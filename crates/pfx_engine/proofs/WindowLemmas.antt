@@ -77,7 +77,7 @@ records_long K view s G records h = sym (length-map records view) ∙ sym (lengt
 
 -- as many records as Slots
 pub run_long : {J : Type 0} (K : Kind J) {R : Type 0} (view : R → recorded.Recorded J) (s new : Plain J) (count : ℕ) (said : List (ℕ × Reply)) (records : List R) → AreRun K s count said (map view records) new → length records ≡ length said
-run_long K view s new count said records h = sym (length-map records view) ∙ sym (length_of K s (slots_for said) (map view records) h.recorded) ∙ length_slots said
+run_long {J = J} K view s new count said records h = sym (length-map records view) ∙ sym (length_of K s (slots_for said) (map view records) h.recorded) ∙ length_slots J said
 
 -- the next Slot is refused, or there is no memory for it
 pub ends_early : {J : Type 0} (K : Kind J) (count : ℕ) (said : List (ℕ × Reply)) (t : Plain J) (f : MachineFault) (starved : Bool) → IsFaultOf K t Slot f → (IsTrue starved ↔ (f ≡ no_memory)) → Fills K count said t starved

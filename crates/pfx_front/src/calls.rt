@@ -455,8 +455,8 @@ where
         self.hear(rt, pass, command).said
     }
 
-    /// What `call` does, with whether no other pass was out when it was answered, under the same lock. Then what this pass notes is all that
-    /// has happened: each of its answers is the machine's after the commands that it had accepted before.
+    /// What `call` does, with whether no other pass was out when it was answered, under the same lock. Then what this pass notes is
+    /// all that has happened: each of its answers is the machine's after the commands that it had accepted before.
     pub fn hear<R: Wait>(
         &self,
         rt: &R,

@@ -108,7 +108,7 @@ module _ {J : Type 0} (K : Kind J) (L : Laws K) {E : Type 0} (notes : E → List
           few = long;
           answered = a.answered;
           state = state_is K L B B.number (notes old) (notes new) (slots_for said) 0 now;
-          keeps = subst (λ (n : ℕ). KeepsBy B.number (notes old) (slots_for said) n (notes new)) (length_slots said) (all_kept B.number (notes old) (notes new) (slots_for said) now settled);
+          keeps = subst (λ (n : ℕ). KeepsBy B.number (notes old) (slots_for said) n (notes new)) (length_slots J said) (all_kept B.number (notes old) (notes new) (slots_for said) now settled);
           settled = settled;
         }
 

@@ -29,7 +29,7 @@ keeps_none first notes = record { later = []; grows = sym (append-nil (alone not
 
 pub keeps_more : {J : Type 0} (first : ℕ) (a b c : List (Note J)) (H G : List (Command J)) (n : ℕ) → KeepsBy first a H (length H) b
     → KeepsBy first b G n c → KeepsBy first a (H ++ G) (length H + n) c
-keeps_more first a b c H G n one two = record {
+keeps_more {J = J} first a b c H G n one two = record {
   later = one.later ++ two.later;
   grows = two.grows ∙ ap (λ l. l ++ two.later) one.grows ∙ append_assoc (alone a) one.later two.later;
   commands = commands_both one.later two.later ∙ ap (λ l. l ++ commands_of two.later) one.commands ∙ ap (λ l. H ++ l) two.commands;

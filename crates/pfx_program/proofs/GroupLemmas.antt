@@ -14,8 +14,8 @@ use Rattle.pfx_kinds.specs.Units.{unit_of, is_taken}
 use Rattle.pfx_kinds.specs.declared.any.AnyJob.{AnyJob}
 use Rattle.pfx_machine.specs.Plain.{Plain}
 use Rattle.pfx_machine.specs.Outcome.{outcome}
-use Rattle.pfx_machine.specs.Refusals.{IsFaultOf, TakesMemory, refusal, reply}
-use Rattle.pfx_machine.specs.Runs.{answer, answer_by}
+use Rattle.pfx_machine.specs.Refusals.{refusal, reply}
+use Rattle.pfx_machine.specs.Runs.{answer}
 use Rattle.pfx_machine.specs.Steps.{job_step, state_step, happening_in}
 use Rattle.pfx_machine.specs.declared.plain.Happening.{Happening}
 use Rattle.pfx_machine.specs.declared.plain.Happening.TheVariants.{Given as given, Taken as taken}

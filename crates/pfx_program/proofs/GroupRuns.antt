@@ -26,7 +26,6 @@ use Rattle.pfx_program.proofs.RunLemmas.{Goes, Noted, Progress, after_after, clo
 use Rattle.pfx_program.proofs.SlotLemmas.{slots_failed}
 use Rattle.pfx_program.proofs.StepLemmas.{carried_then, commands_append, same_state, stopped_after, stopped_anyway, stopped_before, stopped_wider}
 use Rattle.pfx_program.proofs.Appends.{appends-nothing}
-use Rattle.pfx_kinds.specs.AnyKind.{any_kind}
 
 module _ {E : Type 0} (P : Promise AnyJob E) (form : Form) (at_refusal : AtRefusal) (L : Laws P) where
   -- a call that changed nothing

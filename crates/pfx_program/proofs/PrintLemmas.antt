@@ -83,7 +83,7 @@ module _ {E : Type 0} (P : Promise AnyJob E) (L : Laws P) (allows : Rule E) wher
 
   -- the lines of Slots that were carried out
   pub may_ran : (a b : E) (was : Option (List ℕ)) (form : Form) (said : List (ℕ × Reply)) (steps more : List Step) → steps ≡ ran_steps form said ++ more → MayPrint P allows a was steps → P.keeps a (slots_for said) (length said) b
-      → length (slots_for said) ≡ length said → MayTell allows b was (line_of form) (lines_of form) said
+      → length (slots_for {J = AnyJob} said) ≡ length said → MayTell allows b was (line_of form) (lines_of form) said
   may_ran a b was form said steps more is h kept long front x back split shows text =
       let all : ran_steps form said ≡ ran_steps form front ++ ran_step form x ∷ ran_steps form back = ap (ran_steps form) split ∙ ran_append form front (x ∷ back) in
       let commands : slots_for said ≡ commands_of (ran_steps form front ++ ran_step form x ∷ ran_steps form back) = sym (ran_commands form said) ∙ ap commands_of all in

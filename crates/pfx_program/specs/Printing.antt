@@ -9,7 +9,6 @@ use Rattle.pfx_program.specs.Script.{Step, commands_of, course_from, taken, text
 use Rattle.pfx_program.specs.declared.form.Form.{Form}
 use Rattle.pfx_program.specs.declared.report.AtRefusal.{AtRefusal}
 use Rattle.pfx_script.specs.Records.{Fields, Records}
-use Rattle.pfx_kinds.specs.AnyKind.{any_kind}
 use Rattle.pfx_kinds.specs.declared.any.AnyJob.{AnyJob}
 
 -- when a text may be printed: by this engine, behind what was written

@@ -18,8 +18,8 @@ pub returns-in_err-_tended-clause-keeps : goal.returns-in_err-_tended-clause-kee
 returns-in_err-_tended-clause-keeps g c honest start H done h all at given =
     let kept = g.K.Keeper.kept in
     let V = g.D.Disk.view in
-    keeps_behind g.J.Job.kind g.J.Job.laws start H (H ++ done) (V (kept c.args.keeper.now).file.disk) (V (kept c.tend_on.new.self).file.disk) (V (kept c.tend_on.new.self).file.disk) h all c.tend_on.ensures.call.takes.later
-    (c.tend_on.ensures.keeps honest start (frames_of g.J.Job.kind start H) (replays_to g.J.Job.kind g.J.Job.laws start (kept c.args.keeper.now).state H h all at)) (keeps_more g.J.Job.kind start H done (V (kept c.tend_on.new.self).file.disk))
+    keeps_behind g.J.Job.kind g.met.J.Job.laws start H (H ++ done) (V (kept c.args.keeper.now).file.disk) (V (kept c.tend_on.new.self).file.disk) (V (kept c.tend_on.new.self).file.disk) h all c.tend_on.ensures.call.takes.later
+    (c.tend_on.ensures.keeps honest start (frames_of g.J.Job.kind start H) (replays_to g.J.Job.kind g.met.J.Job.laws start (kept c.args.keeper.now).state H h all at)) (keeps_more g.J.Job.kind start H done (V (kept c.tend_on.new.self).file.disk))
 
 pub put-requires-clause-right : goal.put-requires-clause-right
 put-requires-clause-right g c =
@@ -44,10 +44,10 @@ returns-clause-keeps g c honest start H done h all at given =
     let put = c.put.ensures.put done is in
     let long = kept_length g.J.Job.kind s done (map plain c.args.records.items) is in
     let same_long = length-map c.args.records.items plain in
-    keeps_behind g.J.Job.kind g.J.Job.laws start H (H ++ done) (V (kept c.args.keeper.now).file.disk) (V (kept c.tend_on.new.self).file.disk) (V (kept c.put.new.keeper).file.disk) h all c.tend_on.ensures.call.takes.later
-    (c.tend_on.ensures.keeps honest start (frames_of g.J.Job.kind start H) (replays_to g.J.Job.kind g.J.Job.laws start (kept c.args.keeper.now).state H h all at))
-    (keeps_commands g.J.Job.kind g.J.Job.laws start s H done (frame_of g.J.Job.kind s done) (V (kept c.tend_on.new.self).file.disk) (V (kept c.put.new.keeper).file.disk) h all (same ∙ at) is.accepted is.may (omega (arith, long, same_long, c.requires.some)) (omega (arith, long, same_long, c.requires.few)) refl
-    ((put.commits (c.tend_on.ensures.call.honest.0 honest)).keeps start (frames_of g.J.Job.kind start H) (replays_to g.J.Job.kind g.J.Job.laws start s H h all (same ∙ at))))
+    keeps_behind g.J.Job.kind g.met.J.Job.laws start H (H ++ done) (V (kept c.args.keeper.now).file.disk) (V (kept c.tend_on.new.self).file.disk) (V (kept c.put.new.keeper).file.disk) h all c.tend_on.ensures.call.takes.later
+    (c.tend_on.ensures.keeps honest start (frames_of g.J.Job.kind start H) (replays_to g.J.Job.kind g.met.J.Job.laws start (kept c.args.keeper.now).state H h all at))
+    (keeps_commands g.J.Job.kind g.met.J.Job.laws start s H done (frame_of g.J.Job.kind s done) (V (kept c.tend_on.new.self).file.disk) (V (kept c.put.new.keeper).file.disk) h all (same ∙ at) is.accepted is.may (omega (arith, long, same_long, c.requires.some)) (omega (arith, long, same_long, c.requires.few)) refl
+    ((put.commits (c.tend_on.ensures.call.honest.0 honest)).keeps start (frames_of g.J.Job.kind start H) (replays_to g.J.Job.kind g.met.J.Job.laws start s H h all (same ∙ at))))
 
 pub returns-clause-acknowledged : goal.returns-clause-acknowledged
 returns-clause-acknowledged g c honest =
@@ -61,7 +61,7 @@ returns-clause-acknowledged g c honest =
     let same_long = length-map c.args.records.items plain in
     on_ok_two c.put.result
     (λ at survives image here. one_recovered g.J.Job.kind s t (frame_of g.J.Job.kind s done) image
-    (batch_led g.J.Job.kind g.J.Job.laws s done c.put.ensures.state is.accepted (omega (arith, long, same_long, c.requires.some)) (omega (arith, long, same_long, c.requires.few)) is.may ∙ ap Some (sym at)) (survives image here))
+    (batch_led g.J.Job.kind g.met.J.Job.laws s done c.put.ensures.state is.accepted (omega (arith, long, same_long, c.requires.some)) (omega (arith, long, same_long, c.requires.few)) is.may ∙ ap Some (sym at)) (survives image here))
     put.state ((put.commits (c.tend_on.ensures.call.honest.0 honest)).acknowledged s [] refl)
 
 pub returns-in_err-_tended-clause-calls : goal.returns-in_err-_tended-clause-calls

@@ -32,4 +32,14 @@ returns-in-Some-clause-put g c G kept =
     let h : IsState old.state = subst (λ (t : Plain g.row.J.Denot). IsState t) read c.reweigh_of-batch.ensures.state in
     let is : AreKeptAs g.J.Job.kind old.state G (map plain batch.records.items) = rw c.reweigh_of-batch.ensures.records kept in
     let next : batch.first ≡ old.state.number + 1 = (c.reweigh_of-batch.ensures.next m weights there).first ∙ ap (λ (t : Plain g.row.J.Denot). t.number + 1) read in
-    put_as g.J.Job.kind g.J.Job.laws g.D.Disk.view old G _ _ _ c.keep_reweigh.result batch.first (map plain batch.records.items) h is next c.keep_reweigh.ensures
+    put_as g.J.Job.kind g.met.J.Job.laws g.D.Disk.view old G _ _ _ c.keep_reweigh.result batch.first (map plain batch.records.items) h is next c.keep_reweigh.ensures
+
+pub returns-in-None-clause-put : goal.returns-in-None-clause-put
+returns-in-None-clause-put g c G kept =
+    let old = g.K.Keeper.kept c.args.keeper.now in
+    let batch = c.batch_of-batch.result in
+    let read : c.state.result.now ≡ old.state = c.state.ensures ∙ ap (λ k. k.state) c.stored.ensures in
+    let h : IsState old.state = subst (λ (t : Plain g.row.J.Denot). IsState t) read c.batch_of-batch.ensures.state in
+    let is : AreKeptAs g.J.Job.kind old.state G (map plain batch.records.items) = rw c.batch_of-batch.ensures.records kept in
+    let next : batch.first ≡ old.state.number + 1 = c.batch_of-batch.ensures.next.first ∙ ap (λ (t : Plain g.row.J.Denot). t.number + 1) read in
+    put_as g.J.Job.kind g.met.J.Job.laws g.D.Disk.view old G _ _ _ c.keep.result batch.first (map plain batch.records.items) h is next c.keep.ensures

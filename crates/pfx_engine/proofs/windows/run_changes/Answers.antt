@@ -40,7 +40,7 @@ loop-command-preserved-in-Ok g c =
     let change = change_next c.args.commands.items gone command c.loop-command.command-iterator.rest.items c.next.new.self.rest.items c.requires.changes kept.split c.in-Some.ensures.steps.0 in
     let accepted : answer g.J.Job.kind c.loop-command.state command ≡ Ok x.1 = search rules in
     let next : x.0 ≡ c.loop-command.state.number + 1 = ap (λ (n : ℕ). n + 1) c.number-last.ensures.number in
-    let both = ran_ok g.J.Job.kind g.J.Job.laws s c.loop-command.state c.run_recorded.new.state gone told command x kept.told kept.state accepted next done.outcome in
+    let both = ran_ok g.J.Job.kind g.met.J.Job.laws s c.loop-command.state c.run_recorded.new.state gone told command x kept.told kept.state accepted next done.outcome in
     let records = map (plain {J = g.row.J.Denot}) c.loop-command.records.items in
     let pushed : map (plain {J = g.row.J.Denot}) c.push_reserved-in-Ok.new.self.items ≡ records ++ plain c.in-Ok.field-0.entry ∷ [] =
     ap (map plain) c.push_reserved-in-Ok.ensures.items ∙ map_push plain c.loop-command.records.items c.in-Ok.field-0.entry in
@@ -53,7 +53,7 @@ loop-command-preserved-in-Ok g c =
       told = rw c.push_reserved.ensures.items both.0;
       recorded = rw c.push_reserved.ensures.items (subst (λ (l : List (recorded.Recorded g.row.J.Denot)). AreRecordsOf g.J.Job.kind s (accepted_of (gone ++ command ∷ []) (told ++ Ok x ∷ [])) l) (sym pushed)
           (subst (λ (H : List (Command g.row.J.Denot)). AreRecordsOf g.J.Job.kind s H (records ++ plain c.in-Ok.field-0.entry ∷ [])) (sym (accepted_ok g.J.Job.kind s gone told command x kept.told))
-          (recorded_snoc g.J.Job.kind g.J.Job.laws s (accepted_of gone told) command records (plain c.in-Ok.field-0.entry) kept.recorded (change_common command change) (subst (λ (t : Plain g.row.J.Denot). refusal g.J.Job.kind t command ≡ None) kept.state done.exact)
+          (recorded_snoc g.J.Job.kind g.met.J.Job.laws s (accepted_of gone told) command records (plain c.in-Ok.field-0.entry) kept.recorded (change_common command change) (subst (λ (t : Plain g.row.J.Denot). refusal g.J.Job.kind t command ≡ None) kept.state done.exact)
           (done.kept_as ∙ ap (λ (t : Plain g.row.J.Denot). record_of g.J.Job.kind t command) kept.state))));
       state = rw c.push_reserved.ensures.items both.1;
       split = split_next c.args.commands.items gone command c.loop-command.command-iterator.rest.items c.next.new.self.rest.items kept.split c.in-Some.ensures.steps.0;
@@ -70,7 +70,7 @@ loop-command-preserved g c =
     let left = c.next.new.self.rest.items in
     let change = change_next c.args.commands.items gone command rest left c.requires.changes kept.split c.in-Some.ensures.steps.0 in
     let why : answer g.J.Job.kind c.loop-command.state command ≡ Err c.in-Err.fault = change_refused g.J.Job.kind c.loop-command.state command c.in-Err.fault change c.in-Err.ensures.exact in
-    let both = ran_err g.J.Job.kind g.J.Job.laws s c.loop-command.state c.run_recorded.new.state gone told command c.in-Err.fault kept.told kept.state why c.in-Err.ensures.kept in
+    let both = ran_err g.J.Job.kind g.met.J.Job.laws s c.loop-command.state c.run_recorded.new.state gone told command c.in-Err.fault kept.told kept.state why c.in-Err.ensures.kept in
     let more = length_push gone command in
     record {
       long = omega (arith, c.push_reserved-in-Err.ensures.len, kept.long, more);

@@ -89,10 +89,10 @@ loop-preserved g c =
       records = omega (arith, c.push_reserved-in-Ok-run_recorded.ensures.len, c.loop.invariant.records);
       room = omega (arith, c.push_reserved.ensures.capacity, c.loop.invariant.room);
       records_room = omega (arith, c.push_reserved-in-Ok-run_recorded.ensures.capacity, c.loop.invariant.records_room);
-      answered = rw c.push_reserved.ensures.items (answered_more g.J.Job.kind g.J.Job.laws s said x c.loop.invariant.answered (subst (λ (t : Plain g.row.J.Denot). answer g.J.Job.kind t Slot ≡ Ok x.1) at accepted)
+      answered = rw c.push_reserved.ensures.items (answered_more g.J.Job.kind g.met.J.Job.laws s said x c.loop.invariant.answered (subst (λ (t : Plain g.row.J.Denot). answer g.J.Job.kind t Slot ≡ Ok x.1) at accepted)
           (subst (λ (t : Plain g.row.J.Denot). x.0 ≡ t.number + 1) at next));
       recorded = rw c.push_reserved.ensures.items (subst (λ (l : List (recorded.Recorded g.row.J.Denot)). AreRecordsOf g.J.Job.kind s (slots_for (said ++ x ∷ [])) l) (sym pushed)
-          (recorded_more g.J.Job.kind g.J.Job.laws s said x (map plain c.loop.records.items) (plain c.in-Ok-run_recorded.field-0.entry) c.loop.invariant.recorded (subst (λ (t : Plain g.row.J.Denot). refusal g.J.Job.kind t Slot ≡ None) at done.exact)
+          (recorded_more g.J.Job.kind g.met.J.Job.laws s said x (map plain c.loop.records.items) (plain c.in-Ok-run_recorded.field-0.entry) c.loop.invariant.recorded (subst (λ (t : Plain g.row.J.Denot). refusal g.J.Job.kind t Slot ≡ None) at done.exact)
           (done.kept_as ∙ ap (λ (t : Plain g.row.J.Denot). record_of g.J.Job.kind t Slot) at)));
       state = rw c.push_reserved.ensures.items (done.outcome s (slots_for said) at ∙ ap (outcome g.J.Job.kind s) (sym (slots_more said x)));
     }

@@ -25,7 +25,7 @@ loop-command-preserved-in-Ok-ask g c =
     record {
       long = omega (arith, c.push_reserved.ensures.len, kept.long, more);
       room = omega (arith, c.push_reserved.ensures.capacity, kept.room);
-      asked = rw c.push_reserved.ensures.items (told_next g.J.Job.kind g.J.Job.laws g.B.Named.start c.args.client.now c.loop-command.client c.ask.new.client gone c.loop-command.told.items kept.asked command c.in-Ok-ask.reply c.in-Ok-ask.ensures.ok);
+      asked = rw c.push_reserved.ensures.items (told_next g.J.Job.kind g.met.J.Job.laws g.B.Named.start c.args.client.now c.loop-command.client c.ask.new.client gone c.loop-command.told.items kept.asked command c.in-Ok-ask.reply c.in-Ok-ask.ensures.ok);
       split = split_next c.args.commands.items gone command c.loop-command.command-iterator.rest.items c.next.new.self.rest.items kept.split c.in-Some.ensures.steps.0;
     }
 
@@ -39,7 +39,7 @@ loop-command-preserved g c =
       long = omega (arith, c.push_reserved-in-Err-Refused.ensures.len, kept.long, more);
       room = omega (arith, c.push_reserved-in-Err-Refused.ensures.capacity, kept.room);
       asked = rw c.push_reserved-in-Err-Refused.ensures.items
-          (told_refused g.J.Job.kind g.J.Job.laws g.B.Named.start c.args.client.now c.loop-command.client c.ask.new.client gone c.loop-command.told.items kept.asked command c.in-Err-Refused.fault
+          (told_refused g.J.Job.kind g.met.J.Job.laws g.B.Named.start c.args.client.now c.loop-command.client c.ask.new.client gone c.loop-command.told.items kept.asked command c.in-Err-Refused.fault
           (subst (IsUnanswered g.J.Job.kind g.B.Named.start c.loop-command.client command c.ask.new.client) c.in-Err-Refused.field-0-is c.in-Err-Refused.ensures.err));
       split = split_next c.args.commands.items gone command c.loop-command.command-iterator.rest.items c.next.new.self.rest.items kept.split c.in-Some.ensures.steps.0;
     }
@@ -47,6 +47,6 @@ loop-command-preserved g c =
 pub returns-in-Err-Failed-clause-err : goal.returns-in-Err-Failed-clause-err
 returns-in-Err-Failed-clause-err g c =
     let kept = c.loop-command.invariant in
-    told_fails g.J.Job.kind g.J.Job.laws g.B.Named.start c.args.client.now c.loop-command.client c.ask.new.client c.loop-command.yielded c.loop-command.told.items kept.asked c.args.commands.items c.in-Some.command
+    told_fails g.J.Job.kind g.met.J.Job.laws g.B.Named.start c.args.client.now c.loop-command.client c.ask.new.client c.loop-command.yielded c.loop-command.told.items kept.asked c.args.commands.items c.in-Some.command
     c.loop-command.command-iterator.rest.items c.in-Err-Failed.fault kept.split
     (subst (IsUnanswered g.J.Job.kind g.B.Named.start c.loop-command.client c.in-Some.command c.ask.new.client) c.in-Err-Failed.field-0-is c.in-Err-Failed.ensures.err)

@@ -25,8 +25,8 @@ loop-preserved g c =
     record {
       long = omega (arith, c.push_reserved.ensures.len, was.long);
       room = omega (arith, c.push_reserved.ensures.capacity, was.room);
-      answered = rw c.push_reserved.ensures.items (answered_next g.J.Job.kind g.J.Job.laws B c.args.client.now c.loop.client c.ask.new.client said was.kept x was.answered a);
-      kept = rw c.push_reserved.ensures.items (kept_next g.J.Job.kind g.J.Job.laws B c.args.client.now c.loop.client c.ask.new.client said was.kept x a);
+      answered = rw c.push_reserved.ensures.items (answered_next g.J.Job.kind g.met.J.Job.laws B c.args.client.now c.loop.client c.ask.new.client said was.kept x was.answered a);
+      kept = rw c.push_reserved.ensures.items (kept_next g.J.Job.kind g.met.J.Job.laws B c.args.client.now c.loop.client c.ask.new.client said was.kept x a);
       same = λ none. absurd (omega (arith, none, c.push_reserved.ensures.len));
     }
 
@@ -39,5 +39,5 @@ returns-in-Err-clause-ok g c =
       some = some;
       few = omega (arith, c.loop.invariant.long, c.loop-test.true);
       answered = c.loop.invariant.answered;
-      kept = kept_so_far g.J.Job.kind g.J.Job.laws B c.args.client.now c.loop.client c.ask.new.client c.loop.said.items c.loop.invariant.kept u.stays;
+      kept = kept_so_far g.J.Job.kind g.met.J.Job.laws B c.args.client.now c.loop.client c.ask.new.client c.loop.said.items c.loop.invariant.kept u.stays;
     }

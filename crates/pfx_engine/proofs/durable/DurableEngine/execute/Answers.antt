@@ -93,7 +93,7 @@ pub returns-in-Ok-commit-clause-serves : goal.returns-in-Ok-commit-clause-serves
 returns-in-Ok-commit-clause-serves g c = λ endless.
     (let done = c.in-Ok-run_prepared.ensures in
     let s = c.args.self.now.state in
-    (tt, endless_after g.J.Job.kind g.J.Job.laws s c.run_prepared.new.state c.args.command c.number-number.ensures.state endless done.exact (done.outcome s [] (sym (outcome-none g.J.Job.kind s)))))
+    (tt, endless_after g.J.Job.kind g.met.J.Job.laws s c.run_prepared.new.state c.args.command c.number-number.ensures.state endless done.exact (done.outcome s [] (sym (outcome-none g.J.Job.kind s)))))
 
 pub returns-in-Err-2-clause-serves : goal.returns-in-Err-2-clause-serves
 returns-in-Err-2-clause-serves g c = λ endless. (

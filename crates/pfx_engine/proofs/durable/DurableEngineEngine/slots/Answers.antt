@@ -77,7 +77,7 @@ returns-in-Ok-commit-clause-done g c =
       few = omega (arith, few, c.min.ensures);
       answered = subst (λ (s : Plain g.row.J.Denot). AreAnswered g.J.Job.kind s said) at ran.answered;
       state = moved;
-      keeps = subst (λ (n : ℕ). KeepsFrom g.J.Job.kind (V (kept old.keeper).file.disk) (failed old.keeper) (kept old.keeper).state G n (V (kept c.commit.new.keeper).file.disk) (kept c.commit.new.keeper).state) (length_slots said)
+      keeps = subst (λ (n : ℕ). KeepsFrom g.J.Job.kind (V (kept old.keeper).file.disk) (failed old.keeper) (kept old.keeper).state G n (V (kept c.commit.new.keeper).file.disk) (kept c.commit.new.keeper).state) (length_slots g.row.J.Denot said)
           (keeps_all g.J.Job.kind (V (kept old.keeper).file.disk) (V (kept c.commit.new.keeper).file.disk) (failed old.keeper) (kept old.keeper).state (kept c.commit.new.keeper).state G mine.accepted moved c.in-Ok-commit.ensures.call.follows.honest.0 c.in-Ok-commit.ensures.acknowledged);
       settled = search rules;
     }
@@ -104,7 +104,7 @@ returns-in-Err-commit-clause-not_done g c =
         answered = subst (λ (s : Plain g.row.J.Denot). AreAnswered g.J.Job.kind s said) at ran.answered;
         state = inl same;
         keeps = keeps_some g.J.Job.kind (V (kept old.keeper).file.disk) (V (kept c.commit.new.keeper).file.disk) (failed old.keeper) (kept old.keeper).state (kept c.commit.new.keeper).state G (subst IsState at c.number-number.ensures.state) mine.accepted
-            (omega (arith, some, length_slots said)) c.in-Err-commit.ensures.call.follows.goes.later c.in-Err-commit.ensures.call.follows.honest.0 (λ honest start H h all there. c.in-Err-commit.ensures.keeps honest start H G h all there (common_kept _ _ _ _ mine));
+            (omega (arith, some, length_slots g.row.J.Denot said)) c.in-Err-commit.ensures.call.follows.goes.later c.in-Err-commit.ensures.call.follows.honest.0 (λ honest start H h all there. c.in-Err-commit.ensures.keeps honest start H G h all there (common_kept _ _ _ _ mine));
       }),
     )
 

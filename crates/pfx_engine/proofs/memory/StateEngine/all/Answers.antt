@@ -35,7 +35,7 @@ loop-change-preserved-in-Ok-apply g c =
     let x : ℕ × Reply = (c.number-before.result + 1, c.in-Ok-apply.reply) in
     let accepted : answer g.J.Job.kind c.loop-change.self command ≡ Ok x.1 = search rules in
     let next : x.0 ≡ c.loop-change.self.number + 1 = ap (λ (n : ℕ). n + 1) c.number-before.ensures.number in
-    let both = ran_ok g.J.Job.kind g.J.Job.laws c.args.self.now c.loop-change.self c.apply.new.self gone c.loop-change.told.items command x kept.told kept.state accepted next c.in-Ok-apply.ensures.outcome in
+    let both = ran_ok g.J.Job.kind g.met.J.Job.laws c.args.self.now c.loop-change.self c.apply.new.self gone c.loop-change.told.items command x kept.told kept.state accepted next c.in-Ok-apply.ensures.outcome in
     let more = length_push gone command in
     record {
       long = omega (arith, c.push_reserved.ensures.len, kept.long, more);
@@ -54,7 +54,7 @@ loop-change-preserved g c =
     let left = c.next.new.self.rest.items in
     let change = change_next c.args.commands.items gone command rest left c.requires.changes kept.split c.in-Some.ensures.steps.0 in
     let why : answer g.J.Job.kind c.loop-change.self command ≡ Err c.in-Err.fault = change_refused g.J.Job.kind c.loop-change.self command c.in-Err.fault change c.in-Err.ensures.exact in
-    let both = ran_err g.J.Job.kind g.J.Job.laws c.args.self.now c.loop-change.self c.apply.new.self gone c.loop-change.told.items command c.in-Err.fault kept.told kept.state why c.in-Err.ensures.kept in
+    let both = ran_err g.J.Job.kind g.met.J.Job.laws c.args.self.now c.loop-change.self c.apply.new.self gone c.loop-change.told.items command c.in-Err.fault kept.told kept.state why c.in-Err.ensures.kept in
     let more = length_push gone command in
     record {
       long = omega (arith, c.push_reserved-in-Err.ensures.len, kept.long, more);

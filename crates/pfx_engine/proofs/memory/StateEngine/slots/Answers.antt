@@ -41,7 +41,7 @@ loop-preserved g c =
     record {
       long = omega (arith, c.push_reserved.ensures.len, c.loop.invariant.long);
       room = omega (arith, c.push_reserved.ensures.capacity, c.loop.invariant.room);
-      answered = rw c.push_reserved.ensures.items (answered_more g.J.Job.kind g.J.Job.laws s said x c.loop.invariant.answered (subst (λ (t : Plain g.row.J.Denot). answer g.J.Job.kind t Slot ≡ Ok c.in-Ok-apply.reply) at accepted)
+      answered = rw c.push_reserved.ensures.items (answered_more g.J.Job.kind g.met.J.Job.laws s said x c.loop.invariant.answered (subst (λ (t : Plain g.row.J.Denot). answer g.J.Job.kind t Slot ≡ Ok c.in-Ok-apply.reply) at accepted)
           (subst (λ (t : Plain g.row.J.Denot). x.0 ≡ t.number + 1) at next));
       state = rw c.push_reserved.ensures.items (c.in-Ok-apply.ensures.outcome s (slots_for said) at ∙ ap (outcome g.J.Job.kind s) (sym (slots_more said x)));
     }
