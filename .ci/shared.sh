@@ -37,7 +37,7 @@ crates_above() {
 all_crates() { sed -n 's/^\([a-z0-9_]\{1,\}\)[^:]*:.*/\1/p' "$top/crates.txt"; }
 
 # The names of the crates for measuring, which the gate leaves out: no other crate stands on one.
-measuring='_bench$'
+measuring='^pfx_bench_'
 
 # Takes the crates for measuring from the copy $1.
 drop_measuring() {

@@ -1,6 +1,6 @@
 //! The proved crates beside plain Rust programs of the same rules, in one run: slots a second of PF's choice (beside PD2 too, a scheduler
 //! that gives other rows, with a heap, for its speed), nanoseconds for a task's class and for its step to the next slot, and steps a second of rule 110. Built and run by `bench/run`, which names
-//! the proved program `pfx_bench`, and, where it could be built, `embed`, the C program of `embed.c`. Only std is used.
+//! the proved program `pfx_bench_choice`, and, where it could be built, `embed`, the C program of `embed.c`. Only std is used.
 
 use std::cmp::{Ordering, Reverse};
 use std::collections::BinaryHeap;
@@ -389,7 +389,7 @@ fn both_proved(programs: [&str; 2], words: &[String]) -> [f64; 2] {
     least
 }
 
-/// PF's choice, called from C by blocks of 1,000 slots, beside `pfx_bench`.
+/// PF's choice, called from C by blocks of 1,000 slots, beside `pfx_bench_choice`.
 fn from_c(program: &str, embed: &str) {
     println!();
     println!("{:<28} {:>14} {:>14} {:>7}", "1,000 slots a call", "pfx slots/s", "C slots/s", "ratio");
@@ -403,7 +403,7 @@ fn from_c(program: &str, embed: &str) {
 }
 
 fn main() {
-    let program = std::env::args().nth(1).expect("the path of pfx_bench");
+    let program = std::env::args().nth(1).expect("the path of pfx_bench_choice");
     let embed = std::env::args().nth(2);
     println!("{:<28} {:>12} {:>12} {:>12} {:>8} {:>8}", "PF's choice, slots/s", "Rust", "pfx", "PD2", "to Rust", "to PD2");
     for (name, m, weights) in sets() {

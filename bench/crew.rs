@@ -1,6 +1,6 @@
 //! Dealing and gathering quanta: the proved crew over its desk of channels beside plain Rust threads over std channels, in one
 //! run, and from which length of a quantum on workers pay. Built and run by `bench/crew`, which names the proved program
-//! `pfx_crew_bench`. Only std is used.
+//! `pfx_bench_crew`. Only std is used.
 
 use std::process::Command;
 use std::sync::mpsc::{Receiver, SyncSender, sync_channel};
@@ -155,7 +155,7 @@ fn paying(program: &str, count: u64, turns: u64, micros: u64) -> [f64; 4] {
 }
 
 fn main() {
-    let program = std::env::args().nth(1).expect("the path of pfx_crew_bench");
+    let program = std::env::args().nth(1).expect("the path of pfx_bench_crew");
     println!("{:<26} {:>10} {:>10} {:>7} {:>12} {:>12} {:>7}", "us a round, 2 workers", "Rust", "pfx", "ratio", "Rust median", "pfx median", "ratio");
     for count in [1, 2, 4, 16] {
         let [a, b, c, d] = both(&program, count, 2);

@@ -1,5 +1,5 @@
 /* What bench/run measures of the library that C programs embed: `embed plan SLOTS WORKERS E/P E/P ..` plans that many slots of a
- * set by calls of pfx_plan over 1,000 slots, prints the same sum over the rows as pfx_bench does, and on standard error how many
+ * set by calls of pfx_plan over 1,000 slots, prints the same sum over the rows as pfx_bench_choice does, and on standard error how many
  * nanoseconds it took.
  */
 #include "pfx.h"

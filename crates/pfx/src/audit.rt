@@ -4,18 +4,18 @@ use crate::files::{begins_as_store, fault_of, shared_disk};
 use crate::log::log_fault;
 use crate::traces::{Traces, output_of};
 use crate::watcher::{Sought, Watcher};
-use pfx_args::AuditForm;
-use pfx_audit::{
-    AuditFault, FileFault, FileHistory, HistoryEnd, HistoryFault, find_block, head_object,
-    head_text, read_file,
-};
 use pfx_disk::{Disk, FileDisk};
-use pfx_engine::faults::open_fault;
 use pfx_fault::Fault;
 use pfx_kinds::any::AnyJob;
 use pfx_log::{LogFile, LogPlace, read_header};
 use pfx_program::object_line;
+use pfx_program_args::AuditForm;
 use pfx_replay::{Verdict, put_verdict, verdict_object};
+use pfx_replay_audit::{
+    AuditFault, FileFault, FileHistory, HistoryEnd, HistoryFault, find_block, head_object,
+    head_text, read_file,
+};
+use pfx_store_engine::faults::open_fault;
 use std::alloc::{AllocError, Global};
 use std::io::Write;
 
@@ -261,7 +261,7 @@ fn audited(
     }
     let mut watcher = Watcher::new(rt, alloc, asked, output_of(rt, &traces.failed));
     watcher.begin()?;
-    let found = pfx_audit::audit(alloc, logs, file, &mut watcher);
+    let found = pfx_replay_audit::audit(alloc, logs, file, &mut watcher);
     watcher.clear();
     match found {
         Ok(HistoryEnd::Agrees { number, log }) => {

@@ -3,10 +3,10 @@
 use crate::files::{fault_of, input};
 use crate::tell::{form_of, is_closed, tell, tell_all};
 use crate::traces::{Traces, output_of, set_source};
-use pfx_args::Request;
-use pfx_check::{Refusal, run_check};
 use pfx_fault::Fault;
 use pfx_program::Form;
+use pfx_program_args::Request;
+use pfx_program_check::{Refusal, run_check};
 use std::alloc::Global;
 use std::io::Write;
 

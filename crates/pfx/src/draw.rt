@@ -2,8 +2,8 @@
 
 use crate::files::{fault_of, input};
 use crate::traces::{Traces, output_of, set_source};
-use pfx_draw::run_draw;
 use pfx_fault::Fault;
+use pfx_program_draw::run_draw;
 use std::alloc::Global;
 use std::io::Write;
 

@@ -2,10 +2,10 @@
 
 use crate::files::fault_of;
 use crate::traces::{Traces, output_of};
-use pfx_explain::{entry_named, put_entry};
 use pfx_fault::Fault;
-use pfx_objects::entry_line;
 use pfx_program::Form;
+use pfx_program_explain::{entry_named, put_entry};
+use pfx_program_objects::entry_line;
 use std::alloc::Global;
 use std::io::Write;
 

@@ -3,11 +3,11 @@
 use crate::files::{fault_of, growing_disk};
 use crate::log::log_fault;
 use crate::traces::{Traces, output_of};
-use pfx_audit::{head_object, head_text};
 use pfx_disk::FileDisk;
 use pfx_fault::Fault;
 use pfx_log::{LogFault, LogFile, LogPlace};
 use pfx_program::{Form, object_line};
+use pfx_replay_audit::{head_object, head_text};
 use std::alloc::{AllocError, Global};
 use std::io::Write;
 use std::thread;

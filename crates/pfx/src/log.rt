@@ -5,19 +5,19 @@ ghost use Rattle.pfx_disk.specs.File.{file_view};
 ghost use Rattle.pfx_front.specs.Starting.{Begins};
 ghost use Rattle.pfx_kinds.specs.AnyKind.{any_kind};
 ghost use Rattle.pfx_store.specs.Noting.{IsHeldBy};
-ghost use Rattle.pfx_store_log.specs.Working.{failure_beside};
+ghost use Rattle.pfx_log_store.specs.Working.{failure_beside};
 
 use crate::files::{disk, new_disk, sync_directory};
 use crate::traces::Traces;
 use pfx_checkpoint::{freeze_whole, whole_len};
 use pfx_disk::{Disk, FileDisk};
-use pfx_engine::faults::open_fault;
 use pfx_fault::Fault;
 use pfx_kinds::any::AnyJob;
 use pfx_log::{AppendFault, CreateFault, LogFault, LogFile};
+use pfx_log_store::{JoinFault, LoggedStore};
 use pfx_machine::State;
 use pfx_store::{Keeper, Store};
-use pfx_store_log::{JoinFault, LoggedStore};
+use pfx_store_engine::faults::open_fault;
 use std::alloc::{AllocError, Global};
 
 /// The version of the stores whose states a log begins with.

@@ -4,11 +4,11 @@ use crate::files::{fault_of, new_disk, shared_disk, sync_directory};
 use crate::store::taken_away;
 use crate::traces::{Traces, output_of};
 use pfx_disk::FileDisk;
-use pfx_engine::faults::{init_fault, open_fault};
 use pfx_fault::Fault;
 use pfx_kinds::any::AnyJob;
-use pfx_migrate::{MigrateFault, migrate, migrated_object, migrated_text};
 use pfx_program::{Form, object_line};
+use pfx_store_engine::faults::{init_fault, open_fault};
+use pfx_store_migrate::{MigrateFault, migrate, migrated_object, migrated_text};
 use std::alloc::{AllocError, Global};
 use std::io::Write;
 

@@ -2,10 +2,10 @@
 
 use crate::files::begins_as_store;
 use crate::traces::{Traces, Unmade};
-use pfx_args::Request;
-use pfx_explain::Note;
 use pfx_fault::{Cause, Fault};
-use pfx_notes::{
+use pfx_program_args::Request;
+use pfx_program_explain::Note;
+use pfx_program_notes::{
     Named, Stands, Trouble, history_note, input_note, log_note, output_note, record_note,
     script_note, set_note, store_note, trouble_note,
 };

@@ -3,11 +3,11 @@
 use crate::files::{fault_of, shared_disk};
 use crate::traces::{Traces, output_of};
 use pfx_disk::FileDisk;
-use pfx_engine::faults::open_fault;
 use pfx_fault::Fault;
 use pfx_kinds::any::AnyJob;
 use pfx_program::{Form, object_line};
 use pfx_replay::{Verdict, put_verdict, verdict_object};
+use pfx_store_engine::faults::open_fault;
 use std::alloc::{AllocError, Global};
 use std::io::Write;
 

@@ -3,22 +3,22 @@
 ghost use Rattle.std.specs.Prelude.{◌≡◌, ℕ, List, IfOk};
 ghost use Rattle.pfx_disk.specs.File.{file_view};
 ghost use Rattle.pfx_front.specs.Starting.{Begins};
-ghost use Rattle.pfx_header.specs.Headers.{IsSegmentSize};
+ghost use Rattle.pfx_store_header.specs.Headers.{IsSegmentSize};
 ghost use Rattle.pfx_kinds.specs.AnyKind.{any_kind};
 ghost use Rattle.pfx_store.specs.Noting.{IsHeldBy};
 
 use crate::files::{fault_of, input, new_disk, shared_disk, sync_directory};
 use crate::traces::{SetRead, Traces, Unmade, output_of, set_source};
-use pfx_check::store_len;
 use pfx_disk::FileDisk;
-use pfx_engine::faults::{init_fault, open_fault, size_fault};
-use pfx_engine::{DurableEngine, StoreEngine};
 use pfx_fault::Fault;
-use pfx_header::check_segment;
 use pfx_kinds::any::AnyJob;
 use pfx_machine::State;
 use pfx_program::{Form, created_line, first_state, read_task_set, run_show, run_status};
+use pfx_program_check::store_len;
 use pfx_store::Store;
+use pfx_store_engine::faults::{init_fault, open_fault, size_fault};
+use pfx_store_engine::{DurableEngine, StoreEngine};
+use pfx_store_header::check_segment;
 use pfx_weights::TaskSet;
 use std::alloc::Global;
 use std::fs;

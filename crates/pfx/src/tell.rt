@@ -2,13 +2,13 @@
 
 use crate::notes::{note_of, text_of};
 use crate::traces::Traces;
-use pfx_args::{AuditForm, Request};
-use pfx_check::put_also;
-use pfx_explain::Note;
 use pfx_fault::{Fault, put_fault};
-use pfx_notes::{First, further_note, passed_over_note, refused_note, set_note};
-use pfx_objects::{also_line, error_line, warning_line};
 use pfx_program::{Form, RefusedRecord, Report};
+use pfx_program_args::{AuditForm, Request};
+use pfx_program_check::put_also;
+use pfx_program_explain::Note;
+use pfx_program_notes::{First, further_note, passed_over_note, refused_note, set_note};
+use pfx_program_objects::{also_line, error_line, warning_line};
 use std::alloc::{AllocError, Global};
 use std::io::{ErrorKind, Write};
 

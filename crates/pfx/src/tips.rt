@@ -1,6 +1,6 @@
 //! What is said of words that the program doesn't take, beside what was expected.
 
-use pfx_explain::{Entry, entry_named};
+use pfx_program_explain::{Entry, entry_named};
 use std::alloc::{AllocError, Global};
 
 /// The numbers that faults have.

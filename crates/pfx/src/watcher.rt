@@ -4,15 +4,15 @@ ghost use Rattle.std.specs.Prelude.{⊤};
 
 use crate::files::fault_of;
 use crate::progress::Told;
-use pfx_args::AuditForm;
-use pfx_audit::Watch;
 use pfx_fault::Fault;
 use pfx_kinds::any::AnyJob;
 use pfx_machine::State;
 use pfx_program::object_line;
+use pfx_program_args::AuditForm;
 use pfx_record::Record;
 use pfx_replay::{PlainState, apply_all};
-use pfx_totals::{Choice, Total, Totals, put_csv, put_csv_head, put_total, total_object};
+use pfx_replay_audit::Watch;
+use pfx_replay_totals::{Choice, Total, Totals, put_csv, put_csv_head, put_total, total_object};
 use std::alloc::{AllocError, Global};
 use std::io::Write;
 use std::mem;

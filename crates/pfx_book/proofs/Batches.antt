@@ -7,7 +7,7 @@ use Rattle.pfx_record.specs.Batches.{all_fit, batch_fits, counts_fit}
 use Rattle.pfx_record.specs.Records.{form_of, is_small, record_fits, Recorded, submitted, ran, takes_weights, withdrawn, reweighed}
 use Rattle.pfx_record.specs.declared.form.Form.{Form}
 use Rattle.pfx_record.proofs.Rising.{both}
-use Rattle.pfx_redo.specs.Applying.{is_common}
+use Rattle.pfx_record_redo.specs.Applying.{is_common}
 use Rattle.pfx_book.specs.Batching.{MayShare, real_for}
 use Rattle.pfx_book.proofs.Sharing.{only}
 

@@ -23,12 +23,12 @@ use Rattle.pfx_machine.proofs.Serving.{apart_of, served-slot}
 use Rattle.pfx_crew.specs.Gathering.{Puts, Refuses as Repels}
 use Rattle.pfx_crew.specs.declared.gathering.GatherFault.{GatherFault}
 use Rattle.pfx_crew.specs.declared.gathering.GatherFault.TheVariants.{Double, Stranger}
-use Rattle.pfx_slot.specs.Dealt.{Dealt, Answers, AllBack, IsMissing, StandsAt}
-use Rattle.pfx_slot.proofs.Placed.{get_map, get_empty, map_set, answers_set}
-use Rattle.pfx_world.specs.Session.{Opened, AllBack as AllShown, opening_of, given_back, given_in, back_in, sealed_in}
+use Rattle.pfx_book_slot.specs.Dealt.{Dealt, Answers, AllBack, IsMissing, StandsAt}
+use Rattle.pfx_book_slot.proofs.Placed.{get_map, get_empty, map_set, answers_set}
+use Rattle.pfx_events_world.specs.Session.{Opened, AllBack as AllShown, opening_of, given_back, given_in, back_in, sealed_in}
 use Rattle.pfx_book.specs.declared.faults.BookFault.{BookFault}
 use Rattle.pfx_book.specs.declared.faults.BookFault.TheVariants.{SessionFull, Machine}
-use Rattle.pfx_fault.specs.declared.parts.Cause.{Cause}
+use Rattle.pfx_fault.specs.declared.fields.Cause.{Cause}
 use Rattle.pfx_book.specs.declared.note.Note.{Note}
 use Rattle.pfx_book.specs.Notes.{refused_at}
 use Rattle.pfx_book.specs.Trying.{StaysUnopened, IsReady}

@@ -2,7 +2,7 @@
 use Rattle.std.specs.Prelude.{slice_get, take}
 use Rattle.std.proofs.Common.{◌≡◌, ℕ, ◌+◌, ◌<◌, ◌≤◌, List, [], ◌∷◌, ◌++◌, length, set, Option, Some, None, refl, sym, ap, ◌∙◌, subst, arith, inl, inr}
 use Rattle.std.proofs.lemmas.Bool.{false≢true}
-use Rattle.pfx_fault.specs.declared.parts.Cause.{Cause}
+use Rattle.pfx_fault.specs.declared.fields.Cause.{Cause}
 use Rattle.pfx_jobs.specs.Kind.{Kind}
 use Rattle.pfx_machine.specs.Plain.{Plain, IsState}
 use Rattle.pfx_machine.specs.Outcome.{outcome}
@@ -10,7 +10,7 @@ use Rattle.pfx_machine.specs.declared.command.Command.{Command}
 use Rattle.pfx_machine.proofs.Compose.{outcome-none}
 use Rattle.std.proofs.lemmas.List.{take-append-le}
 use Rattle.pfx_record.specs.Records.{Recorded}
-use Rattle.pfx_slot.specs.Dealt.{Dealt}
+use Rattle.pfx_book_slot.specs.Dealt.{Dealt}
 use Rattle.pfx_book.specs.declared.note.Note.{Note}
 use Rattle.pfx_book.specs.declared.note.Note.TheVariants.{Marked, Failed}
 use Rattle.pfx_book.specs.Notes.{Noted, added, commands_of, records_in}

@@ -13,7 +13,7 @@ use Rattle.pfx_machine.specs.Sessions.{AllAccepted}
 use Rattle.pfx_machine.specs.declared.command.Command.{Command}
 use Rattle.pfx_machine.specs.declared.faults.MachineFault.{MachineFault}
 use Rattle.pfx_record.specs.Records.{Recorded}
-use Rattle.pfx_redo.specs.Recording.{records_of}
+use Rattle.pfx_record_redo.specs.Recording.{records_of}
 use Rattle.pfx_book.specs.Merging.{of}
 use Rattle.pfx_book.specs.declared.faults.BookFault.TheVariants.{SessionFull, Machine}
 use Rattle.pfx_book.specs.declared.note.Loss.{Loss}

@@ -17,10 +17,10 @@ use Rattle.pfx_record.specs.Batches.{all_fit}
 use Rattle.pfx_record.specs.Records.{form_of, plain, record_fits, Recorded, submitted, ran, withdrawn, reweighed}
 use Rattle.pfx_record.specs.declared.record.Record.{Record}
 use Rattle.pfx_record.proofs.Rising.{of_both}
-use Rattle.pfx_redo.specs.Applying.{after_record, applied, form_at, is_common, is_right}
-use Rattle.pfx_redo.specs.Recording.{record_of, records_of}
-use Rattle.pfx_redo.proofs.Commons.{common_fits}
-use Rattle.pfx_redo.proofs.States.{common_behind, in_force, right_parts}
+use Rattle.pfx_record_redo.specs.Applying.{after_record, applied, form_at, is_common, is_right}
+use Rattle.pfx_record_redo.specs.Recording.{record_of, records_of}
+use Rattle.pfx_record_redo.proofs.Commons.{common_fits}
+use Rattle.pfx_record_redo.proofs.States.{common_behind, in_force, right_parts}
 use Rattle.pfx_book.specs.Batching.{GoesFar, MayShare, StopsAt, real_for, width_behind}
 use Rattle.pfx_book.proofs.Merges.{some_is}
 

@@ -3,7 +3,7 @@ use Rattle.std.specs.Prelude.{option_map, is_some, nat_lt, nat_eq, not, zero, su
 use Rattle.std.proofs.lemmas.Bool.{lt-ltb, ltb-true, eq-eqb, eqb-true, false≢true, false_from_ne_true}
 use Rattle.std.proofs.Common.{◌≡◌, ℕ, ◌+◌, ◌-◌, length, arith, List, [], ◌∷◌, ◌++◌, Option, Some, None, Bool, false, refl, sym, ap, ◌∙◌, append-nil}
 use Rattle.std.proofs.lemmas.Option.{none-some}
-use Rattle.pfx_fault.specs.declared.parts.Cause.{Cause}
+use Rattle.pfx_fault.specs.declared.fields.Cause.{Cause}
 use Rattle.pfx_jobs.specs.Kind.{Kind}
 use Rattle.pfx_machine.specs.Plain.{Plain}
 use Rattle.pfx_machine.specs.Steps.{state_step, happening_in}
@@ -12,10 +12,10 @@ use Rattle.pfx_machine.specs.declared.command.Reply.{Reply}
 use Rattle.pfx_machine.specs.Slots.{Deal}
 use Rattle.pfx_crew.specs.Gathering.{Puts}
 use Rattle.pfx_crew.specs.declared.gathering.GatherFault.{GatherFault}
-use Rattle.pfx_slot.specs.Dealt.{Dealt}
-use Rattle.pfx_slot.proofs.Placed.{get_map}
+use Rattle.pfx_book_slot.specs.Dealt.{Dealt}
+use Rattle.pfx_book_slot.proofs.Placed.{get_map}
 use Rattle.pfx_machine.specs.declared.command.Command.TheVariants.{Slot}
-use Rattle.pfx_world.specs.Session.{Session, Opened, asked, receipted, opening_of, begun, given_in, back_in, gave, sealed_in, sealed}
+use Rattle.pfx_events_world.specs.Session.{Session, Opened, asked, receipted, opening_of, begun, given_in, back_in, gave, sealed_in, sealed}
 use Rattle.pfx_book.specs.declared.faults.BookFault.{BookFault}
 use Rattle.pfx_book.specs.declared.note.Note.{Note}
 use Rattle.pfx_book.specs.declared.note.Note.TheVariants.{Accepted, Refused, Receipt}

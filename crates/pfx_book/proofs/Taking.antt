@@ -3,8 +3,8 @@ use Rattle.std.specs.Prelude.{slice_get, if◌then◌else◌, IsTrue}
 use Rattle.std.proofs.Common.{◌≡◌, ℕ, suc, ◌+◌, ◌<◌, ◌≤◌, ◌^◌, List, [], ◌∷◌, ◌++◌, length, map, set, take, drop, Option, Some, None, refl, sym, ap, ◌∙◌, subst, arith, inl, inr, length-append}
 use Rattle.std.proofs.lemmas.Bool.{false≢true, lt-ltb, le-leb}
 use Rattle.std.proofs.lemmas.List.{take-append-drop, length-take-le}
-use Rattle.pfx_slot.proofs.Placed.{take_own}
-use Rattle.pfx_fault.specs.declared.parts.Cause.{Cause}
+use Rattle.pfx_book_slot.proofs.Placed.{take_own}
+use Rattle.pfx_fault.specs.declared.fields.Cause.{Cause}
 use Rattle.pfx_jobs.specs.Kind.{Kind, Laws}
 use Rattle.pfx_machine.specs.Plain.{Plain, IsState}
 use Rattle.pfx_machine.specs.Outcome.{outcome}
@@ -12,11 +12,11 @@ use Rattle.pfx_machine.specs.declared.command.Command.{Command}
 use Rattle.pfx_machine.specs.Batches.{IsBatchable}
 use Rattle.pfx_machine.specs.Sessions.{IsAcceptable}
 use Rattle.pfx_machine.proofs.Compose.{outcome-none, outcome-outcome}
-use Rattle.pfx_world.proofs.Machine.{take_accepted, next_accepted, next_outcome}
-use Rattle.pfx_redo.specs.Applying.{applied, is_right, after_record}
-use Rattle.pfx_redo.specs.Recording.{record_of, records_of}
-use Rattle.pfx_redo.proofs.Outcomes.{records_outcome}
-use Rattle.pfx_redo.proofs.States.{applied_behind}
+use Rattle.pfx_events_world.proofs.Machine.{take_accepted, next_accepted, next_outcome}
+use Rattle.pfx_record_redo.specs.Applying.{applied, is_right, after_record}
+use Rattle.pfx_record_redo.specs.Recording.{record_of, records_of}
+use Rattle.pfx_record_redo.proofs.Outcomes.{records_outcome}
+use Rattle.pfx_record_redo.proofs.States.{applied_behind}
 use Rattle.pfx_record.specs.Batches.{all_fit, batch_fits, counts_fit}
 use Rattle.pfx_record.specs.Records.{form_of, plain, Recorded}
 use Rattle.pfx_record.proofs.Rising.{of_both}

@@ -1,7 +1,7 @@
 -- Records that the flusher takes together.
 use Rattle.std.specs.Prelude.{◌≡◌, ◌⊎◌, ◌≤◌, ◌++◌, ℕ, List, [], ◌∷◌, length, All, IsTrue, false, ⊤}
 use Rattle.pfx_record.specs.Records.{Recorded, submitted, ran, withdrawn, reweighed}
-use Rattle.pfx_redo.specs.Applying.{is_common}
+use Rattle.pfx_record_redo.specs.Applying.{is_common}
 
 module _ {J : Type 0} where
   -- records may be a batch: one alone, or some that aren't of new weights

@@ -15,8 +15,8 @@ use Rattle.pfx_machine.specs.declared.command.Reply.{Reply}
 use Rattle.pfx_machine.specs.Slots.{Deal}
 use Rattle.pfx_record.specs.declared.record.Record.{Record}
 use Rattle.pfx_record.specs.Records.{plain, Recorded}
-use Rattle.pfx_redo.specs.Recording.{records_of}
-use Rattle.pfx_world.specs.Session.{Session, Opened, AllBack, MayGive, begun, gave, receipted, took}
+use Rattle.pfx_record_redo.specs.Recording.{records_of}
+use Rattle.pfx_events_world.specs.Session.{Session, Opened, AllBack, MayGive, begun, gave, receipted, took}
 use Rattle.pfx_book.specs.declared.faults.BookFault.{BookFault}
 use Rattle.pfx_book.specs.declared.faults.BookFault.TheVariants.{Machine}
 use Rattle.pfx_book.specs.declared.note.Loss.{Loss}

@@ -1,13 +1,13 @@
 -- What a book's type keeps.
 use Rattle.std.specs.Prelude.{◌≡◌, ◌≢◌, ℕ, ◌+◌, ◌^◌, ◌<◌, ◌≤◌, List, [], ◌∷◌, ◌++◌, length, take, Option, None, Some, ⊤, true}
-use Rattle.pfx_fault.specs.declared.parts.Cause.{Cause}
+use Rattle.pfx_fault.specs.declared.fields.Cause.{Cause}
 use Rattle.pfx_jobs.specs.Kind.{Kind}
 use Rattle.pfx_machine.specs.Plain.{Plain, IsState}
 use Rattle.pfx_machine.specs.Outcome.{outcome}
 use Rattle.pfx_machine.specs.declared.command.Command.{Command}
 use Rattle.pfx_record.specs.Records.{Recorded}
-use Rattle.pfx_redo.specs.Recording.{records_of}
-use Rattle.pfx_slot.specs.Dealt.{Dealt, Answers, StandsAt}
+use Rattle.pfx_record_redo.specs.Recording.{records_of}
+use Rattle.pfx_book_slot.specs.Dealt.{Dealt, Answers, StandsAt}
 use Rattle.pfx_book.specs.Merging.{lists_from, Tagged}
 use Rattle.pfx_book.specs.declared.note.Loss.{Loss}
 use Rattle.pfx_book.specs.declared.note.Note.{Note}

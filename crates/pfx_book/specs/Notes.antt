@@ -9,7 +9,7 @@ use Rattle.pfx_machine.specs.Refusals.{refusal, reply}
 use Rattle.pfx_machine.specs.declared.command.Command.{Command}
 use Rattle.pfx_record.specs.declared.record.Record.{Record}
 use Rattle.pfx_record.specs.Records.{plain, Recorded}
-use Rattle.pfx_redo.specs.Applying.{applied}
+use Rattle.pfx_record_redo.specs.Applying.{applied}
 use Rattle.pfx_book.specs.Batching.{real_for}
 use Rattle.pfx_book.specs.declared.faults.BookFault.{BookFault}
 use Rattle.pfx_book.specs.declared.faults.BookFault.TheVariants.{SessionFull, Machine}

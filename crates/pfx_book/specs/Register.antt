@@ -1,10 +1,10 @@
 -- What a book shows: the book of the world's events, its entries, and who is there.
 use Rattle.std.specs.Prelude.{ℕ, ◌+◌, ◌<◌, List, [], length, map, Option, None, option_map, is_some, Bool, false}
-use Rattle.pfx_fault.specs.declared.parts.Cause.{Cause}
+use Rattle.pfx_fault.specs.declared.fields.Cause.{Cause}
 use Rattle.pfx_jobs.specs.Kind.{Kind}
 use Rattle.pfx_machine.specs.Plain.{Plain}
-use Rattle.pfx_slot.specs.Dealt.{Dealt}
-use Rattle.pfx_world.specs.Session.{Session, Opened, new_session}
+use Rattle.pfx_book_slot.specs.Dealt.{Dealt}
+use Rattle.pfx_events_world.specs.Session.{Session, Opened, new_session}
 use Rattle.pfx_book.specs.declared.note.Note.{Note}
 use Rattle.pfx_book.specs.Notes.{commands_of, receipts_of}
 

@@ -7,9 +7,9 @@ use Rattle.pfx_machine.specs.Refusals.{TakesMemory, reply}
 use Rattle.pfx_machine.specs.declared.command.Command.{Command}
 use Rattle.pfx_machine.specs.declared.command.Command.TheVariants.{Slot}
 use Rattle.pfx_record.specs.Records.{plain}
-use Rattle.pfx_redo.specs.Recording.{record_of}
+use Rattle.pfx_record_redo.specs.Recording.{record_of}
 use Rattle.pfx_machine.specs.Faults.{no_memory}
-use Rattle.pfx_slot.specs.Dealt.{Dealt, AllBack}
+use Rattle.pfx_book_slot.specs.Dealt.{Dealt, AllBack}
 use Rattle.pfx_book.specs.Notes.{refused_at}
 use Rattle.pfx_book.specs.declared.faults.BookFault.{BookFault}
 use Rattle.pfx_book.specs.declared.faults.BookFault.TheVariants.{Machine}

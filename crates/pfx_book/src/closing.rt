@@ -1,6 +1,6 @@
 //! Receipts, failures, and the end of a session.
 ghost use Rattle.std.specs.Prelude.{◌≡◌, ◌≢◌, ◌≤◌, ◌+◌, [], map, length, take, IfOk, OnOk, OnErr, Some, None, true, false, IsTrue};
-ghost use Rattle.pfx_redo.specs.Recording.{records_of};
+ghost use Rattle.pfx_record_redo.specs.Recording.{records_of};
 ghost use Rattle.pfx_machine.specs.Outcome.{outcome};
 ghost use Rattle.pfx_machine.specs.Plain.{IsState};
 ghost use Rattle.pfx_machine.specs.Sessions.{IsAcceptable};

@@ -1,7 +1,7 @@
 //! What the flusher calls.
 ghost use Rattle.std.specs.Prelude.{◌≡◌, ◌↔◌, [], ◌∷◌, ◌++◌, ◌<◌, ◌≤◌, ◌+◌, length, map, IfOk, IfErr, OnErr, IsTrue, Some, None, vec_capacity};
 ghost use Rattle.pfx_record.specs.Records.{plain};
-ghost use Rattle.pfx_world.specs.Session.{marked_now, gave_up};
+ghost use Rattle.pfx_events_world.specs.Session.{marked_now, gave_up};
 ghost use Rattle.pfx_book.specs.Batching.{real_for, width_behind};
 ghost use Rattle.pfx_book.specs.Calls.{IsTaken};
 ghost use Rattle.pfx_book.specs.Notes.{IsRested, records_in, took_in};

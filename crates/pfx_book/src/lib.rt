@@ -2,7 +2,7 @@
 //!
 //! A book holds the machine's state, each command that was accepted or refused with the number of the client's pass, the open
 //! slot, the records that wait for the flusher, the mark, and whether the flusher has given up. Each of its calls is one event
-//! of the world in `pfx_world/specs/Session.antt`, in that world's own words, or changes nothing there.
+//! of the world in `pfx_events_world/specs/Session.antt`, in that world's own words, or changes nothing there.
 //!
 //! What its type keeps:
 //! 1. the session is legal: each command stands there with the number, the reply or the refusal that it has to have after

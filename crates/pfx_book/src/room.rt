@@ -2,11 +2,11 @@
 ghost use Rattle.std.specs.Prelude.{◌≡◌, ◌++◌, ◌<◌, ◌≤◌, ◌+◌, [], length, map, IfSome, IfNone, IsTrue, option_to_list, vec_len, vec_capacity};
 ghost use Rattle.std.specs.VecDeque.{deque_items, deque_capacity};
 ghost use Rattle.pfx_record.specs.Records.{plain};
-ghost use Rattle.pfx_redo.specs.Applying.{is_common};
+ghost use Rattle.pfx_record_redo.specs.Applying.{is_common};
 ghost use Rattle.pfx_book.specs.Batching.{GoesFar, MayShare, StopsAt};
 
 use pfx_record::Record;
-use pfx_redo::is_common;
+use pfx_record_redo::is_common;
 use std::collections::VecDeque;
 
 /// Makes room for so many more, if memory allows.

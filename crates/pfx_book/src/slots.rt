@@ -1,7 +1,7 @@
 //! The open slot: begun, given its results, sealed.
 ghost use Rattle.std.specs.Prelude.{◌≡◌, ◌≢◌, ◌<◌, map, IfOk, IfErr, IfSome, IfNone, OnOk, OnErr, MatchOption, None, false};
 ghost use Rattle.pfx_machine.specs.Slots.{deal};
-ghost use Rattle.pfx_world.specs.Session.{MayBegin, MaySeal, opening_of, sealed};
+ghost use Rattle.pfx_events_world.specs.Session.{MayBegin, MaySeal, opening_of, sealed};
 ghost use Rattle.pfx_book.specs.Calls.{TakesCommands, IsAccepted, IsBegun, Refuses, NoneMissing, IsFirstMissing, ComesBack, IsRepelled};
 
 use crate::book::{Book, Pass};
@@ -12,13 +12,13 @@ use crate::name::Named;
 use crate::note::Note;
 use crate::room::make_room;
 use crate::trying::{is_all_back, is_no_memory, try_open};
+use pfx_book_slot::sealing::seal_on;
 use pfx_choice::ChoiceFault;
 use pfx_crew::gathering::GatherFault;
 use pfx_jobs::job::Job;
 use pfx_jobs::quantum::{Done, Quantum};
 use pfx_machine::{Command, MachineFault, Reply};
-use pfx_redo::Recorded;
-use pfx_slot::sealing::seal_on;
+use pfx_record_redo::Recorded;
 
 impl<J: Job, B: Named<J>> Book<J, B> {
     /// Opens the next slot for this pass, if the book takes commands and a slot may be opened, and gives the quanta that are to be

@@ -2,20 +2,20 @@
 ghost use Rattle.std.specs.Prelude.{◌≡◌, ◌≢◌, ◌↔◌, map, IfOk, IfErr, OnOk, None, IsTrue, IsFalse};
 ghost use Rattle.pfx_machine.specs.Faults.{no_memory};
 ghost use Rattle.pfx_machine.specs.Slots.{deal};
-ghost use Rattle.pfx_slot.specs.Dealt.{StandsAt};
+ghost use Rattle.pfx_book_slot.specs.Dealt.{StandsAt};
 ghost use Rattle.pfx_book.specs.Notes.{refused_at};
 ghost use Rattle.pfx_book.specs.Trying.{Tries, StaysUnopened, IsReady};
 
 use crate::copies::copy_command;
 use crate::faults::BookFault;
+use pfx_book_slot::sealing::open_on;
+use pfx_book_slot::slot::OpenSlot;
 use pfx_choice::ChoiceFault;
 use pfx_jobs::job::Job;
 use pfx_jobs::quantum::Quantum;
 use pfx_machine::{Command, MachineFault, Reply, State};
 use pfx_record::Record;
-use pfx_redo::{Recorded, run_recorded};
-use pfx_slot::sealing::open_on;
-use pfx_slot::slot::OpenSlot;
+use pfx_record_redo::{Recorded, run_recorded};
 use std::alloc::Global;
 
 /// What came of a command, with a copy of it.

@@ -20,7 +20,7 @@ use Rattle.pfx_fault.specs.declared.refusals.Fault.{Fault}
 use Rattle.pfx_fault.specs.declared.refusals.Fault.TheVariants as fault
 use Rattle.pfx_c.specs.declared.weights.PfxWeight.{PfxWeight}
 use Rattle.pfx_c.specs.Faults.{HasOneFault, HasNoFault}
-use Rattle.pfx_refusals.specs.Faults.{fault_of_set, fault_of_ledger, fault_of_choice}
+use Rattle.pfx_choice_refusals.specs.Faults.{fault_of_set, fault_of_ledger, fault_of_choice}
 use Rattle.pfx_c.specs.Weights.{pairs_of, SetFails}
 use Rattle.pfx_c.specs.Checks.{LedgerFails, CheckFails, IsLedgerOf}
 use Rattle.pfx_c.specs.Nexts.{RowFails, NextFails, IsNext}

@@ -7,7 +7,7 @@ use Rattle.pfx_columns.specs.declared.faults.LedgerFault.{LedgerFault}
 use Rattle.pfx_fault.specs.declared.refusals.Fault.{Fault}
 use Rattle.pfx_fault.specs.declared.refusals.Fault.TheVariants as fault
 use Rattle.pfx_c.specs.declared.weights.PfxWeight.{PfxWeight}
-use Rattle.pfx_refusals.specs.Faults.{fault_of_ledger}
+use Rattle.pfx_choice_refusals.specs.Faults.{fault_of_ledger}
 use Rattle.pfx_c.specs.Weights.{pairs_of, SetFails}
 
 -- a slot that can be numbered, and an allocation for each of the set's tasks

@@ -6,7 +6,7 @@ use Rattle.pfx_choice.specs.declared.faults.ChoiceFault.{ChoiceFault}
 use Rattle.pfx_fault.specs.declared.refusals.Fault.{Fault}
 use Rattle.pfx_fault.specs.declared.refusals.Fault.TheVariants as fault
 use Rattle.pfx_c.specs.declared.weights.PfxWeight.{PfxWeight}
-use Rattle.pfx_refusals.specs.Faults.{fault_of_choice}
+use Rattle.pfx_choice_refusals.specs.Faults.{fault_of_choice}
 use Rattle.pfx_c.specs.Checks.{CheckFails, IsLedgerOf}
 
 -- the numbers are a ledger, and the caller has places for a row: the first become PF's row there, and the others stay

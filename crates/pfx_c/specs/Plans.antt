@@ -12,7 +12,7 @@ use Rattle.pfx_fault.specs.declared.refusals.Fault.TheVariants as fault
 use Rattle.pfx_fault.specs.Refusals.{number_of}
 use Rattle.pfx_c.specs.declared.weights.PfxWeight.{PfxWeight}
 use Rattle.pfx_c.specs.Faults.{IsRefused}
-use Rattle.pfx_refusals.specs.Faults.{fault_of_choice}
+use Rattle.pfx_choice_refusals.specs.Faults.{fault_of_choice}
 use Rattle.pfx_c.specs.Checks.{CheckFails, IsLedgerOf}
 
 -- the rows one behind the other

@@ -4,7 +4,7 @@ use Rattle.pfx_weights.specs.Sets.{Refuses}
 use Rattle.pfx_weights.specs.declared.faults.SetFault.{SetFault}
 use Rattle.pfx_fault.specs.declared.refusals.Fault.{Fault}
 use Rattle.pfx_c.specs.declared.weights.PfxWeight.{PfxWeight}
-use Rattle.pfx_refusals.specs.Faults.{fault_of_set}
+use Rattle.pfx_choice_refusals.specs.Faults.{fault_of_set}
 
 abbrev pub pair_of : PfxWeight → ℕ × ℕ
 pair_of w = (w.e, w.p)

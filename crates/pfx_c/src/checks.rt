@@ -7,9 +7,9 @@ ghost use Rattle.pfx_c.specs.Checks.{LedgerFails, CheckFails, IsLedgerOf, IsGive
 
 use crate::faults::{name_task, number_of};
 use crate::weights::{PfxWeight, set_of};
+use pfx_choice_refusals::ledger_fault;
 use pfx_columns::Columns;
 use pfx_fault::Fault;
-use pfx_refusals::ledger_fault;
 use pfx_weights::TaskSet;
 use std::alloc::Global;
 

@@ -9,8 +9,8 @@ use crate::faults::number_of;
 use crate::places::put_row;
 use crate::weights::PfxWeight;
 use pfx_choice::choose;
+use pfx_choice_refusals::choice_fault;
 use pfx_fault::Fault;
-use pfx_refusals::choice_fault;
 use std::alloc::Global;
 
 /// Puts PF's row at the ledger into the first places of `row`, one task for each worker, rising.

@@ -9,9 +9,9 @@ use crate::faults::number_of;
 use crate::places::put_row;
 use crate::weights::PfxWeight;
 use pfx_choice::{ChoiceFault, Chooser, give};
+use pfx_choice_refusals::choice_fault;
 use pfx_columns::Columns;
 use pfx_fault::Fault;
-use pfx_refusals::choice_fault;
 use pfx_weights::Row;
 use std::alloc::Global;
 

@@ -4,8 +4,8 @@ ghost use Rattle.std.specs.Prelude.{◌≡◌, IfOk, IfErr};
 ghost use Rattle.pfx_weights.specs.Sets.{Accepts};
 ghost use Rattle.pfx_c.specs.Weights.{pairs_of, SetFails};
 
+use pfx_choice_refusals::set_fault;
 use pfx_fault::Fault;
-use pfx_refusals::set_fault;
 use pfx_weights::{SetFault, TaskSet};
 use std::alloc::{AllocError, Global};
 

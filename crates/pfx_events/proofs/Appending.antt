@@ -4,23 +4,23 @@ use Rattle.std.proofs.Common.{subst, inl, inr, ⊎_elim}
 use Rattle.pfx_disk.specs.CallsMade.{HasMade, HasBrokenOff, HasKeptTo, LeavesAtMost}
 use Rattle.pfx_disk.specs.Disk.{View, IsHonest}
 use Rattle.pfx_disk.specs.Stop.{Act}
-use Rattle.pfx_format.specs.Format.{format}
+use Rattle.pfx_store_format.specs.Format.{format}
 use Rattle.pfx_jobs.specs.Kind.{Kind, Laws}
 use Rattle.pfx_machine.specs.Outcome.{outcome}
 use Rattle.pfx_machine.specs.Plain.{Plain, IsState}
 use Rattle.pfx_machine.specs.Sessions.{IsAcceptable}
 use Rattle.pfx_machine.specs.declared.command.Command.{Command}
 use Rattle.pfx_record.specs.Batches.{PlainBatch, batch_bytes}
-use Rattle.pfx_redo.specs.Applying.{applied}
+use Rattle.pfx_record_redo.specs.Applying.{applied}
 use Rattle.pfx_store.specs.Files.{HasFile, appending, appended}
 use Rattle.pfx_store.specs.Stores.{PlainStore}
 use Rattle.pfx_store.specs.Working.{Commits, Makes}
-use Rattle.pfx_store.specs.declared.store.Mark.{Mark}
+use Rattle.pfx_store.specs.declared.appending.Mark.{Mark}
 use Rattle.pfx_store_file.specs.Holding.{Survives}
 use Rattle.pfx_store_file.specs.declared.faults.StoreFault.{StoreFault}
 use Rattle.pfx_store_file.specs.declared.faults.StoreFault.TheVariants.{Device}
-use Rattle.pfx_world.specs.Events.{Event, Stop, Take, CanRun, MayHappen, happens, next_of, run}
-use Rattle.pfx_world.specs.World.{World, state_at}
+use Rattle.pfx_events_world.specs.Events.{Event, Stop, Take, CanRun, MayHappen, happens, next_of, run}
+use Rattle.pfx_events_world.specs.World.{World, state_at}
 use Rattle.pfx_events.specs.Batches.{frames_of, joined, AreSmall, KeepsBatches}
 use Rattle.pfx_events.specs.Store.{store_of}
 use Rattle.pfx_events.specs.Ties.{Carries, IsIn, IsTied, through, broken_off}

@@ -1,14 +1,14 @@
 -- Records and frames of lists of commands, in parts.
 use Rattle.std.specs.Prelude.{◌≡◌, ℕ, List, [], ◌∷◌, ◌++◌, length, refl}
 use Rattle.std.proofs.Common.{sym, ◌∙◌, ap, subst, arith, append_assoc, append-nil}
-use Rattle.pfx_format.specs.Format.{format}
+use Rattle.pfx_store_format.specs.Format.{format}
 use Rattle.pfx_jobs.specs.Kind.{Kind, Laws}
 use Rattle.pfx_machine.specs.Plain.{Plain, IsState}
 use Rattle.pfx_machine.specs.Outcome.{outcome}
 use Rattle.pfx_machine.specs.Sessions.{AllAccepted, IsAcceptable}
 use Rattle.pfx_machine.specs.declared.command.Command.{Command}
 use Rattle.pfx_store_file.specs.Holding.{Survives}
-use Rattle.pfx_world.proofs.Machine.{front_accepted}
+use Rattle.pfx_events_world.proofs.Machine.{front_accepted}
 use Rattle.pfx_events.specs.Batches.{frames_of, joined, AreSmall, KeepsBatches}
 use Rattle.pfx_store.proofs.Grouping.{to_frames, to_groups}
 pub use Rattle.pfx_store.proofs.Grouping.{first_frames_lead, frames_lead, frames_there, records_split}

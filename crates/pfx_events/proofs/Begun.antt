@@ -3,12 +3,12 @@ use Rattle.std.specs.Prelude.{◌≡◌, ℕ, List, Some, Result, Ok, Err}
 use Rattle.std.proofs.Common.{ap}
 use Rattle.std.proofs.lemmas.Option.{same_Some, none-some}
 use Rattle.pfx_store_file.specs.Files.{file_in}
-use Rattle.pfx_format.specs.Format.{format}
-use Rattle.pfx_header.specs.Headers.{Header}
+use Rattle.pfx_store_format.specs.Format.{format}
+use Rattle.pfx_store_header.specs.Headers.{Header}
 use Rattle.pfx_jobs.specs.Kind.{Kind}
 use Rattle.pfx_machine.specs.Plain.{Plain}
-use Rattle.pfx_recovery.specs.Recovery.{Found, found, on_ok, recovered}
-use Rattle.pfx_recovery.specs.Refusals.{Refusal}
+use Rattle.pfx_store_image.specs.Recovery.{Found, found, on_ok, recovered}
+use Rattle.pfx_store_image.specs.Refusals.{Refusal}
 use Rattle.pfx_store.specs.Files.{FileOf, file_found, recovered_file}
 
 module _ {J : Type 0} (K : Kind J) (image : List ℕ) where

@@ -5,10 +5,10 @@ use Rattle.std.proofs.Math.Nat.{le-max_right}
 use Rattle.std.proofs.lemmas.List.{get_or_at}
 use Rattle.byteorder.specs.Endian.{little_number}
 use Rattle.pfx_disk.specs.declared.gates.TheConstants.{GATE_OPEN}
-use Rattle.pfx_redo.specs.Recording.{records_of}
-use Rattle.pfx_format.specs.Format.{format}
-use Rattle.pfx_format.specs.Frames.{state_after}
-use Rattle.pfx_format.proofs.Batches.{number_there}
+use Rattle.pfx_record_redo.specs.Recording.{records_of}
+use Rattle.pfx_store_format.specs.Format.{format}
+use Rattle.pfx_store_format.specs.Frames.{state_after}
+use Rattle.pfx_store_format.proofs.Batches.{number_there}
 use Rattle.byteorder.specs.Numbers.{little_from-take}
 use Rattle.pfx_jobs.specs.Kind.{Kind, Laws}
 use Rattle.pfx_machine.specs.Batches.{AreCommon, IsBatchable}

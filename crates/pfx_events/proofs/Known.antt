@@ -2,17 +2,17 @@
 use Rattle.std.specs.Prelude.{◌≡◌, ℕ, List, [], ◌∷◌, length, Bool, true, false, Some}
 use Rattle.std.proofs.Common.{refl, ◌∙◌, ap, subst}
 use Rattle.pfx_checkpoint.specs.Whole.{whole_bytes, whole_len}
-use Rattle.pfx_redo.proofs.States.{applied_behind}
-use Rattle.pfx_format.specs.Areas.{read_area}
-use Rattle.pfx_format.specs.Format.{format, IsOf}
-use Rattle.pfx_format.proofs.Keeping.{after_is_of, read_of}
-use Rattle.pfx_format.proofs.Nexts.{after_of}
+use Rattle.pfx_record_redo.proofs.States.{applied_behind}
+use Rattle.pfx_store_format.specs.Areas.{read_area}
+use Rattle.pfx_store_format.specs.Format.{format, IsOf}
+use Rattle.pfx_store_format.proofs.Keeping.{after_is_of, read_of}
+use Rattle.pfx_store_format.proofs.Nexts.{after_of}
 use Rattle.pfx_store.proofs.Areas.{spelled_long, spelled_read as frozen_is_read}
-use Rattle.pfx_header.specs.Headers.{Header, IsHeader, this_version}
-use Rattle.pfx_header.proofs.Meanings.{read_a_header}
+use Rattle.pfx_store_header.specs.Headers.{Header, IsHeader, this_version}
+use Rattle.pfx_store_header.proofs.Meanings.{read_a_header}
 use Rattle.pfx_jobs.specs.Kind.{Kind, Laws}
 use Rattle.pfx_machine.specs.Plain.{Plain, IsState}
-use Rattle.pfx_recovery.specs.Store.{Parts, Replays, IsStore, Other}
+use Rattle.pfx_store_image.specs.Store.{Parts, Replays, IsStore, Other}
 
 -- a state of a store with this header
 pub record IsHeld {J : Type 0} (h : Header) (s : Plain J) : Type 0 where

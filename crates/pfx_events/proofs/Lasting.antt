@@ -2,10 +2,10 @@
 use Rattle.std.specs.Prelude.{ℕ, List, [], ◌∷◌, ◌++◌}
 use Rattle.std.proofs.Common.{sym, subst, append_assoc, append-nil}
 use Rattle.pfx_machine.specs.Plain.{Plain}
-use Rattle.pfx_world.specs.Claims.{IsNew, IsReceipted, NeverGoesBack}
-use Rattle.pfx_world.specs.Events.{Event, run, CanRun, happens}
-use Rattle.pfx_world.specs.Setting.{Setting}
-use Rattle.pfx_world.specs.World.{World, new_world}
+use Rattle.pfx_events_world.specs.Claims.{IsNew, IsReceipted, NeverGoesBack}
+use Rattle.pfx_events_world.specs.Events.{Event, run, CanRun, happens}
+use Rattle.pfx_events_world.specs.Setting.{Setting}
+use Rattle.pfx_events_world.specs.World.{World, new_world}
 
 module _ {J : Type 0} (S : Setting J) (B : Plain J) where
   can_front : (w : World S) (one two : List (Event J)) → CanRun S B w (one ++ two) → CanRun S B w one

@@ -8,16 +8,16 @@ use Rattle.pfx_machine.specs.Outcome.{outcome}
 use Rattle.pfx_machine.specs.declared.command.Command.{Command}
 use Rattle.pfx_machine.specs.declared.command.Command.TheVariants.{Slot}
 use Rattle.pfx_machine.proofs.Compose.{outcome-none}
-use Rattle.pfx_world.specs.Calls.{MayLeave}
-use Rattle.pfx_world.specs.Setting.{Setting, Settled, IsSound}
-use Rattle.pfx_world.specs.World.{World, new_world, state_at}
-use Rattle.pfx_world.specs.Events.{Event, Ask, Begin, Step, Give, Seal, Abandon, Take, Tend, Device, Publish, Mark, Fail, Receipt, Look, Stop, MayHappen, run, CanRun, happens, give_one, stopped}
-use Rattle.pfx_world.specs.Claims.{IsNew, IsRecovered}
-use Rattle.pfx_world.proofs.Machine.{number_at, begins_all}
-use Rattle.pfx_world.proofs.Paths.{leads_nowhere, settled_at}
-use Rattle.pfx_world.proofs.Holding.{Holds, DiskIs}
-use Rattle.pfx_world.proofs.Keeping.{keeps, keeps_all, found_in, count_is, later}
-use Rattle.pfx_world.proofs.Worked.{can_join}
+use Rattle.pfx_events_world.specs.Calls.{MayLeave}
+use Rattle.pfx_events_world.specs.Setting.{Setting, Settled, IsSound}
+use Rattle.pfx_events_world.specs.World.{World, new_world, state_at}
+use Rattle.pfx_events_world.specs.Events.{Event, Ask, Begin, Step, Give, Seal, Abandon, Take, Tend, Device, Publish, Mark, Fail, Receipt, Look, Stop, MayHappen, run, CanRun, happens, give_one, stopped}
+use Rattle.pfx_events_world.specs.Claims.{IsNew, IsRecovered}
+use Rattle.pfx_events_world.proofs.Machine.{number_at, begins_all}
+use Rattle.pfx_events_world.proofs.Paths.{leads_nowhere, settled_at}
+use Rattle.pfx_events_world.proofs.Holding.{Holds, DiskIs}
+use Rattle.pfx_events_world.proofs.Keeping.{keeps, keeps_all, found_in, count_is, later}
+use Rattle.pfx_events_world.proofs.Worked.{can_join}
 use Rattle.pfx_events.specs.Reached.{IsAside, AreAside, going_world, IsReached, KeepsClaims}
 
 module _ {J : Type 0} (S : Setting J) (B : Plain J) where

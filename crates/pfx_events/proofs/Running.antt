@@ -10,15 +10,15 @@ use Rattle.pfx_machine.specs.Slots.{Deal}
 use Rattle.pfx_machine.specs.Refusals.{refusal}
 use Rattle.pfx_machine.specs.declared.command.Command.{Command}
 use Rattle.pfx_machine.specs.declared.command.Command.TheVariants.{Slot}
-use Rattle.pfx_world.specs.Calls.{MayLeave}
-use Rattle.pfx_world.specs.Claims.{IsReceipted}
-use Rattle.pfx_world.specs.Events.{Event, Ask, Begin, Step, Give, Seal, Take, Tend, Device, Publish, Mark, Receipt, Stop, IsIdle, MayHappen, CanRun, run, happens, called, stopped, run_once, made_by, give_one}
-use Rattle.pfx_world.specs.Session.{Opened, AllBack, IsQuick, opening_of, given_in, back_in, gave}
-use Rattle.pfx_world.specs.Setting.{Setting, IsSound}
-use Rattle.pfx_world.specs.World.{World, state_at}
-use Rattle.pfx_world.proofs.Holding.{Holds}
-use Rattle.pfx_world.proofs.Keeping.{found_in, count_is, keeps}
-use Rattle.pfx_world.proofs.Worked.{can_join}
+use Rattle.pfx_events_world.specs.Calls.{MayLeave}
+use Rattle.pfx_events_world.specs.Claims.{IsReceipted}
+use Rattle.pfx_events_world.specs.Events.{Event, Ask, Begin, Step, Give, Seal, Take, Tend, Device, Publish, Mark, Receipt, Stop, IsIdle, MayHappen, CanRun, run, happens, called, stopped, run_once, made_by, give_one}
+use Rattle.pfx_events_world.specs.Session.{Opened, AllBack, IsQuick, opening_of, given_in, back_in, gave}
+use Rattle.pfx_events_world.specs.Setting.{Setting, IsSound}
+use Rattle.pfx_events_world.specs.World.{World, state_at}
+use Rattle.pfx_events_world.proofs.Holding.{Holds}
+use Rattle.pfx_events_world.proofs.Keeping.{found_in, count_is, keeps}
+use Rattle.pfx_events_world.proofs.Worked.{can_join}
 use Rattle.pfx_events.specs.Reached.{IsAtRest, Reaches, IsStopped}
 use Rattle.pfx_events.specs.Ties.{through}
 use Rattle.pfx_events.proofs.Reaching.{run_join}

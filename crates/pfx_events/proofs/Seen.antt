@@ -1,11 +1,11 @@
 -- A store that stands, as the events see it.
 use Rattle.std.specs.Prelude.{◌≡◌, ℕ, ◌+◌, List, take, true}
 use Rattle.std.proofs.Common.{sym, subst, refl}
-use Rattle.pfx_acts.specs.Files.{IsFile}
+use Rattle.pfx_events_acts.specs.Files.{IsFile}
 use Rattle.pfx_checkpoint.specs.Whole.{whole_bytes}
-use Rattle.pfx_format.proofs.Keeping.{read_of}
+use Rattle.pfx_store_format.proofs.Keeping.{read_of}
 use Rattle.pfx_disk.specs.Disk.{View}
-use Rattle.pfx_format.specs.Format.{format}
+use Rattle.pfx_store_format.specs.Format.{format}
 use Rattle.pfx_jobs.specs.Kind.{Kind}
 use Rattle.pfx_store.specs.Files.{FileOf}
 use Rattle.pfx_store.specs.Standing.{Stands}

@@ -9,32 +9,32 @@ use Rattle.pfx_store_file.specs.Acts.{room_acts, append_acts, appended_file, ten
 use Rattle.pfx_store_file.specs.declared.progress.Checkpoint.TheVariants.{Ended, Pending}
 use Rattle.pfx_store_file.specs.Checkpoints.{is_begun}
 use Rattle.pfx_store_file.specs.Files.{file_in}
-use Rattle.pfx_acts.specs.Files.{IsFile, IsWhole}
-use Rattle.pfx_acts.proofs.Chains.{safe_at, Safe, Steady, chain_with}
+use Rattle.pfx_events_acts.specs.Files.{IsFile, IsWhole}
+use Rattle.pfx_events_acts.proofs.Chains.{safe_at, Safe, Steady, chain_with}
 use Rattle.pfx_store_file.proofs.Ends.{stepped_kept, tended_kept}
-use Rattle.pfx_acts.proofs.Stepping.{Spells, Goes, tends, append_goes}
+use Rattle.pfx_events_acts.proofs.Stepping.{Spells, Goes, tends, append_goes}
 use Rattle.pfx_disk.specs.Stop.{Act}
 use Rattle.pfx_disk.specs.declared.gates.TheConstants.{GATE_OPEN}
-use Rattle.pfx_format.specs.Format.{format, layout, IsOf}
-use Rattle.pfx_format.specs.Frames.{state_after}
-use Rattle.pfx_format.proofs.Keeping.{format_laws}
+use Rattle.pfx_store_format.specs.Format.{format, layout, IsOf}
+use Rattle.pfx_store_format.specs.Frames.{state_after}
+use Rattle.pfx_store_format.proofs.Keeping.{format_laws}
 use Rattle.pfx_checkpoint.specs.Whole.{whole_bytes, whole_len}
-use Rattle.pfx_format.specs.Areas.{read_area}
-use Rattle.pfx_header.specs.Headers.{Header}
+use Rattle.pfx_store_format.specs.Areas.{read_area}
+use Rattle.pfx_store_header.specs.Headers.{Header}
 use Rattle.pfx_jobs.specs.Kind.{Kind, Laws}
 use Rattle.pfx_machine.specs.Batches.{IsBatchable}
 use Rattle.pfx_machine.specs.Plain.{Plain, IsState}
 use Rattle.pfx_machine.specs.Outcome.{outcome}
 use Rattle.pfx_machine.specs.Sessions.{IsAcceptable}
 use Rattle.pfx_machine.specs.declared.command.Command.{Command}
-use Rattle.pfx_recovery.specs.Layout.{area_at, segment_at, is_open}
-use Rattle.pfx_recovery.specs.Recovery.{Found, found}
-use Rattle.pfx_recovery.specs.Refusals.{Refusal}
-use Rattle.pfx_recovery.specs.Store.{Parts, IsStore}
-use Rattle.pfx_recovery.proofs.Recovers.{finds}
-use Rattle.pfx_recovery.proofs.Stands.{found_stands}
+use Rattle.pfx_store_image.specs.Layout.{area_at, segment_at, is_open}
+use Rattle.pfx_store_image.specs.Recovery.{Found, found}
+use Rattle.pfx_store_image.specs.Refusals.{Refusal}
+use Rattle.pfx_store_image.specs.Store.{Parts, IsStore}
+use Rattle.pfx_store_image.proofs.Recovers.{finds}
+use Rattle.pfx_store_image.proofs.Stands.{found_stands}
 use Rattle.pfx_store_file.specs.Holding.{IsGate}
-use Rattle.pfx_world.specs.Setting.{Settled, Leads, StandsFor, IsSound}
+use Rattle.pfx_events_world.specs.Setting.{Settled, Leads, StandsFor, IsSound}
 use Rattle.pfx_store.specs.Files.{FileOf, spelled, start_of, behind_of, file_found, recovered_file}
 use Rattle.pfx_events.specs.Store.{frame_of, store_of}
 use Rattle.pfx_events.proofs.Frames.{frame_led, frame_room, frame_there, opens_here, start_is}

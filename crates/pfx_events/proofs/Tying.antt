@@ -5,9 +5,9 @@ use Rattle.std.proofs.Common.{sym, ◌∙◌, ap, subst, arith, inl, inr, ⊎_el
 use Rattle.pfx_disk.specs.CallsMade.{with_failed, LeavesAtMost, IsAfter, BrokeOff, HasMade, HasBrokenOff, HasKeptTo}
 use Rattle.pfx_disk.specs.Disk.{View}
 use Rattle.pfx_disk.specs.Stop.{Act, Sync, Left}
-use Rattle.pfx_redo.specs.Applying.{applied}
-use Rattle.pfx_redo.specs.Recording.{records_of}
-use Rattle.pfx_redo.proofs.Outcomes.{records_outcome}
+use Rattle.pfx_record_redo.specs.Applying.{applied}
+use Rattle.pfx_record_redo.specs.Recording.{records_of}
+use Rattle.pfx_record_redo.proofs.Outcomes.{records_outcome}
 use Rattle.pfx_jobs.specs.Kind.{Kind, Laws}
 use Rattle.pfx_store.specs.Stores.{PlainStore}
 use Rattle.pfx_store.specs.Files.{FileOf, HasFile, appending, appended, recovered_file}
@@ -17,14 +17,14 @@ use Rattle.pfx_machine.specs.Sessions.{IsAcceptable}
 use Rattle.pfx_machine.specs.declared.command.Command.{Command}
 use Rattle.pfx_record.specs.Batches.{PlainBatch, batch_bytes}
 use Rattle.pfx_record.specs.Records.{Recorded}
-use Rattle.pfx_format.specs.Format.{format}
-use Rattle.pfx_recovery.specs.Store.{Replays}
+use Rattle.pfx_store_format.specs.Format.{format}
+use Rattle.pfx_store_image.specs.Store.{Replays}
 use Rattle.pfx_machine.proofs.Compose.{outcome-none}
 use Rattle.pfx_store_file.specs.declared.places.Places.{Places}
-use Rattle.pfx_world.specs.Setting.{Setting, Settled}
-use Rattle.pfx_world.specs.World.{World, new_world, state_at}
-use Rattle.pfx_world.specs.Events.{Event, Device, Stop, Take, MayHappen, next_of, happens, run, CanRun, called, missed, stopped}
-use Rattle.pfx_world.proofs.Machine.{next_accepted, next_outcome, take-take}
+use Rattle.pfx_events_world.specs.Setting.{Setting, Settled}
+use Rattle.pfx_events_world.specs.World.{World, new_world, state_at}
+use Rattle.pfx_events_world.specs.Events.{Event, Device, Stop, Take, MayHappen, next_of, happens, run, CanRun, called, missed, stopped}
+use Rattle.pfx_events_world.proofs.Machine.{next_accepted, next_outcome, take-take}
 use Rattle.pfx_events.specs.Batches.{frames_of, joined, AreSmall}
 use Rattle.pfx_events.specs.Reached.{AreAside, IsReached, going_world}
 use Rattle.pfx_events.specs.Store.{frame_of, store_of}

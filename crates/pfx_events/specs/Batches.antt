@@ -1,8 +1,8 @@
 -- Batches, one behind the other, and a store that stands.
 use Rattle.std.specs.Prelude.{ℕ, List}
-use Rattle.pfx_acts.specs.Files.{IsFile, IsWhole}
+use Rattle.pfx_events_acts.specs.Files.{IsFile, IsWhole}
 use Rattle.pfx_disk.specs.Disk.{View}
-use Rattle.pfx_format.specs.Format.{format}
+use Rattle.pfx_store_format.specs.Format.{format}
 use Rattle.pfx_jobs.specs.Kind.{Kind}
 use Rattle.pfx_machine.specs.Plain.{Plain}
 use Rattle.pfx_store_file.specs.declared.places.Places.{Places}

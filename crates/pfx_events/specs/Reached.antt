@@ -3,13 +3,13 @@ use Rattle.std.specs.Prelude.{◌≡◌, ◌≢◌, ℕ, ◌+◌, List, [], ◌�
 use Rattle.pfx_disk.specs.Stop.{Act}
 use Rattle.pfx_machine.specs.Plain.{Plain}
 use Rattle.pfx_machine.specs.declared.command.Command.{Command}
-use Rattle.pfx_world.specs.Calls.{MayLeave}
-use Rattle.pfx_world.specs.Claims.{IsReceipted, IsOrderly, IsShown, HasSurvived, IsRecovered, IsLater}
-use Rattle.pfx_world.specs.Events.{Event, Ask, Begin, Step, Give, Seal, Abandon, Take, Tend, Device, Publish, Mark, Fail, Receipt, Look}
-use Rattle.pfx_world.specs.Events.{Stop}
-use Rattle.pfx_world.specs.Events.{MayHappen, CanRun, happens, run}
-use Rattle.pfx_world.specs.Setting.{Setting, Settled}
-use Rattle.pfx_world.specs.World.{World, new_world}
+use Rattle.pfx_events_world.specs.Calls.{MayLeave}
+use Rattle.pfx_events_world.specs.Claims.{IsReceipted, IsOrderly, IsShown, HasSurvived, IsRecovered, IsLater}
+use Rattle.pfx_events_world.specs.Events.{Event, Ask, Begin, Step, Give, Seal, Abandon, Take, Tend, Device, Publish, Mark, Fail, Receipt, Look}
+use Rattle.pfx_events_world.specs.Events.{Stop}
+use Rattle.pfx_events_world.specs.Events.{MayHappen, CanRun, happens, run}
+use Rattle.pfx_events_world.specs.Setting.{Setting, Settled}
+use Rattle.pfx_events_world.specs.World.{World, new_world}
 
 -- an event with which the store has nothing to do: none of its acts, no call of its disk and no stop
 abbrev pub IsAside : {J : Type 0} → Event J → Type 0

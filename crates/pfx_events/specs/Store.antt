@@ -1,10 +1,10 @@
 -- The store of the events is this product's: what its file stands for, and the calls of its acts.
-use Rattle.pfx_acts.specs.Files.{IsFile, IsWhole}
-use Rattle.pfx_format.specs.Format.{format}
+use Rattle.pfx_events_acts.specs.Files.{IsFile, IsWhole}
+use Rattle.pfx_store_format.specs.Format.{format}
 use Rattle.pfx_jobs.specs.Kind.{Kind}
 use Rattle.pfx_store.specs.Files.{FileOf, spelled, appending, appended, tending, recovered_file}
 use Rattle.pfx_store_file.specs.Acts.{tended_file}
-use Rattle.pfx_world.specs.Setting.{Setting}
+use Rattle.pfx_events_world.specs.Setting.{Setting}
 -- the frame of a batch after a state
 pub use Rattle.pfx_store.specs.Groups.{frame_of}
 

@@ -3,7 +3,7 @@ use Rattle.std.specs.Prelude.{◌≡◌, ℕ, ◌+◌, List, [], ◌∷◌, ◌+
 use Rattle.pfx_disk.specs.CallsMade.{IsAfter}
 use Rattle.pfx_disk.specs.Disk.{View, IsHonest}
 use Rattle.pfx_disk.specs.Stop.{Act}
-use Rattle.pfx_redo.specs.Recording.{records_of}
+use Rattle.pfx_record_redo.specs.Recording.{records_of}
 use Rattle.pfx_jobs.specs.Kind.{Kind}
 use Rattle.pfx_store.specs.Files.{HasFile}
 use Rattle.pfx_store.specs.Stores.{PlainStore}
@@ -11,8 +11,8 @@ use Rattle.pfx_machine.specs.Plain.{Plain}
 use Rattle.pfx_machine.specs.declared.command.Command.{Command}
 use Rattle.pfx_record.specs.Batches.{PlainBatch}
 use Rattle.pfx_store_file.specs.declared.places.Places.{Places}
-use Rattle.pfx_world.specs.Events.{Event, Device}
-use Rattle.pfx_world.specs.World.{World, state_at}
+use Rattle.pfx_events_world.specs.Events.{Event, Device}
+use Rattle.pfx_events_world.specs.World.{World, state_at}
 use Rattle.pfx_events.specs.Reached.{IsReached}
 use Rattle.pfx_events.specs.Store.{store_of}
 

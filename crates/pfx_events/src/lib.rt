@@ -1,7 +1,7 @@
 //! The theorem over every list of events, of this product's store.
 //!
-//! `specs/Store.antt` says which store the world of events (`pfx_world`) has here: its files are those of the codec in
-//! `pfx_format`, its calls those that `pfx_store` says its own make. `proofs/Sound.antt` proves that this store is sound,
+//! `specs/Store.antt` says which store the world of events (`pfx_events_world`) has here: its files are those of the codec in
+//! `pfx_store_format`, its calls those that `pfx_store` says its own make. `proofs/Sound.antt` proves that this store is sound,
 //! from the laws of the crates below and those of the jobs' kind, and nothing else. So what the world's claims say holds of
 //! it, which is the contract of `laws::crash_prefix`. `tied` has the store's `append`, `append_reweigh`, `tend` and `open`, which say of each
 //! such world that their calls are its events.

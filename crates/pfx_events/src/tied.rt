@@ -15,16 +15,16 @@ ghost use Rattle.pfx_machine.specs.Sessions.{IsAcceptable};
 ghost use Rattle.pfx_machine.specs.declared.command.Command.{Command};
 ghost use Rattle.pfx_record.specs.Batches.{batch_of};
 ghost use Rattle.pfx_record.specs.Records.{plain};
-ghost use Rattle.pfx_world.specs.Claims.{IsNew};
-ghost use Rattle.pfx_world.specs.Events.{Event, Take, Tend, Device, Stop, MayHappen, CanRun, next_of, run};
-ghost use Rattle.pfx_world.specs.World.{World, new_world, state_at};
+ghost use Rattle.pfx_events_world.specs.Claims.{IsNew};
+ghost use Rattle.pfx_events_world.specs.Events.{Event, Take, Tend, Device, Stop, MayHappen, CanRun, next_of, run};
+ghost use Rattle.pfx_events_world.specs.World.{World, new_world, state_at};
 
 use pfx_disk::Disk;
 use pfx_jobs::job::Job;
 use pfx_record::Batch;
-use pfx_recover::OpenFault;
 use pfx_store::{Mark, Renewal, Store};
 use pfx_store_file::{StoreFault, Tended};
+use pfx_store_recover::OpenFault;
 use std::alloc::Global;
 
 /// `Store::append`, in each world whose store this is, if the flusher may take the batch's commands.

@@ -1,8 +1,8 @@
 -- Rows that show what the table and the line mean.
 use Rattle.std.proofs.Common.{◌≡◌, codes, refl}
 use Rattle.std.specs.Fmt.{digits}
-use Rattle.pfx_fault.specs.declared.parts.Part.TheVariants as part
-use Rattle.pfx_fault.specs.declared.parts.Cause.TheVariants as cause
+use Rattle.pfx_fault.specs.declared.fields.Part.TheVariants as part
+use Rattle.pfx_fault.specs.declared.fields.Cause.TheVariants as cause
 use Rattle.pfx_fault.specs.declared.refusals.Fault.TheVariants as fault
 use Rattle.pfx_fault.specs.Refusals.{status_of}
 use Rattle.pfx_fault.specs.Line.{fault_text, fault_line, refused_text}

@@ -1,3 +1,3 @@
-pub mod Parts
+pub mod Fields
 pub mod Refusals
 pub mod Line

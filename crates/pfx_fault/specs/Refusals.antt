@@ -1,7 +1,7 @@
 -- The table of the refusals: the number, the name and the fields of each.
 use Rattle.std.specs.Prelude.{codes, ℕ, nat_le, if◌then◌else◌, List, [], ◌∷◌, ◌++◌}
 use Rattle.std.specs.Fmt.{decimal}
-use Rattle.pfx_fault.specs.Parts.{part_name, cause_name}
+use Rattle.pfx_fault.specs.Fields.{part_name, cause_name}
 use Rattle.pfx_fault.specs.declared.refusals.Fault.{Fault}
 use Rattle.pfx_fault.specs.declared.refusals.Fault.TheVariants as fault
 

@@ -10,10 +10,10 @@
 //! - **Exit statuses tell the kind of a refusal**: 3 for a set or a plan, 5 for memory, 8 for files and output; 2 for words.
 #![tactic(auto)]
 
+mod fields;
 mod line;
-mod parts;
 mod refusals;
 
+pub use fields::{Cause, Part};
 pub use line::put_fault;
-pub use parts::{Cause, Part};
 pub use refusals::{Fault, Refused};

@@ -4,7 +4,7 @@ ghost use Rattle.std.specs.Prelude.{Some, ◌≡◌};
 ghost use Rattle.pfx_fault.specs.Refusals.{refusal, number_of, name_of, status_of};
 ghost use Rattle.pfx_fault.specs.Line.{fields_text, fault_text, refused_text};
 
-use crate::parts::{Cause, Part};
+use crate::fields::{Cause, Part};
 use std::error::Error;
 use std::fmt;
 use std::fmt::{Display, Formatter};

@@ -4,21 +4,21 @@ use Rattle.std.proofs.Common.{◌≡◌, ℕ, ◌+◌, ◌≤◌, List, [], ◌�
 use Rattle.std.proofs.lemmas.Bool.{false≢true}
 use Rattle.std.proofs.lemmas.List.{take-append-le}
 use Rattle.pfx_disk.specs.Disk.{View, IsHonest}
-use Rattle.pfx_fault.specs.declared.parts.Cause.{Cause}
-use Rattle.pfx_fault.specs.declared.parts.Cause.TheVariants.{Device, Memory, Log}
-use Rattle.pfx_format.specs.Format.{format}
+use Rattle.pfx_fault.specs.declared.fields.Cause.{Cause}
+use Rattle.pfx_fault.specs.declared.fields.Cause.TheVariants.{Device, Memory, Log}
+use Rattle.pfx_store_format.specs.Format.{format}
 use Rattle.pfx_jobs.specs.Kind.{Kind}
 use Rattle.pfx_machine.specs.Plain.{Plain}
 use Rattle.pfx_record.specs.declared.batch.Batch.{Batch}
-use Rattle.pfx_recovery.specs.Store.{Replays}
+use Rattle.pfx_store_image.specs.Store.{Replays}
 use Rattle.pfx_record.specs.Batches.{batch_bytes, batch_of}
 use Rattle.pfx_record.specs.Records.{plain}
 use Rattle.pfx_store.specs.Keepers.{Keeps}
 use Rattle.pfx_store.specs.Marks.{AreKept, Covers, IsKept}
 use Rattle.pfx_store.specs.Stores.{PlainStore}
-use Rattle.pfx_store.specs.declared.store.Mark.{Mark}
+use Rattle.pfx_store.specs.declared.appending.Mark.{Mark}
 use Rattle.pfx_store_file.specs.Holding.{Survives}
-use Rattle.pfx_redo.specs.Applying.{applied}
+use Rattle.pfx_record_redo.specs.Applying.{applied}
 use Rattle.pfx_front.specs.Appending.{IsAppended, IsMissed}
 
 abbrev is_memory : Cause → Bool

@@ -3,20 +3,20 @@ use Rattle.std.proofs.Common.{◌≡◌, ◌≢◌, ◌⊎◌, ℕ, zero, suc, �
 use Rattle.std.proofs.lemmas.List.{take-append-drop, length-take-le}
 use Rattle.std.proofs.lemmas.Option.{same_Some}
 use Rattle.pfx_disk.specs.Disk.{View, IsHonest}
-use Rattle.pfx_fault.specs.declared.parts.Cause.{Cause}
+use Rattle.pfx_fault.specs.declared.fields.Cause.{Cause}
 use Rattle.pfx_jobs.specs.Kind.{Kind, Laws}
 use Rattle.pfx_machine.specs.Plain.{Plain, IsState}
 use Rattle.pfx_machine.specs.Outcome.{outcome}
 use Rattle.pfx_machine.specs.Sessions.{AllAccepted, IsAcceptable}
 use Rattle.pfx_machine.specs.declared.command.Command.{Command}
-use Rattle.pfx_redo.specs.Applying.{applied}
-use Rattle.pfx_redo.specs.Recording.{records_of}
-use Rattle.pfx_redo.proofs.Outcomes.{records_outcome}
-use Rattle.pfx_slot.proofs.Placed.{take_own}
+use Rattle.pfx_record_redo.specs.Applying.{applied}
+use Rattle.pfx_record_redo.specs.Recording.{records_of}
+use Rattle.pfx_record_redo.proofs.Outcomes.{records_outcome}
+use Rattle.pfx_book_slot.proofs.Placed.{take_own}
 use Rattle.pfx_store.specs.Groups.{joined, AreSmall}
 use Rattle.pfx_store.specs.Groups as groups
 use Rattle.pfx_store.specs.Marks.{IsKept, AreKept}
-use Rattle.pfx_store.specs.declared.store.Mark.{Mark}
+use Rattle.pfx_store.specs.declared.appending.Mark.{Mark}
 use Rattle.pfx_store.proofs.Grouping.{length-records, records_split, first_frames_lead, to_groups}
 use Rattle.pfx_book.specs.declared.note.Note.{Note}
 use Rattle.pfx_book.specs.declared.note.Note.TheVariants.{Receipt, Marked}
@@ -25,9 +25,9 @@ use Rattle.pfx_book.specs.Notes.{Noted, Backed, AllBacked, records_in}
 use Rattle.pfx_book.specs.Register.{Register}
 use Rattle.pfx_book.proofs.Notes.{number_is, records_more}
 use mathlib.Core.List.{IsPrefix}
-use Rattle.pfx_board.specs.Word.{records_of as records_of_batches}
-use Rattle.pfx_board.proofs.Words.{records_append}
-use Rattle.pfx_redo.proofs.States.{applied_behind}
+use Rattle.pfx_front_board.specs.Word.{records_of as records_of_batches}
+use Rattle.pfx_front_board.proofs.Words.{records_append}
+use Rattle.pfx_record_redo.proofs.States.{applied_behind}
 use Rattle.pfx_record.specs.Records.{Recorded}
 use Rattle.pfx_record.specs.declared.batch.Batch.{Batch}
 use Rattle.pfx_front.specs.Showing.{IsShown}

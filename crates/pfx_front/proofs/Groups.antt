@@ -11,8 +11,8 @@ use Rattle.pfx_machine.proofs.Compose.{outcome-outcome}
 use Rattle.pfx_machine.proofs.Keeping.{prefix_is_state}
 use Rattle.pfx_record.specs.Batches.{batch_bytes}
 use Rattle.pfx_record.specs.Records.{plain}
-use Rattle.pfx_redo.specs.Recording.{records_of}
-use Rattle.pfx_slot.proofs.Placed.{take_own}
+use Rattle.pfx_record_redo.specs.Recording.{records_of}
+use Rattle.pfx_book_slot.proofs.Placed.{take_own}
 use Rattle.pfx_store.specs.Groups.{joined, AreSmall}
 use Rattle.pfx_store.specs.Groups as groups
 use Rattle.pfx_store.proofs.Grouping.{length-records, records_split}

@@ -1,21 +1,21 @@
 -- What marks keep at each moment since they were given.
 use Rattle.std.proofs.Common.{◌≡◌, ◌⊎◌, ◌+◌, ◌≤◌, ℕ, List, [], ◌∷◌, ◌++◌, length, None, Bool, refl, sym, ap, ◌∙◌, subst, arith, inl, inr}
 use Rattle.std.specs.Prelude.{take}
-use Rattle.pfx_board.specs.Word.{records_of as records_of_batches}
+use Rattle.pfx_front_board.specs.Word.{records_of as records_of_batches}
 use Rattle.pfx_book.specs.Notes.{Legal, Noted, commands_of, records_in}
 use Rattle.pfx_book.specs.declared.note.Note.{Note}
 use Rattle.pfx_book.specs.declared.note.Note.TheVariants.{Marked, Took}
 use Rattle.pfx_book.proofs.Notes.{noted_more}
-use Rattle.pfx_chronicle.specs.Chart.{acts_of}
-use Rattle.pfx_chronicle.specs.declared.made.Made.{Made}
+use Rattle.pfx_disk_chronicle.specs.Chart.{acts_of}
+use Rattle.pfx_disk_chronicle.specs.declared.made.Made.{Made}
 use Rattle.pfx_disk.specs.Disk.{View, IsHonest}
 use Rattle.pfx_disk.specs.Stop.{Left}
 use Rattle.pfx_jobs.specs.Kind.{Kind, Laws}
 use Rattle.pfx_machine.specs.Plain.{Plain, IsState}
 use Rattle.pfx_machine.specs.Sessions.{IsAcceptable}
 use Rattle.pfx_record.specs.declared.batch.Batch.{Batch}
-use Rattle.pfx_redo.specs.Recording.{records_of}
-use Rattle.pfx_store.specs.declared.store.Mark.{Mark}
+use Rattle.pfx_record_redo.specs.Recording.{records_of}
+use Rattle.pfx_store.specs.declared.appending.Mark.{Mark}
 use Rattle.pfx_front.specs.Closing.{Acknowledged}
 use Rattle.pfx_front.specs.Keeping.{InStep}
 use Rattle.pfx_front.specs.Lasting.{AreNoted, IsLasting}

@@ -7,7 +7,7 @@ use Rattle.pfx_machine.specs.declared.command.Command.{Command}
 use Rattle.pfx_book.specs.declared.note.Loss.{Loss}
 use Rattle.pfx_book.specs.declared.note.Note.{Note}
 use Rattle.pfx_book.specs.declared.note.Note.TheVariants.{Failed, Lost}
-use Rattle.pfx_fault.specs.declared.parts.Cause.{Cause}
+use Rattle.pfx_fault.specs.declared.fields.Cause.{Cause}
 use Rattle.pfx_book.specs.Kept.{HasFailed}
 use Rattle.pfx_book.specs.Notes.{Noted, answers_of, is_entry, lost_in}
 use Rattle.pfx_book.specs.Calls.{once_lost}

@@ -5,16 +5,16 @@ use Rattle.std.proofs.Common.{◌≡◌, ◌+◌, ◌<◌, ℕ, List, [], ◌∷
 use Rattle.std.proofs.lemmas.Bool.{false≢true}
 use Rattle.std.proofs.lemmas.Option.{none-some, same_Some}
 use Rattle.pfx_disk.specs.Disk.{View, IsHonest, IsSpent}
-use Rattle.pfx_fault.specs.declared.parts.Cause.{Cause}
-use Rattle.pfx_fault.specs.declared.parts.Cause.TheVariants.{Device, Memory, Log}
+use Rattle.pfx_fault.specs.declared.fields.Cause.{Cause}
+use Rattle.pfx_fault.specs.declared.fields.Cause.TheVariants.{Device, Memory, Log}
 use Rattle.pfx_jobs.specs.Kind.{Kind}
 use Rattle.pfx_machine.specs.Plain.{Plain}
 use Rattle.pfx_record.specs.Records.{plain}
 use Rattle.pfx_record.specs.declared.batch.Batch.{Batch}
-use Rattle.pfx_redo.specs.Applying.{applied}
+use Rattle.pfx_record_redo.specs.Applying.{applied}
 use Rattle.pfx_store.specs.Marks.{AreKept, Covers}
 use Rattle.pfx_store.specs.Stores.{PlainStore}
-use Rattle.pfx_store.specs.declared.store.Mark.{Mark}
+use Rattle.pfx_store.specs.declared.appending.Mark.{Mark}
 use Rattle.pfx_front.specs.Appending.{IsAppended, IsMissed, with_frame}
 use Rattle.pfx_front.specs.Lasting.{HasNumber}
 

@@ -4,7 +4,7 @@ use Rattle.std.proofs.Common.{◌≡◌, ◌+◌, ◌≤◌, ℕ, List, [], ◌�
 use Rattle.std.proofs.lemmas.Bool.{false≢true}
 use Rattle.std.proofs.lemmas.List.{length-take-le}
 use Rattle.std.proofs.lemmas.Option.{none-some}
-use Rattle.pfx_board.specs.Word.{records_of as records_of_batches}
+use Rattle.pfx_front_board.specs.Word.{records_of as records_of_batches}
 use Rattle.pfx_book.proofs.Notes.{number_is}
 use Rattle.pfx_book.specs.Merging.{IsMerge, numbers_from}
 use Rattle.pfx_book.specs.Notes.{Legal, commands_of}
@@ -13,21 +13,21 @@ use Rattle.pfx_book.specs.declared.note.Loss.{Loss}
 use Rattle.pfx_book.specs.declared.note.Note.{Note}
 use Rattle.pfx_book.specs.declared.note.Note.TheVariants.{Lost, Marked, Receipt}
 use Rattle.pfx_disk.specs.Disk.{View, IsSpent}
-use Rattle.pfx_fault.specs.declared.parts.Cause.{Cause}
-use Rattle.pfx_fault.specs.declared.parts.Cause.TheVariants.{Device, Memory, Log}
-use Rattle.pfx_header.specs.Headers.{read_header}
+use Rattle.pfx_fault.specs.declared.fields.Cause.{Cause}
+use Rattle.pfx_fault.specs.declared.fields.Cause.TheVariants.{Device, Memory, Log}
+use Rattle.pfx_store_header.specs.Headers.{read_header}
 use Rattle.pfx_jobs.specs.Kind.{Kind}
 use Rattle.pfx_machine.specs.Plain.{Plain}
 use Rattle.pfx_machine.specs.declared.command.Command.{Command}
 use Rattle.pfx_machine.specs.declared.command.Command.TheVariants.{Slot}
 use Rattle.pfx_record.specs.Records.{withdrawn}
 use Rattle.pfx_record.specs.declared.batch.Batch.{Batch}
-use Rattle.pfx_recovery.specs.Recovery.{found, recovered}
-use Rattle.pfx_redo.specs.Recording.{records_of}
+use Rattle.pfx_store_image.specs.Recovery.{found, recovered}
+use Rattle.pfx_record_redo.specs.Recording.{records_of}
 use Rattle.pfx_store.proofs.Grouping.{length-records}
 use Rattle.pfx_front.specs.Closing.{Acknowledged, AreSeen, IsSeen, IsSession, IsShort, IsStored, IsTold, StaysWhole, Survives}
 use Rattle.pfx_front.specs.declared.faults.CloseFault.TheVariants.{PassOut}
-use Rattle.pfx_board.proofs.Refuted.{is_ok}
+use Rattle.pfx_front_board.proofs.Refuted.{is_ok}
 
 -- a client was told of a failure, and the flusher goes on
 told_of_none : (J : Type 0) (loss : Loss) → IsTold {J = J} None loss.marked (1, Lost loss ∷ []) → ⊥

@@ -6,10 +6,10 @@ use Rattle.std.proofs.lemmas.Bool.{false≢true, ltb-true, leb-true}
 use Rattle.std.proofs.lemmas.List.{length-map, append_cancel_right}
 use Rattle.std.proofs.lemmas.Option.{none-some, same_Some}
 use Rattle.pfx_disk.specs.Disk.{View, IsHonest, HasFailed}
-use Rattle.pfx_redo.specs.Applying.{applied, is_right, after_record}
-use Rattle.pfx_redo.proofs.States.{applied_behind}
-use Rattle.pfx_fault.specs.declared.parts.Cause.{Cause}
-use Rattle.pfx_fault.specs.declared.parts.Cause.TheVariants.{Device, Memory, Log}
+use Rattle.pfx_record_redo.specs.Applying.{applied, is_right, after_record}
+use Rattle.pfx_record_redo.proofs.States.{applied_behind}
+use Rattle.pfx_fault.specs.declared.fields.Cause.{Cause}
+use Rattle.pfx_fault.specs.declared.fields.Cause.TheVariants.{Device, Memory, Log}
 use Rattle.pfx_jobs.specs.Kind.{Kind}
 use Rattle.pfx_machine.specs.Plain.{Plain}
 use Rattle.pfx_record.specs.Batches.{batch_bytes, batch_of, batch_fits, counts_fit, all_fit}
@@ -20,15 +20,15 @@ use Rattle.pfx_record.proofs.Rising.{both}
 use Rattle.pfx_store.specs.Keepers.{IsKeeping}
 use Rattle.pfx_store.specs.Marks.{AreKept, Covers}
 use Rattle.pfx_store.specs.Stores.{PlainStore}
-use Rattle.pfx_store.specs.declared.store.Mark.{Mark}
+use Rattle.pfx_store.specs.declared.appending.Mark.{Mark}
 use Rattle.pfx_book.specs.declared.note.Note.{Note}
 use Rattle.pfx_book.specs.declared.note.Note.TheVariants.{Took, Marked, Failed}
 use Rattle.pfx_book.specs.Batching.{MayShare}
 use Rattle.pfx_book.specs.Notes.{IsRested, Noted, records_in, taken_in}
 use Rattle.pfx_book.proofs.Batches.{fits_share}
 use Rattle.pfx_book.proofs.Notes.{noted_more, records_more, rested_marked}
-use Rattle.pfx_board.specs.Word.{records_of}
-use Rattle.pfx_board.proofs.Words.{records_more as records_published}
+use Rattle.pfx_front_board.specs.Word.{records_of}
+use Rattle.pfx_front_board.proofs.Words.{records_more as records_published}
 use Rattle.pfx_front.specs.Showing.{AreShown, IsShown, IsShownBefore}
 use Rattle.pfx_front.specs.Keeping.{frame_in, frames_of, mark_in, marks_of, IsNext, AreCounted, InStep, Behind}
 use Rattle.pfx_front.specs.Working.{IsTaken}

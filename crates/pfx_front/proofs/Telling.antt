@@ -5,16 +5,16 @@ use Rattle.std.proofs.lemmas.Bool.{false≢true}
 use Rattle.std.proofs.lemmas.List.{length-map}
 use Rattle.std.proofs.lemmas.Option.{none-some, same_Some}
 use Rattle.pfx_book.specs.Register.{Register}
-use Rattle.pfx_chronicle.specs.Chart.{Noted, GoesAlong, acts_of, act_of, charted, charted_honest, last_only, noted_view}
-use Rattle.pfx_chronicle.specs.declared.made.Made.{Made}
+use Rattle.pfx_disk_chronicle.specs.Chart.{Noted, GoesAlong, acts_of, act_of, charted, charted_honest, last_only, noted_view}
+use Rattle.pfx_disk_chronicle.specs.declared.made.Made.{Made}
 use Rattle.pfx_disk.specs.Disk.{View, IsHonest, IsSpent}
-use Rattle.pfx_fault.specs.declared.parts.Cause.{Cause}
-use Rattle.pfx_fault.specs.declared.parts.Cause.TheVariants.{Device, Log}
-use Rattle.pfx_format.specs.Format.{format}
+use Rattle.pfx_fault.specs.declared.fields.Cause.{Cause}
+use Rattle.pfx_fault.specs.declared.fields.Cause.TheVariants.{Device, Log}
+use Rattle.pfx_store_format.specs.Format.{format}
 use Rattle.pfx_jobs.specs.Kind.{Kind}
 use Rattle.pfx_machine.specs.Plain.{Plain}
 use Rattle.pfx_machine.specs.declared.command.Command.{Command}
-use Rattle.pfx_recovery.specs.Recovery.{recovered}
+use Rattle.pfx_store_image.specs.Recovery.{recovered}
 use Rattle.pfx_store.specs.Keepers.{failure_of}
 use Rattle.pfx_store.specs.Stores.{PlainStore}
 use Rattle.pfx_store_file.specs.declared.places.Places.{Places}

@@ -1,9 +1,9 @@
 -- What comes of appending a batch that was taken.
 use Rattle.std.specs.Prelude.{◌≡◌, ◌≤◌, ◌+◌, ◌++◌, ℕ, List, [], ◌∷◌, map, Option, None, Some, false}
 use Rattle.pfx_disk.specs.Disk.{View, HasFailed, IsHonest}
-use Rattle.pfx_redo.specs.Applying.{applied}
-use Rattle.pfx_fault.specs.declared.parts.Cause.{Cause}
-use Rattle.pfx_fault.specs.declared.parts.Cause.TheVariants.{Device, Memory, Log}
+use Rattle.pfx_record_redo.specs.Applying.{applied}
+use Rattle.pfx_fault.specs.declared.fields.Cause.{Cause}
+use Rattle.pfx_fault.specs.declared.fields.Cause.TheVariants.{Device, Memory, Log}
 use Rattle.pfx_jobs.specs.Kind.{Kind}
 use Rattle.pfx_machine.specs.Plain.{Plain}
 use Rattle.pfx_record.specs.Batches.{batch_bytes, batch_of}
@@ -11,7 +11,7 @@ use Rattle.pfx_record.specs.Records.{plain}
 use Rattle.pfx_record.specs.declared.batch.Batch.{Batch}
 use Rattle.pfx_store.specs.Marks.{AreKept, Covers}
 use Rattle.pfx_store.specs.Stores.{PlainStore}
-use Rattle.pfx_store.specs.declared.store.Mark.{Mark}
+use Rattle.pfx_store.specs.declared.appending.Mark.{Mark}
 use Rattle.pfx_book.specs.Batching.{real_for}
 
 -- the batch comes next at the state: it has rows of the workers there, says of no task that it is real unless it is of new weights, begins

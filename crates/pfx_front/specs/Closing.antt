@@ -1,18 +1,18 @@
 -- What a front has come to when it is closed.
 use Rattle.std.specs.Prelude.{◌≡◌, ◌≢◌, ◌⊎◌, ◌≤◌, ◌<◌, ℕ, ◌+◌, ◌-◌, List, [], length, map, take, slice_get, Bool, true, false, Option, None, Some, Ok}
 use mathlib.Core.List.{IsPrefix}
-use Rattle.pfx_board.specs.Word.{records_of as records_of_batches}
+use Rattle.pfx_front_board.specs.Word.{records_of as records_of_batches}
 use Rattle.pfx_disk.specs.Disk.{View, IsSpent}
-use Rattle.pfx_redo.specs.Recording.{records_of}
-use Rattle.pfx_fault.specs.declared.parts.Cause.{Cause}
-use Rattle.pfx_fault.specs.declared.parts.Cause.TheVariants.{Device, Memory, Log}
-use Rattle.pfx_format.specs.Format.{format}
+use Rattle.pfx_record_redo.specs.Recording.{records_of}
+use Rattle.pfx_fault.specs.declared.fields.Cause.{Cause}
+use Rattle.pfx_fault.specs.declared.fields.Cause.TheVariants.{Device, Memory, Log}
+use Rattle.pfx_store_format.specs.Format.{format}
 use Rattle.pfx_jobs.specs.Kind.{Kind}
 use Rattle.pfx_machine.specs.Plain.{Plain}
 use Rattle.pfx_machine.specs.Outcome.{outcome}
 use Rattle.pfx_machine.specs.declared.command.Command.{Command}
 use Rattle.pfx_record.specs.declared.batch.Batch.{Batch}
-use Rattle.pfx_recovery.specs.Recovery.{recovered}
+use Rattle.pfx_store_image.specs.Recovery.{recovered}
 use Rattle.pfx_book.specs.declared.note.Loss.{Loss}
 use Rattle.pfx_book.specs.declared.note.Note.{Note}
 use Rattle.pfx_book.specs.declared.note.Note.TheVariants.{Receipt}

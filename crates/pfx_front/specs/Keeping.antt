@@ -1,15 +1,15 @@
 -- A store that keeps what the flusher's notes say.
 use Rattle.std.specs.Prelude.{◌≡◌, ◌⊎◌, ◌≤◌, ◌<◌, ℕ, ◌+◌, List, [], ◌∷◌, ◌++◌, length, map, Option, Some, Bool, false, ⊤}
 use Rattle.pfx_disk.specs.Disk.{View, IsHonest, IsSpent}
-use Rattle.pfx_redo.specs.Applying.{applied}
-use Rattle.pfx_fault.specs.declared.parts.Cause.{Cause}
-use Rattle.pfx_fault.specs.declared.parts.Cause.TheVariants.{Device, Memory, Log}
+use Rattle.pfx_record_redo.specs.Applying.{applied}
+use Rattle.pfx_fault.specs.declared.fields.Cause.{Cause}
+use Rattle.pfx_fault.specs.declared.fields.Cause.TheVariants.{Device, Memory, Log}
 use Rattle.pfx_jobs.specs.Kind.{Kind}
 use Rattle.pfx_machine.specs.Plain.{Plain}
 use Rattle.pfx_record.specs.Batches.{batch_bytes, batch_of}
 use Rattle.pfx_record.specs.Records.{plain}
 use Rattle.pfx_store.specs.Marks.{AreKept, Covers}
-use Rattle.pfx_store.specs.declared.store.Mark.{Mark}
+use Rattle.pfx_store.specs.declared.appending.Mark.{Mark}
 use Rattle.pfx_book.specs.declared.note.Note.{Note}
 use Rattle.pfx_book.specs.declared.note.Note.TheVariants.{Took, Marked, Failed}
 use Rattle.pfx_book.specs.Batching.{MayShare}

@@ -1,19 +1,19 @@
 -- What a list of the disk's calls keeps, whatever comes after it.
 use Rattle.std.specs.Prelude.{◌≡◌, ◌≤◌, ℕ, ◌+◌, List, [], length, take, Option, Some}
-use Rattle.pfx_board.specs.Lasting.{Recovers}
-use Rattle.pfx_board.specs.Word.{records_of as records_of_batches}
+use Rattle.pfx_front_board.specs.Lasting.{Recovers}
+use Rattle.pfx_front_board.specs.Word.{records_of as records_of_batches}
 use Rattle.pfx_book.specs.Notes.{Legal, Noted, commands_of}
 use Rattle.pfx_book.specs.declared.note.Note.{Note}
 use Rattle.pfx_book.specs.declared.note.Note.TheVariants.{Marked}
-use Rattle.pfx_chronicle.specs.Chart.{acts_of}
-use Rattle.pfx_chronicle.specs.declared.made.Made.{Made}
+use Rattle.pfx_disk_chronicle.specs.Chart.{acts_of}
+use Rattle.pfx_disk_chronicle.specs.declared.made.Made.{Made}
 use Rattle.pfx_disk.specs.Stop.{Left}
 use Rattle.pfx_jobs.specs.Kind.{Kind}
 use Rattle.pfx_machine.specs.Plain.{Plain}
 use Rattle.pfx_machine.specs.declared.command.Command.{Command}
 use Rattle.pfx_record.specs.declared.batch.Batch.{Batch}
-use Rattle.pfx_redo.specs.Recording.{records_of}
-use Rattle.pfx_store.specs.declared.store.Mark.{Mark}
+use Rattle.pfx_record_redo.specs.Recording.{records_of}
+use Rattle.pfx_store.specs.declared.appending.Mark.{Mark}
 use Rattle.pfx_front.specs.Closing.{Survives}
 
 module _ {J : Type 0} (K : Kind J) (origin : Plain J) where

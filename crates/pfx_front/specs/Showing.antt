@@ -1,9 +1,9 @@
 -- What is published of what the store has.
 use Rattle.std.specs.Prelude.{◌≡◌, List, ◌++◌, map, Some}
-use Rattle.pfx_board.specs.Word.{records_of}
+use Rattle.pfx_front_board.specs.Word.{records_of}
 use Rattle.pfx_book.specs.declared.note.Note.{Note}
 use Rattle.pfx_book.specs.Notes.{records_in}
-use Rattle.pfx_redo.specs.Applying.{applied}
+use Rattle.pfx_record_redo.specs.Applying.{applied}
 use Rattle.pfx_jobs.specs.Kind.{Kind}
 use Rattle.pfx_machine.specs.Plain.{Plain}
 use Rattle.pfx_record.specs.Records.{plain, Recorded}

@@ -1,10 +1,10 @@
 -- What a front begins with.
 use Rattle.std.specs.Prelude.{◌≡◌, ℕ, List, Bool, false, Ok}
 use Rattle.pfx_disk.specs.Disk.{View, IsHonest, Only}
-use Rattle.pfx_format.specs.Format.{format}
+use Rattle.pfx_store_format.specs.Format.{format}
 use Rattle.pfx_jobs.specs.Kind.{Kind}
 use Rattle.pfx_machine.specs.Plain.{Plain}
-use Rattle.pfx_recovery.specs.Recovery.{recovered}
+use Rattle.pfx_store_image.specs.Recovery.{recovered}
 use Rattle.pfx_store.specs.Noting.{IsHeldBy}
 use Rattle.pfx_store.specs.Stores.{PlainStore}
 

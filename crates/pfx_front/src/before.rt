@@ -1,10 +1,10 @@
 //! How often the disk had failed when a front began.
 ghost use Rattle.std.specs.Prelude.{◌≡◌, ◌⊎◌, ◌<◌, IsTrue, Some};
 ghost use Rattle.pfx_disk.specs.Disk.{IsSpent};
-ghost use Rattle.pfx_fault.specs.declared.parts.Cause.TheVariants.{Device};
+ghost use Rattle.pfx_fault.specs.declared.fields.Cause.TheVariants.{Device};
 
-use pfx_chronicle::name::Charted;
 use pfx_disk::Disk;
+use pfx_disk_chronicle::name::Charted;
 use pfx_fault::Cause;
 use std::marker::{Model, PhantomData};
 

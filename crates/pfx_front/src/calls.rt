@@ -8,9 +8,9 @@
 //! - **A result that never comes is made by the caller.** If the desk is closed or a worker is gone, `missing` gives the quantum again
 //!   and the calling thread runs it; a second result of the same quantum is refused by the book, and dropped.
 ghost use Rattle.std.specs.Prelude.{◌≡◌, ◌<◌, ◌≤◌, ◌+◌, ℕ, [], length, IfOk, IfErr, IfSome, IfNone, OnOk, Some, None, false, IsTrue};
-ghost use Rattle.pfx_fault.specs.declared.parts.Cause.{Cause};
+ghost use Rattle.pfx_fault.specs.declared.fields.Cause.{Cause};
 ghost use Rattle.pfx_machine.specs.declared.command.Command.TheVariants.{Slot};
-ghost use Rattle.pfx_world.specs.Session.{IsQuick, asked};
+ghost use Rattle.pfx_events_world.specs.Session.{IsQuick, asked};
 ghost use Rattle.pfx_book.specs.Calls.{IsAccepted, noted};
 ghost use Rattle.pfx_book.specs.Notes.{greatest};
 ghost use Rattle.pfx_book.specs.Register.{HasRoom};

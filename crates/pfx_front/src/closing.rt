@@ -8,9 +8,9 @@
 //! - **Readers are asked once more by `close`**, which tells each of the last publication; one that looked has seen a prefix of the
 //!   commands, which the store has. Room for their answers is taken at the start, so a close takes no memory.
 ghost use Rattle.std.specs.Prelude.{◌≡◌, ◌≢◌, ◌+◌, ◌-◌, [], length, map, Some, true, false, IfOk, IfErr, IfSome, IfNone, IsTrue, IsPermutation};
-ghost use Rattle.pfx_chronicle.specs.Chart.{noted_view};
+ghost use Rattle.pfx_disk_chronicle.specs.Chart.{noted_view};
 ghost use Rattle.pfx_disk.specs.Disk.{IsHonest};
-ghost use Rattle.pfx_fault.specs.declared.parts.Cause.TheVariants.{Memory, Log};
+ghost use Rattle.pfx_fault.specs.declared.fields.Cause.TheVariants.{Memory, Log};
 ghost use Rattle.pfx_book.specs.Merging.{numbers_from};
 ghost use Rattle.pfx_front.specs.Closing.{IsTold, AreTold, AreLooked, AreSeen, IsSession, IsShort, IsStored, IsHeld, StaysWhole};
 ghost use Rattle.pfx_front.specs.Keeping.{Behind};
@@ -25,15 +25,15 @@ use crate::flusher::Flushed;
 use crate::monitor::Monitor;
 use crate::name::Since;
 use crate::start::{Crew, Hands, KeptCrew, dismiss};
-use pfx_board::publisher::Publisher;
-use pfx_board::reader::Reader;
-use pfx_board::shown::Shown;
-use pfx_board::word::Word;
 use pfx_book::book::{Book, Pass, Share};
-use pfx_chronicle::chronicle::Chronicle;
 use pfx_crew::desk::Desk;
 use pfx_disk::Disk;
+use pfx_disk_chronicle::chronicle::Chronicle;
 use pfx_fault::Cause;
+use pfx_front_board::publisher::Publisher;
+use pfx_front_board::reader::Reader;
+use pfx_front_board::shown::Shown;
+use pfx_front_board::word::Word;
 use pfx_jobs::job::Job;
 use pfx_jobs::quantum::{Done, Quantum};
 use pfx_store::{Keeper, Store};

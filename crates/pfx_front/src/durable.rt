@@ -4,23 +4,23 @@
 //! holds whatever happens later, and whether or not the front is ever closed.
 ghost use Rattle.std.specs.Prelude.{◌≡◌, ◌≤◌, ◌+◌, ◌++◌, ℕ, List, [], length, take, Some, None, false, IfSome, IsTrue};
 ghost use mathlib.Core.List.{IsPrefix};
-ghost use Rattle.pfx_board.specs.Lasting.{IsDurable};
-ghost use Rattle.pfx_board.specs.Word.{records_of};
-ghost use Rattle.pfx_chronicle.specs.Chart.{acts_of};
+ghost use Rattle.pfx_front_board.specs.Lasting.{IsDurable};
+ghost use Rattle.pfx_front_board.specs.Word.{records_of};
+ghost use Rattle.pfx_disk_chronicle.specs.Chart.{acts_of};
 ghost use Rattle.pfx_disk.specs.Disk.{IsHonest};
 ghost use Rattle.pfx_disk.specs.Stop.{Left};
 ghost use Rattle.pfx_record.specs.declared.batch.Batch.{Batch};
-ghost use Rattle.pfx_redo.specs.Applying.{applied};
+ghost use Rattle.pfx_record_redo.specs.Applying.{applied};
 ghost use Rattle.pfx_book.specs.Notes.{Noted};
 ghost use Rattle.pfx_front.specs.Lasting.{AreAccepted, HoldsFrom, IsAcknowledged, IsLast, IsLasting};
 
 use crate::marking::Marked;
 use crate::name::Since;
-use pfx_board::receipt::Receipt;
-use pfx_board::word::Word;
-use pfx_chronicle::chronicle::Logged;
-use pfx_chronicle::list::Moment;
 use pfx_disk::Disk;
+use pfx_disk_chronicle::chronicle::Logged;
+use pfx_disk_chronicle::list::Moment;
+use pfx_front_board::receipt::Receipt;
+use pfx_front_board::word::Word;
 use pfx_jobs::job::Job;
 use pfx_store::{Mark, Store};
 

@@ -9,10 +9,10 @@
 //!   tests rather than keeps as an invariant of the lock: nothing of the book's needs to be proved anew at each call for it. If memory is
 //!   refused for the board, the flusher gives up, with the batch in the store and not marked.
 ghost use Rattle.std.specs.Prelude.{◌≡◌, ◌≤◌, ◌+◌, [], ◌∷◌, ◌++◌, length, IsTrue, IfSome, IfNone, Some, None, false, vec_capacity};
-ghost use Rattle.pfx_board.specs.Word.{records_of};
-ghost use Rattle.pfx_redo.specs.Applying.{applied};
-ghost use Rattle.pfx_fault.specs.declared.parts.Cause.TheVariants.{Memory};
-ghost use Rattle.pfx_fault.specs.declared.parts.Cause.{Cause};
+ghost use Rattle.pfx_front_board.specs.Word.{records_of};
+ghost use Rattle.pfx_record_redo.specs.Applying.{applied};
+ghost use Rattle.pfx_fault.specs.declared.fields.Cause.TheVariants.{Memory};
+ghost use Rattle.pfx_fault.specs.declared.fields.Cause.{Cause};
 ghost use Rattle.pfx_book.specs.Notes.{IsRested, Noted, records_in};
 ghost use Rattle.pfx_book.specs.declared.note.Note.TheVariants.{Marked, Failed};
 ghost use Rattle.pfx_front.specs.Keeping.{InStep, Behind};
@@ -27,13 +27,13 @@ use crate::marking::Marking;
 use crate::monitor::Monitor;
 use crate::name::Since;
 use left_right::Absorb;
-use pfx_board::publisher::BoardWriter;
-use pfx_board::shown::Shown;
-use pfx_board::word::Word;
 use pfx_book::book::{Book, Share};
-use pfx_chronicle::chronicle::Logged;
 use pfx_disk::Disk;
+use pfx_disk_chronicle::chronicle::Logged;
 use pfx_fault::Cause;
+use pfx_front_board::publisher::BoardWriter;
+use pfx_front_board::shown::Shown;
+use pfx_front_board::word::Word;
 use pfx_jobs::job::Job;
 use pfx_record::{Batch, Record};
 use pfx_store::{Keeper, Mark, Store};
@@ -70,7 +70,7 @@ impl<
     R: Wait + Drop,
 > Model for Flusher<J, B, D, S, T, R> {
     ghost use Rattle.std.specs.Prelude.{◌≡◌, ◌≤◌, List, [], None, vec_capacity};
-    ghost use Rattle.pfx_board.specs.Publisher.{Published};
+    ghost use Rattle.pfx_front_board.specs.Publisher.{Published};
     ghost use Rattle.pfx_book.specs.declared.note.Note.{Note};
     ghost use Rattle.pfx_front.specs.Keeping.{InStep};
     ghost use Rattle.pfx_front.specs.Lasting.{AreNoted};
@@ -112,7 +112,7 @@ impl<
     R: Wait + Drop,
 > Model for Flushed<J, B, D, S, T, R> {
     ghost use Rattle.std.specs.Prelude.{List};
-    ghost use Rattle.pfx_board.specs.Publisher.{Published};
+    ghost use Rattle.pfx_front_board.specs.Publisher.{Published};
     ghost use Rattle.pfx_book.specs.declared.note.Note.{Note};
     ghost use Rattle.pfx_front.specs.Keeping.{Behind};
     ghost use Rattle.pfx_front.specs.Showing.{IsShown};

@@ -42,7 +42,7 @@ where
     Marks<J, B>: Naming,
 {
     ghost use Rattle.std.specs.Prelude.{List};
-    ghost use Rattle.pfx_store.specs.declared.store.Mark.{Mark};
+    ghost use Rattle.pfx_store.specs.declared.appending.Mark.{Mark};
 
     ghost Value = { List Mark };
 

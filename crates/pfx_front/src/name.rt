@@ -5,11 +5,11 @@
 //!   has a prefix of the commands, and that a front which answered that the device had failed did see it fail.
 ghost use Rattle.std.specs.Prelude.{◌≡◌};
 
-use pfx_board::name::Begun;
 use pfx_book::name::Named;
 use pfx_book::note::Note;
-use pfx_chronicle::list;
-use pfx_chronicle::name::Charted;
+use pfx_disk_chronicle::list;
+use pfx_disk_chronicle::name::Charted;
+use pfx_front_board::name::Begun;
 use pfx_jobs::job::Job;
 use pfx_record::Batch;
 use pfx_store::Mark;

@@ -8,11 +8,11 @@
 //!   is part of the front's name: of a disk that is honest it follows, and of a file it is that it held some bytes that stand for the
 //!   store.
 ghost use Rattle.std.specs.Prelude.{◌≡◌, ◌<◌, ◌≤◌, ◌∷◌, [], replicate, Some, None, false, IfOk, IfErr, IsTrue, vec_len, vec_capacity};
-ghost use Rattle.pfx_board.specs.Word.{records_of};
-ghost use Rattle.pfx_chronicle.specs.Chart.{noted_view};
+ghost use Rattle.pfx_front_board.specs.Word.{records_of};
+ghost use Rattle.pfx_disk_chronicle.specs.Chart.{noted_view};
 ghost use Rattle.pfx_book.specs.declared.note.Note.TheVariants.{Marked};
 ghost use Rattle.pfx_front.specs.Starting.{Begins, IsFresh};
-ghost use Rattle.pfx_redo.specs.Applying.{applied};
+ghost use Rattle.pfx_record_redo.specs.Applying.{applied};
 
 use crate::before::Before;
 use crate::calls::{Front, Shared};
@@ -23,16 +23,16 @@ use crate::marking::Marking;
 use crate::monitor::Monitor;
 use crate::name::{Lists, Names, Since};
 use left_right::Absorb;
-use pfx_board::publisher::{BoardWriter, Publisher};
-use pfx_board::reader::Reader;
-use pfx_board::shown::Shown;
-use pfx_board::word::Word;
 use pfx_book::book::{Book, Share};
 use pfx_book::note::Note;
-use pfx_chronicle::chronicle::{Chronicle, Logged};
 use pfx_crew::desk::Desk;
 use pfx_crew::work::worker;
 use pfx_disk::Disk;
+use pfx_disk_chronicle::chronicle::{Chronicle, Logged};
+use pfx_front_board::publisher::{BoardWriter, Publisher};
+use pfx_front_board::reader::Reader;
+use pfx_front_board::shown::Shown;
+use pfx_front_board::word::Word;
 use pfx_jobs::job::Job;
 use pfx_jobs::quantum::{Done, Quantum};
 use pfx_record::{Batch, Record};

@@ -20,7 +20,7 @@ use Rattle.pfx_machine.specs.declared.command.Command.{Command}
 use Rattle.pfx_machine.specs.declared.command.Reply.{Reply}
 use Rattle.pfx_machine.specs.declared.faults.MachineFault.{MachineFault}
 use Rattle.pfx_machine.specs.declared.faults.MachineFault.TheVariants.{NoRow}
-use Rattle.pfx_engine.specs.Promises.{IsEngineFault}
+use Rattle.pfx_store_engine.specs.Promises.{IsEngineFault}
 use Rattle.pfx_front_engine.specs.Asking.{IsAnswered, IsFrontFault, IsReason, IsUnanswered, MayEndRun, why_machine, why_of}
 use Rattle.pfx_front_engine.proofs.Notes.{alone_more, answered, commands_are, greatest_same_answers, known_last, refused, session_full, stays_as, stays_with, tagged}
 use Rattle.pfx_front_engine.specs.Keeping.{KeepsBy}

@@ -13,12 +13,12 @@ use Rattle.pfx_machine.specs.declared.command.Command.{Command}
 use Rattle.pfx_machine.specs.declared.command.Command.TheVariants.{Slot}
 use Rattle.pfx_machine.specs.declared.command.Reply.{Reply}
 use Rattle.pfx_machine.specs.declared.faults.MachineFault.{MachineFault}
-use Rattle.pfx_engine.proofs.Sharing.{accepted_err, accepted_ok, told_err, told_ok}
-use Rattle.pfx_engine.proofs.Slots.{answered_more, length_slots, slots_more}
-use Rattle.pfx_engine.specs.Promises.{Promise, AreAnswered, AreDone, AreInDoubt, AreLeftBy, AreNotDone, IsDone, IsInDoubt, IsLeftBy, IsNotDone, IsSame, Shows, slots_for}
-use Rattle.pfx_engine.specs.Sharing.{AreAllDone, AreAllLeft, Told, accepted_of}
-use Rattle.pfx_engine.specs.declared.engine.CallFault.{CallFault}
-use Rattle.pfx_engine.specs.declared.engine.CallFault.TheVariants as callfault
+use Rattle.pfx_store_engine.proofs.Sharing.{accepted_err, accepted_ok, told_err, told_ok}
+use Rattle.pfx_store_engine.proofs.Slots.{answered_more, length_slots, slots_more}
+use Rattle.pfx_store_engine.specs.Promises.{Promise, AreAnswered, AreDone, AreInDoubt, AreLeftBy, AreNotDone, IsDone, IsInDoubt, IsLeftBy, IsNotDone, IsSame, Shows, slots_for}
+use Rattle.pfx_store_engine.specs.Sharing.{AreAllDone, AreAllLeft, Told, accepted_of}
+use Rattle.pfx_store_engine.specs.declared.engine.CallFault.{CallFault}
+use Rattle.pfx_store_engine.specs.declared.engine.CallFault.TheVariants as callfault
 use Rattle.pfx_front_engine.proofs.Answering.{engine_fault}
 use Rattle.pfx_front_engine.proofs.Notes.{all_kept, grown, more_by, settled_stays, state_is}
 use Rattle.pfx_front_engine.specs.Asking.{AreAllAsked, AreAsked, AreSomeAsked, IsAnswered, IsFrontFault, IsUnanswered, MayEndRun}

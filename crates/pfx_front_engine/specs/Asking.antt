@@ -5,8 +5,8 @@ use Rattle.pfx_book.specs.Notes.{alone, commands_of, greatest, lost_in}
 use Rattle.pfx_book.specs.declared.faults.BookFault.TheVariants as book
 use Rattle.pfx_book.specs.declared.note.Note.{Note}
 use Rattle.pfx_book.specs.declared.note.Note.TheVariants.{Accepted}
-use Rattle.pfx_fault.specs.declared.parts.Cause.{Cause}
-use Rattle.pfx_fault.specs.declared.parts.Cause.TheVariants.{Memory}
+use Rattle.pfx_fault.specs.declared.fields.Cause.{Cause}
+use Rattle.pfx_fault.specs.declared.fields.Cause.TheVariants.{Memory}
 use Rattle.pfx_fault.specs.declared.refusals.Fault.{Fault}
 use Rattle.pfx_fault.specs.declared.refusals.Fault.TheVariants as fault
 use Rattle.pfx_front.specs.Sole.{state_of}
@@ -18,10 +18,10 @@ use Rattle.pfx_machine.specs.declared.command.Command.{Command}
 use Rattle.pfx_machine.specs.declared.command.Reply.{Reply}
 use Rattle.pfx_machine.specs.declared.faults.MachineFault.{MachineFault}
 use Rattle.pfx_machine.specs.declared.faults.MachineFault.TheVariants.{NoRow}
-use Rattle.pfx_engine.specs.Promises.{AreAnswered, slots_for}
-use Rattle.pfx_engine.specs.Sharing.{AreTold, Told, accepted_of}
-use Rattle.pfx_engine.specs.declared.engine.CallFault.{CallFault}
-use Rattle.pfx_engine.specs.declared.engine.CallFault.TheVariants as callfault
+use Rattle.pfx_store_engine.specs.Promises.{AreAnswered, slots_for}
+use Rattle.pfx_store_engine.specs.Sharing.{AreTold, Told, accepted_of}
+use Rattle.pfx_store_engine.specs.declared.engine.CallFault.{CallFault}
+use Rattle.pfx_store_engine.specs.declared.engine.CallFault.TheVariants as callfault
 use Rattle.pfx_front_engine.specs.Keeping.{HasReceipt, KeepsBy}
 use Rattle.pfx_jobs.specs.Kind.{Kind}
 

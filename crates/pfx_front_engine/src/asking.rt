@@ -9,7 +9,6 @@ use crate::client::Client;
 use pfx_book::faults::BookFault;
 use pfx_choice::ChoiceFault;
 use pfx_crew::desk::Desk;
-use pfx_engine::{CallFault, Told};
 use pfx_fault::{Cause, Fault};
 use pfx_front::calls::Front;
 use pfx_front::faults::CallFault as FrontFault;
@@ -18,6 +17,7 @@ use pfx_front::sole::Heard;
 use pfx_jobs::job::Job;
 use pfx_jobs::quantum::{Done, Quantum};
 use pfx_machine::{Board, Command, MachineFault, Reply, State};
+use pfx_store_engine::{CallFault, Told};
 use std::alloc::{AllocError, Global};
 use std::sync::Wait;
 

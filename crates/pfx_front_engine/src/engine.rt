@@ -1,8 +1,8 @@
 //! The engine.
 ghost use Rattle.std.specs.Prelude.{◌≡◌, ◌≢◌, ◌≤◌, [], length, IfOk, IfErr, OnOk, OnErr};
 ghost use Rattle.pfx_front.specs.Sole.{state_of};
-ghost use Rattle.pfx_engine.specs.Promises.{Promise, Laws, AreAnswered, AreDone, AreNotDone, IsDone, IsNotDone, IsSame, IsEngineFault, Shows, slots_for};
-ghost use Rattle.pfx_engine.specs.Sharing.{AreChanges, AreAllDone, AreAllLeft};
+ghost use Rattle.pfx_store_engine.specs.Promises.{Promise, Laws, AreAnswered, AreDone, AreNotDone, IsDone, IsNotDone, IsSame, IsEngineFault, Shows, slots_for};
+ghost use Rattle.pfx_store_engine.specs.Sharing.{AreChanges, AreAllDone, AreAllLeft};
 ghost use Rattle.pfx_front_engine.specs.Asking.{AreAllAsked, AreAsked, AreSomeAsked, IsAnswered, IsUnanswered, MayEndRun};
 ghost use Rattle.pfx_front_engine.specs.Keeping.{IsSettled, KeepsBy};
 ghost use Rattle.pfx_front_engine.specs.KeepingLaws.{keeps_none, keeps_more, keeps_fewer};
@@ -10,13 +10,13 @@ ghost use Rattle.pfx_front_engine.specs.KeepingLaws.{keeps_none, keeps_more, kee
 use crate::asking::{ask, ask_all, ask_slots, board, settle, state};
 use crate::client::Client;
 use pfx_crew::desk::Desk;
-use pfx_engine::{CallFault, Engine, Place, Told, place_of};
 use pfx_fault::Fault;
 use pfx_front::calls::Front;
 use pfx_front::name::Since;
 use pfx_jobs::job::Job;
 use pfx_jobs::quantum::{Done, Quantum};
 use pfx_machine::{Board, Command, Reply, State};
+use pfx_store_engine::{CallFault, Engine, Place, Told, place_of};
 use std::alloc::Global;
 use std::sync::Wait;
 

@@ -14,7 +14,7 @@
 //!   those of `pfx_c`, a static library, on which no crate can depend. Checks are plain functions to `bool`, since an `assert_eq!` or a
 //!   `?` into a test's failure costs seconds of proof.
 //! - **What a trial does is generic over a trait without contracts**: `Service` is a front, or a book, as its clients see it, `Engine`
-//!   and `Stopped` a store's engine and its disk on one thread (`pfx_trial_stops`). The methods of one impl hold the real types, and what
+//!   and `Stopped` a store's engine and its disk on one thread (`pfx_trial_front_stops`). The methods of one impl hold the real types, and what
 //!   these promise ends there. A run over the real types pays for their facts on each path out of a loop or a function: the loop that
 //!   folds a run's commands took some 40 seconds of proof, and takes some 10 where a function of its own drops the promise of
 //!   `plain_state` and another is the loop's body.

@@ -10,8 +10,8 @@ use Rattle.pfx_kinds.specs.declared.own.Own as own_type
 use Rattle.pfx_kinds.specs.declared.units.Unit.{Unit}
 use Rattle.pfx_machine.specs.Plain.{Plain}
 use Rattle.pfx_program.specs.Grants.{counted, counted_at, counted_by, counted_from, is_next, is_taken_by, granted}
-use Rattle.pfx_engine.specs.Promises.{IsPlace}
-use Rattle.pfx_engine.specs.declared.place.Place.{Place}
+use Rattle.pfx_store_engine.specs.Promises.{IsPlace}
+use Rattle.pfx_store_engine.specs.declared.place.Place.{Place}
 
 unit_from : (from : ℕ) (job : own_type.Own) → from < 2 ^ 40 → unit_of (Own (own_from from job)) ≡ Some (record { since = from; number = job.answered })
 unit_from from job early =

@@ -32,9 +32,9 @@ use Rattle.pfx_machine.proofs.Keeping.{below_limit}
 use Rattle.pfx_machine.proofs.Snoc.{outcome-snoc}
 use Rattle.pfx_fault.specs.declared.refusals.Fault.{Fault}
 use Rattle.pfx_fault.specs.declared.refusals.Fault.TheVariants as fault
-use Rattle.pfx_script.specs.Records.{Fields}
-use Rattle.pfx_script.specs.Verbs.{Said, submit, slot, withdraw, settle, status, show, reweigh, verb_of}
-use Rattle.pfx_script.specs.Weights.{said_weights}
+use Rattle.pfx_program_script.specs.Records.{Fields}
+use Rattle.pfx_program_script.specs.Verbs.{Said, submit, slot, withdraw, settle, status, show, reweigh, verb_of}
+use Rattle.pfx_program_script.specs.Weights.{said_weights}
 use Rattle.pfx_kinds.specs.Units.{unit_of, last_by, count_in, is_behind, is_taken}
 use Rattle.pfx_kinds.specs.declared.units.Unit.{Unit}
 use Rattle.pfx_program.specs.Grants.{last_at, counted, granted, is_next, last_of, AreGranted, FollowsAt, Follows, AllFollow, with_unit, units_of, KeepsAnswers, CountUp}

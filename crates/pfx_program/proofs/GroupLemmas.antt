@@ -25,8 +25,8 @@ use Rattle.pfx_machine.specs.declared.command.Reply.{Reply}
 use Rattle.pfx_machine.specs.declared.faults.MachineFault.{MachineFault}
 use Rattle.pfx_machine.proofs.Compose.{outcome-none, outcome-outcome}
 use Rattle.pfx_machine.proofs.Snoc.{outcome-snoc}
-use Rattle.pfx_script.specs.Records.{Fields, Records, Takes}
-use Rattle.pfx_script.specs.Verbs.{submit, withdraw, verb_of}
+use Rattle.pfx_program_script.specs.Records.{Fields, Records, Takes}
+use Rattle.pfx_program_script.specs.Verbs.{submit, withdraw, verb_of}
 use Rattle.pfx_program.specs.declared.form.Form.{Form}
 use Rattle.pfx_program.specs.declared.groups.Joining.{Joining}
 use Rattle.pfx_program.specs.declared.groups.Joining.TheVariants as joining
@@ -34,14 +34,14 @@ use Rattle.pfx_program.specs.Answers.{reply_line}
 use Rattle.pfx_program.specs.Faults.{fault_of_machine}
 use Rattle.pfx_program.specs.Grants.{counted, counted_at, is_next, granted}
 use Rattle.pfx_program.specs.Groups.{Avoid, Gathers, IsGiven, IsJoining, Joins, ToldFail, behind_group, group_refusals, group_steps, run_at, told_count, told_line, told_refusals, told_text, touches}
-use Rattle.pfx_engine.specs.Promises.{Promise, Laws, IsEngineFault, IsSame}
+use Rattle.pfx_store_engine.specs.Promises.{Promise, Laws, IsEngineFault, IsSame}
 use Rattle.pfx_program.specs.Running.{run_of, Carried, Halts, LineFails, Stopped}
 use Rattle.pfx_program.specs.Reports.{IsAdded, first_of}
 use Rattle.pfx_program.specs.Script.{Run, Step, after, answered, carried, command_step, commands_of, course_from, job_by, moved, noted, refusal_of, refused, text_of, with_command}
 use Rattle.pfx_program.specs.declared.report.RefusedRecord.{RefusedRecord}
 use Rattle.pfx_program.specs.declared.report.Report.{Report}
 use Rattle.std.specs.Option.{option_or}
-use Rattle.pfx_engine.specs.Sharing.{AreChanges, IsChange, AreAllDone, AreAllLeft, AreTold, Told, accepted_of}
+use Rattle.pfx_store_engine.specs.Sharing.{AreChanges, IsChange, AreAllDone, AreAllLeft, AreTold, Told, accepted_of}
 use Rattle.pfx_program.proofs.Appends.{appends-kept}
 use Rattle.pfx_program.proofs.Granting.{get_step}
 use Rattle.pfx_program.proofs.RunLemmas.{after_after, first_append, from_verb}

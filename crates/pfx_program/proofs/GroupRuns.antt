@@ -3,7 +3,7 @@ use Rattle.std.proofs.Common.{◌≡◌, ◌⊎◌, ◌≤◌, ℕ, suc, ◌+◌
 use Rattle.std.specs.Prelude.{IfSome}
 use Rattle.pfx_fault.specs.declared.refusals.Fault.{Fault}
 use Rattle.pfx_machine.specs.Plain.{Plain}
-use Rattle.pfx_script.specs.Records.{Fields, Records, ReadFails, Takes}
+use Rattle.pfx_program_script.specs.Records.{Fields, Records, ReadFails, Takes}
 use Rattle.pfx_kinds.specs.declared.any.AnyJob.{AnyJob}
 use Rattle.pfx_machine.specs.declared.command.Command.{Command}
 use Rattle.pfx_program.specs.declared.form.Form.{Form}
@@ -11,7 +11,7 @@ use Rattle.pfx_program.specs.declared.groups.Behind.{Behind}
 use Rattle.pfx_program.specs.declared.groups.Behind.TheVariants as left
 use Rattle.pfx_program.specs.Groups.{Gathers, IsBehind, IsStill, behind_group, group_refusals, group_steps}
 use Rattle.pfx_program.specs.OneRecord.{RowDone, RowFails}
-use Rattle.pfx_engine.specs.Promises.{Promise, Laws, IsEngineFault, IsSame}
+use Rattle.pfx_store_engine.specs.Promises.{Promise, Laws, IsEngineFault, IsSame}
 use Rattle.pfx_program.specs.Running.{run_of, Carried, Ends, Runs, Stopped}
 use Rattle.std.specs.Option.{option_or}
 use Rattle.pfx_program.specs.Answers.{closed_line}

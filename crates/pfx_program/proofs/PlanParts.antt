@@ -5,7 +5,7 @@ use Rattle.pfx_columns.specs.Ledgers.{Ledger, IsLedger, after}
 use Rattle.pfx_choice.specs.PfRows.{chosen}
 use Rattle.pfx_choice.specs.declared.faults.ChoiceFault.{ChoiceFault}
 use Rattle.pfx_machine.proofs.Keeping.{chosen_is, ledger_after_row}
-use Rattle.pfx_set_file.specs.SetFile.{FileTask}
+use Rattle.pfx_program_set.specs.SetFile.{FileTask}
 use Rattle.pfx_program.specs.declared.form.Form.{Form}
 use Rattle.pfx_program.specs.Leaving.{left, ledger_text}
 use Rattle.pfx_program.specs.Ledger.{Begins}

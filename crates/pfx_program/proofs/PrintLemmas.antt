@@ -6,20 +6,20 @@ use Rattle.pfx_machine.specs.Plain.{Plain}
 use Rattle.pfx_machine.specs.declared.command.Command.{Command}
 use Rattle.pfx_machine.specs.declared.command.Reply.{Reply}
 use Rattle.pfx_kinds.specs.declared.any.AnyJob.{AnyJob}
-use Rattle.pfx_script.specs.Records.{Fields, Records, Takes}
-use Rattle.pfx_script.specs.Verbs.{Said, verb_of}
+use Rattle.pfx_program_script.specs.Records.{Fields, Records, Takes}
+use Rattle.pfx_program_script.specs.Verbs.{Said, verb_of}
 use Rattle.pfx_program.specs.declared.form.Form.{Form}
 use Rattle.pfx_program.specs.Answers.{closed_line}
 use Rattle.pfx_program.specs.Groups.{Gathers, behind_group, group_steps, told_line, told_text}
 use Rattle.pfx_program.specs.Printing.{MayPrint, MayRun, MayTell, Rule, line_of, lines_of}
-use Rattle.pfx_engine.specs.Promises.{Promise, Laws, IsSame, slots_for}
+use Rattle.pfx_store_engine.specs.Promises.{Promise, Laws, IsSame, slots_for}
 use Rattle.pfx_program.specs.Running.{run_of, ran_step, ran_steps, Carried}
 use Rattle.pfx_fault.specs.declared.refusals.Fault.{Fault}
 use Rattle.pfx_program.specs.Script.{Run, Step, after, at_start, commands_of, course_from, moved, refusal_of, shown, silent, taken, text_of, verb_steps}
 use Rattle.pfx_program.specs.declared.report.AtRefusal.{AtRefusal}
 use Rattle.pfx_program.specs.declared.report.AtRefusal.TheVariants.{GoOn, End}
 use Rattle.pfx_program.specs.declared.report.Report.{Report}
-use Rattle.pfx_engine.specs.Sharing.{AreTold, Told, accepted_of}
+use Rattle.pfx_store_engine.specs.Sharing.{AreTold, Told, accepted_of}
 use Rattle.pfx_program.proofs.Appends.{appends-nothing}
 use Rattle.pfx_program.proofs.GroupLemmas.{step_line, told_commands, told_group, told_split, told_step, told_steps}
 use Rattle.pfx_program.proofs.GroupRuns.{MayShare, progress_same, taken_group}

@@ -8,11 +8,11 @@ use Rattle.pfx_machine.specs.Plain.{Plain}
 use Rattle.pfx_machine.specs.declared.command.Command.{Command}
 use Rattle.pfx_machine.specs.declared.command.Command.TheVariants.{Slot}
 use Rattle.pfx_program.specs.Printing.{MayPrint, MayRun, MayTell, Rule}
-use Rattle.pfx_engine.specs.Promises.{Promise}
+use Rattle.pfx_store_engine.specs.Promises.{Promise}
 use Rattle.pfx_program.specs.Script.{Step, carried, course_from, taken, with_command}
 use Rattle.pfx_program.specs.declared.form.Form.{Form}
 use Rattle.pfx_program.specs.declared.report.AtRefusal.{AtRefusal}
-use Rattle.pfx_script.specs.Records.{Fields, Records}
+use Rattle.pfx_program_script.specs.Records.{Fields, Records}
 
 -- a Slot that prints one byte
 abbrev pub slot : Step

@@ -15,7 +15,7 @@ use Rattle.std.proofs.lemmas.Str.Parse.{digit_at, tells_digits, tells_all_ascii_
 use Rattle.std.proofs.Math.Seq.{get_or-append_seam}
 use Rattle.pfx_columns.specs.Ledgers.{Ledger, IsLedger}
 use Rattle.pfx_columns.proofs.Steps.{fair_below}
-use Rattle.pfx_decimal.specs.Numerals.{number_in}
+use Rattle.pfx_kinds_decimal.specs.Numerals.{number_in}
 use Rattle.pfx_program.specs.Leaving.{numbers_after, ledger_text}
 use Rattle.pfx_program.specs.Ledger.{slot_in, with_front, numbers_in, allocs_in, joined, ledger_of, Begins}
 use Rattle.pfx_program.proofs.LeavingLemmas.{numbers-cons, numbers-nil}

@@ -7,7 +7,7 @@ use Rattle.pfx_kinds.specs.declared.any.AnyJob.{AnyJob}
 use Rattle.pfx_kinds.specs.declared.any.AnyJob.TheVariants.{Count, Rule, Scan, Own}
 use Rattle.pfx_kinds.specs.declared.units.Unit.{Unit}
 use Rattle.pfx_kinds.specs.Units.{unit_of, last_by, count_in, is_behind, is_taken}
-use Rattle.pfx_engine.specs.declared.place.Place.{Place}
+use Rattle.pfx_store_engine.specs.declared.place.Place.{Place}
 use Rattle.pfx_machine.specs.Plain.{Plain}
 use Rattle.pfx_machine.specs.Outcome.{outcome}
 use Rattle.pfx_machine.specs.declared.command.Command.{Command}

@@ -6,8 +6,8 @@ use Rattle.pfx_machine.specs.Plain.{Plain}
 use Rattle.pfx_machine.specs.declared.command.Command.{Command}
 use Rattle.pfx_machine.specs.declared.command.Command.TheVariants.{Submit, Slot, Withdraw, Reweigh}
 use Rattle.pfx_fault.specs.declared.refusals.Fault.{Fault}
-use Rattle.pfx_script.specs.Records.{Fields, Records, Takes, Reads, ReadFails}
-use Rattle.pfx_script.specs.Verbs.{Said, verb_of}
+use Rattle.pfx_program_script.specs.Records.{Fields, Records, Takes, Reads, ReadFails}
+use Rattle.pfx_program_script.specs.Verbs.{Said, verb_of}
 use Rattle.pfx_program.specs.declared.form.Form.{Form}
 use Rattle.pfx_program.specs.declared.groups.Behind.{Behind}
 use Rattle.pfx_program.specs.declared.groups.Behind.TheVariants as behind
@@ -16,11 +16,11 @@ use Rattle.pfx_program.specs.declared.groups.Joining.TheVariants as joining
 use Rattle.pfx_program.specs.Answers.{reply_line, refused_line}
 use Rattle.pfx_program.specs.Faults.{fault_of_machine}
 use Rattle.pfx_program.specs.Grants.{counted, is_next}
-use Rattle.pfx_engine.specs.Promises.{IsEngineFault}
+use Rattle.pfx_store_engine.specs.Promises.{IsEngineFault}
 use Rattle.pfx_program.specs.Running.{LineFails}
 use Rattle.pfx_program.specs.Script.{Run, Step, after, command_step, commands_of, course_from, moved, noted, verb_steps}
 use Rattle.pfx_program.specs.declared.report.RefusedRecord.{RefusedRecord}
-use Rattle.pfx_engine.specs.Sharing.{IsChange, Told}
+use Rattle.pfx_store_engine.specs.Sharing.{IsChange, Told}
 
 -- the steps of commands, one after the other
 unfoldable pub group_steps : Run → List (Command AnyJob) → List Step

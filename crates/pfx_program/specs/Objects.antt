@@ -12,7 +12,7 @@ use Rattle.pfx_kinds.specs.declared.count.Count as count_type
 use Rattle.pfx_kinds.specs.declared.rule.Rule as rule_type
 use Rattle.pfx_kinds.specs.declared.scan.Scan as scan_type
 use Rattle.pfx_kinds.specs.declared.own.Own as own_type
-use Rattle.pfx_fault.specs.Parts.{part_name, cause_name}
+use Rattle.pfx_fault.specs.Fields.{part_name, cause_name}
 use Rattle.pfx_fault.specs.Refusals.{number_of, name_of}
 use Rattle.pfx_fault.specs.declared.refusals.Fault.{Fault}
 use Rattle.pfx_fault.specs.declared.refusals.Fault.TheVariants as fault

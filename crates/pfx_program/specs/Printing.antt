@@ -3,12 +3,12 @@ use Rattle.std.specs.Prelude.{◌≡◌, ◌+◌, ◌++◌, ℕ, List, [], ◌�
 use Rattle.std.specs.Io.KnownBytes.{Appends}
 use Rattle.pfx_machine.specs.declared.command.Reply.{Reply}
 use Rattle.pfx_program.specs.Answers.{reply_line}
-use Rattle.pfx_engine.specs.Promises.{Promise}
+use Rattle.pfx_store_engine.specs.Promises.{Promise}
 use Rattle.pfx_program.specs.Running.{run_of, ran_steps}
 use Rattle.pfx_program.specs.Script.{Step, commands_of, course_from, taken, text_of}
 use Rattle.pfx_program.specs.declared.form.Form.{Form}
 use Rattle.pfx_program.specs.declared.report.AtRefusal.{AtRefusal}
-use Rattle.pfx_script.specs.Records.{Fields, Records}
+use Rattle.pfx_program_script.specs.Records.{Fields, Records}
 use Rattle.pfx_kinds.specs.declared.any.AnyJob.{AnyJob}
 
 -- when a text may be printed: by this engine, behind what was written

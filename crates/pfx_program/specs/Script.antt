@@ -18,9 +18,9 @@ use Rattle.pfx_machine.specs.declared.command.Command.{Command}
 use Rattle.pfx_machine.specs.declared.command.Command.TheVariants.{Submit, Slot, Withdraw, Reweigh}
 use Rattle.pfx_machine.specs.declared.command.Reply.{Reply}
 use Rattle.pfx_machine.specs.declared.faults.MachineFault.{MachineFault}
-use Rattle.pfx_script.specs.Verbs.{Said, submit, slot, withdraw, settle, status, show, reweigh, verb_of}
-use Rattle.pfx_script.specs.Weights.{said_weights}
-use Rattle.pfx_script.specs.Records.{Fields, script_records}
+use Rattle.pfx_program_script.specs.Verbs.{Said, submit, slot, withdraw, settle, status, show, reweigh, verb_of}
+use Rattle.pfx_program_script.specs.Weights.{said_weights}
+use Rattle.pfx_program_script.specs.Records.{Fields, script_records}
 use Rattle.pfx_fault.specs.declared.refusals.Fault.{Fault}
 use Rattle.pfx_fault.specs.declared.refusals.Fault.TheVariants as fault
 use Rattle.pfx_program.specs.declared.form.Form.{Form}

@@ -4,14 +4,14 @@ ghost use Rattle.std.specs.Prelude.{◌≡◌, ◌==◌, if◌then◌else◌, If
 ghost use Rattle.pfx_kinds.specs.Starts.{any_start};
 ghost use Rattle.pfx_kinds.specs.Units.{unit_of, is_behind, last_by};
 ghost use Rattle.pfx_program.specs.Grants.{counted, counted_by, is_next, is_taken_by};
-ghost use Rattle.pfx_engine.specs.Promises.{IsSame, IsEngineFault};
+ghost use Rattle.pfx_store_engine.specs.Promises.{IsSame, IsEngineFault};
 ghost use Rattle.pfx_program.specs.Script.{job_by};
 
-use pfx_engine::{Engine, Place};
 use pfx_fault::Fault;
 use pfx_kinds::any::AnyJob;
 use pfx_kinds::own::Own;
 use pfx_kinds::start::StartFault;
+use pfx_store_engine::{Engine, Place};
 use std::alloc::Global;
 
 /// A job at its start.

@@ -12,10 +12,10 @@ ghost use Rattle.csv.specs.Records.{fields_of, AllText};
 ghost use Rattle.pfx_program.specs.Groups.{touches, Avoid, HasNotFailed, IsBehind, IsGiven, IsJoining, IsStill, ToldFail, group_refusals, group_steps, told_count, told_line, told_refusals, told_text};
 ghost use Rattle.pfx_program.specs.Reports.{IsAdded};
 ghost use Rattle.pfx_program.specs.Printing.{MayPrint, MayTell};
-ghost use Rattle.pfx_engine.specs.Promises.{IsSame};
+ghost use Rattle.pfx_store_engine.specs.Promises.{IsSame};
 ghost use Rattle.pfx_program.specs.Running.{run_of, Carried, Stopped};
 ghost use Rattle.pfx_program.specs.Script.{commands_of};
-ghost use Rattle.pfx_engine.specs.Sharing.{AreChanges};
+ghost use Rattle.pfx_store_engine.specs.Sharing.{AreChanges};
 
 use crate::Form;
 use crate::faults::machine_fault;
@@ -24,11 +24,11 @@ use crate::printer::Printer;
 use crate::report::Report;
 use crate::writing::{put_reply, refuse};
 use csv::StringRecord;
-use pfx_engine::{Engine, Told};
 use pfx_fault::Fault;
 use pfx_kinds::any::AnyJob;
 use pfx_machine::Command;
-use pfx_script::{Script, Verb, read_verb};
+use pfx_program_script::{Script, Verb, read_verb};
+use pfx_store_engine::{Engine, Told};
 use std::alloc::Global;
 use std::io::Read;
 

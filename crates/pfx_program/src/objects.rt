@@ -8,7 +8,7 @@ ghost use Rattle.std.specs.Prelude.{◌≡◌, ◌<◌, ◌+◌, ◌∷◌, [], 
 ghost use Rattle.serde_json.specs.Data.{string};
 ghost use Rattle.serde_json.specs.View.{view};
 ghost use Rattle.serde_json.specs.Written.{has_float};
-ghost use Rattle.pfx_set_file.specs.Views.{task_view};
+ghost use Rattle.pfx_program_set.specs.Views.{task_view};
 ghost use Rattle.pfx_kinds.specs.Cells.{cell_at};
 ghost use Rattle.pfx_program.specs.Cells.{cells_text};
 ghost use Rattle.pfx_program.specs.Lines.{name_of};
@@ -19,7 +19,7 @@ use pfx_kinds::count::Count;
 use pfx_kinds::own::Own;
 use pfx_kinds::rule::{CELL_BYTES, Rule};
 use pfx_kinds::scan::Scan;
-use pfx_set_file::NamedTask;
+use pfx_program_set::NamedTask;
 use serde_json::{Value, json};
 use std::alloc::{AllocError, Global};
 use std::str;

@@ -2,13 +2,13 @@
 use Rattle.std.specs.Prelude.{◌≡◌, Bool, true, false, Some}
 use Rattle.std.proofs.Common.{inl, inr, refl}
 use Rattle.pfx_disk.specs.declared.device.Disk.{Ghosts as DiskGhosts}
-use Rattle.pfx_engine.specs.Failing.{MayFail}
-use Rattle.pfx_fault.specs.declared.parts.Cause.{Cause}
-use Rattle.pfx_fault.specs.declared.parts.Cause.TheVariants as cause
+use Rattle.pfx_store_engine.specs.Failing.{MayFail}
+use Rattle.pfx_fault.specs.declared.fields.Cause.{Cause}
+use Rattle.pfx_fault.specs.declared.fields.Cause.TheVariants as cause
 use Rattle.pfx_jobs.specs.declared.job.Job.{Ghosts as JobGhosts}
 use Rattle.pfx_program_store.specs.Causes.{IsDiskOrLog}
-use Rattle.pfx_store_log.specs.Working.{failure_beside, failure_by}
-use Rattle.pfx_store_log.specs.declared.beside.LoggedStore.{LoggedStore}
+use Rattle.pfx_log_store.specs.Working.{failure_beside, failure_by}
+use Rattle.pfx_log_store.specs.declared.beside.LoggedStore.{LoggedStore}
 
 -- each failure is the disk's or the log's
 failed_by : (broken log_broken stopped : Bool) (why : Cause) → failure_by broken log_broken stopped ≡ Some why → IsDiskOrLog why

@@ -4,7 +4,7 @@ use Rattle.std.specs.Io.KnownBytes.{Appends}
 use Rattle.pfx_program.specs.Running.{first_text}
 use Rattle.pfx_program.specs.Script.{Run, Step, taken}
 use Rattle.pfx_program.specs.declared.report.AtRefusal.{AtRefusal}
-use Rattle.pfx_script.specs.Records.{Fields}
+use Rattle.pfx_program_script.specs.Records.{Fields}
 
 -- a beginning of the first text of steps is one of the first text of more
 pub begun : (tried rest : List Step) (front back : List ℕ) → first_text tried ≡ front ++ back → (more : List ℕ) × (first_text (tried ++ rest) ≡ front ++ more)

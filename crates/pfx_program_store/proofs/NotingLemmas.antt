@@ -1,15 +1,15 @@
 -- What a run on a disk whose calls are noted leaves.
 use Rattle.std.specs.Prelude.{if◌then◌else◌}
 use Rattle.std.proofs.Common.{◌≡◌, ◌⊎◌, ℕ, ◌+◌, Bool, true, false, List, [], ◌++◌, length, Option, None, Some, Result, Ok, Err, IfSome, refl, sym, ap, subst, ◌∙◌, arith, append_assoc, append-nil, inl, inr}
-use Rattle.pfx_chronicle.specs.Chart.{acts_of}
-use Rattle.pfx_chronicle.specs.declared.made.Made.{Made}
+use Rattle.pfx_disk_chronicle.specs.Chart.{acts_of}
+use Rattle.pfx_disk_chronicle.specs.declared.made.Made.{Made}
 use Rattle.pfx_disk.specs.Disk.{View, IsHonest}
 use Rattle.pfx_disk.specs.Stop.{Left}
-use Rattle.pfx_fault.specs.declared.parts.Cause.{Cause}
-use Rattle.pfx_fault.specs.declared.parts.Cause.TheVariants as cause
+use Rattle.pfx_fault.specs.declared.fields.Cause.{Cause}
+use Rattle.pfx_fault.specs.declared.fields.Cause.TheVariants as cause
 use Rattle.pfx_fault.specs.declared.refusals.Fault.{Fault}
 use Rattle.pfx_fault.specs.declared.refusals.Fault.TheVariants as fault
-use Rattle.pfx_format.specs.Format.{format}
+use Rattle.pfx_store_format.specs.Format.{format}
 use Rattle.pfx_kinds.specs.AnyKind.{any_kind}
 use Rattle.pfx_kinds.specs.declared.any.AnyJob.{AnyJob}
 use Rattle.pfx_machine.proofs.Compose.{outcome-none}
@@ -22,18 +22,18 @@ use Rattle.pfx_program.specs.Running.{Carried, Ends, Halts, Runs, Stopped}
 use Rattle.pfx_program.specs.Script.{Step, at_start, commands_of, course_from, taken, text_of}
 use Rattle.pfx_program.specs.declared.report.AtRefusal.{AtRefusal}
 use Rattle.pfx_program.specs.declared.report.Report.{Report}
-use Rattle.pfx_recovery.specs.Recovery.{recovered}
+use Rattle.pfx_store_image.specs.Recovery.{recovered}
 use Rattle.pfx_store.specs.Keepers.{failure_of}
 use Rattle.pfx_store.specs.Stores.{PlainStore}
-use Rattle.pfx_script.specs.Records.{Fields, Records}
+use Rattle.pfx_program_script.specs.Records.{Fields, Records}
 use Rattle.pfx_program_store.proofs.EndingLemmas.{begun, known_rest, nothing_more}
-use Rattle.pfx_engine.proofs.Keeps.{survives_more}
-use Rattle.pfx_engine.proofs.Promising.{promise}
+use Rattle.pfx_store_engine.proofs.Keeps.{survives_more}
+use Rattle.pfx_store_engine.proofs.Promising.{promise}
 use Rattle.pfx_program_store.specs.Ending.{EndsBehind}
-use Rattle.pfx_engine.specs.Failing.{MayFail}
-use Rattle.pfx_engine.specs.Keeping.{Anchors}
+use Rattle.pfx_store_engine.specs.Failing.{MayFail}
+use Rattle.pfx_store_engine.specs.Keeping.{Anchors}
 use Rattle.pfx_program_store.specs.Noting.{IsAloneFault, IsNotedRun}
-use Rattle.pfx_engine.specs.Surviving.{Survives}
+use Rattle.pfx_store_engine.specs.Surviving.{Survives}
 
 -- a store fails by its disk alone
 pub device_only : {D J : Type 0} (why : Cause) → MayFail {K = PlainStore D J} (λ store. failure_of store) why → why ≡ cause.Device

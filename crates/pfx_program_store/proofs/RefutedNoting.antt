@@ -4,13 +4,13 @@ use Rattle.std.specs.Prelude.{Bool}
 use Rattle.std.proofs.Common.{◌≡◌, ◌+◌, ◌++◌, ℕ, List, [], ◌∷◌, length, Option, Some, None, IfSome, Result, Ok, Err, true, false, refl, sym, ap, subst, ◌∙◌, arith, append_assoc}
 use Rattle.std.proofs.lemmas.Bool.{false≢true}
 use Rattle.std.proofs.lemmas.Option.{none-some}
-use Rattle.pfx_chronicle.specs.declared.made.Made.{Made}
+use Rattle.pfx_disk_chronicle.specs.declared.made.Made.{Made}
 use Rattle.pfx_disk.specs.Disk.{View, IsHonest}
-use Rattle.pfx_fault.specs.declared.parts.Cause.{Cause}
-use Rattle.pfx_fault.specs.declared.parts.Cause.TheVariants as cause
+use Rattle.pfx_fault.specs.declared.fields.Cause.{Cause}
+use Rattle.pfx_fault.specs.declared.fields.Cause.TheVariants as cause
 use Rattle.pfx_fault.specs.declared.refusals.Fault.{Fault}
 use Rattle.pfx_fault.specs.declared.refusals.Fault.TheVariants as fault
-use Rattle.pfx_header.specs.Headers.{read_header}
+use Rattle.pfx_store_header.specs.Headers.{read_header}
 use Rattle.pfx_kinds.specs.AnyKind.{any_kind}
 use Rattle.pfx_kinds.specs.declared.any.AnyJob.{AnyJob}
 use Rattle.pfx_machine.proofs.Compose.{outcome-none}
@@ -25,10 +25,10 @@ use Rattle.pfx_program.proofs.RunLemmas.{taken_none}
 use Rattle.pfx_program.specs.declared.report.AtRefusal.{AtRefusal}
 use Rattle.pfx_program.specs.declared.report.Report.{Report}
 use Rattle.pfx_program.specs.declared.form.Form.{Form}
-use Rattle.pfx_recovery.specs.Recovery.{found, recovered}
-use Rattle.pfx_script.specs.Records.{Fields, Records}
+use Rattle.pfx_store_image.specs.Recovery.{found, recovered}
+use Rattle.pfx_program_script.specs.Records.{Fields, Records}
 use Rattle.pfx_program_store.specs.Noting.{IsAloneFault, IsNotedRun}
-use Rattle.pfx_engine.specs.Surviving.{Survives}
+use Rattle.pfx_store_engine.specs.Surviving.{Survives}
 
 -- whether something was found
 abbrev is_ok : {A E : Type 0} → Result A E → Bool

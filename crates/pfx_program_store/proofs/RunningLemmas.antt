@@ -2,7 +2,7 @@
 use Rattle.std.proofs.Common.{◌≡◌, ℕ, ◌+◌, Bool, true, List, [], ◌++◌, length, Option, None, Result, Ok, Err, IfSome, sym, ap, subst, ◌∙◌, append_assoc, append-nil}
 use Rattle.std.specs.Io.KnownBytes.{Appends}
 use Rattle.pfx_disk.specs.Disk.{View, IsHonest}
-use Rattle.pfx_fault.specs.declared.parts.Cause.{Cause}
+use Rattle.pfx_fault.specs.declared.fields.Cause.{Cause}
 use Rattle.pfx_fault.specs.declared.refusals.Fault.{Fault}
 use Rattle.pfx_fault.specs.declared.refusals.Fault.TheVariants as fault
 use Rattle.pfx_kinds.specs.AnyKind.{any_kind}
@@ -10,18 +10,18 @@ use Rattle.pfx_kinds.specs.declared.any.AnyJob.{AnyJob}
 use Rattle.pfx_machine.specs.Plain.{Plain}
 use Rattle.pfx_machine.specs.Outcome.{outcome}
 use Rattle.pfx_machine.specs.declared.command.Command.{Command}
-use Rattle.pfx_script.specs.Records.{Fields, Records}
+use Rattle.pfx_program_script.specs.Records.{Fields, Records}
 use Rattle.pfx_program.specs.declared.form.Form.{Form}
 use Rattle.pfx_program.specs.Script.{Step, at_start, commands_of, course_from, taken, text_of}
 use Rattle.pfx_program.specs.declared.report.AtRefusal.{AtRefusal}
 use Rattle.pfx_program.specs.declared.report.Report.{Report}
 use Rattle.pfx_program.specs.Running.{Carried, Halts, Stopped, Ends, Runs}
 use Rattle.pfx_program.proofs.StepLemmas.{commands_append}
-use Rattle.pfx_engine.specs.Keeping.{Anchors}
+use Rattle.pfx_store_engine.specs.Keeping.{Anchors}
 use Rattle.pfx_program_store.specs.Running.{IsKeptAsPrinted}
-use Rattle.pfx_engine.specs.Surviving.{Survives}
-use Rattle.pfx_engine.proofs.Keeps.{survives_more}
-use Rattle.pfx_engine.proofs.Promising.{promise}
+use Rattle.pfx_store_engine.specs.Surviving.{Survives}
+use Rattle.pfx_store_engine.proofs.Keeps.{survives_more}
+use Rattle.pfx_store_engine.proofs.Promising.{promise}
 
 module _ {E : Type 0} (view : E → View) (failed_by : E → Option Cause) (kept : E → Plain AnyJob) (may : Cause → Type 0) (form : Form) where
   -- what was printed at a halt

@@ -11,16 +11,16 @@ use Rattle.pfx_book.specs.Notes.{Noted, alone, commands_of}
 use Rattle.pfx_book.specs.Register.{Register}
 use Rattle.pfx_book.specs.declared.note.Note.{Note}
 use Rattle.pfx_book.specs.declared.note.Note.TheVariants.{Receipt}
-use Rattle.pfx_chronicle.specs.Chart.{GoesAlong, charted, charted_honest}
-use Rattle.pfx_chronicle.specs.declared.made.Made.{Made}
+use Rattle.pfx_disk_chronicle.specs.Chart.{GoesAlong, charted, charted_honest}
+use Rattle.pfx_disk_chronicle.specs.declared.made.Made.{Made}
 use Rattle.pfx_disk.specs.Disk.{View, IsHonest}
 use Rattle.pfx_program_store.proofs.EndingLemmas.{begun, known_rest, nothing_more}
-use Rattle.pfx_engine.proofs.Keeps.{survives_more}
+use Rattle.pfx_store_engine.proofs.Keeps.{survives_more}
 use Rattle.pfx_program_store.specs.Ending.{EndsBehind}
-use Rattle.pfx_engine.specs.Surviving as engine
+use Rattle.pfx_store_engine.specs.Surviving as engine
 use Rattle.pfx_fault.specs.declared.refusals.Fault.{Fault}
 use Rattle.pfx_fault.specs.declared.refusals.Fault.TheVariants as fault
-use Rattle.pfx_format.specs.Format.{format}
+use Rattle.pfx_store_format.specs.Format.{format}
 use Rattle.pfx_front.specs.Closing.{IsHeld, IsSession, Survives}
 use Rattle.pfx_front.specs.Sole.{state_of}
 use Rattle.pfx_front.specs.Starting.{IsFresh}
@@ -38,8 +38,8 @@ use Rattle.pfx_program.specs.Script.{Step, at_start, course_from, taken, text_of
 use Rattle.pfx_program.specs.declared.report.AtRefusal.{AtRefusal}
 use Rattle.pfx_program.specs.declared.report.Report.{Report}
 use Rattle.pfx_program.specs.Script as script
-use Rattle.pfx_recovery.specs.Recovery.{recovered}
-use Rattle.pfx_script.specs.Records.{Fields, Records}
+use Rattle.pfx_store_image.specs.Recovery.{recovered}
+use Rattle.pfx_program_script.specs.Records.{Fields, Records}
 use Rattle.pfx_front_engine.proofs.Notes.{commands_are, tagged}
 use Rattle.pfx_front_engine.proofs.Promising.{promise}
 use Rattle.pfx_front_engine.specs.Asking.{MayEndRun}

@@ -1,10 +1,10 @@
 -- What a script's run on one thread leaves, if the calls of its disk are noted.
 use Rattle.std.specs.Prelude.{◌≡◌, ℕ, ◌+◌, ◌++◌, Bool, List, length, Option, Result, IfSome, ⊤}
-use Rattle.pfx_chronicle.specs.Chart.{acts_of}
-use Rattle.pfx_chronicle.specs.declared.made.Made.{Made}
+use Rattle.pfx_disk_chronicle.specs.Chart.{acts_of}
+use Rattle.pfx_disk_chronicle.specs.declared.made.Made.{Made}
 use Rattle.pfx_disk.specs.Disk.{View, IsHonest}
 use Rattle.pfx_disk.specs.Stop.{Left}
-use Rattle.pfx_fault.specs.declared.parts.Cause.{Cause}
+use Rattle.pfx_fault.specs.declared.fields.Cause.{Cause}
 use Rattle.pfx_fault.specs.declared.refusals.Fault.{Fault}
 use Rattle.pfx_fault.specs.declared.refusals.Fault.TheVariants as fault
 use Rattle.pfx_kinds.specs.AnyKind.{any_kind}
@@ -15,10 +15,10 @@ use Rattle.pfx_program.specs.declared.form.Form.{Form}
 use Rattle.pfx_program.specs.Script.{Step, at_start, commands_of, course_from, taken}
 use Rattle.pfx_program.specs.declared.report.AtRefusal.{AtRefusal}
 use Rattle.pfx_program.specs.declared.report.Report.{Report}
-use Rattle.pfx_script.specs.Records.{Fields, Records}
+use Rattle.pfx_program_script.specs.Records.{Fields, Records}
 use Rattle.pfx_program_store.specs.Ending.{EndsBehind}
-use Rattle.pfx_engine.specs.Failing.{IsStop}
-use Rattle.pfx_engine.specs.Surviving.{Survives}
+use Rattle.pfx_store_engine.specs.Failing.{IsStop}
+use Rattle.pfx_store_engine.specs.Surviving.{Survives}
 
 -- what ends a run on one thread: there was no memory, or it failed by one of these causes, and its answer names the last command that was printed
 abbrev pub IsAloneFault : (Cause → Type 0) → Plain AnyJob → List Step → Fault → Type 0

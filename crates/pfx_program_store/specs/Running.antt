@@ -6,8 +6,8 @@ use Rattle.pfx_kinds.specs.declared.any.AnyJob.{AnyJob}
 use Rattle.pfx_machine.specs.Plain.{Plain}
 use Rattle.pfx_program.specs.declared.form.Form.{Form}
 use Rattle.pfx_program.specs.Script.{Step, at_start, commands_of, course_from, text_of}
-use Rattle.pfx_script.specs.Records.{Fields, Records}
-use Rattle.pfx_engine.specs.Surviving.{Survives}
+use Rattle.pfx_program_script.specs.Records.{Fields, Records}
+use Rattle.pfx_store_engine.specs.Surviving.{Survives}
 use Rattle.pfx_kinds.specs.AnyKind.{any_kind}
 
 -- Of a script's course from a state on some first steps were printed, whole, and of the next one a part at most. Each image that

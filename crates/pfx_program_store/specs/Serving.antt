@@ -2,7 +2,7 @@
 use Rattle.std.specs.Prelude.{◌≡◌, ℕ, ◌+◌, ◌++◌, Bool, List, [], length, Option, Result, IfSome}
 use Rattle.pfx_disk.specs.Disk.{View, IsHonest}
 use Rattle.pfx_program_store.specs.Ending.{EndsBehind}
-use Rattle.pfx_engine.specs.Surviving.{Survives}
+use Rattle.pfx_store_engine.specs.Surviving.{Survives}
 use Rattle.pfx_fault.specs.declared.refusals.Fault.{Fault}
 use Rattle.pfx_fault.specs.declared.refusals.Fault.TheVariants as fault
 use Rattle.pfx_kinds.specs.declared.any.AnyJob.{AnyJob}
@@ -11,7 +11,7 @@ use Rattle.pfx_program.specs.declared.form.Form.{Form}
 use Rattle.pfx_program.specs.Script.{Step, at_start, commands_of, course_from, taken}
 use Rattle.pfx_program.specs.declared.report.AtRefusal.{AtRefusal}
 use Rattle.pfx_program.specs.declared.report.Report.{Report}
-use Rattle.pfx_script.specs.Records.{Fields, Records}
+use Rattle.pfx_program_script.specs.Records.{Fields, Records}
 use Rattle.pfx_front_engine.specs.Asking.{MayEndRun}
 use Rattle.pfx_kinds.specs.AnyKind.{any_kind}
 

@@ -5,19 +5,19 @@ ghost use Rattle.pfx_program_store.specs.Noting.{IsNotedRun};
 ghost use Rattle.pfx_kinds.specs.AnyKind.{any_kind};
 ghost use Rattle.pfx_program_store.specs.Causes.{IsDiskOrLog};
 ghost use Rattle.pfx_store.specs.Noting.{IsHeldBy};
-ghost use Rattle.pfx_store_log.specs.Working.{failure_beside};
+ghost use Rattle.pfx_log_store.specs.Working.{failure_beside};
 
 use crate::running::run_durable;
-use pfx_chronicle::chronicle::Logged;
-use pfx_chronicle::list::{Moment, Opened};
-use pfx_chronicle::name::Charted;
 use pfx_disk::Disk;
-use pfx_engine::DurableEngine;
+use pfx_disk_chronicle::chronicle::Logged;
+use pfx_disk_chronicle::list::{Moment, Opened};
+use pfx_disk_chronicle::name::Charted;
 use pfx_fault::Fault;
 use pfx_kinds::any::AnyJob;
+use pfx_log_store::LoggedStore;
 use pfx_program::{AtRefusal, Form, Report};
-use pfx_script::Script;
-use pfx_store_log::LoggedStore;
+use pfx_program_script::Script;
+use pfx_store_engine::DurableEngine;
 use std::alloc::Global;
 use std::io::{Read, Write};
 

@@ -7,22 +7,22 @@
 
 ghost use Rattle.std.specs.Prelude.{◌≡◌, ◌<◌, ◌≤◌, false};
 ghost use Rattle.pfx_disk.specs.Disk.{IsHonest, Only};
-ghost use Rattle.pfx_fault.specs.declared.parts.Cause.TheVariants.{Device};
+ghost use Rattle.pfx_fault.specs.declared.fields.Cause.TheVariants.{Device};
 ghost use Rattle.pfx_kinds.specs.AnyKind.{any_kind};
 ghost use Rattle.pfx_store.specs.Noting.{IsHeldBy};
 ghost use Rattle.pfx_program_store.specs.Noting.{IsNotedRun};
 
 use crate::running::run_durable;
-use pfx_chronicle::chronicle::Logged;
-use pfx_chronicle::list::{Moment, Opened};
-use pfx_chronicle::name::Charted;
 use pfx_disk::Disk;
-use pfx_engine::DurableEngine;
+use pfx_disk_chronicle::chronicle::Logged;
+use pfx_disk_chronicle::list::{Moment, Opened};
+use pfx_disk_chronicle::name::Charted;
 use pfx_fault::Fault;
 use pfx_kinds::any::AnyJob;
 use pfx_program::{AtRefusal, Form, Report};
-use pfx_script::Script;
+use pfx_program_script::Script;
 use pfx_store::Store;
+use pfx_store_engine::DurableEngine;
 use std::alloc::Global;
 use std::io::{Read, Write};
 

@@ -3,20 +3,20 @@
 ghost use Rattle.std.specs.Prelude.{◌≡◌, ◌<◌, ◌≤◌, max, List, None, IfSome};
 ghost use Rattle.pfx_disk.specs.Disk.{IsHonest};
 ghost use Rattle.pfx_kinds.specs.declared.any.AnyJob.{AnyJob};
-ghost use Rattle.pfx_engine.specs.Keeping.{Anchors};
+ghost use Rattle.pfx_store_engine.specs.Keeping.{Anchors};
 ghost use Rattle.pfx_program_store.specs.Running.{IsKeptAsPrinted};
 ghost use Rattle.pfx_program.specs.Running.{Runs};
 ghost use Rattle.pfx_program.specs.Script.{at_start, taken};
-ghost use Rattle.pfx_script.specs.Records.{Fields};
+ghost use Rattle.pfx_program_script.specs.Records.{Fields};
 ghost use Rattle.pfx_kinds.specs.AnyKind.{any_kind};
 
 use pfx_disk::Disk;
-use pfx_engine::{DurableEngine, Engine};
 use pfx_fault::Fault;
 use pfx_kinds::any::AnyJob;
 use pfx_program::{AtRefusal, Form, Report, run_script};
-use pfx_script::Script;
+use pfx_program_script::Script;
 use pfx_store::Keeper;
+use pfx_store_engine::{DurableEngine, Engine};
 use std::alloc::Global;
 use std::io::{Read, Write};
 

@@ -11,10 +11,10 @@ use Rattle.pfx_machine.specs.declared.command.Command.{Command}
 use Rattle.pfx_machine.proofs.Compose.{outcome-none, outcome-outcome}
 use Rattle.pfx_record.specs.Records.{Recorded, plain}
 use Rattle.pfx_record.specs.declared.record.Record.{Record}
-use Rattle.pfx_redo.specs.Applying.{after_record, applied, is_right}
-use Rattle.pfx_redo.specs.Recording.{record_of}
-use Rattle.pfx_redo.proofs.Outcomes.{outcome-one, record_outcome, records_outcome}
-use Rattle.pfx_redo.proofs.States.{applied_behind}
+use Rattle.pfx_record_redo.specs.Applying.{after_record, applied, is_right}
+use Rattle.pfx_record_redo.specs.Recording.{record_of}
+use Rattle.pfx_record_redo.proofs.Outcomes.{outcome-one, record_outcome, records_outcome}
+use Rattle.pfx_record_redo.proofs.States.{applied_behind}
 use Rattle.pfx_machine.specs.Plain.{IsState}
 use Rattle.pfx_replay.specs.Commands.{Follow, AreNext, command_of, commands_of, is_next}
 use Rattle.pfx_replay.specs.Judged.{GivesAll}

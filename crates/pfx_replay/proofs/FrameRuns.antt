@@ -4,7 +4,7 @@ use Rattle.std.specs.Prelude.{Vec}
 use Rattle.std.specs.declared.alloc.Global.{Global}
 use Rattle.pfx_segment.specs.Reading.{views}
 use Rattle.std.proofs.Common.{zero, suc, get_or, sym, ◌∙◌, ap, ap₂, arith, append-nil, append_assoc, length-append, subst}
-use Rattle.pfx_redo.specs.Applying.{applied, after_record, is_right}
+use Rattle.pfx_record_redo.specs.Applying.{applied, after_record, is_right}
 use Rattle.pfx_jobs.specs.Kind.{Kind, Laws}
 use Rattle.pfx_machine.specs.Plain.{Plain}
 use Rattle.pfx_record.specs.Batches.{PlainBatch, batch_bytes}
@@ -13,16 +13,16 @@ use Rattle.pfx_record.specs.Records.{Recorded}
 use Rattle.pfx_record.proofs.Bodies.{one_batch}
 use Rattle.pfx_segment.specs.Frames.{AreFrames}
 use Rattle.pfx_segment.proofs.FrameLemmas.{read_is}
-use Rattle.pfx_recovery.specs.Codec.{Codec}
-use Rattle.pfx_recovery.specs.Layout.{area_at, segment_at}
-use Rattle.pfx_recovery.specs.Store.{Parts, Replays}
-use Rattle.pfx_recovery.proofs.Answers.{ok_same}
-use Rattle.pfx_recovery.proofs.Stages.{replay_is}
-use Rattle.pfx_format.specs.Batches.{batch_in}
-use Rattle.pfx_format.specs.Format.{format}
-use Rattle.pfx_format.specs.Frames.{state_after}
-use Rattle.pfx_format.proofs.Batches.{batch_spelled, batch_there}
-use Rattle.pfx_format.proofs.Nexts.{after_of}
+use Rattle.pfx_store_image.specs.Codec.{Codec}
+use Rattle.pfx_store_image.specs.Layout.{area_at, segment_at}
+use Rattle.pfx_store_image.specs.Store.{Parts, Replays}
+use Rattle.pfx_store_image.proofs.Answers.{ok_same}
+use Rattle.pfx_store_image.proofs.Stages.{replay_is}
+use Rattle.pfx_store_format.specs.Batches.{batch_in}
+use Rattle.pfx_store_format.specs.Format.{format}
+use Rattle.pfx_store_format.specs.Frames.{state_after}
+use Rattle.pfx_store_format.proofs.Batches.{batch_spelled, batch_there}
+use Rattle.pfx_store_format.proofs.Nexts.{after_of}
 use Rattle.pfx_replay.specs.Trails.{IsWay, onward, records_at, records_behind, records_if}
 use Rattle.pfx_replay.proofs.Following.{applied_by}
 

@@ -20,7 +20,7 @@ use Rattle.pfx_machine.specs.declared.faults.MachineFault.{MachineFault}
 use Rattle.pfx_machine.proofs.Keeping.{state_goes_on}
 use Rattle.pfx_machine.proofs.Places.{state_step-new}
 use Rattle.pfx_machine.proofs.Reweighs.{goes_on, new_set_is, no_set, not_level, real_of, too_small, workers_of, wrong_count}
-use Rattle.pfx_redo.proofs.Outcomes.{record_outcome}
+use Rattle.pfx_record_redo.proofs.Outcomes.{record_outcome}
 use Rattle.pfx_replay.specs.Numbers.{numbers_ledger}
 
 module _ {J : Type 0} (K : Kind J) (s : Plain J) (m : ℕ) (ws : List (ℕ × ℕ)) (set : FilledSet) (a : Accepts m ws set) where

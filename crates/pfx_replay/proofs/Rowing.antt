@@ -3,7 +3,7 @@ use Rattle.std.proofs.Common.{◌≡◌, ◌<◌, ℕ, zero, suc, List, [], ◌�
 use Rattle.pfx_jobs.specs.Kind.{Kind}
 use Rattle.pfx_record.specs.Records.{tasks_of}
 use Rattle.pfx_record.specs.declared.record.Place.{Place}
-use Rattle.pfx_redo.specs.Recording.{place_of}
+use Rattle.pfx_record_redo.specs.Recording.{place_of}
 
 pub same_lists : (xs ys : List ℕ) → length xs ≡ length ys → ((k : ℕ) → k < length xs → get_or xs k 0 ≡ get_or ys k 0) → xs ≡ ys
 same_lists [] [] long same = refl

@@ -1,16 +1,16 @@
 -- What is known of a file that a store leaves.
 use Rattle.std.specs.Prelude.{◌≡◌, ◌+◌, ◌++◌, ℕ, List, [], not, take, drop, Bool, true, false, Option, Some, None, MatchOption, refl}
 use Rattle.std.proofs.Common.{sym, ◌∙◌, ap, ap₂, subst}
-use Rattle.pfx_redo.specs.Applying.{applied}
-use Rattle.pfx_format.specs.Areas.{read_area}
-use Rattle.pfx_format.specs.Format.{format, layout}
-use Rattle.pfx_header.specs.Headers.{Header}
+use Rattle.pfx_record_redo.specs.Applying.{applied}
+use Rattle.pfx_store_format.specs.Areas.{read_area}
+use Rattle.pfx_store_format.specs.Format.{format, layout}
+use Rattle.pfx_store_header.specs.Headers.{Header}
 use Rattle.pfx_jobs.specs.Kind.{Kind, Laws}
 use Rattle.pfx_kinds.specs.declared.units.Unit.{Unit}
 use Rattle.pfx_machine.specs.Plain.{Plain}
 use Rattle.pfx_record.specs.Records.{Recorded}
-use Rattle.pfx_recovery.specs.Layout.{segment_at, area_at}
-use Rattle.pfx_recovery.specs.Store.{Parts, IsStore, Other, Replays}
+use Rattle.pfx_store_image.specs.Layout.{segment_at, area_at}
+use Rattle.pfx_store_image.specs.Store.{Parts, IsStore, Other, Replays}
 use Rattle.pfx_segment.specs.Frames.{AreFrames}
 use Rattle.pfx_replay.specs.Trails.{IsWay, IsWayIf, history, records_behind}
 use Rattle.pfx_replay.specs.Verdicts.{IsVerdict}

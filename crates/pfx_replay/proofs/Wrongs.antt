@@ -17,9 +17,9 @@ use Rattle.pfx_record.specs.Records.{Recorded, submitted, ran, withdrawn, reweig
 use Rattle.pfx_record.specs.declared.record.Place.{Place}
 use Rattle.pfx_record.proofs.Rising.{both}
 use Rattle.pfx_machine.specs.Jobs.{has_job, is_free}
-use Rattle.pfx_redo.specs.Applying.{after_record, form_at, is_apt, is_right}
-use Rattle.pfx_redo.specs.Recording.{place_of, record_of}
-use Rattle.pfx_redo.proofs.Rightness.{number_wrong}
+use Rattle.pfx_record_redo.specs.Applying.{after_record, form_at, is_apt, is_right}
+use Rattle.pfx_record_redo.specs.Recording.{place_of, record_of}
+use Rattle.pfx_record_redo.proofs.Rightness.{number_wrong}
 
 module _ {J : Type 0} (K : Kind J) (s : machine.Plain J) where
   pub number_below : (one : Recorded J) → IsTrue (is_right K s one) → s.number + 1 < 2 ^ 48

@@ -10,7 +10,7 @@ use Rattle.pfx_machine.specs.Sessions.{IsAcceptable}
 use Rattle.pfx_machine.specs.declared.command.Command.{Command}
 use Rattle.pfx_machine.specs.declared.command.Command.TheVariants.{Submit, Slot, Withdraw, Reweigh}
 use Rattle.pfx_record.specs.Records.{Recorded, submitted, ran, withdrawn, reweighed}
-use Rattle.pfx_redo.specs.Recording.{records_of}
+use Rattle.pfx_record_redo.specs.Recording.{records_of}
 
 -- the command that a record is of
 abbrev pub command_of : {J : Type 0} → Recorded J → Command J

@@ -6,7 +6,7 @@ use Rattle.pfx_machine.specs.Outcome.{outcome}
 use Rattle.pfx_machine.specs.Plain.{Plain}
 use Rattle.pfx_machine.specs.Refusals.{refusal}
 use Rattle.pfx_record.specs.Records.{Recorded}
-use Rattle.pfx_redo.specs.Recording.{record_of}
+use Rattle.pfx_record_redo.specs.Recording.{record_of}
 use Rattle.pfx_replay.specs.Commands.{Follow, command_of, commands_of, is_next}
 use Rattle.pfx_replay.specs.Stated.{plain_of}
 use Rattle.pfx_replay.specs.Verdicts.{IsFirst, IsWrong}

@@ -1,19 +1,19 @@
 -- The records that a store's file has, and where they begin.
 use Rattle.std.specs.Prelude.{◌≡◌, ℕ, ◌+◌, List, [], ◌∷◌, ◌++◌, not, Option, Some, None, Result, Ok}
-use Rattle.pfx_format.specs.Batches.{batch_in}
-use Rattle.pfx_format.specs.Format.{format}
-use Rattle.pfx_format.specs.Frames.{state_after}
-use Rattle.pfx_header.specs.Headers.{Header}
+use Rattle.pfx_store_format.specs.Batches.{batch_in}
+use Rattle.pfx_store_format.specs.Format.{format}
+use Rattle.pfx_store_format.specs.Frames.{state_after}
+use Rattle.pfx_store_header.specs.Headers.{Header}
 use Rattle.pfx_jobs.specs.Kind.{Kind}
 use Rattle.pfx_kinds.specs.declared.units.Unit.{Unit}
 use Rattle.pfx_machine.specs.Plain.{Plain}
 use Rattle.pfx_record.specs.Batches.{PlainBatch}
 use Rattle.pfx_record.specs.Records.{Recorded}
-use Rattle.pfx_recovery.specs.Codec.{Codec}
-use Rattle.pfx_recovery.specs.Layout.{area_at, segment_at}
-use Rattle.pfx_recovery.specs.Recovery.{Found}
-use Rattle.pfx_recovery.specs.Refusals.{Refusal}
-use Rattle.pfx_recovery.specs.Store.{Parts, InArea, InSegment, Replays}
+use Rattle.pfx_store_image.specs.Codec.{Codec}
+use Rattle.pfx_store_image.specs.Layout.{area_at, segment_at}
+use Rattle.pfx_store_image.specs.Recovery.{Found}
+use Rattle.pfx_store_image.specs.Refusals.{Refusal}
+use Rattle.pfx_store_image.specs.Store.{Parts, InArea, InSegment, Replays}
 use Rattle.pfx_replay.specs.Verdicts.{History, IsVerdict}
 use Rattle.pfx_replay.specs.declared.verdict.Verdict.{Verdict}
 

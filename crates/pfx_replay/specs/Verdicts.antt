@@ -8,7 +8,7 @@ use Rattle.pfx_machine.specs.Outcome.{outcome}
 use Rattle.pfx_machine.specs.declared.command.Command.TheVariants.{Slot}
 use Rattle.pfx_record.specs.Records.{Recorded, ran, tasks_of}
 use Rattle.pfx_record.specs.declared.record.Place.{Place}
-use Rattle.pfx_redo.specs.Recording.{record_of}
+use Rattle.pfx_record_redo.specs.Recording.{record_of}
 use Rattle.pfx_replay.specs.Commands.{Follow, commands_of, is_next}
 use Rattle.pfx_replay.specs.declared.verdict.Difference.{Difference}
 use Rattle.pfx_replay.specs.declared.verdict.Difference.TheVariants.{Row, State, Answer, Checkpoint}

@@ -1,11 +1,11 @@
 // What a store's file records, and the verdict on it.
 ghost use Rattle.std.specs.Prelude.{◌≡◌, ◌≤◌, ◌+◌, ◌++◌, [], ℕ, List, length, map, not, true, false, Option, Some, None, IfOk, IsTrue, IsFalse, MatchOption};
-ghost use Rattle.pfx_redo.specs.Applying.{applied};
-ghost use Rattle.pfx_format.specs.Format.{format, layout};
+ghost use Rattle.pfx_record_redo.specs.Applying.{applied};
+ghost use Rattle.pfx_store_format.specs.Format.{format, layout};
 ghost use Rattle.pfx_machine.specs.Plain.{Plain};
 ghost use Rattle.pfx_record.specs.Records.{plain};
-ghost use Rattle.pfx_recovery.specs.Layout.{segment_at, file_len};
-ghost use Rattle.pfx_recovery.specs.Store.{Parts, IsStore};
+ghost use Rattle.pfx_store_image.specs.Layout.{segment_at, file_len};
+ghost use Rattle.pfx_store_image.specs.Store.{Parts, IsStore};
 ghost use Rattle.pfx_segment.specs.Frames.{AreFrames};
 ghost use Rattle.pfx_segment.specs.Reading.{views};
 ghost use Rattle.pfx_replay.specs.Trails.{IsWayIf, history};
@@ -21,9 +21,9 @@ use pfx_jobs::job::Job;
 use pfx_kinds::units::Units;
 use pfx_machine::State;
 use pfx_record::Record;
-use pfx_recover::Format;
-use pfx_redo::apply_reweigh;
+use pfx_record_redo::apply_reweigh;
 use pfx_store::{FileFormat, FileHeader};
+use pfx_store_recover::Format;
 use std::alloc::{AllocError, Global};
 
 // Adds the frames of a segment, or answers `false` if one doesn't fit.

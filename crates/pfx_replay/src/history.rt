@@ -1,6 +1,6 @@
 // A history against what its commands do.
 ghost use Rattle.std.specs.Prelude.{◌≡◌, ◌↔◌, ◌<◌, ℕ, length, map, IsTrue, IfOk, Some};
-ghost use Rattle.pfx_redo.specs.Applying.{applied};
+ghost use Rattle.pfx_record_redo.specs.Applying.{applied};
 ghost use Rattle.pfx_machine.specs.Plain.{Plain};
 ghost use Rattle.pfx_record.specs.Records.{plain};
 ghost use Rattle.pfx_replay.specs.Shown.{ledger_of};

@@ -3,11 +3,11 @@ ghost use Rattle.std.specs.Prelude.{◌≡◌, ◌≢◌, ◌≤◌, ◌<◌, �
 ghost use Rattle.pfx_disk.specs.declared.gates.TheConstants.{GATE_OPEN};
 ghost use Rattle.pfx_segment.specs.Frames.{AreFrames, frame_len};
 ghost use Rattle.pfx_segment.specs.Reading.{views};
-ghost use Rattle.pfx_recovery.specs.Layout.{first_at};
+ghost use Rattle.pfx_store_image.specs.Layout.{first_at};
 
 use pfx_disk::GATE_OPEN;
-use pfx_recover::Format;
 use pfx_segment::frame::{FRAME_HEAD, frame_len_at};
+use pfx_store_recover::Format;
 use std::alloc::{AllocError, Global};
 
 // How long the frame at this gate is, or `None` if it doesn't end before the end.

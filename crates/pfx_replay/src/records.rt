@@ -1,6 +1,6 @@
 // The records of frames.
 ghost use Rattle.std.specs.Prelude.{◌≡◌, map, IfOk};
-ghost use Rattle.pfx_format.specs.Batches.{batch_in};
+ghost use Rattle.pfx_store_format.specs.Batches.{batch_in};
 ghost use Rattle.pfx_record.specs.Records.{plain};
 ghost use Rattle.pfx_segment.specs.Reading.{views};
 ghost use Rattle.pfx_replay.specs.Trails.{records_behind, records_if};
@@ -8,8 +8,8 @@ ghost use Rattle.pfx_replay.specs.Trails.{records_behind, records_if};
 use pfx_jobs::job::Job;
 use pfx_machine::State;
 use pfx_record::{Batch, BatchFault, Record, read_batch};
-use pfx_recover::Format;
 use pfx_store::FileFormat;
+use pfx_store_recover::Format;
 use std::alloc::{AllocError, Global};
 
 // The records of one frame: none if its bytes aren't a batch.

@@ -5,10 +5,10 @@
 //!   test, and then reads all bytes once and works in memory.
 ghost use Rattle.std.specs.Prelude.{◌≡◌, ◌≤◌, ℕ, List, length, Err, IfOk, IfErr, IsErrOf, MatchResult};
 ghost use Rattle.pfx_disk.specs.Disk.{IsHonest, HasFailed};
-ghost use Rattle.pfx_format.specs.Format.{format};
-ghost use Rattle.pfx_recover.specs.Answers.{IsRefusal};
-ghost use Rattle.pfx_recover.specs.Looking.{IsKept, Looks, Reaches};
-ghost use Rattle.pfx_recovery.specs.Recovery.{found, recovered};
+ghost use Rattle.pfx_store_format.specs.Format.{format};
+ghost use Rattle.pfx_store_recover.specs.Answers.{IsRefusal};
+ghost use Rattle.pfx_store_recover.specs.Looking.{IsKept, Looks, Reaches};
+ghost use Rattle.pfx_store_image.specs.Recovery.{found, recovered};
 ghost use Rattle.pfx_replay.specs.Reading.{IsNoRefusal};
 ghost use Rattle.pfx_replay.specs.Trails.{IsReplayed};
 
@@ -18,8 +18,8 @@ use pfx_disk::Disk;
 use pfx_fault::Part;
 use pfx_jobs::job::Job;
 use pfx_kinds::units::Units;
-use pfx_recover::{OpenFault, Opened, Refusal, open};
 use pfx_store::FileFormat;
+use pfx_store_recover::{OpenFault, Opened, Refusal, open};
 use std::alloc::Global;
 
 /// All bytes of a disk, of which there are so many.

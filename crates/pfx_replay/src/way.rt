@@ -8,14 +8,14 @@
 //   already been given.
 ghost use Rattle.std.specs.Prelude.{◌≡◌, ◌≢◌, ◌≤◌, ◌<◌, ◌+◌, ◌^◌, ℕ, List, length, IfOk, MatchOption};
 ghost use Rattle.pfx_segment.specs.Reading.{views};
-ghost use Rattle.pfx_recovery.specs.Layout.{file_len};
-ghost use Rattle.pfx_recovery.specs.Store.{Parts, Replays};
+ghost use Rattle.pfx_store_image.specs.Layout.{file_len};
+ghost use Rattle.pfx_store_image.specs.Store.{Parts, Replays};
 ghost use Rattle.pfx_replay.specs.Trails.{IsWayIf};
 ghost use Rattle.pfx_replay.specs.Ways.{way_of};
 
 use crate::image::{first_in, frames_in, state_in};
 use pfx_disk::GATE_OPEN;
-use pfx_recover::Format;
+use pfx_store_recover::Format;
 use std::alloc::{AllocError, Global};
 
 /// The state that frames lead to, or `None` where one isn't right at the state that it comes to.

@@ -4,13 +4,13 @@ use Rattle.std.proofs.Common.{arith, sym, ◌∙◌, ap, subst, inl, inr}
 use Rattle.std.proofs.Math.Nat.{le-max_left, le-max_right}
 use Rattle.std.proofs.lemmas.Bool.{false≢true}
 use Rattle.std.proofs.lemmas.Option.{none-some}
-use Rattle.pfx_redo.specs.Applying.{after_record, applied, is_common, is_right}
-use Rattle.pfx_redo.proofs.Commons.{form_common}
-use Rattle.pfx_redo.proofs.States.{applied_behind, common_behind, right_parts}
-use Rattle.pfx_format.specs.Frames.{state_after}
-use Rattle.pfx_format.proofs.Batches.{some_same}
-use Rattle.pfx_format.proofs.Nexts.{fits_more, frame_leads}
-use Rattle.pfx_header.specs.Headers.{least_segment}
+use Rattle.pfx_record_redo.specs.Applying.{after_record, applied, is_common, is_right}
+use Rattle.pfx_record_redo.proofs.Commons.{form_common}
+use Rattle.pfx_record_redo.proofs.States.{applied_behind, common_behind, right_parts}
+use Rattle.pfx_store_format.specs.Frames.{state_after}
+use Rattle.pfx_store_format.proofs.Batches.{some_same}
+use Rattle.pfx_store_format.proofs.Nexts.{fits_more, frame_leads}
+use Rattle.pfx_store_header.specs.Headers.{least_segment}
 use Rattle.pfx_jobs.specs.Kind.{Kind, Laws}
 use Rattle.pfx_machine.specs.Plain.{Plain}
 use Rattle.pfx_machine.specs.Reweighing.{new_set, renewed}

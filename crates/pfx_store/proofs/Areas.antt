@@ -3,10 +3,10 @@ use Rattle.std.specs.Prelude.{◌≡◌, ℕ, List, length, Some}
 use Rattle.std.proofs.Common.{◌∙◌, ap}
 use Rattle.pfx_checkpoint.specs.Whole.{whole_bytes, whole_len}
 use Rattle.pfx_checkpoint.proofs.Wholes.{whole_long}
-use Rattle.pfx_format.specs.Areas.{read_area}
-use Rattle.pfx_format.specs.Format.{IsOf}
-use Rattle.pfx_format.proofs.Keeping.{area_read}
-use Rattle.pfx_header.specs.Headers.{Header}
+use Rattle.pfx_store_format.specs.Areas.{read_area}
+use Rattle.pfx_store_format.specs.Format.{IsOf}
+use Rattle.pfx_store_format.proofs.Keeping.{area_read}
+use Rattle.pfx_store_header.specs.Headers.{Header}
 use Rattle.pfx_jobs.specs.Kind.{Kind, Laws}
 use Rattle.pfx_machine.specs.Plain.{Plain, IsState}
 

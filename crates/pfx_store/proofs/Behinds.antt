@@ -13,7 +13,7 @@ use Rattle.pfx_record.proofs.Bodies.{records_len, short_batch}
 use Rattle.pfx_record.proofs.Heads.{counts_of, parts_of}
 use Rattle.pfx_record.proofs.Rising.{both}
 use Rattle.pfx_segment.specs.Frames.{IsFrame, number_4}
-use Rattle.pfx_format.proofs.Batches.{head_there, number_there, split_batch}
+use Rattle.pfx_store_format.proofs.Batches.{head_there, number_there, split_batch}
 use Rattle.pfx_store.specs.Files.{behind_of}
 use Rattle.pfx_store.specs.Standing.{IsBehind}
 

@@ -4,7 +4,7 @@ use Rattle.std.proofs.Common.{sym, ◌∙◌, ap, subst, refl, arith}
 use Rattle.std.proofs.lemmas.Bool.{true≢false, false≢true, cond-true, lt-ltb}
 use Rattle.pfx_disk.specs.Disk.{View}
 use Rattle.pfx_segment.specs.Segment.{Takes}
-use Rattle.pfx_recovery.specs.declared.head.TheConstants.{SEGMENT_HEAD}
+use Rattle.pfx_store_image.specs.declared.head.TheConstants.{SEGMENT_HEAD}
 use Rattle.pfx_store_file.specs.Calls.{Works}
 use Rattle.pfx_store_file.specs.Checkpoints.{in_progress}
 use Rattle.pfx_store_file.specs.Fitting.{IsTurnable}

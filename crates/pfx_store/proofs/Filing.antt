@@ -7,15 +7,15 @@ use Rattle.pfx_checkpoint.specs.Whole.{whole_bytes}
 use Rattle.pfx_disk.specs.CallsMade.{HasMade, HasBrokenOff, HasKeptTo}
 use Rattle.pfx_disk.specs.Disk.{View}
 use Rattle.pfx_disk.specs.Stop.{Act}
-use Rattle.pfx_format.specs.Areas.{read_area}
-use Rattle.pfx_format.specs.Format.{format}
-use Rattle.pfx_format.proofs.Keeping.{read_of}
-use Rattle.pfx_header.specs.Headers.{Header}
+use Rattle.pfx_store_format.specs.Areas.{read_area}
+use Rattle.pfx_store_format.specs.Format.{format}
+use Rattle.pfx_store_format.proofs.Keeping.{read_of}
+use Rattle.pfx_store_header.specs.Headers.{Header}
 use Rattle.pfx_jobs.specs.Kind.{Kind}
 use Rattle.pfx_machine.specs.Plain.{Plain}
-use Rattle.pfx_recovery.specs.Layout.{segment_end}
-use Rattle.pfx_recover.specs.Finding.{IsOpened}
-use Rattle.pfx_recovery.specs.Store.{Parts, IsStore}
+use Rattle.pfx_store_image.specs.Layout.{segment_end}
+use Rattle.pfx_store_recover.specs.Finding.{IsOpened}
+use Rattle.pfx_store_image.specs.Store.{Parts, IsStore}
 use Rattle.pfx_store_file.specs.Acts.{tend_acts, tended_file, end_acts, ended_file, turn_acts, turned_file, gate_of, has_room, roomy_file, framed_file, append_acts, appended_file}
 use Rattle.pfx_store_file.specs.Files.{AreOf, file_in}
 use Rattle.pfx_segment.specs.Acts.{put_acts}

@@ -5,15 +5,15 @@ use Rattle.std.proofs.lemmas.Bool.{lt-ltb, le-leb}
 use Rattle.std.proofs.lemmas.Option.{none-some, same_Some}
 use Rattle.pfx_weights.specs.Sets.{FilledSet}
 use Rattle.pfx_disk.specs.Disk.{View}
-use Rattle.pfx_redo.specs.Applying.{applied, form_at, is_common, is_right, after_record}
-use Rattle.pfx_redo.specs.Recording.{record_of, records_of}
-use Rattle.pfx_redo.proofs.Outcomes.{records_outcome}
-use Rattle.pfx_redo.proofs.Commons.{common_fits, records_common}
-use Rattle.pfx_redo.proofs.States.{applied_behind, in_force, right_parts}
-use Rattle.pfx_format.specs.Format.{format}
-use Rattle.pfx_format.specs.Frames.{state_after}
-use Rattle.pfx_format.proofs.Batches.{some_same}
-use Rattle.pfx_format.proofs.Nexts.{frame_leads}
+use Rattle.pfx_record_redo.specs.Applying.{applied, form_at, is_common, is_right, after_record}
+use Rattle.pfx_record_redo.specs.Recording.{record_of, records_of}
+use Rattle.pfx_record_redo.proofs.Outcomes.{records_outcome}
+use Rattle.pfx_record_redo.proofs.Commons.{common_fits, records_common}
+use Rattle.pfx_record_redo.proofs.States.{applied_behind, in_force, right_parts}
+use Rattle.pfx_store_format.specs.Format.{format}
+use Rattle.pfx_store_format.specs.Frames.{state_after}
+use Rattle.pfx_store_format.proofs.Batches.{some_same}
+use Rattle.pfx_store_format.proofs.Nexts.{frame_leads}
 use Rattle.pfx_jobs.specs.Kind.{Kind, Laws}
 use Rattle.pfx_machine.specs.Plain.{Plain, IsState}
 use Rattle.pfx_machine.specs.Outcome.{outcome}
@@ -26,8 +26,8 @@ use Rattle.pfx_machine.proofs.Keeping.{prefix_is_state}
 use Rattle.pfx_record.specs.Batches.{PlainBatch, all_fit, batch_bytes, batch_fits, counts_fit}
 use Rattle.pfx_record.specs.Records.{Recorded, form_of, record_fits}
 use Rattle.pfx_record.proofs.Rising.{of_both}
-use Rattle.pfx_recovery.specs.Codec.{Codec}
-use Rattle.pfx_recovery.specs.Store.{Replays}
+use Rattle.pfx_store_image.specs.Codec.{Codec}
+use Rattle.pfx_store_image.specs.Store.{Replays}
 use Rattle.pfx_store_file.specs.Holding as frames
 use Rattle.pfx_store.specs.Groups.{AreKeptAs, AreRecordsOf, AreSmall, KeepsAll, Survives, alone, frame_of, frames_of, joined}
 

@@ -3,20 +3,20 @@ use Rattle.std.specs.Prelude.{◌≡◌, ℕ, List, ◌++◌, length, min, take,
 use Rattle.std.proofs.Common.{sym, ◌∙◌, ap, arith, inl, inr, subst}
 use Rattle.std.proofs.lemmas.Bool.{cases_lt}
 use Rattle.std.proofs.lemmas.List.{length-take-le, take_all, take-append-le}
-use Rattle.pfx_format.specs.Format.{format}
-use Rattle.pfx_format.proofs.Keeping.{format_laws}
-use Rattle.pfx_header.specs.Headers.{Header, read_header, this_version}
+use Rattle.pfx_store_format.specs.Format.{format}
+use Rattle.pfx_store_format.proofs.Keeping.{format_laws}
+use Rattle.pfx_store_header.specs.Headers.{Header, read_header, this_version}
 use Rattle.pfx_jobs.specs.Kind.{Kind, Laws}
 use Rattle.pfx_machine.specs.Plain.{Plain}
-use Rattle.pfx_recover.specs.Answers.{Gives, GivesHead, IsRead, IsRefusal, of_head, refusal_of}
-use Rattle.pfx_recover.specs.declared.faults.HeadFault.{HeadFault}
-use Rattle.pfx_recover.specs.declared.faults.HeadFault.TheVariants as head
-use Rattle.pfx_recover.specs.declared.faults.OpenFault.{OpenFault}
-use Rattle.pfx_recover.specs.declared.faults.OpenFault.TheVariants as fault
-use Rattle.pfx_recovery.specs.Recovery.{Found, found, from_head, on_ok, recovered}
-use Rattle.pfx_recovery.specs.Refusals.{Refusal}
-use Rattle.pfx_recovery.proofs.Answers.{ok_same}
-use Rattle.pfx_recovery.proofs.Stands.{found_stands}
+use Rattle.pfx_store_recover.specs.Answers.{Gives, GivesHead, IsRead, IsRefusal, of_head, refusal_of}
+use Rattle.pfx_store_recover.specs.declared.faults.HeadFault.{HeadFault}
+use Rattle.pfx_store_recover.specs.declared.faults.HeadFault.TheVariants as head
+use Rattle.pfx_store_recover.specs.declared.faults.OpenFault.{OpenFault}
+use Rattle.pfx_store_recover.specs.declared.faults.OpenFault.TheVariants as fault
+use Rattle.pfx_store_image.specs.Recovery.{Found, found, from_head, on_ok, recovered}
+use Rattle.pfx_store_image.specs.Refusals.{Refusal}
+use Rattle.pfx_store_image.proofs.Answers.{ok_same}
+use Rattle.pfx_store_image.proofs.Stands.{found_stands}
 
 -- as many bytes as there are, up to so many, are the first so many
 take_min : (n most : ℕ) (xs : List ℕ) → n ≡ length xs → take (min n most) xs ≡ take most xs

@@ -6,21 +6,21 @@ use Rattle.std.proofs.Common.{sym, ◌∙◌, ap, append-nil, arith, inl, inr, s
 use Rattle.std.proofs.Math.Nat.{max-eq_right}
 use Rattle.std.proofs.lemmas.Bool.{leb-true, false_from_ne_true, true≢false}
 use Rattle.pfx_checkpoint.specs.Whole.{whole_bytes, whole_len}
-use Rattle.pfx_create.specs.Attempts.{IsMadeOf, IsNoneOrMade, RefusesUnmade}
+use Rattle.pfx_store_create.specs.Attempts.{IsMadeOf, IsNoneOrMade, RefusesUnmade}
 use Rattle.pfx_disk.specs.Disk.{View, IsHonest, Leaves, Same}
 use Rattle.pfx_disk.specs.declared.gates.TheConstants.{GATE_OPEN}
-use Rattle.pfx_format.specs.Format.{format, layout, IsOf}
-use Rattle.pfx_format.proofs.Keeping.{format_laws}
-use Rattle.pfx_header.specs.Headers.{Header, IsHeader, front_bytes, header_bytes, header_len, is_store, mark, read_header, this_version}
-use Rattle.pfx_header.proofs.Meanings.{accepted_filled, closed_no_store}
-use Rattle.pfx_header.proofs.Stages.{no_store}
-use Rattle.pfx_header.proofs.Written.{header_long, written_read}
+use Rattle.pfx_store_format.specs.Format.{format, layout, IsOf}
+use Rattle.pfx_store_format.proofs.Keeping.{format_laws}
+use Rattle.pfx_store_header.specs.Headers.{Header, IsHeader, front_bytes, header_bytes, header_len, is_store, mark, read_header, this_version}
+use Rattle.pfx_store_header.proofs.Meanings.{accepted_filled, closed_no_store}
+use Rattle.pfx_store_header.proofs.Stages.{no_store}
+use Rattle.pfx_store_header.proofs.Written.{header_long, written_read}
 use Rattle.pfx_jobs.specs.Kind.{Kind, Laws}
 use Rattle.pfx_machine.specs.Plain.{Plain, IsState}
-use Rattle.pfx_recovery.specs.Layout.{file_len}
-use Rattle.pfx_recovery.specs.NewFile.{new_parts}
-use Rattle.pfx_recovery.specs.Recovery.{found, from_head, on_ok, recovered}
-use Rattle.pfx_recovery.specs.Refusals.{NotAStore}
+use Rattle.pfx_store_image.specs.Layout.{file_len}
+use Rattle.pfx_store_image.specs.NewFile.{new_parts}
+use Rattle.pfx_store_image.specs.Recovery.{found, from_head, on_ok, recovered}
+use Rattle.pfx_store_image.specs.Refusals.{NotAStore}
 use Rattle.pfx_store_file.specs.Holding.{Holds}
 use Rattle.pfx_store_file.specs.Tending.{pieces}
 use Rattle.pfx_store_file.specs.declared.places.Places.{Places}

@@ -4,15 +4,15 @@ use Rattle.std.proofs.Common.{sym, ◌∙◌, ap, arith, length-append, subst}
 use Rattle.std.proofs.lemmas.Bool.{true≢false}
 use Rattle.std.proofs.lemmas.List.{take_all, take-append-le}
 use Rattle.pfx_disk.specs.Disk.{View, IsHonest}
-use Rattle.pfx_format.specs.Format.{format}
-use Rattle.pfx_format.specs.Frames.{state_after}
-use Rattle.pfx_format.proofs.Keeping.{format_laws}
+use Rattle.pfx_store_format.specs.Format.{format}
+use Rattle.pfx_store_format.specs.Frames.{state_after}
+use Rattle.pfx_store_format.proofs.Keeping.{format_laws}
 use Rattle.pfx_jobs.specs.Kind.{Kind, Laws}
 use Rattle.pfx_machine.specs.Plain.{Plain}
-use Rattle.pfx_recovery.specs.Store.{Replays}
-use Rattle.pfx_recovery.specs.Recovery.{recovered}
-use Rattle.pfx_recovery.proofs.Recovers.{recovers}
-use Rattle.pfx_recovery.proofs.Runs.{replays_one}
+use Rattle.pfx_store_image.specs.Store.{Replays}
+use Rattle.pfx_store_image.specs.Recovery.{recovered}
+use Rattle.pfx_store_image.proofs.Recovers.{recovers}
+use Rattle.pfx_store_image.proofs.Runs.{replays_one}
 use Rattle.pfx_store_file.specs.Calls.{Works}
 use Rattle.pfx_store_file.specs.Checkpoints.{in_progress, is_begun}
 use Rattle.pfx_store_file.specs.Holding.{KeepsAll, Survives}
@@ -24,7 +24,7 @@ use Rattle.pfx_store_file.specs.declared.progress.Checkpoint.{Checkpoint}
 use Rattle.pfx_store_file.specs.declared.progress.Checkpoint.TheVariants.{Ended, Pending, Writing}
 use Rattle.pfx_store.specs.Marks.{AreKept, Covers, IsKept, marked}
 use Rattle.pfx_store.specs.Standing.{Stands}
-use Rattle.pfx_store.specs.declared.store.Mark.{Mark}
+use Rattle.pfx_store.specs.declared.appending.Mark.{Mark}
 
 pub by_broken : {C : Type 0} (b : Bool) → (b ≡ false → C) → (b ≡ true → C) → C
 by_broken false whole broken = whole refl

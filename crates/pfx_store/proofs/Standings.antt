@@ -6,14 +6,14 @@ use Rattle.std.proofs.lemmas.Bool.{true≢false}
 use Rattle.std.proofs.lemmas.List.{take-append-le}
 use Rattle.pfx_checkpoint.specs.Whole.{whole_bytes}
 use Rattle.pfx_disk.specs.Disk.{View}
-use Rattle.pfx_format.specs.Areas.{read_area}
-use Rattle.pfx_format.specs.Format.{format, layout, IsOf}
-use Rattle.pfx_header.specs.Headers.{Header, least_segment}
+use Rattle.pfx_store_format.specs.Areas.{read_area}
+use Rattle.pfx_store_format.specs.Format.{format, layout, IsOf}
+use Rattle.pfx_store_header.specs.Headers.{Header, least_segment}
 use Rattle.pfx_jobs.specs.Kind.{Kind, Laws}
 use Rattle.pfx_machine.specs.Plain.{Plain, IsState}
-use Rattle.pfx_recover.specs.Finding.{IsMiddle, IsOpened}
-use Rattle.pfx_recovery.specs.Recovery.{Found, found, found_of, on_ok, recovered}
-use Rattle.pfx_recovery.specs.Store.{Parts, Replays, finished, turned_at, with_frame}
+use Rattle.pfx_store_recover.specs.Finding.{IsMiddle, IsOpened}
+use Rattle.pfx_store_image.specs.Recovery.{Found, found, found_of, on_ok, recovered}
+use Rattle.pfx_store_image.specs.Store.{Parts, Replays, finished, turned_at, with_frame}
 use Rattle.pfx_store_file.specs.Checkpoints.{in_progress}
 use Rattle.pfx_store_file.specs.Holding.{Holds, KeepsAll}
 use Rattle.pfx_store_file.specs.Tending.{FindsRoom, settled, settled_unless, made_room}

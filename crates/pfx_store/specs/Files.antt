@@ -2,13 +2,13 @@
 use Rattle.std.specs.Prelude.{◌≡◌, ℕ, ◌+◌, List, [], ◌∷◌, ◌++◌, drop, true, Option, Some, None, Result, Ok, Err}
 use Rattle.pfx_checkpoint.specs.Whole.{whole_bytes}
 use Rattle.pfx_disk.specs.Stop.{Act}
-use Rattle.pfx_format.specs.Format.{format}
-use Rattle.pfx_header.specs.Headers.{Header}
+use Rattle.pfx_store_format.specs.Format.{format}
+use Rattle.pfx_store_header.specs.Headers.{Header}
 use Rattle.pfx_jobs.specs.Kind.{Kind}
 use Rattle.pfx_machine.specs.Plain.{Plain}
 use Rattle.pfx_record.specs.Numbers.{number_bytes}
-use Rattle.pfx_recovery.specs.Recovery.{Found, found}
-use Rattle.pfx_recovery.specs.Refusals.{Refusal}
+use Rattle.pfx_store_image.specs.Recovery.{Found, found}
+use Rattle.pfx_store_image.specs.Refusals.{Refusal}
 use Rattle.pfx_store_file.specs.Acts.{tend_acts, turn_acts, append_acts, appended_file}
 use Rattle.pfx_store_file.specs.Files.{File, AreOf, file_in}
 use Rattle.pfx_store_file.specs.declared.places.Places.{Places}

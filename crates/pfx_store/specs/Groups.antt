@@ -1,8 +1,8 @@
 -- Commands that are kept in groups, each in a frame of its own, and what survives of them.
 use Rattle.std.specs.Prelude.{◌≡◌, ℕ, ◌+◌, ◌<◌, ◌≤◌, List, [], ◌∷◌, ◌++◌, length, map, take, Ok, ⊤}
 use Rattle.pfx_disk.specs.Disk.{View}
-use Rattle.pfx_redo.specs.Recording.{records_of}
-use Rattle.pfx_format.specs.Format.{format}
+use Rattle.pfx_record_redo.specs.Recording.{records_of}
+use Rattle.pfx_store_format.specs.Format.{format}
 use Rattle.pfx_jobs.specs.Kind.{Kind}
 use Rattle.pfx_machine.specs.Plain.{Plain}
 use Rattle.pfx_machine.specs.Outcome.{outcome}
@@ -11,7 +11,7 @@ use Rattle.pfx_machine.specs.Sessions.{IsAcceptable}
 use Rattle.pfx_machine.specs.declared.command.Command.{Command}
 use Rattle.pfx_record.specs.Batches.{batch_bytes}
 use Rattle.pfx_record.specs.Records as recorded
-use Rattle.pfx_recovery.specs.Recovery.{recovered}
+use Rattle.pfx_store_image.specs.Recovery.{recovered}
 
 -- all commands of groups, in their order
 abbrev pub joined : {J : Type 0} → List (List (Command J)) → List (Command J)

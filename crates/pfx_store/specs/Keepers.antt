@@ -2,13 +2,13 @@
 use Rattle.std.specs.Prelude.{◌≡◌, ◌↔◌, ◌++◌, ◌∷◌, [], ℕ, List, length, Option, None, Some, Result, Err, OnOk, IfOk, IfErr, MatchResult}
 use Rattle.std.specs.Prelude.{if◌then◌else◌}
 use Rattle.pfx_disk.specs.Disk.{View, HasFailed, IsHonest}
-use Rattle.pfx_fault.specs.declared.parts.Cause.{Cause}
-use Rattle.pfx_fault.specs.declared.parts.Cause.TheVariants.{Device, Memory, Log}
-use Rattle.pfx_format.specs.Format.{format}
+use Rattle.pfx_fault.specs.declared.fields.Cause.{Cause}
+use Rattle.pfx_fault.specs.declared.fields.Cause.TheVariants.{Device, Memory, Log}
+use Rattle.pfx_store_format.specs.Format.{format}
 use Rattle.pfx_jobs.specs.Kind.{Kind}
 use Rattle.pfx_machine.specs.Plain.{Plain}
 use Rattle.pfx_record.specs.Records.{Recorded}
-use Rattle.pfx_recovery.specs.Store.{Replays}
+use Rattle.pfx_store_image.specs.Store.{Replays}
 use Rattle.pfx_segment.specs.Segment.{Takes}
 use Rattle.pfx_store_file.specs.Holding.{KeepsAll}
 use Rattle.pfx_store_file.specs.Tending.{TakesFrame, append_calls, calls_of, next_step}
@@ -16,7 +16,7 @@ use Rattle.pfx_store_file.specs.declared.checkpoint.Tended.{Tended}
 use Rattle.pfx_store.specs.Marks.{AreKept, Covers}
 use Rattle.pfx_store.specs.Stores.{PlainStore}
 use Rattle.pfx_store.specs.Working.{Commits, MovesBy, Tends}
-use Rattle.pfx_store.specs.declared.store.Mark.{Mark}
+use Rattle.pfx_store.specs.declared.appending.Mark.{Mark}
 
 -- what has failed of a store: its disk, if it is broken
 abbrev pub failure_of : {D J : Type 0} → PlainStore D J → Option Cause

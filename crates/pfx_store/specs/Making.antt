@@ -1,12 +1,12 @@
 -- The calls that the making of a store takes, and which fault comes if it isn't made.
 use Rattle.std.specs.Prelude.{◌≡◌, ◌<◌, ◌≤◌, ◌+◌, ◌-◌, ℕ, List, ⊤}
 use Rattle.pfx_checkpoint.specs.Whole.{whole_bytes}
-use Rattle.pfx_format.specs.Format.{layout}
-use Rattle.pfx_header.specs.Headers.{Header, IsHeader, IsSegmentSize, header_bytes, least_segment, longest_segment, this_version}
+use Rattle.pfx_store_format.specs.Format.{layout}
+use Rattle.pfx_store_header.specs.Headers.{Header, IsHeader, IsSegmentSize, header_bytes, least_segment, longest_segment, this_version}
 use Rattle.pfx_jobs.specs.Kind.{Kind}
 use Rattle.pfx_machine.specs.Plain.{Plain}
 use Rattle.pfx_record.specs.Batches.{batch_most}
-use Rattle.pfx_recovery.specs.Layout.{file_len}
+use Rattle.pfx_store_image.specs.Layout.{file_len}
 use Rattle.pfx_store_file.specs.Tending.{pieces}
 use Rattle.pfx_weights.specs.Sets.{FilledSet}
 use Rattle.pfx_store.specs.declared.making.InitFault.{InitFault}

@@ -1,13 +1,13 @@
 -- What a store's marks promise.
 use Rattle.std.specs.Prelude.{◌≡◌, ◌≤◌, ℕ, List, [], ◌∷◌, length, take, Bool, false, Result, Ok, Err, ⊤}
 use Rattle.pfx_disk.specs.Disk.{View}
-use Rattle.pfx_format.specs.Format.{format}
+use Rattle.pfx_store_format.specs.Format.{format}
 use Rattle.pfx_jobs.specs.Kind.{Kind}
 use Rattle.pfx_machine.specs.Plain.{Plain}
-use Rattle.pfx_recovery.specs.Store.{Replays}
+use Rattle.pfx_store_image.specs.Store.{Replays}
 use Rattle.pfx_store_file.specs.Holding.{Survives}
 use Rattle.pfx_store_file.specs.declared.faults.StoreFault.{StoreFault}
-use Rattle.pfx_store.specs.declared.store.Mark.{Mark}
+use Rattle.pfx_store.specs.declared.appending.Mark.{Mark}
 
 -- with the mark that was answered, if there is one
 abbrev pub marked : Result Mark StoreFault → List Mark → List Mark

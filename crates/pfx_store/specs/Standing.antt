@@ -2,12 +2,12 @@
 use Rattle.std.specs.Prelude.{◌≡◌, ℕ, List, ◌∷◌, Some, true}
 use Rattle.pfx_disk.specs.Disk.{View}
 use Rattle.pfx_disk.specs.declared.gates.TheConstants.{GATE_OPEN}
-use Rattle.pfx_format.specs.Areas.{read_area}
-use Rattle.pfx_format.specs.Format.{format, IsOf}
-use Rattle.pfx_header.specs.Headers.{Header}
+use Rattle.pfx_store_format.specs.Areas.{read_area}
+use Rattle.pfx_store_format.specs.Format.{format, IsOf}
+use Rattle.pfx_store_header.specs.Headers.{Header}
 use Rattle.pfx_jobs.specs.Kind.{Kind}
 use Rattle.pfx_machine.specs.Plain.{Plain}
-use Rattle.pfx_recovery.specs.Store.{Parts}
+use Rattle.pfx_store_image.specs.Store.{Parts}
 use Rattle.pfx_store_file.specs.Holding.{Holds, IsPending}
 use Rattle.pfx_store_file.specs.declared.places.Places.{Places}
 

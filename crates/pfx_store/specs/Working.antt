@@ -8,21 +8,21 @@ use Rattle.pfx_checkpoint.specs.Whole.{whole_bytes}
 use Rattle.pfx_disk.specs.CallsMade.{HasMade, HasBrokenOff, HasKeptTo}
 use Rattle.pfx_disk.specs.Disk.{View, HasFailed, IsHonest, Leaves, Only, Same}
 use Rattle.pfx_disk.specs.Stop.{Act, Sync}
-use Rattle.pfx_create.specs.Attempts.{IsNoneOrMade}
-use Rattle.pfx_format.specs.Format.{format}
-use Rattle.pfx_header.specs.Headers.{Header, IsSegmentSize, least_segment}
+use Rattle.pfx_store_create.specs.Attempts.{IsNoneOrMade}
+use Rattle.pfx_store_format.specs.Format.{format}
+use Rattle.pfx_store_header.specs.Headers.{Header, IsSegmentSize, least_segment}
 use Rattle.pfx_jobs.specs.Kind.{Kind}
 use Rattle.pfx_machine.specs.Plain.{Plain, IsState, empty}
 use Rattle.pfx_machine.specs.Reweighing.{new_set}
 use Rattle.pfx_record.specs.Batches.{batch_most}
 use Rattle.pfx_record.specs.Numbers.{number_bytes}
 use Rattle.pfx_record.specs.Records.{Recorded, reweighed}
-use Rattle.pfx_recover.specs.declared.faults.OpenFault.{OpenFault}
-use Rattle.pfx_recovery.specs.Recovery.{Found, found, recovered}
-use Rattle.pfx_recovery.specs.Store.{Replays}
-use Rattle.pfx_redo.specs.Applying.{applied}
+use Rattle.pfx_store_recover.specs.declared.faults.OpenFault.{OpenFault}
+use Rattle.pfx_store_image.specs.Recovery.{Found, found, recovered}
+use Rattle.pfx_store_image.specs.Store.{Replays}
+use Rattle.pfx_record_redo.specs.Applying.{applied}
 use Rattle.pfx_segment.specs.Segment.{Takes}
-use Rattle.pfx_recovery.specs.declared.head.TheConstants.{SEGMENT_HEAD}
+use Rattle.pfx_store_image.specs.declared.head.TheConstants.{SEGMENT_HEAD}
 use Rattle.pfx_store_file.specs.Calls.{Works}
 use Rattle.pfx_store_file.specs.Checkpoints.{in_progress, written}
 use Rattle.pfx_store_file.specs.Fitting.{IsTurnable}
@@ -42,7 +42,7 @@ use Rattle.pfx_store.specs.Making.{IsBeforeAnyCall, IsSizeFault, making_calls}
 use Rattle.pfx_store.specs.Marks.{Covers}
 use Rattle.pfx_store.specs.Standing.{Stands}
 use Rattle.pfx_store.specs.Stores.{PlainStore}
-use Rattle.pfx_store.specs.declared.store.Mark.{Mark}
+use Rattle.pfx_store.specs.declared.appending.Mark.{Mark}
 use Rattle.pfx_weights.specs.Sets.{FilledSet}
 
 -- these records are one of new weights, alone, and this is the set that comes into force by it

@@ -1,16 +1,16 @@
 // The format, as those who open files take it.
 ghost use Rattle.std.specs.Prelude.{◌≡◌};
-ghost use Rattle.pfx_format.specs.Format.{format, IsOf};
-ghost use Rattle.pfx_header.specs.declared.sizes.TheConstants.{HEADER_MOST};
+ghost use Rattle.pfx_store_format.specs.Format.{format, IsOf};
+ghost use Rattle.pfx_store_header.specs.declared.sizes.TheConstants.{HEADER_MOST};
 
 use pfx_checkpoint::{freeze_whole, whole_len};
 use pfx_fault::Part;
-use pfx_format::{apply_frame, number_after, number_of, read_area};
-use pfx_header::{HEADER_MOST, HeaderFault, header_len, read_header};
 use pfx_jobs::job::Job;
 use pfx_machine::State;
-use pfx_recover::{Format, HeadFault, Refusal};
 use pfx_store_file::Sizes;
+use pfx_store_format::{apply_frame, number_after, number_of, read_area};
+use pfx_store_header::{HEADER_MOST, HeaderFault, header_len, read_header};
+use pfx_store_recover::{Format, HeadFault, Refusal};
 use pfx_weights::TaskSet;
 use std::alloc::{AllocError, Global};
 use std::marker::{Model, PhantomData};
@@ -23,7 +23,7 @@ pub struct FileHeader {
 }
 
 impl Model for FileHeader {
-    ghost use Rattle.pfx_header.specs.Headers.{Header, IsHeader};
+    ghost use Rattle.pfx_store_header.specs.Headers.{Header, IsHeader};
 
     ghost Value = { Header };
 
@@ -33,7 +33,7 @@ impl Model for FileHeader {
 }
 
 impl FileHeader {
-    ghost use Rattle.pfx_header.specs.Headers.{IsHeader};
+    ghost use Rattle.pfx_store_header.specs.Headers.{IsHeader};
 
     /// The task set.
     pub fn set(&self) -> &TaskSet
@@ -58,7 +58,7 @@ pub struct FileFormat<J: Job> {
 }
 
 impl<J: Job> Format for FileFormat<J> {
-    ghost use Rattle.pfx_format.proofs.Keeping.{format_laws, format_bounds};
+    ghost use Rattle.pfx_store_format.proofs.Keeping.{format_laws, format_bounds};
 
     type Header = FileHeader;
 

@@ -1,6 +1,6 @@
 // Batches of groups of commands.
 ghost use Rattle.std.specs.Prelude.{◌≡◌, ◌+◌, ◌<◌, ◌≤◌, ◌∷◌, [], ℕ, List, length, map, Some};
-ghost use Rattle.pfx_redo.specs.Applying.{applied};
+ghost use Rattle.pfx_record_redo.specs.Applying.{applied};
 ghost use Rattle.pfx_machine.specs.Outcome.{outcome};
 ghost use Rattle.pfx_machine.specs.Plain.{Plain, IsState};
 ghost use Rattle.pfx_machine.specs.Reweighing.{new_set};

@@ -1,7 +1,7 @@
 // A state and the file that keeps it, with nothing said yet of whether they agree.
 ghost use Rattle.std.specs.Prelude.{◌≡◌, ◌≤◌, ◌+◌, length, vec_capacity};
 ghost use Rattle.pfx_checkpoint.specs.Whole.{whole_len};
-ghost use Rattle.pfx_header.specs.Headers.{least_segment};
+ghost use Rattle.pfx_store_header.specs.Headers.{least_segment};
 ghost use Rattle.pfx_record.specs.Batches.{batch_most};
 
 use pfx_disk::Disk;

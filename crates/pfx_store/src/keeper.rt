@@ -3,9 +3,9 @@
 //! What carries commands out is generic over it, so it makes these calls and no others of what it keeps.
 ghost use Rattle.pfx_store.specs.Keepers.{failure_of};
 
+use crate::appending::Mark;
 use crate::renewal::Renewal;
-use crate::standing::Store;
-use crate::store::Mark;
+use crate::store::Store;
 use pfx_disk::Disk;
 use pfx_fault::Cause;
 use pfx_jobs::job::Job;
@@ -15,7 +15,7 @@ use pfx_store_file::Tended;
 /// What keeps batches in a store.
 pub trait Keeper<D: Disk, J: Job> {
     ghost use Rattle.std.specs.Prelude.{◌≡◌, false, Option, None, map};
-    ghost use Rattle.pfx_fault.specs.declared.parts.Cause.{Cause};
+    ghost use Rattle.pfx_fault.specs.declared.fields.Cause.{Cause};
     ghost use Rattle.pfx_record.specs.Batches.{batch_bytes, batch_of};
     ghost use Rattle.pfx_record.specs.Records.{plain};
     ghost use Rattle.pfx_store.specs.Keepers.{Keeps, KeepsTending};

@@ -1,20 +1,20 @@
 // What the header of a store's file says.
 ghost use Rattle.std.specs.Prelude.{◌≡◌, ◌≤◌, ◌+◌, Ok, Err, IfOk, IfErr};
 ghost use Rattle.pfx_disk.specs.Disk.{IsHonest};
-ghost use Rattle.pfx_format.specs.Format.{format};
-ghost use Rattle.pfx_header.specs.Headers.{Header, read_header, this_version};
-ghost use Rattle.pfx_header.specs.declared.sizes.TheConstants.{HEADER_MOST};
+ghost use Rattle.pfx_store_format.specs.Format.{format};
+ghost use Rattle.pfx_store_header.specs.Headers.{Header, read_header, this_version};
+ghost use Rattle.pfx_store_header.specs.declared.sizes.TheConstants.{HEADER_MOST};
 ghost use Rattle.pfx_machine.specs.Plain.{Plain};
-ghost use Rattle.pfx_recover.specs.Answers.{Gives, IsRead, IsRefusal};
-ghost use Rattle.pfx_recover.specs.Looking.{OnlyReads};
-ghost use Rattle.pfx_recovery.specs.Recovery.{Found, found, recovered};
+ghost use Rattle.pfx_store_recover.specs.Answers.{Gives, IsRead, IsRefusal};
+ghost use Rattle.pfx_store_recover.specs.Looking.{OnlyReads};
+ghost use Rattle.pfx_store_image.specs.Recovery.{Found, found, recovered};
 
 use crate::format::{FileFormat, FileHeader};
-use crate::standing::Store;
+use crate::store::Store;
 use pfx_disk::Disk;
-use pfx_header::HEADER_MOST;
 use pfx_jobs::job::Job;
-use pfx_recover::{Format, OpenFault};
+use pfx_store_header::HEADER_MOST;
+use pfx_store_recover::{Format, OpenFault};
 use std::alloc::Global;
 
 impl<D: Disk, J: Job> Store<D, J> {

@@ -1,15 +1,15 @@
 // A store whose disk tells its calls.
 ghost use Rattle.std.specs.Prelude.{◌≡◌, ◌↔◌, [], false};
-ghost use Rattle.pfx_chronicle.specs.Chart.{GoesAlong};
+ghost use Rattle.pfx_disk_chronicle.specs.Chart.{GoesAlong};
 ghost use Rattle.pfx_disk.specs.Disk.{IsHonest, Only};
 ghost use Rattle.pfx_store.specs.Noting.{IsHeldBy};
 
 use crate::journal::Journal;
-use crate::standing::Store;
-use pfx_chronicle::chronicle::Chronicle;
-use pfx_chronicle::list::Opened;
-use pfx_chronicle::name::Charted;
+use crate::store::Store;
 use pfx_disk::Disk;
+use pfx_disk_chronicle::chronicle::Chronicle;
+use pfx_disk_chronicle::list::Opened;
+use pfx_disk_chronicle::name::Charted;
 use pfx_jobs::job::Job;
 use pfx_store_file::StoreFile;
 

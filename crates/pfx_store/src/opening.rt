@@ -1,14 +1,14 @@
 // Opening a store.
 ghost use Rattle.std.specs.Prelude.{◌≡◌, ◌≤◌, ◌+◌, ℕ, List, if◌then◌else◌, false, Ok, Err, IfOk, IfErr, MatchResult};
 ghost use Rattle.pfx_disk.specs.Disk.{IsHonest, HasFailed};
-ghost use Rattle.pfx_format.specs.Format.{format, IsOf};
-ghost use Rattle.pfx_header.specs.Headers.{Header};
+ghost use Rattle.pfx_store_format.specs.Format.{format, IsOf};
+ghost use Rattle.pfx_store_header.specs.Headers.{Header};
 ghost use Rattle.pfx_machine.specs.Plain.{Plain};
-ghost use Rattle.pfx_recover.specs.Answers.{IsRefusal};
-ghost use Rattle.pfx_recover.specs.Finding.{CanGoOn, IsOpened};
-ghost use Rattle.pfx_recover.specs.Looking.{Looks};
+ghost use Rattle.pfx_store_recover.specs.Answers.{IsRefusal};
+ghost use Rattle.pfx_store_recover.specs.Finding.{CanGoOn, IsOpened};
+ghost use Rattle.pfx_store_recover.specs.Looking.{Looks};
 ghost use Rattle.pfx_record.specs.Batches.{batch_most};
-ghost use Rattle.pfx_recovery.specs.Recovery.{Found, found, recovered};
+ghost use Rattle.pfx_store_image.specs.Recovery.{Found, found, recovered};
 ghost use Rattle.pfx_store_file.specs.Checkpoints.{is_begun};
 ghost use Rattle.pfx_store_file.specs.Tending.{pieces, steps_left};
 ghost use Rattle.pfx_store.specs.Stores.{stored};
@@ -16,14 +16,14 @@ ghost use Rattle.pfx_store.specs.Working.{Finds, IsBody, IsDurable, Opens};
 
 use crate::format::{FileFormat, FileHeader};
 use crate::journal::Journal;
-use crate::standing::Store;
+use crate::store::Store;
 use pfx_checkpoint::whole_len;
 use pfx_disk::Disk;
 use pfx_jobs::job::Job;
 use pfx_machine::State;
 use pfx_record::batch_most;
-use pfx_recover::{OpenFault, Opened, open};
 use pfx_store_file::StoreFile;
+use pfx_store_recover::{OpenFault, Opened, open};
 use std::alloc::{AllocError, Global};
 
 // How many bytes the longest frame takes, be it of rows or of new weights, with the closed gate behind it.

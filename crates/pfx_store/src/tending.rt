@@ -6,16 +6,16 @@
 //   checkpoint between appends; an append that needs the room takes all that are left.
 // - **A store's turn and its steps are public beside `append`**, which turns by itself: for callers that know of a quiet moment.
 ghost use Rattle.std.specs.Prelude.{◌≡◌, true, Ok, OnOk};
-ghost use Rattle.pfx_format.specs.Format.{format};
+ghost use Rattle.pfx_store_format.specs.Format.{format};
 ghost use Rattle.pfx_store_file.specs.Acts.{tended_file, turned_file};
 ghost use Rattle.pfx_store_file.specs.Tending.{next_step, calls_of, turn_calls};
 ghost use Rattle.pfx_store.specs.Files.{tending, turning};
 ghost use Rattle.pfx_store.specs.Stores.{stored};
 ghost use Rattle.pfx_store.specs.Working.{IsCall, Makes, StandsOn, Tends, Turns};
 
+use crate::appending::{encode, start_behind};
 use crate::format::FileHeader;
 use crate::journal::Journal;
-use crate::store::{encode, start_behind};
 use pfx_disk::Disk;
 use pfx_jobs::job::Job;
 use pfx_machine::State;

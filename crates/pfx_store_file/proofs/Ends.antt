@@ -6,7 +6,7 @@ use Rattle.pfx_disk.specs.Disk.{View}
 use Rattle.pfx_disk.specs.Stop.{Act}
 use Rattle.pfx_disk.specs.CallsMade.{HasMade, HasBrokenOff, HasKeptTo}
 use Rattle.pfx_disk.proofs.CallsMade.{made_none, made_then, broken_first, broken_then, within_first, within_then}
-use Rattle.pfx_recovery.specs.Codec.{Codec}
+use Rattle.pfx_store_image.specs.Codec.{Codec}
 use Rattle.pfx_store_file.specs.declared.checkpoint.TheConstants.{PIECE}
 use Rattle.pfx_store_file.specs.declared.places.Places.{Places}
 use Rattle.pfx_store_file.specs.Checkpoints.{in_progress, is_begun, written}

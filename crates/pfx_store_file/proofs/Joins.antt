@@ -1,8 +1,8 @@
 -- Room made first and a frame appended then: the calls of both, one behind the other, are those of an append.
 use Rattle.std.specs.Prelude.{◌≡◌, ℕ, ◌+◌, nat_lt, if◌then◌else◌, List, [], ◌++◌, length, Bool, true, false, refl}
 use Rattle.std.proofs.Common.{sym, ◌∙◌, ap, append_assoc}
-use Rattle.pfx_recovery.specs.Codec.{Codec}
-use Rattle.pfx_recovery.specs.Layout.{segment_at, segment_end}
+use Rattle.pfx_store_image.specs.Codec.{Codec}
+use Rattle.pfx_store_image.specs.Layout.{segment_at, segment_end}
 use Rattle.pfx_segment.specs.Acts.{put_acts}
 use Rattle.pfx_segment.specs.Frames.{size}
 use Rattle.pfx_store_file.specs.Acts.{tend_acts, end_acts, ended_file, turn_acts, turned_file, gate_of, has_room, framed_file, append_acts, appended_file}

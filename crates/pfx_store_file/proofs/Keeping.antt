@@ -9,15 +9,15 @@ use Rattle.pfx_segment.specs.Segment.{StandAt, Appended}
 use Rattle.pfx_segment.specs.Turning.{Closing, Prepared}
 use Rattle.pfx_segment.specs.Frames.{AreFrames, size}
 use Rattle.pfx_segment.proofs.FrameLemmas.{Agree, shut_behind, size-push}
-use Rattle.pfx_recovery.specs.Codec.{Codec, Laws}
-use Rattle.pfx_recovery.specs.Layout.{area_at, segment_at, segment_end}
-use Rattle.pfx_recovery.specs.Recovery.{recovered, found, found_of}
-use Rattle.pfx_recovery.specs.Store.{Parts, Replays, IsStore, Other, next_gate, with_frame, turned_at, finished}
-use Rattle.pfx_recovery.proofs.Recovers.{recovers}
-use Rattle.pfx_recovery.proofs.Regions.{area_inside, segment_inside, area_of_segment, other_segment, segment_of_area, other_area}
-use Rattle.pfx_recovery.proofs.Runs.{not_not, replays_one}
-use Rattle.pfx_recovery.proofs.Stands.{found_stands}
-use Rattle.pfx_recovery.proofs.Steps.{append_step, turn_step, turn_whole, close_step, piece_step, open_step, open_whole}
+use Rattle.pfx_store_image.specs.Codec.{Codec, Laws}
+use Rattle.pfx_store_image.specs.Layout.{area_at, segment_at, segment_end}
+use Rattle.pfx_store_image.specs.Recovery.{recovered, found, found_of}
+use Rattle.pfx_store_image.specs.Store.{Parts, Replays, IsStore, Other, next_gate, with_frame, turned_at, finished}
+use Rattle.pfx_store_image.proofs.Recovers.{recovers}
+use Rattle.pfx_store_image.proofs.Regions.{area_inside, segment_inside, area_of_segment, other_segment, segment_of_area, other_area}
+use Rattle.pfx_store_image.proofs.Runs.{not_not, replays_one}
+use Rattle.pfx_store_image.proofs.Stands.{found_stands}
+use Rattle.pfx_store_image.proofs.Steps.{append_step, turn_step, turn_whole, close_step, piece_step, open_step, open_whole}
 use Rattle.pfx_store_file.specs.Fitting.{HasRoom}
 use Rattle.pfx_store_file.specs.Checkpoints.{in_progress, is_begun, written}
 use Rattle.pfx_store_file.specs.Holding.{ArePlaces, IsGate, IsPending, IsKnown, IsBegun, Holds, Survives, KeepsAll}

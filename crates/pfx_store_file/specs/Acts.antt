@@ -3,9 +3,9 @@ use Rattle.std.specs.Prelude.{ℕ, zero, suc, ◌+◌, ◌-◌, min, nat_lt, if�
 use Rattle.std.specs.Prelude.{List, [], ◌∷◌, ◌++◌, length, take, drop, Bool, true, false}
 use Rattle.pfx_disk.specs.Stop.{Act, Write}
 use Rattle.pfx_segment.specs.Acts.{put_acts, close_acts, open_acts}
-use Rattle.pfx_recovery.specs.Codec.{Codec}
-use Rattle.pfx_recovery.specs.Layout.{segment_end}
-use Rattle.pfx_recovery.specs.Store.{next_gate, with_frame, turned_at, finished}
+use Rattle.pfx_store_image.specs.Codec.{Codec}
+use Rattle.pfx_store_image.specs.Layout.{segment_end}
+use Rattle.pfx_store_image.specs.Store.{next_gate, with_frame, turned_at, finished}
 use Rattle.pfx_store_file.specs.declared.checkpoint.TheConstants.{PIECE}
 use Rattle.pfx_store_file.specs.Checkpoints.{is_begun, written}
 use Rattle.pfx_store_file.specs.Files.{File, area_of, segment_of}

@@ -1,8 +1,8 @@
 -- A store's file by its parts, and what is known of it besides, as the places of a store have it.
 use Rattle.std.specs.Prelude.{◌≡◌, ℕ, List, Bool, not, if◌then◌else◌}
-use Rattle.pfx_recovery.specs.Codec.{Codec}
-use Rattle.pfx_recovery.specs.Layout.{area_at, segment_at, is_open}
-use Rattle.pfx_recovery.specs.Store.{Parts}
+use Rattle.pfx_store_image.specs.Codec.{Codec}
+use Rattle.pfx_store_image.specs.Layout.{area_at, segment_at, is_open}
+use Rattle.pfx_store_image.specs.Store.{Parts}
 use Rattle.pfx_store_file.specs.Holding.{ArePlaces}
 use Rattle.pfx_store_file.specs.declared.places.Places.{Places}
 use Rattle.pfx_store_file.specs.declared.progress.Checkpoint.{Checkpoint}

@@ -1,6 +1,6 @@
 -- The room that a store's file has by its places.
 use Rattle.std.specs.Prelude.{◌≡◌, ◌+◌, ◌<◌, ℕ}
-use Rattle.pfx_recovery.specs.declared.head.TheConstants.{SEGMENT_HEAD}
+use Rattle.pfx_store_image.specs.declared.head.TheConstants.{SEGMENT_HEAD}
 use Rattle.pfx_store_file.specs.declared.places.Places.{Places}
 use Rattle.pfx_store_file.specs.declared.progress.Checkpoint.TheVariants.{Ended}
 

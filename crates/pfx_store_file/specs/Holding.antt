@@ -2,13 +2,13 @@
 use Rattle.std.specs.Prelude.{◌≡◌, ℕ, ◌+◌, ◌≤◌, List, [], ◌∷◌, ◌++◌, length, take, slice_index, Bool, true, false, not, Some, Ok}
 use Rattle.pfx_disk.specs.Disk.{View, IsHonest}
 use Rattle.pfx_disk.specs.declared.gates.TheConstants.{GATE_OPEN}
-use Rattle.pfx_recovery.specs.declared.head.TheConstants.{SEGMENT_HEAD}
+use Rattle.pfx_store_image.specs.declared.head.TheConstants.{SEGMENT_HEAD}
 use Rattle.pfx_segment.specs.Segment.{StandAt}
 use Rattle.pfx_segment.specs.Frames.{IsFrame}
-use Rattle.pfx_recovery.specs.Codec.{Codec}
-use Rattle.pfx_recovery.specs.Layout.{area_at, segment_at, segment_end, IsOpenAt, IsClosedAt}
-use Rattle.pfx_recovery.specs.Recovery.{recovered}
-use Rattle.pfx_recovery.specs.Store.{Parts, Replays, IsStore, next_gate}
+use Rattle.pfx_store_image.specs.Codec.{Codec}
+use Rattle.pfx_store_image.specs.Layout.{area_at, segment_at, segment_end, IsOpenAt, IsClosedAt}
+use Rattle.pfx_store_image.specs.Recovery.{recovered}
+use Rattle.pfx_store_image.specs.Store.{Parts, Replays, IsStore, next_gate}
 use Rattle.pfx_store_file.specs.Checkpoints.{in_progress}
 use Rattle.pfx_store_file.specs.Sizes.{HasSizes}
 use Rattle.pfx_store_file.specs.declared.places.Places.{Places}

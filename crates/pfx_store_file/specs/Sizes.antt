@@ -1,6 +1,6 @@
 -- How long the parts of a store's file are, and the layout that they are those of.
 use Rattle.std.specs.Prelude.{◌≡◌, ◌≤◌, ◌+◌, ◌*◌, ℕ, Bool}
-use Rattle.pfx_recovery.specs.Layout.{Layout, area_at, segment_at}
+use Rattle.pfx_store_image.specs.Layout.{Layout, area_at, segment_at}
 use Rattle.pfx_store_file.specs.declared.sizes.Sizes.{Sizes}
 
 -- these are the lengths of the layout's parts

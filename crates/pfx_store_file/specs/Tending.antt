@@ -1,7 +1,7 @@
 -- The steps of a checkpoint in progress.
 use Rattle.std.specs.Prelude.{◌≡◌, ℕ, ◌+◌, ◌-◌, ◌/◌, nat_lt, Bool, true, false, if◌then◌else◌}
-use Rattle.pfx_recovery.specs.declared.head.TheConstants.{SEGMENT_HEAD}
-use Rattle.pfx_recovery.specs.Store.{Parts, finished, turned_at}
+use Rattle.pfx_store_image.specs.declared.head.TheConstants.{SEGMENT_HEAD}
+use Rattle.pfx_store_image.specs.Store.{Parts, finished, turned_at}
 use Rattle.pfx_store_file.specs.Checkpoints.{in_progress}
 use Rattle.pfx_store_file.specs.Fitting.{HasRoom, IsEmpty}
 use Rattle.pfx_store_file.specs.declared.places.Places.{Places}

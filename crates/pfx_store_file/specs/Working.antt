@@ -5,8 +5,8 @@ use Rattle.pfx_disk.specs.CallsMade.{HasMade, HasBrokenOff, HasKeptTo}
 use Rattle.pfx_disk.specs.Disk.{IsHonest}
 use Rattle.pfx_disk.specs.Stop.{Act}
 use Rattle.pfx_disk.specs.declared.device.Disk.{Ghosts}
-use Rattle.pfx_recovery.specs.Codec.{Codec}
-use Rattle.pfx_recovery.specs.Store.{Parts, Replays}
+use Rattle.pfx_store_image.specs.Codec.{Codec}
+use Rattle.pfx_store_image.specs.Store.{Parts, Replays}
 use Rattle.pfx_segment.specs.Segment.{Takes}
 use Rattle.pfx_store_file.specs.Calls.{Works}
 use Rattle.pfx_store_file.specs.Checkpoints.{in_progress, written}

@@ -2,8 +2,8 @@
 ghost use Rattle.std.specs.Prelude.{◌≡◌, ◌<◌, ◌+◌, ◌∷◌, ◌↔◌, ℕ, List, length, Some, true, false, IfOk, OnOk, IsTrue};
 ghost use Rattle.pfx_disk.specs.Disk.{IsHonest};
 ghost use Rattle.pfx_disk.specs.declared.gates.TheConstants.{GATE_OPEN};
-ghost use Rattle.pfx_recovery.specs.Codec.{Codec, Laws};
-ghost use Rattle.pfx_recovery.specs.Store.{Parts, with_frame};
+ghost use Rattle.pfx_store_image.specs.Codec.{Codec, Laws};
+ghost use Rattle.pfx_store_image.specs.Store.{Parts, with_frame};
 ghost use Rattle.pfx_segment.specs.Acts.{put_acts};
 ghost use Rattle.pfx_store_file.specs.Acts.{append_acts, appended_file, gate_of, framed_file};
 ghost use Rattle.pfx_store_file.specs.Files.{File, AreOf};
@@ -15,8 +15,8 @@ ghost use Rattle.pfx_store_file.specs.Working.{Commits, IsAppend, IsCall, Makes,
 use crate::faults::StoreFault;
 use crate::file::StoreFile;
 use pfx_disk::Disk;
-use pfx_recovery::SEGMENT_HEAD;
 use pfx_segment::put_behind;
+use pfx_store_image::SEGMENT_HEAD;
 
 impl<D: Disk> StoreFile<D> {
     /// Whether a frame of `n` bytes, its gate counted, has room in the segment that frames go to.

@@ -2,8 +2,8 @@
 ghost use Rattle.std.specs.Prelude.{◌≡◌, ◌≤◌, ◌<◌, ◌+◌, ◌∷◌, [], ℕ, List, take, drop, length, Some, true, false, OnOk};
 ghost use Rattle.pfx_disk.specs.Disk.{IsHonest};
 ghost use Rattle.pfx_disk.specs.Stop.{Write};
-ghost use Rattle.pfx_recovery.specs.Codec.{Codec, Laws};
-ghost use Rattle.pfx_recovery.specs.Store.{Parts, Replays, finished};
+ghost use Rattle.pfx_store_image.specs.Codec.{Codec, Laws};
+ghost use Rattle.pfx_store_image.specs.Store.{Parts, Replays, finished};
 ghost use Rattle.pfx_segment.specs.Acts.{close_acts, open_acts};
 ghost use Rattle.pfx_store_file.specs.Acts.{closed_file, finished_file, tend_acts, tended_file, end_acts, ended_file};
 ghost use Rattle.pfx_store_file.specs.Checkpoints.{in_progress, written};

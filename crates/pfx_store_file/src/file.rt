@@ -1,10 +1,10 @@
 // A store's file: its disk and its places.
 ghost use Rattle.std.specs.Prelude.{◌≡◌, ◌≤◌, ℕ, List, length, not, Ok, false};
 ghost use Rattle.pfx_disk.specs.Disk.{IsHonest, Only};
-ghost use Rattle.pfx_recovery.specs.Codec.{Codec, Laws};
-ghost use Rattle.pfx_recovery.specs.Layout.{area_at, segment_at};
-ghost use Rattle.pfx_recovery.specs.Recovery.{found, found_of};
-ghost use Rattle.pfx_recovery.specs.Store.{Parts};
+ghost use Rattle.pfx_store_image.specs.Codec.{Codec, Laws};
+ghost use Rattle.pfx_store_image.specs.Layout.{area_at, segment_at};
+ghost use Rattle.pfx_store_image.specs.Recovery.{found, found_of};
+ghost use Rattle.pfx_store_image.specs.Store.{Parts};
 ghost use Rattle.pfx_store_file.specs.Checkpoints.{is_begun};
 ghost use Rattle.pfx_store_file.specs.Holding.{ArePlaces, Holds, IsGate};
 ghost use Rattle.pfx_store_file.specs.Sizes.{total_len};

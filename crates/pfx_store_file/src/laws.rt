@@ -1,8 +1,8 @@
 //! What holds of all stores, each the contract of a function that does nothing.
 ghost use Rattle.std.specs.Prelude.{◌≡◌, ◌≤◌, List, ℕ, Ok};
-ghost use Rattle.pfx_recovery.specs.Codec.{Codec, Laws};
-ghost use Rattle.pfx_recovery.specs.Recovery.{recovered};
-ghost use Rattle.pfx_recovery.specs.Store.{Parts};
+ghost use Rattle.pfx_store_image.specs.Codec.{Codec, Laws};
+ghost use Rattle.pfx_store_image.specs.Recovery.{recovered};
+ghost use Rattle.pfx_store_image.specs.Store.{Parts};
 ghost use Rattle.pfx_store_file.specs.Holding.{Holds, KeepsAll};
 
 use crate::file::StoreFile;

@@ -1,6 +1,6 @@
 //! A store's file on a disk: the calls that write it, and what survives a stop at any moment of them.
 //!
-//! What a file's bytes mean stands in `pfx_recovery`, if contents are left open. Here `StoreFile` keeps a disk, where
+//! What a file's bytes mean stands in `pfx_store_image`, if contents are left open. Here `StoreFile` keeps a disk, where
 //! the file's parts lie and how its gates stand, and makes the writers' calls. `Holds` says that it does so rightly: each
 //! image that the disk may leave is one of the store at its state. Each call's contract says that the store holds again
 //! if the call succeeds; that what survived before survives at every moment of the call, whatever it answers; and,

@@ -1,6 +1,6 @@
 // How long the parts of a store's file are, and where they lie.
 ghost use Rattle.std.specs.Prelude.{◌≡◌, ◌≤◌, ◌<◌, ◌+◌, ◌*◌, ◌^◌};
-ghost use Rattle.pfx_recovery.specs.declared.head.TheConstants.{SEGMENT_HEAD};
+ghost use Rattle.pfx_store_image.specs.declared.head.TheConstants.{SEGMENT_HEAD};
 
 /// How long the parts of a store's file are, in bytes. Of the two checkpoint areas and of the two segments `true` names the second.
 #[derive(Clone, Copy)]

@@ -1,8 +1,8 @@
 // Going on in the other segment.
 ghost use Rattle.std.specs.Prelude.{◌≡◌, ◌<◌, ◌+◌, ◌↔◌, ℕ, List, length, false, OnOk, IsTrue};
 ghost use Rattle.pfx_disk.specs.Disk.{IsHonest};
-ghost use Rattle.pfx_recovery.specs.Codec.{Codec, Laws};
-ghost use Rattle.pfx_recovery.specs.Store.{Parts, turned_at};
+ghost use Rattle.pfx_store_image.specs.Codec.{Codec, Laws};
+ghost use Rattle.pfx_store_image.specs.Store.{Parts, turned_at};
 ghost use Rattle.pfx_store_file.specs.Acts.{turn_acts, turned_file};
 ghost use Rattle.pfx_store_file.specs.Files.{File, AreOf};
 ghost use Rattle.pfx_store_file.specs.Fitting.{IsTurnable};
@@ -14,8 +14,8 @@ use crate::faults::StoreFault;
 use crate::file::StoreFile;
 use crate::progress::Checkpoint;
 use pfx_disk::Disk;
-use pfx_recovery::SEGMENT_HEAD;
 use pfx_segment::prepare;
+use pfx_store_image::SEGMENT_HEAD;
 
 impl<D: Disk> StoreFile<D> {
     /// Whether a turn is lawful: no checkpoint is in progress, and the segment that frames go to has one.

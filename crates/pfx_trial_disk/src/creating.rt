@@ -3,9 +3,9 @@
 
 use crate::check::{check, check_pair};
 use crate::held::{held, is_held};
-use pfx_create::laws::a_new_file_can_be_made;
-use pfx_create::{CreateFault, create, create_file, new_places};
 use pfx_disk::{Disk, Fate, FaultDisk, GATE_OPEN, MemoryDisk};
+use pfx_store_create::laws::a_new_file_can_be_made;
+use pfx_store_create::{CreateFault, create, create_file, new_places};
 use pfx_store_file::{Checkpoint, PIECE, Places, Sizes, StoreFile};
 use std::alloc::Global;
 

@@ -3,7 +3,7 @@
 use crate::check::{check, check_pair};
 use crate::held::{has_failed_at, held, is_held};
 use pfx_disk::laws::{torn_writes_compose, write_beside, write_synced};
-use pfx_disk::{DeviceFailed, Disk, Fate, FaultDisk, FileDisk, Gate, GateDisk, MemoryDisk};
+use pfx_disk::{DeviceFailed, Disk, Fate, FaultDisk, FileDisk, Latch, LatchDisk, MemoryDisk};
 use std::alloc::{AllocError, Global};
 use std::fs::{File, OpenOptions};
 use std::path::PathBuf;
@@ -236,7 +236,7 @@ fn fault_disk_is_run(alloc: Global) -> Option<bool> {
 
 /// Whether a released disk is run, and the memory within it holds the same.
 fn gate_disk_is_run<R: Wait + Drop>(rt: R, alloc: Global) -> Option<bool> {
-    let (mut disk, gate) = GateDisk::new(rt, alloc, memory(alloc)?, 3).ok()?;
+    let (mut disk, gate) = LatchDisk::new(rt, alloc, memory(alloc)?, 3).ok()?;
     gate.release();
     let is_run = is_run(alloc, &mut disk);
     let mut memory = disk.into_inner();
@@ -403,7 +403,7 @@ fn came_behind<D: Disk>(disk: &mut D, told: &Told) -> bool {
     first.is_ok() && second.is_ok() && told.released.load(Ordering::SeqCst) == 1
 }
 
-fn release_later(gate: &Gate, told: &Told) {
+fn release_later(gate: &Latch, told: &Told) {
     for _ in 0..1_000_000 {
         if told.asked.load(Ordering::SeqCst) == 1 {
             break;
@@ -419,7 +419,7 @@ fn release_later(gate: &Gate, told: &Told) {
 }
 
 fn is_call_held<R: Wait + Threads + Sync + Drop>(rt: &R, alloc: Global) -> Option<bool> {
-    let (mut disk, gate) = GateDisk::new(rt, alloc, memory(alloc)?, 1).ok()?;
+    let (mut disk, gate) = LatchDisk::new(rt, alloc, memory(alloc)?, 1).ok()?;
     let told = Told {
         asked: AtomicU64::new(0),
         released: AtomicU64::new(0),
@@ -440,7 +440,7 @@ fn a_gate_holds_its_call(rt: HostRuntime) {
 
 /// Whether the disk can be put behind a gate and synced, if memory suffices.
 fn is_gated<R: Wait + Drop>(rt: R, alloc: Global, disk: MemoryDisk) -> bool {
-    match GateDisk::new(rt, alloc, disk, 9) {
+    match LatchDisk::new(rt, alloc, disk, 9) {
         Ok((mut gated, _gate)) => gated.sync() == Ok(()),
         Err(_) => true,
     }

@@ -4,10 +4,10 @@
 //! |---|---|
 //! | `disk` | `pfx_disk`: what each disk holds, what stops and faults leave, and the held call |
 //! | `segment` | `pfx_segment`: frames behind gates |
-//! | `recovery` | `pfx_recovery`: its laws at concrete types |
+//! | `recovery` | `pfx_store_image`: its laws at concrete types |
 //! | `store` | `pfx_store_file`: appends, turns and checkpoints of small files |
-//! | `opening` | `pfx_recover`: small files of the format in `toy` |
-//! | `creating` | `pfx_create`: new files |
+//! | `opening` | `pfx_store_recover`: small files of the format in `toy` |
+//! | `creating` | `pfx_store_create`: new files |
 //!
 //! A case is a plain `bool`; `check`, `check_at` and `check_pair` name the one that doesn't hold.
 #![tactic(auto)]

@@ -7,8 +7,8 @@ use crate::held::has_failed_at;
 use crate::toy::{Tally, Toy};
 use pfx_disk::{Disk, FaultDisk, GATE_OPEN, MemoryDisk};
 use pfx_fault::Part;
-use pfx_recover::{OpenFault, Opened, Refusal, open};
 use pfx_store_file::{StoreFile, Tended};
+use pfx_store_recover::{OpenFault, Opened, Refusal, open};
 use std::alloc::Global;
 
 const LEN: usize = 104;

@@ -1,6 +1,6 @@
 //! The laws at concrete types. What they say of small files stands in the proofs of the tested crate.
 
-use pfx_recovery::laws;
+use pfx_store_image::laws;
 
 #[test]
 fn laws_hold_at_any_types() {

@@ -1,12 +1,12 @@
-//! Small files of the codec of `pfx_recovery`'s worked rows: a header of two bytes, checkpoint areas of a gate, a number and a sum,
+//! Small files of the codec of `pfx_store_image`'s worked rows: a header of two bytes, checkpoint areas of a gate, a number and a sum,
 //! segments of 42 bytes, and frames of 16 bytes, whose one record is a byte that is added to the sum.
 ghost use Rattle.std.specs.Prelude.{◌≡◌, IfSome};
 ghost use Rattle.pfx_store_file.specs.Sizes.{total_len};
 
 use crate::check::{check, check_at, check_pair};
 use crate::held::{has_failed_at, held};
-use pfx_create::new_places;
 use pfx_disk::{Disk, Fate, FaultDisk, GATE_OPEN, MemoryDisk};
+use pfx_store_create::new_places;
 use pfx_store_file::laws::{calls_compose, store_is_recovered};
 use pfx_store_file::{Places, Sizes, StoreFault, StoreFile, Tended};
 use std::alloc::Global;

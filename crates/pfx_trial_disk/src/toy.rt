@@ -1,9 +1,9 @@
 //! The format of small files.
 ghost use Rattle.std.specs.Prelude.{◌≡◌, ◌<◌, ℕ, slice_index};
-ghost use Rattle.pfx_recover.specs.ToyCodec.{small_codec, is_small, small};
+ghost use Rattle.pfx_store_recover.specs.ToyCodec.{small_codec, is_small, small};
 
-use pfx_recover::{Format, HeadFault, Refusal};
 use pfx_store_file::Sizes;
+use pfx_store_recover::{Format, HeadFault, Refusal};
 use std::alloc::{AllocError, Global};
 use std::marker::Model;
 
@@ -60,7 +60,7 @@ fn state_of(number: u64, sum: u64) -> Option<Tally>
 }
 
 impl Format for Toy {
-    ghost use Rattle.pfx_recover.specs.ToyLaws.{laws_hold, bounds_hold};
+    ghost use Rattle.pfx_store_recover.specs.ToyLaws.{laws_hold, bounds_hold};
 
     type Header = u8;
 

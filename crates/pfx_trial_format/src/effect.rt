@@ -6,7 +6,7 @@ use pfx_jobs::job::Job;
 use pfx_kinds::any::AnyJob;
 use pfx_machine::{Command, MachineFault, Reply, State};
 use pfx_record::{Place, Record};
-use pfx_redo::{apply_all, apply_record, apply_reweigh, is_common, laws, run_recorded};
+use pfx_record_redo::{apply_all, apply_record, apply_reweigh, is_common, laws, run_recorded};
 use pfx_weights::Weights;
 use std::alloc::Global;
 

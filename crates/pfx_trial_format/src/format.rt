@@ -2,9 +2,9 @@
 
 use crate::check::{check, check_at};
 use crate::thirds::new_state;
-use pfx_format::{apply_frame, laws, number_after, number_of};
 use pfx_kinds::any::AnyJob;
 use pfx_machine::State;
+use pfx_store_format::{apply_frame, laws, number_after, number_of};
 use std::alloc::Global;
 
 /// The frame of one slot without jobs, of this number and these two tasks.

@@ -2,7 +2,7 @@
 
 use crate::check::{check, check_at};
 use crate::thirds::thirds;
-use pfx_header::{
+use pfx_store_header::{
     HEADER_MOST, HeaderFault, LONGEST_SEGMENT, SegmentSizeFault, check_segment, header_len, laws,
     least_segment, read_header, write_header,
 };

@@ -5,9 +5,9 @@
 //! | `record` | `pfx_record`: batches as bytes, and bytes that are none |
 //! | `checkpoint` | `pfx_checkpoint`: states as bytes |
 //! | `whole` | `pfx_checkpoint`: states with their sets as bytes |
-//! | `header` | `pfx_header`: headers as bytes |
-//! | `effect` | `pfx_redo`: records taken over by states |
-//! | `format` | `pfx_format`: frames that lead from state to state |
+//! | `header` | `pfx_store_header`: headers as bytes |
+//! | `effect` | `pfx_record_redo`: records taken over by states |
+//! | `format` | `pfx_store_format`: frames that lead from state to state |
 //!
 //! A case is a plain `bool`; `check` and `check_at` name the one that doesn't hold.
 #![tactic(auto)]

@@ -3,7 +3,6 @@ ghost use Rattle.std.specs.Prelude.{◌≡◌};
 ghost use Rattle.pfx_kinds.specs.AnyKind.{any_kind};
 ghost use Rattle.pfx_front.specs.Starting.{Begins};
 
-use pfx_board::reader::Reader;
 use pfx_book::book::Pass;
 use pfx_crew::desk::Desk;
 use pfx_disk::Disk;
@@ -12,6 +11,7 @@ use pfx_front::calls::Front;
 use pfx_front::closing::{Closed, Given};
 use pfx_front::name::{Names, Since};
 use pfx_front::start::Crew;
+use pfx_front_board::reader::Reader;
 use pfx_jobs::quantum::{Done, Quantum};
 use pfx_kinds::any::AnyJob;
 use pfx_store::Store;

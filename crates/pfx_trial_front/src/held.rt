@@ -5,7 +5,7 @@ use crate::fronts::{Ended, have_looked};
 use crate::service::{Ask, Service};
 use crate::sessions::{Session, Visit, alone, is_right};
 use crate::stores::{SEGMENT, desk, memory};
-use pfx_disk::{Gate, GateDisk};
+use pfx_disk::{Latch, LatchDisk};
 use std::alloc::Global;
 use std::sync::Wait;
 use std::thread::Threads;
@@ -35,12 +35,12 @@ pub fn visit<F: Service, R: Wait>(
     alloc: Global,
     front: &F,
     reader: &mut F::Reader,
-    gate: &Gate,
+    latch: &Latch,
 ) -> Option<Visit<F::Pass>> {
     let mut pass = front.admit(rt)?;
     let answered = slots_are_answered(rt, alloc, front, &mut pass);
     let unshown = is_shown(alloc, front, reader, 0, 0);
-    gate.release();
+    latch.release();
     let settled = is_told_and_shown(rt, alloc, front, &mut pass, reader, 0);
     alone(alloc, answered && unshown && settled, pass)
 }
@@ -55,14 +55,14 @@ fn is_held<R: Threads + Wait + Clock + Copy + Drop + Send + Sync + 'static>(
     rt: R,
     alloc: Global,
 ) -> Option<bool> {
-    let (disk, gate) = GateDisk::new(rt, alloc, memory(alloc)?, FIRST_SYNC).ok()?;
+    let (disk, latch) = LatchDisk::new(rt, alloc, memory(alloc)?, FIRST_SYNC).ok()?;
     is_right(
         rt,
         alloc,
         disk,
         SEGMENT,
         desk(alloc)?,
-        Session::Held { gate },
+        Session::Held { latch },
     )
 }
 

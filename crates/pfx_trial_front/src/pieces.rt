@@ -5,7 +5,7 @@ use crate::fronts::{Ended, is_kept};
 use crate::service::{Ask, Service};
 use crate::sessions::{Session, Visit, alone, is_right};
 use crate::stores::{desk, memory};
-use pfx_disk::{FaultDisk, Gate, GateDisk};
+use pfx_disk::{FaultDisk, Latch, LatchDisk};
 use pfx_fault::Cause;
 use std::alloc::Global;
 use std::sync::Wait;
@@ -37,10 +37,10 @@ fn is_answered<F: Service, R: Wait>(
     alloc: Global,
     front: &F,
     pass: &mut F::Pass,
-    gate: &Gate,
+    latch: &Latch,
 ) -> bool {
     let slot = front.ask(rt, alloc, pass, Ask::Slot);
-    gate.release();
+    latch.release();
     is_number(&slot, TURNING + 1) && is_settled(rt, front, pass)
 }
 
@@ -49,11 +49,11 @@ pub fn visit_held<F: Service, R: Wait>(
     rt: &R,
     alloc: Global,
     front: &F,
-    gate: &Gate,
+    latch: &Latch,
 ) -> Option<Visit<F::Pass>> {
     let mut pass = front.admit(rt)?;
     let turned = is_turned(rt, alloc, front, &mut pass);
-    let answered = is_answered(rt, alloc, front, &mut pass, gate);
+    let answered = is_answered(rt, alloc, front, &mut pass, latch);
     alone(alloc, turned && answered, pass)
 }
 
@@ -80,8 +80,8 @@ fn holds_a_piece<R: Threads + Wait + Clock + Copy + Drop + Send + Sync + 'static
     rt: R,
     alloc: Global,
 ) -> Option<bool> {
-    let (disk, gate) = GateDisk::new(rt, alloc, memory(alloc)?, FIRST_PIECE).ok()?;
-    let session = Session::HeldPiece { gate };
+    let (disk, latch) = LatchDisk::new(rt, alloc, memory(alloc)?, FIRST_PIECE).ok()?;
+    let session = Session::HeldPiece { latch };
     is_right(rt, alloc, disk, SEGMENT, desk(alloc)?, session)
 }
 

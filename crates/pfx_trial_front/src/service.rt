@@ -1,7 +1,6 @@
 //! A front as the sessions of clients see it. They know no more of it, so that each is proved over any front.
 
 use crate::stores::submit;
-use pfx_board::reader::Reader;
 use pfx_book::book::Pass;
 use pfx_book::note::Loss;
 use pfx_crew::desk::Desk;
@@ -9,6 +8,7 @@ use pfx_front::calls::Front;
 use pfx_front::durable::Acknowledged;
 use pfx_front::faults::CallFault;
 use pfx_front::name::Since;
+use pfx_front_board::reader::Reader;
 use pfx_jobs::job::Job;
 use pfx_jobs::quantum::{Done, Quantum};
 use pfx_kinds::any::AnyJob;

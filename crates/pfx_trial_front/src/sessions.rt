@@ -7,12 +7,12 @@ use crate::fronts::{Ended, Served, begin, end};
 use crate::service::Service;
 use crate::stores::{SEGMENT, desk, memory, thirds_by};
 use crate::{clients, held, lost, many, missed, passes, pieces, served, sole};
-use pfx_board::reader::Reader;
 use pfx_book::book::Pass;
 use pfx_crew::desk::Desk;
-use pfx_disk::{Disk, Gate};
+use pfx_disk::{Disk, Latch};
 use pfx_front::calls::Front;
 use pfx_front::name::{Names, Since};
+use pfx_front_board::reader::Reader;
 use pfx_jobs::quantum::{Done, Quantum};
 use pfx_kinds::any::AnyJob;
 use pfx_store::Store;
@@ -37,12 +37,12 @@ pub enum Session {
     Missed,
     /// `clients`.
     Clients,
-    /// `held`, with the gate of the disk.
-    Held { gate: Gate },
+    /// `held`, with the latch of the disk.
+    Held { latch: Latch },
     /// `lost`.
     Lost,
-    /// `pieces`, with the gate of the disk.
-    HeldPiece { gate: Gate },
+    /// `pieces`, with the latch of the disk.
+    HeldPiece { latch: Latch },
     /// `pieces`, where the disk fails.
     LostPiece,
 }
@@ -80,9 +80,9 @@ fn visit_alone<F: Service, R: Wait>(
         Session::Passes => passes::visit(rt, alloc, front),
         Session::Sole => sole::visit(rt, alloc, front),
         Session::Missed => missed::visit(rt, alloc, front),
-        Session::Held { gate } => held::visit(rt, alloc, front, reader, gate),
+        Session::Held { latch } => held::visit(rt, alloc, front, reader, latch),
         Session::Lost => lost::visit(rt, alloc, front),
-        Session::HeldPiece { gate } => pieces::visit_held(rt, alloc, front, gate),
+        Session::HeldPiece { latch } => pieces::visit_held(rt, alloc, front, latch),
         Session::LostPiece => pieces::visit_lost(rt, alloc, front),
         Session::Many | Session::Clients => None,
     }

@@ -2,7 +2,7 @@
 
 use pfx_choice::{Chooser, give};
 use pfx_columns::Columns;
-use pfx_feasible::{begin, next_row};
+use pfx_machine_feasible::{begin, next_row};
 use pfx_weights::TaskSet;
 use std::alloc::Global;
 

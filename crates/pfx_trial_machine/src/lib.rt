@@ -1,4 +1,4 @@
-//! Trials of the jobs and the machine: what `pfx_jobs`, `pfx_kinds`, `pfx_walk`, `pfx_machine` and `pfx_feasible` do with
+//! Trials of the jobs and the machine: what `pfx_jobs`, `pfx_kinds`, `pfx_kinds_walk`, `pfx_machine` and `pfx_machine_feasible` do with
 //! values from outside, and beside plain programs.
 //!
 //! - `kinds`: worked jobs of the three kinds, their encodings, and the quanta of `pfx_jobs`.

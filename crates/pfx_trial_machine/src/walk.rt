@@ -2,7 +2,7 @@
 
 use pfx_jobs::job::{Job, JobFault, are_same};
 use pfx_jobs::quantum::{Done, Quantum};
-use pfx_walk::walk::Walk;
+use pfx_kinds_walk::walk::Walk;
 
 fn encoded(job: &Walk) -> [u8; 128] {
     let mut bytes = [0; 128];

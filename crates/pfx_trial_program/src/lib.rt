@@ -1,4 +1,4 @@
-//! Trials of the texts and the program: what `pfx_decimal`, `pfx_script`, `pfx_set_file`, `pfx_fault`, `pfx_args` and
+//! Trials of the texts and the program: what `pfx_kinds_decimal`, `pfx_program_script`, `pfx_program_set`, `pfx_fault`, `pfx_program_args` and
 //! `pfx_program` read and print, and what a failing reader or writer leaves.
 //!
 //! - `numerals`: texts and their numbers.

@@ -5,7 +5,7 @@ use crate::scripts::thirds;
 use crate::torn::Torn;
 use pfx_fault::Fault;
 use pfx_program::{AtRefusal, Form, read_task_set, run_plan, run_script};
-use pfx_script::Script;
+use pfx_program_script::Script;
 use std::alloc::Global;
 use std::io;
 use std::io::Write;

@@ -1,8 +1,8 @@
 //! Notes as a user reads them: each fault has its entry, and what stands below a fault's line.
 
-use pfx_explain::{Note, entry_named, put_entry};
 use pfx_fault::Fault;
-use pfx_notes::{
+use pfx_program_explain::{Note, entry_named, put_entry};
+use pfx_program_notes::{
     First, Named, Stands, Trouble, input_note, output_note, passed_over_note, record_note,
     refused_note, script_note, set_note, store_note, trouble_note,
 };

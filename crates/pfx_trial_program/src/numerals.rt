@@ -1,6 +1,6 @@
 //! Texts and their numbers.
 
-use pfx_decimal::number_in;
+use pfx_kinds_decimal::number_in;
 
 #[test]
 fn reads_numbers(rt: HostRuntime) {

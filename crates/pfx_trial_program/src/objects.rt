@@ -1,9 +1,9 @@
 //! What is said on standard error as JSON.
 
 use crate::check::check;
-use pfx_explain::{Note, entry_named};
 use pfx_fault::Fault;
-use pfx_objects::{also_line, entry_line, error_line, warning_line};
+use pfx_program_explain::{Note, entry_named};
+use pfx_program_objects::{also_line, entry_line, error_line, warning_line};
 use std::alloc::{AllocError, Global};
 
 /// A note of two lines.

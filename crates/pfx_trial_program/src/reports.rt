@@ -3,7 +3,7 @@
 use crate::scripts::thirds;
 use pfx_fault::Fault;
 use pfx_program::{AtRefusal, Form, RefusedRecord, Report, run_script};
-use pfx_script::Script;
+use pfx_program_script::Script;
 use std::alloc::Global;
 
 /// Records that are refused behind slots, alone and in a group, and one that shows no job.

@@ -3,7 +3,7 @@
 use crate::torn::Torn;
 use csv::StringRecord;
 use pfx_fault::Fault;
-use pfx_script::{Script, Verb, read_verb};
+use pfx_program_script::{Script, Verb, read_verb};
 use std::alloc::Global;
 use std::io::Read;
 

@@ -8,7 +8,7 @@ use pfx_kit::states::SEGMENT;
 use pfx_kit::week::{FIRST_WEEK, SECOND_WEEK, WEEK};
 use pfx_machine::State;
 use pfx_program::{AtRefusal, Form, run_record, run_script};
-use pfx_script::Script;
+use pfx_program_script::Script;
 use pfx_weights::TaskSet;
 use std::alloc::Global;
 use std::io;

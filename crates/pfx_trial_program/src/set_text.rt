@@ -1,7 +1,7 @@
 //! Set files as users write them, and texts that aren't one.
 
 use pfx_fault::Fault;
-use pfx_set_file::{SetText, is_name, read_set};
+use pfx_program_set::{SetText, is_name, read_set};
 use std::alloc::Global;
 
 const THREE: &str = "\u{feff}# Three tasks.

@@ -5,7 +5,7 @@ use pfx_fault::Fault;
 use pfx_kinds::any::AnyJob;
 use pfx_machine::{Command, State};
 use pfx_program::{AtRefusal, Form, created_line, run_script, run_show, run_status};
-use pfx_script::Script;
+use pfx_program_script::Script;
 use pfx_weights::TaskSet;
 use std::alloc::Global;
 

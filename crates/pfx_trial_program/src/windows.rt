@@ -6,7 +6,7 @@ use pfx_kinds::any::AnyJob;
 use pfx_kit::states::state_at;
 use pfx_machine::State;
 use pfx_program::{AtRefusal, Form, run_script};
-use pfx_script::Script;
+use pfx_program_script::Script;
 use pfx_weights::TaskSet;
 use std::alloc::Global;
 use std::io;

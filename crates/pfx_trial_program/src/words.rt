@@ -1,7 +1,7 @@
 //! Words as a shell passes them, and the texts that answer them. A row has the words, parted by `|`, and what they come to.
 
 use crate::check::check;
-use pfx_args::read_words;
+use pfx_program_args::read_words;
 use std::alloc::Global;
 use std::process::Abort;
 

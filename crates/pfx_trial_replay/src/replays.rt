@@ -2,16 +2,16 @@
 
 use crate::check::{check, check_at};
 use pfx_disk::{Disk, MemoryDisk};
-use pfx_engine::{DurableEngine, StoreEngine};
 use pfx_fault::Part;
 use pfx_kinds::any::AnyJob;
 use pfx_kit::frames::{LEVEL, new_weights, put_all, row_of_one};
 use pfx_kit::places::{END, FIRST_FRAME, HEADER, SECOND_AREA, SET, TASK, TASKS};
 use pfx_machine::Command;
-use pfx_recover::{OpenFault, Refusal};
 use pfx_replay::{Difference, Verdict, replay};
 use pfx_store::Store;
+use pfx_store_engine::{DurableEngine, StoreEngine};
 use pfx_store_file::Tended;
+use pfx_store_recover::{OpenFault, Refusal};
 use pfx_weights::{TaskSet, Weights};
 use std::alloc::Global;
 

@@ -2,10 +2,10 @@
 use Rattle.std.specs.Prelude.{◌≡◌, ℕ, All, List, [], ◌∷◌, ◌++◌, length, map, Some, None, IsTrue, refl}
 use Rattle.std.proofs.Common.{sym, ◌∙◌, ap, subst}
 use Rattle.std.proofs.lemmas.List.{map-append}
-use Rattle.pfx_redo.specs.Applying.{applied, is_common}
-use Rattle.pfx_redo.specs.Recording.{record_of, records_of}
-use Rattle.pfx_redo.proofs.Commons.{form_common}
-use Rattle.pfx_redo.proofs.States.{common_behind}
+use Rattle.pfx_record_redo.specs.Applying.{applied, is_common}
+use Rattle.pfx_record_redo.specs.Recording.{record_of, records_of}
+use Rattle.pfx_record_redo.proofs.Commons.{form_common}
+use Rattle.pfx_record_redo.proofs.States.{common_behind}
 use Rattle.pfx_jobs.specs.Kind.{Kind, Laws}
 use Rattle.pfx_store.specs.Groups.{AreRecordsOf}
 use Rattle.pfx_store.proofs.Grouping.{records_split}

@@ -10,7 +10,7 @@ use pfx_disk::Disk;
 use pfx_jobs::job::Job;
 use pfx_machine::{Command, State};
 use pfx_record::Record;
-use pfx_redo::run_recorded;
+use pfx_record_redo::run_recorded;
 use pfx_store::{Mark, Store, batch_of};
 use std::alloc::Global;
 

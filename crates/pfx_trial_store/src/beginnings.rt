@@ -11,8 +11,8 @@ use pfx_kinds::any::AnyJob;
 use pfx_kit::places::{END, FIRST_SEGMENT};
 use pfx_kit::states::ledger_at;
 use pfx_machine::State;
-use pfx_recover::Refusal;
 use pfx_store::{InitFault, Store};
+use pfx_store_recover::Refusal;
 use pfx_weights::TaskSet;
 use std::alloc::Global;
 

@@ -1,9 +1,9 @@
 //! A worked client: ten calls of a store, through which each mark is kept.
 ghost use Rattle.std.specs.Prelude.{◌≡◌, ◌+◌, ◌++◌, ◌∷◌, [], List, ℕ, map, Some, IfOk, OnErr};
 ghost use Rattle.pfx_disk.specs.Disk.{IsHonest};
-ghost use Rattle.pfx_redo.specs.Applying.{applied};
+ghost use Rattle.pfx_record_redo.specs.Applying.{applied};
 ghost use Rattle.pfx_store.specs.Marks.{Covers};
-ghost use Rattle.pfx_store.specs.declared.store.Mark.{Mark};
+ghost use Rattle.pfx_store.specs.declared.appending.Mark.{Mark};
 ghost use Rattle.pfx_machine.specs.Plain.{Plain};
 ghost use Rattle.pfx_record.specs.Batches.{batch_bytes, batch_of};
 ghost use Rattle.pfx_record.specs.Records.{plain};

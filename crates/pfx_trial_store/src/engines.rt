@@ -1,10 +1,10 @@
 //! Engines over stores of three tasks of weight 2/3 on two workers.
 
 use pfx_disk::{Disk, MemoryDisk};
-use pfx_engine::{DurableEngine, StoreEngine};
 use pfx_kinds::any::AnyJob;
 use pfx_kit::places::END;
 use pfx_store::Store;
+use pfx_store_engine::{DurableEngine, StoreEngine};
 use pfx_weights::TaskSet;
 use std::alloc::Global;
 

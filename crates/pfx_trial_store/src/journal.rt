@@ -9,9 +9,9 @@ use pfx_kinds::any::AnyJob;
 use pfx_kit::places::{
     AREA, END, FIRST_FRAME, FIRST_SEGMENT, HEADER, SECOND_AREA, SET, TASK, TASKS,
 };
-use pfx_recover::{OpenFault, Refusal};
 use pfx_store::{InitFault, Store};
 use pfx_store_file::Tended;
+use pfx_store_recover::{OpenFault, Refusal};
 use pfx_weights::TaskSet;
 use std::alloc::Global;
 

@@ -7,8 +7,8 @@ use pfx_disk::{Disk, FaultDisk, MemoryDisk};
 use pfx_fault::Part;
 use pfx_kinds::any::AnyJob;
 use pfx_kit::places::{FIRST_SEGMENT, HEADER};
-use pfx_recover::{OpenFault, Refusal};
 use pfx_store::Store;
+use pfx_store_recover::{OpenFault, Refusal};
 use std::alloc::Global;
 
 /// How many workers and tasks the header on a disk has, and how long a segment is; or why that isn't told.

@@ -9,12 +9,12 @@
 //! | `journal` | `pfx_store`: the file of a new store, frames in it, and files and disks that are refused |
 //! | `layouts` | `pfx_store`: what the header of a file tells, whole or damaged |
 //! | `marks` | `pfx_store`: batches of 2 and of 16 slots with turns in their midst, stops after each call, and the worked client |
-//! | `scripts` | `pfx_engine`: scripts over stores, on disks in memory, in a file, and on ones that fail |
-//! | `stops` | `pfx_engine`: stops after each call, and where frames go |
-//! | `turns` | `pfx_engine`: turns and checkpoints, and stops after each call of sixty slots |
+//! | `scripts` | `pfx_store_engine`: scripts over stores, on disks in memory, in a file, and on ones that fail |
+//! | `stops` | `pfx_store_engine`: stops after each call, and where frames go |
+//! | `turns` | `pfx_store_engine`: turns and checkpoints, and stops after each call of sixty slots |
 //! | `walks` | `pfx_store`: jobs of a kind that only its user knows, stopped after each call and recovered from a checkpoint |
 //! | `wide` | `pfx_store`: a file of as many tasks as there may be, in whose segments the frame of new weights just has room |
-//! | `windows` | `pfx_engine`: scripts whose slots share frames, on disks in memory, on ones that fail, and stopped after each call |
+//! | `windows` | `pfx_store_engine`: scripts whose slots share frames, on disks in memory, on ones that fail, and stopped after each call |
 //!
 //! A case is a plain `bool`; `check`, `check_at` and `check_pair` name the one that doesn't hold.
 #![tactic(auto)]

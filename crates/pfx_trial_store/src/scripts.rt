@@ -3,14 +3,14 @@
 use crate::check::{check, check_pair};
 use crate::engines::{begun, empty, in_memory, opened};
 use pfx_disk::{Disk, FaultDisk, FileDisk, MemoryDisk};
-use pfx_engine::{CallFault, Engine, StoreEngine, laws};
 use pfx_fault::{Cause, Fault};
 use pfx_kinds::any::AnyJob;
 use pfx_kit::places::END;
 use pfx_kit::week::{FIRST_WEEK, SECOND_WEEK, WEEK};
 use pfx_machine::{Command, Reply};
 use pfx_program::{AtRefusal, Form, run_script};
-use pfx_script::Script;
+use pfx_program_script::Script;
+use pfx_store_engine::{CallFault, Engine, StoreEngine, laws};
 use std::alloc::Global;
 use std::fs::{File, OpenOptions};
 use std::path::PathBuf;

@@ -3,11 +3,11 @@
 use crate::check::{check, check_at, check_pair};
 use crate::engines::{in_memory, last_of, new_store, opened, over};
 use pfx_disk::{Disk, Fate, MemoryDisk};
-use pfx_engine::StoreEngine;
 use pfx_jobs::job::Job;
 use pfx_kinds::any::AnyJob;
 use pfx_kit::places::FIRST_SEGMENT;
 use pfx_machine::Command;
+use pfx_store_engine::StoreEngine;
 use std::alloc::Global;
 
 /// Whether so many slots are carried out.

@@ -4,14 +4,14 @@ use crate::check::{check, check_at};
 use crate::engines::{empty, new_store, opened, over};
 use crate::held::held;
 use pfx_disk::{Disk, Fate, MemoryDisk};
-use pfx_engine::StoreEngine;
 use pfx_jobs::job::Job;
 use pfx_kinds::any::AnyJob;
 use pfx_kit::places::{END, FIRST_FRAME, FIRST_SEGMENT, SECOND_AREA};
 use pfx_machine::{Command, State};
 use pfx_record::{Batch, Record, fits};
-use pfx_redo::{apply_all, run_recorded};
+use pfx_record_redo::{apply_all, run_recorded};
 use pfx_store::Store;
+use pfx_store_engine::StoreEngine;
 use pfx_store_file::Tended;
 use std::alloc::Global;
 

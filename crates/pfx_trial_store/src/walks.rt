@@ -3,11 +3,11 @@
 use crate::check::{check, check_at, check_pair};
 use crate::turns::append_command;
 use pfx_disk::{Disk, Fate, MemoryDisk};
+use pfx_kinds_walk::walk::Walk;
 use pfx_kit::places::END;
 use pfx_machine::{Command, State};
 use pfx_store::Store;
 use pfx_store_file::Tended;
-use pfx_walk::walk::Walk;
 use pfx_weights::TaskSet;
 use std::alloc::Global;
 

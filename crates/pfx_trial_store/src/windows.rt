@@ -4,12 +4,12 @@ use crate::check::{check, check_at, check_pair};
 use crate::engines::{begun, empty, in_memory, last_of, opened};
 use crate::stops::{kept_by, survivors};
 use pfx_disk::{Disk, Fate, FaultDisk, MemoryDisk};
-use pfx_engine::StoreEngine;
 use pfx_fault::{Cause, Fault};
 use pfx_kinds::any::AnyJob;
 use pfx_program::{AtRefusal, Form};
+use pfx_program_script::Script;
 use pfx_program_store::run_durable;
-use pfx_script::Script;
+use pfx_store_engine::StoreEngine;
 use std::alloc::Global;
 use std::io::Write;
 

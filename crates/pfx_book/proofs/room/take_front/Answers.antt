@@ -4,7 +4,7 @@ use Rattle.std.proofs.lemmas.List.{append_assoc}
 use Rattle.std.specs.VecDeque.{deque_items}
 use Rattle.pfx_record.specs.Records.{plain}
 use Rattle.pfx_record.specs.declared.record.Record.{Record}
-use Rattle.pfx_redo.specs.Applying.{is_common}
+use Rattle.pfx_record_redo.specs.Applying.{is_common}
 use Rattle.pfx_book.specs.Batching.{GoesFar, StopsAt}
 use Rattle.pfx_book.proofs.Sharing.{alone_far, common_more, common_share, sixteen_far, stops_far}
 use Rattle.pfx_book.proofs.Taking.{length_map}

@@ -2,7 +2,7 @@ use Rattle.std.specs.Prelude.{All, IsTrue}
 use Rattle.std.proofs.Common.{◌≡◌, ◌++◌, length, vec_capacity}
 use Rattle.std.specs.VecDeque.{deque_items, deque_capacity}
 use Rattle.pfx_record.specs.Records.{plain}
-use Rattle.pfx_redo.specs.Applying.{is_common}
+use Rattle.pfx_record_redo.specs.Applying.{is_common}
 use Rattle.pfx_book.proofs.room.take_front.Given as goal
 
 abbrev pub invariant-loop-i : goal.invariant-loop-i

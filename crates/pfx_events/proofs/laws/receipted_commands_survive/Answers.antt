@@ -1,9 +1,9 @@
 use Rattle.std.proofs.Common.{◌≤◌, Ok, inl, inr, take, sym, ap, ◌∙◌, subst}
 use Rattle.pfx_machine.specs.Outcome.{outcome}
 use Rattle.pfx_machine.specs.Plain.{Plain}
-use Rattle.pfx_world.specs.Claims.{IsReceipted}
-use Rattle.pfx_world.specs.Events.{run}
-use Rattle.pfx_world.specs.World.{new_world}
+use Rattle.pfx_events_world.specs.Claims.{IsReceipted}
+use Rattle.pfx_events_world.specs.Events.{run}
+use Rattle.pfx_events_world.specs.World.{new_world}
 use Rattle.pfx_events.specs.Store.{store_of}
 use Rattle.pfx_events.proofs.laws.receipted_commands_survive.Goals as goal
 

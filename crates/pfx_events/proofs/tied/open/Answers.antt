@@ -1,7 +1,7 @@
 use Rattle.std.specs.Prelude.{◌∷◌, true}
 use Rattle.std.proofs.Common.{◌≡◌, [], Some, subst, sym}
 use Rattle.pfx_machine.proofs.Compose.{outcome-none}
-use Rattle.pfx_world.specs.Events.{Device, Stop}
+use Rattle.pfx_events_world.specs.Events.{Device, Stop}
 use Rattle.pfx_events.specs.Store.{store_of}
 use Rattle.pfx_events.proofs.Reaching.{reached_new, reached_on}
 use Rattle.pfx_events.proofs.Sound.{sound}

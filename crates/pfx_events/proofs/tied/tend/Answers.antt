@@ -1,7 +1,7 @@
 use Rattle.std.specs.Prelude.{◌∷◌}
 use Rattle.std.proofs.Common.{refl, ◌∙◌, inl, inr, ⊎_elim}
 use Rattle.pfx_store.specs.Files.{tending}
-use Rattle.pfx_world.specs.Events.{Tend, happens}
+use Rattle.pfx_events_world.specs.Events.{Tend, happens}
 use Rattle.pfx_events.specs.Store.{store_of}
 use Rattle.pfx_events.specs.Ties.{through}
 use Rattle.pfx_events.proofs.Reaching.{reached_on}

@@ -1,6 +1,6 @@
 use Rattle.std.proofs.Common.{◌≡◌, ◌<◌, sym, ◌∙◌, subst}
 use Rattle.std.specs.Prelude.{IfOk, IfErr}
-use Rattle.pfx_world.specs.Session.{IsQuick}
+use Rattle.pfx_events_world.specs.Session.{IsQuick}
 use Rattle.pfx_book.specs.Calls.{noted}
 use Rattle.pfx_book.specs.Notes.{greatest}
 use Rattle.pfx_book.specs.declared.note.Note.TheVariants.{Accepted}

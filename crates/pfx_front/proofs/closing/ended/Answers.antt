@@ -2,9 +2,9 @@ use Rattle.std.proofs.Common.{◌≡◌, ◌+◌, ℕ, List, None, refl, sym, ap
 use Rattle.std.specs.Prelude.{◌⊎◌, ◌≢◌, map, length, take}
 use Rattle.std.specs.Option.{is_some}
 use Rattle.std.specs.Prelude.{Option}
-use Rattle.pfx_fault.specs.declared.parts.Cause.{Cause}
+use Rattle.pfx_fault.specs.declared.fields.Cause.{Cause}
 use Rattle.std.proofs.lemmas.Bool.{false≢true}
-use Rattle.pfx_redo.specs.Recording.{records_of}
+use Rattle.pfx_record_redo.specs.Recording.{records_of}
 use Rattle.pfx_book.specs.Kept.{HasFailed}
 use Rattle.pfx_book.specs.Merging.{IsMerge}
 use Rattle.pfx_book.specs.Notes.{Noted, AllBacked, answers_of}

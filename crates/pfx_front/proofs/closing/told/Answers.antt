@@ -2,7 +2,7 @@ use Rattle.std.proofs.Common.{◌≡◌, ◌⊎◌, ◌<◌, refl, sym, subst, �
 use Rattle.pfx_disk.specs.Disk.{IsSpent}
 use Rattle.pfx_front.specs.Closing.{IsStored}
 use Rattle.pfx_front.proofs.Telling.{no_log, told_held, told_stored}
-use Rattle.pfx_chronicle.specs.Chart.{noted_view}
+use Rattle.pfx_disk_chronicle.specs.Chart.{noted_view}
 use Rattle.pfx_front.proofs.closing.told.Goals as goal
 
 pub returns-then-is_whole_for-clause-store : goal.returns-then-is_whole_for-clause-store

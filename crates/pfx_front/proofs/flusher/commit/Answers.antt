@@ -1,8 +1,8 @@
 use Rattle.std.proofs.Common.{◌≡◌, ◌+◌, ◌++◌, ◌∷◌, [], length, Some, refl, sym, ap, ◌∙◌, subst}
 use Rattle.pfx_book.specs.Notes.{Noted, records_in}
 use Rattle.pfx_book.specs.declared.note.Note.TheVariants.{Failed, Marked}
-use Rattle.pfx_board.specs.Word.{records_of}
-use Rattle.pfx_redo.specs.Applying.{applied}
+use Rattle.pfx_front_board.specs.Word.{records_of}
+use Rattle.pfx_record_redo.specs.Applying.{applied}
 use Rattle.pfx_front.specs.Keeping.{InStep}
 use Rattle.pfx_front.specs.Lasting.{AreNoted}
 use Rattle.pfx_front.specs.Showing.{AreShown, IsShown}

@@ -1,7 +1,7 @@
 use Rattle.std.proofs.Common.{◌≡◌, ◌≤◌, [], refl, sym, ap, subst, ◌∙◌}
 use Rattle.std.specs.Prelude.{vec_capacity}
-use Rattle.pfx_board.specs.Publisher.{Published}
-use Rattle.pfx_board.specs.Word.{records_of}
+use Rattle.pfx_front_board.specs.Publisher.{Published}
+use Rattle.pfx_front_board.specs.Word.{records_of}
 use Rattle.pfx_book.specs.Notes.{records_in}
 use Rattle.pfx_front.specs.Keeping.{InStep, Behind}
 use Rattle.pfx_book.specs.declared.note.Note.TheVariants.{Took}

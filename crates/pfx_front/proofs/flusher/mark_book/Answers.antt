@@ -2,13 +2,13 @@ use Rattle.std.proofs.Common.{◌≡◌, ◌≤◌, ◌+◌, ◌++◌, ◌∷◌
 use Rattle.std.specs.Prelude.{take}
 use Rattle.std.proofs.lemmas.Grind.{merely}
 use Rattle.std.proofs.lemmas.Option.{same_Some}
-use Rattle.pfx_board.specs.Word.{records_of as records_of_batches}
+use Rattle.pfx_front_board.specs.Word.{records_of as records_of_batches}
 use Rattle.pfx_book.specs.Notes.{Legal, Noted, commands_of, records_in}
 use Rattle.pfx_book.specs.Register.{Register}
 use Rattle.pfx_book.specs.declared.note.Note.TheVariants.{Marked}
 use Rattle.pfx_machine.specs.Sessions.{IsAcceptable}
-use Rattle.pfx_redo.specs.Applying.{applied}
-use Rattle.pfx_redo.specs.Recording.{records_of}
+use Rattle.pfx_record_redo.specs.Applying.{applied}
+use Rattle.pfx_record_redo.specs.Recording.{records_of}
 use Rattle.pfx_front.specs.Lasting.{AreNoted}
 use Rattle.pfx_front.proofs.Losses.{none_of}
 use Rattle.pfx_front.proofs.Lasting.{is_last, lasting, marked_too}

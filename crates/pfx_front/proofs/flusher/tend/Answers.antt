@@ -1,7 +1,7 @@
 use Rattle.std.proofs.Common.{Some, refl, sym, ap, ◌∙◌}
 use Rattle.pfx_front.specs.Keeping.{frames_of, marks_of}
 use Rattle.pfx_book.specs.declared.note.Note.TheVariants.{Failed}
-use Rattle.pfx_redo.specs.Applying.{applied}
+use Rattle.pfx_record_redo.specs.Applying.{applied}
 use Rattle.pfx_front.proofs.Steps.{records_still, step_tended, failed_behind, missed_by}
 use Rattle.pfx_front.proofs.flusher.tend.Goals as goal
 

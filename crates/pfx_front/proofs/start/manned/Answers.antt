@@ -1,6 +1,6 @@
 use Rattle.std.proofs.Common.{sym, ap, ◌∙◌, subst, ◌∷◌, []}
-use Rattle.pfx_board.specs.Publisher.{Published}
-use Rattle.pfx_board.specs.Word.{records_of}
+use Rattle.pfx_front_board.specs.Publisher.{Published}
+use Rattle.pfx_front_board.specs.Word.{records_of}
 use Rattle.pfx_book.specs.Notes.{Noted, records_in}
 use Rattle.pfx_book.specs.declared.note.Note.TheVariants.{Marked}
 use Rattle.pfx_store.specs.Stores.{PlainStore}

@@ -1,6 +1,6 @@
 use Rattle.std.proofs.Common.{vec_len, vec_capacity, ◌≡◌, ◌≤◌}
 use Rattle.pfx_front.specs.Sole.{state_of}
-use Rattle.pfx_engine.specs.Promises.{AreAnswered, slots_for}
+use Rattle.pfx_store_engine.specs.Promises.{AreAnswered, slots_for}
 use Rattle.pfx_front_engine.specs.Keeping.{KeepsBy}
 use Rattle.pfx_front_engine.proofs.asking.ask_slots.Given as goal
 

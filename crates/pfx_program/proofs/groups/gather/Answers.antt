@@ -3,9 +3,9 @@ use Rattle.std.proofs.lemmas.List.{length_push}
 use Rattle.csv.specs.Records.{fields_of}
 use Rattle.pfx_kinds.specs.declared.any.AnyJob.{AnyJob}
 use Rattle.pfx_machine.specs.Plain.{Plain}
-use Rattle.pfx_script.specs.Records.{Takes}
+use Rattle.pfx_program_script.specs.Records.{Takes}
 use Rattle.pfx_program.specs.Groups.{Joins}
-use Rattle.pfx_engine.specs.Sharing.{IsChange}
+use Rattle.pfx_store_engine.specs.Sharing.{IsChange}
 use Rattle.pfx_program.proofs.GroupLemmas.{changes_append, gathers_more, gathers_none}
 use Rattle.pfx_program.proofs.StepLemmas.{same, same_then}
 use Rattle.pfx_program.proofs.groups.gather.Goals as goal

@@ -1,7 +1,7 @@
 use Rattle.std.proofs.Common.{◌-◌, ◌^◌, ◌≤◌, length}
 use Rattle.pfx_program.specs.Groups.{Gathers}
-use Rattle.pfx_engine.specs.Promises.{IsSame}
-use Rattle.pfx_engine.specs.Sharing.{AreChanges}
+use Rattle.pfx_store_engine.specs.Promises.{IsSame}
+use Rattle.pfx_store_engine.specs.Sharing.{AreChanges}
 use Rattle.pfx_program.proofs.groups.gather.Given as goal
 
 -- the records so far were gathered

@@ -1,7 +1,7 @@
 use Rattle.std.proofs.Common.{rules, ◌≡◌, ◌<◌, Some, Ok, false, length, arith}
 use Rattle.csv.specs.Records.{fields_of}
 use Rattle.pfx_kinds.specs.Starts.{any_start}
-use Rattle.pfx_script.specs.Verbs.{submit, verb_of}
+use Rattle.pfx_program_script.specs.Verbs.{submit, verb_of}
 use Rattle.pfx_program.specs.Script.{job_by}
 use Rattle.pfx_program.proofs.GroupLemmas.{joins_job}
 use Rattle.pfx_program.proofs.groups.joining_row.Goals as goal

@@ -6,7 +6,7 @@ use Rattle.pfx_program.proofs.PrintLemmas.{next_split}
 use Rattle.pfx_fault.specs.declared.refusals.Fault.{Fault}
 use Rattle.pfx_program.specs.Answers.{refused_line}
 use Rattle.pfx_program.specs.Groups.{told_line}
-use Rattle.pfx_engine.specs.Sharing.{Told}
+use Rattle.pfx_store_engine.specs.Sharing.{Told}
 use Rattle.pfx_program.proofs.groups.put_told.Goals as goal
 
 pub returns-in_err-put_reply-in-Ok-clause-err : goal.returns-in_err-put_reply-in-Ok-clause-err

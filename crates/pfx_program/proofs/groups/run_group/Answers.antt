@@ -2,7 +2,7 @@ use Rattle.std.proofs.Common.{rules, ◌≡◌, ◌<◌, ◌≤◌, ◌+◌, Err
 use Rattle.pfx_program.specs.Groups.{group_steps}
 use Rattle.pfx_program.specs.Running.{run_of}
 use Rattle.pfx_program.proofs.GroupLemmas.{empty_added, group_added, group_done, group_empty, group_left, group_unwritten, told_group}
-use Rattle.pfx_engine.proofs.Sharing.{told_equal}
+use Rattle.pfx_store_engine.proofs.Sharing.{told_equal}
 use Rattle.pfx_program.proofs.StepLemmas.{if_err, on_ok}
 use Rattle.pfx_program.proofs.PrintLemmas.{may_told}
 use Rattle.pfx_program.proofs.groups.run_group.Goals as goal

@@ -2,7 +2,7 @@ use Rattle.std.proofs.Common.{◌≡◌, ◌∙◌, ap, false}
 use Rattle.pfx_front.proofs.Telling.{noted_fresh}
 use Rattle.pfx_program_store.proofs.ServingLemmas.{told_run}
 use Rattle.pfx_kinds.specs.AnyKind.{any_kind}
-use Rattle.pfx_store_log.proofs.Keepings.{log_whole, none_failed}
+use Rattle.pfx_log_store.proofs.Keepings.{log_whole, none_failed}
 use Rattle.pfx_program_store.proofs.log_serving.serve.Goals as goal
 
 pub serve_kept-ran-requires-clause-fresh : goal.serve_kept-ran-requires-clause-fresh

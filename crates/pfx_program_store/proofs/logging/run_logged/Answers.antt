@@ -1,13 +1,13 @@
 use Rattle.std.proofs.Common.{◌≡◌, false, Ok, Err, max, sym, ap, subst, ◌∙◌}
-use Rattle.pfx_chronicle.specs.Chart.{charted_honest, last_only, noted_view}
+use Rattle.pfx_disk_chronicle.specs.Chart.{charted_honest, last_only, noted_view}
 use Rattle.pfx_program_store.proofs.NotingLemmas.{noted_none, noted_run}
-use Rattle.pfx_engine.specs.Failing.{MayFail}
+use Rattle.pfx_store_engine.specs.Failing.{MayFail}
 use Rattle.pfx_program_store.specs.Noting.{IsNotedRun}
 use Rattle.pfx_program_store.proofs.CauseLemmas.{disk_or_log}
 use Rattle.pfx_program_store.specs.Causes.{IsDiskOrLog}
-use Rattle.pfx_store_log.proofs.Keepings.{log_whole, none_failed}
+use Rattle.pfx_log_store.proofs.Keepings.{log_whole, none_failed}
 use Rattle.pfx_fault.specs.declared.refusals.Fault.TheVariants as fault
-use Rattle.pfx_store_log.specs.Working.{failure_beside}
+use Rattle.pfx_log_store.specs.Working.{failure_beside}
 use Rattle.pfx_program_store.proofs.logging.run_logged.Goals as goal
 
 pub returns-in-Err : goal.returns-in-Err

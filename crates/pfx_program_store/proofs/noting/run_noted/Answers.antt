@@ -1,10 +1,10 @@
 use Rattle.std.specs.Prelude.{if◌then◌else◌}
 use Rattle.std.proofs.Common.{◌≡◌, false, None, Some, Ok, Err, max, sym, ap, subst, ◌∙◌}
-use Rattle.pfx_chronicle.specs.Chart.{charted_honest, last_only, noted_view}
+use Rattle.pfx_disk_chronicle.specs.Chart.{charted_honest, last_only, noted_view}
 use Rattle.pfx_program_store.proofs.NotingLemmas.{device_only, noted_none, noted_run}
-use Rattle.pfx_engine.specs.Failing.{MayFail}
+use Rattle.pfx_store_engine.specs.Failing.{MayFail}
 use Rattle.pfx_program_store.specs.Noting.{IsNotedRun}
-use Rattle.pfx_fault.specs.declared.parts.Cause.TheVariants as cause
+use Rattle.pfx_fault.specs.declared.fields.Cause.TheVariants as cause
 use Rattle.pfx_fault.specs.declared.refusals.Fault.TheVariants as fault
 use Rattle.pfx_store.specs.Keepers.{failure_of}
 use Rattle.pfx_program_store.proofs.noting.run_noted.Goals as goal

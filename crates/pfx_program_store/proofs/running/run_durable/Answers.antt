@@ -1,5 +1,5 @@
 use Rattle.std.proofs.Common.{max}
-use Rattle.pfx_engine.specs.Failing.{MayFail}
+use Rattle.pfx_store_engine.specs.Failing.{MayFail}
 use Rattle.pfx_program_store.proofs.RunningLemmas.{kept_as_printed}
 use Rattle.pfx_program_store.proofs.running.run_durable.Goals as goal
 

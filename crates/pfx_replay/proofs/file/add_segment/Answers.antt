@@ -1,6 +1,6 @@
 use Rattle.std.proofs.Common.{◌≤◌, ◌<◌, ◌+◌, ◌++◌, ◌∙◌, length, refl, ap, sym, subst, arith}
-use Rattle.pfx_format.specs.Format.{layout}
-use Rattle.pfx_recovery.specs.Layout.{segment_at}
+use Rattle.pfx_store_format.specs.Format.{layout}
+use Rattle.pfx_store_image.specs.Layout.{segment_at}
 use Rattle.pfx_segment.specs.Frames.{AreFrames}
 use Rattle.pfx_segment.specs.Reading.{views}
 use Rattle.pfx_replay.proofs.FrameRuns.{one_run, views_append}

@@ -1,6 +1,6 @@
 use Rattle.std.proofs.Common.{◌≡◌, drop, map}
 use Rattle.pfx_record.specs.Records.{plain}
-use Rattle.pfx_redo.specs.Applying.{applied}
+use Rattle.pfx_record_redo.specs.Applying.{applied}
 use Rattle.pfx_replay.proofs.file.apply_all.Given as goal
 
 abbrev pub invariant-loop-entry : goal.invariant-loop-entry

@@ -1,7 +1,7 @@
 use Rattle.std.proofs.Common.{◌≡◌, ◌∙◌, Some, map, sym, subst}
 use Rattle.std.proofs.lemmas.Option.{none-some}
 use Rattle.pfx_record.specs.Records.{plain}
-use Rattle.pfx_redo.specs.Applying.{applied}
+use Rattle.pfx_record_redo.specs.Applying.{applied}
 use Rattle.pfx_replay.specs.Verdicts.{IsVerdict}
 use Rattle.pfx_replay.specs.Stated.{plain_of}
 use Rattle.pfx_replay.proofs.file.judge_trail.Goals as goal

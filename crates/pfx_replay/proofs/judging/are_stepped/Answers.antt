@@ -1,6 +1,6 @@
 use Rattle.std.proofs.Common.{◌≡◌, ◌<◌, ◌∙◌, get_or, length, sym, ap, refl, below_more, IsTrue, arith, rules}
 use Rattle.std.proofs.lemmas.List.{get_or_default}
-use Rattle.pfx_redo.specs.Recording.{place_of}
+use Rattle.pfx_record_redo.specs.Recording.{place_of}
 use Rattle.pfx_replay.proofs.Rowing.{all_places, at_place}
 use Rattle.pfx_replay.proofs.judging.are_stepped.Goals as goal
 

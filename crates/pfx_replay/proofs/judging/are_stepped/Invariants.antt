@@ -1,6 +1,6 @@
 use Rattle.std.proofs.Common.{◌≡◌, ◌<◌, ℕ, get_or}
 use Rattle.pfx_record.specs.declared.record.Place.{Place}
-use Rattle.pfx_redo.specs.Recording.{place_of}
+use Rattle.pfx_record_redo.specs.Recording.{place_of}
 use Rattle.pfx_replay.proofs.judging.are_stepped.Given as goal
 
 abbrev pub invariant-loop-place : goal.invariant-loop-place

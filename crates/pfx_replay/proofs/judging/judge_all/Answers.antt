@@ -1,6 +1,6 @@
 use Rattle.std.proofs.Common.{◌≡◌, ◌<◌, ◌≤◌, ◌+◌, Some, drop, length, map, sym, subst, refl}
 use Rattle.pfx_record.specs.Records.{plain}
-use Rattle.pfx_redo.specs.Applying.{applied, is_right}
+use Rattle.pfx_record_redo.specs.Applying.{applied, is_right}
 use Rattle.pfx_replay.specs.Judged.{GivesAll}
 use Rattle.pfx_replay.specs.Stated.{plain_of}
 use Rattle.pfx_replay.specs.declared.judged.Judged.TheVariants.{Agrees, Differs}

@@ -1,7 +1,7 @@
 use Rattle.std.proofs.Common.{◌≡◌, drop, map, Some}
 use Rattle.pfx_machine.specs.Plain.{Plain}
 use Rattle.pfx_record.specs.Records.{plain}
-use Rattle.pfx_redo.specs.Applying.{applied}
+use Rattle.pfx_record_redo.specs.Applying.{applied}
 use Rattle.pfx_replay.specs.Judged.{GivesAll}
 use Rattle.pfx_replay.specs.Stated.{plain_of}
 use Rattle.pfx_replay.specs.declared.judged.Judged.{Judged}

@@ -1,8 +1,8 @@
 use Rattle.std.proofs.Common.{◌≡◌, ◌+◌, ◌∙◌, ◌++◌, ap, ap₂, sym, map, drop, append-nil, append_assoc, Some, None}
 use Rattle.std.proofs.lemmas.List.{map-append}
 use Rattle.pfx_columns.specs.Ledgers.{Ledger}
-use Rattle.pfx_format.specs.Batches.{batch_in}
-use Rattle.pfx_format.specs.Frames.{state_after}
+use Rattle.pfx_store_format.specs.Batches.{batch_in}
+use Rattle.pfx_store_format.specs.Frames.{state_after}
 use Rattle.pfx_record.specs.Records.{plain}
 use Rattle.pfx_segment.specs.Reading.{views}
 use Rattle.pfx_replay.specs.Trails.{onward, records_at, records_behind, records_if}

@@ -1,10 +1,10 @@
 use Rattle.std.proofs.Common.{◌∙◌, Err, ap, sym, subst}
 use Rattle.pfx_disk.specs.Disk.{HasFailed}
-use Rattle.pfx_format.specs.Format.{format}
-use Rattle.pfx_recover.specs.Looking.{IsKept, Looks}
-use Rattle.pfx_recover.proofs.Looking.{failed_after, looks_then}
-use Rattle.pfx_recovery.specs.Recovery.{found_of}
-use Rattle.pfx_recovery.specs.Store.{IsStore}
+use Rattle.pfx_store_format.specs.Format.{format}
+use Rattle.pfx_store_recover.specs.Looking.{IsKept, Looks}
+use Rattle.pfx_store_recover.proofs.Looking.{failed_after, looks_then}
+use Rattle.pfx_store_image.specs.Recovery.{found_of}
+use Rattle.pfx_store_image.specs.Store.{IsStore}
 use Rattle.pfx_replay.specs.Trails.{IsWayIf}
 use Rattle.pfx_replay.proofs.Opens.{len_is, store_is}
 use Rattle.pfx_replay.proofs.replaying.replay.Goals as goal

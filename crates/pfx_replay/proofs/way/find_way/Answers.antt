@@ -1,7 +1,7 @@
 use Rattle.std.proofs.Common.{◌≤◌, ◌+◌, ◌∙◌, length, not, ap, sym, subst, arith}
 use Rattle.pfx_segment.specs.Reading.{views}
-use Rattle.pfx_recovery.specs.Layout.{area_at, segment_at}
-use Rattle.pfx_recovery.specs.Store.{Replays}
+use Rattle.pfx_store_image.specs.Layout.{area_at, segment_at}
+use Rattle.pfx_store_image.specs.Store.{Replays}
 use Rattle.pfx_replay.proofs.FrameRuns.{one_end, way_is}
 use Rattle.pfx_replay.proofs.way.find_way.Goals as goal
 

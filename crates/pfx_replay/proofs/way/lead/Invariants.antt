@@ -1,6 +1,6 @@
 use Rattle.std.proofs.Common.{drop}
 use Rattle.pfx_segment.specs.Reading.{views}
-use Rattle.pfx_recovery.specs.Store.{Replays}
+use Rattle.pfx_store_image.specs.Store.{Replays}
 use Rattle.pfx_replay.proofs.way.lead.Given as goal
 
 abbrev pub invariant-loop-frame : goal.invariant-loop-frame

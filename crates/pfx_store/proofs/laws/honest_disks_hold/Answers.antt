@@ -1,6 +1,6 @@
 use Rattle.std.proofs.Common.{[], ◌≤◌, length, sym, subst}
 use Rattle.pfx_disk.proofs.Left.{honest_view}
-use Rattle.pfx_format.specs.Format.{format}
+use Rattle.pfx_store_format.specs.Format.{format}
 use Rattle.pfx_store_file.specs.Holding.{IsKnown}
 use Rattle.pfx_store_file.specs.Sizes.{total_len}
 use Rattle.pfx_disk.specs.Disk.{IsHonest}

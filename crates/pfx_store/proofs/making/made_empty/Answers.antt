@@ -1,5 +1,5 @@
 use Rattle.std.proofs.Common.{ap, rules, subst, sym}
-use Rattle.pfx_header.specs.Headers.{IsSegmentSize}
+use Rattle.pfx_store_header.specs.Headers.{IsSegmentSize}
 use Rattle.pfx_machine.specs.Plain.{Plain, empty}
 use Rattle.pfx_store.specs.Stores.{as_store}
 use Rattle.pfx_store.specs.Working.{MakesStore}

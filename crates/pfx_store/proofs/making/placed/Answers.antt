@@ -1,9 +1,9 @@
 use Rattle.std.proofs.Common.{◌≡◌, List, ℕ, ◌≤◌, ◌+◌, length, length-take, take, refl, sym, ◌∙◌, ap, arith, rules}
 use Rattle.std.specs.Prelude.{slice_index}
-use Rattle.pfx_create.specs.Creating.{len_of}
-use Rattle.pfx_format.specs.Format.{format}
-use Rattle.pfx_header.specs.Headers.{this_version}
-use Rattle.pfx_header.proofs.Written.{header_long}
+use Rattle.pfx_store_create.specs.Creating.{len_of}
+use Rattle.pfx_store_format.specs.Format.{format}
+use Rattle.pfx_store_header.specs.Headers.{this_version}
+use Rattle.pfx_store_header.proofs.Written.{header_long}
 use Rattle.pfx_machine.specs.Plain.{IsState}
 use Rattle.pfx_store_file.specs.Sizes.{total_len}
 use Rattle.pfx_store.specs.Making.{header_of}

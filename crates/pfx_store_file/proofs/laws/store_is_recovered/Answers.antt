@@ -1,4 +1,4 @@
-use Rattle.pfx_recovery.proofs.Recovers.{recovers}
+use Rattle.pfx_store_image.proofs.Recovers.{recovers}
 use Rattle.pfx_store_file.proofs.laws.store_is_recovered.Goals as goal
 
 pub returns : goal.returns

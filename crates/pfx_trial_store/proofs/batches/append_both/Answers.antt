@@ -1,6 +1,6 @@
 use Rattle.std.proofs.Common.{◌≡◌, ◌+◌, map, sym, ◌∙◌, ap, subst}
 use Rattle.std.specs.Prelude.{Some}
-use Rattle.pfx_redo.specs.Applying.{applied}
+use Rattle.pfx_record_redo.specs.Applying.{applied}
 use Rattle.pfx_store.specs.Groups.{AreRecordsOf}
 use Rattle.pfx_machine.specs.Outcome.{outcome}
 use Rattle.pfx_machine.specs.Plain.{Plain}

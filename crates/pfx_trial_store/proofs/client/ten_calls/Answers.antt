@@ -1,10 +1,10 @@
 use Rattle.std.proofs.Common.{◌≡◌, ◌+◌, ◌++◌, ◌∷◌, [], map, sym, ◌∙◌, ap}
 use Rattle.std.specs.Prelude.{Some}
-use Rattle.pfx_redo.specs.Applying.{applied}
+use Rattle.pfx_record_redo.specs.Applying.{applied}
 use Rattle.pfx_machine.specs.Plain.{Plain}
 use Rattle.pfx_record.specs.Batches.{batch_bytes, batch_of}
 use Rattle.pfx_record.specs.Records.{plain}
-use Rattle.pfx_recovery.proofs.Answers.{some_same}
+use Rattle.pfx_store_image.proofs.Answers.{some_same}
 use Rattle.pfx_weights.specs.Sets.{FilledSet}
 use Rattle.pfx_trial_store.proofs.Slots.{set_stays}
 use Rattle.pfx_trial_store.proofs.client.ten_calls.Goals as goal

@@ -1,8 +1,8 @@
 use Rattle.std.proofs.Common.{rules, ◌≡◌, ◌∙◌, true, refl, sym, subst}
 use Rattle.std.specs.Prelude.{All, IsTrue}
 use Rattle.pfx_record.specs.Records.{plain}
-use Rattle.pfx_redo.specs.Applying.{is_common}
-use Rattle.pfx_redo.proofs.Commons.{unmapped}
+use Rattle.pfx_record_redo.specs.Applying.{is_common}
+use Rattle.pfx_record_redo.proofs.Commons.{unmapped}
 use Rattle.pfx_trial_store.proofs.Slots.{none_new}
 use Rattle.pfx_trial_store.proofs.turns.append.Goals as goal
 

@@ -5,7 +5,7 @@ use Rattle.std.proofs.lemmas.List.{map-append}
 use Rattle.pfx_machine.specs.Plain.{Plain}
 use Rattle.pfx_machine.specs.Steps.{state_step, happening_in}
 use Rattle.pfx_machine.specs.declared.command.Command.{Command}
-use Rattle.pfx_world.specs.Session.{asked}
+use Rattle.pfx_events_world.specs.Session.{asked}
 use Rattle.pfx_machine.specs.Refusals.{refusal, reply}
 use Rattle.pfx_record.specs.Records.{plain, Recorded}
 use Rattle.pfx_book.specs.declared.note.Note.{Note}

@@ -1,7 +1,7 @@
 use Rattle.std.specs.Prelude.{OnOk, IfErr, vec_capacity}
 use Rattle.std.proofs.Common.{[], Option, Some, length, subst}
 use Rattle.pfx_machine.specs.Slots.{deal}
-use Rattle.pfx_slot.specs.Dealt.{Dealt}
+use Rattle.pfx_book_slot.specs.Dealt.{Dealt}
 use Rattle.pfx_book.specs.Calls.{ComesBack, IsRepelled}
 use Rattle.pfx_book.specs.Kept.{OpenFits}
 use Rattle.pfx_book.specs.Lines.{told}

@@ -2,7 +2,7 @@ use Rattle.std.specs.Prelude.{MatchOption, option_map}
 use Rattle.std.proofs.Common.{Option, sym, ap, ◌∙◌, subst}
 use Rattle.pfx_jobs.specs.declared.quantum.Quantum.{Quantum}
 use Rattle.pfx_machine.specs.Slots.{deal}
-use Rattle.pfx_world.specs.Session.{Opened}
+use Rattle.pfx_events_world.specs.Session.{Opened}
 use Rattle.pfx_book.specs.Register.{Register, shown}
 use Rattle.pfx_book.specs.Calls.{NoneMissing, IsFirstMissing}
 use Rattle.pfx_book.proofs.Dealing.{missing_any}

@@ -4,8 +4,8 @@ use Rattle.std.proofs.Common.{◌≡◌, ℕ, List, [], ◌∷◌, ◌++◌, ◌
 use Rattle.pfx_machine.specs.Plain.{Plain}
 use Rattle.pfx_machine.specs.declared.command.Command.TheVariants as command
 use Rattle.pfx_record.specs.Records.{plain}
-use Rattle.pfx_world.specs.Session.{begun}
-use Rattle.pfx_slot.specs.Dealt.{StandsAt, Answers}
+use Rattle.pfx_events_world.specs.Session.{begun}
+use Rattle.pfx_book_slot.specs.Dealt.{StandsAt, Answers}
 use Rattle.pfx_book.specs.declared.note.Note.{Note}
 use Rattle.pfx_book.specs.declared.note.Note.TheVariants.{Refused}
 use Rattle.pfx_book.specs.declared.line.Line.{Line}

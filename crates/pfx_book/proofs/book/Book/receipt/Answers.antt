@@ -3,7 +3,7 @@ use Rattle.std.specs.VecDeque.{deque_items}
 use Rattle.std.proofs.Common.{ℕ, List, [], ◌∷◌, ◌++◌, ◌<◌, ◌≤◌, ◌+◌, length, refl, sym, ap, ◌∙◌, subst, arith, rules}
 use Rattle.pfx_machine.specs.Outcome.{outcome}
 use Rattle.pfx_record.specs.Records.{plain}
-use Rattle.pfx_world.specs.Session.{receipted}
+use Rattle.pfx_events_world.specs.Session.{receipted}
 use Rattle.pfx_book.specs.declared.note.Note.{Note}
 use Rattle.pfx_book.specs.declared.note.Note.TheVariants.{Receipt}
 use Rattle.pfx_book.specs.declared.line.Line.{Line}

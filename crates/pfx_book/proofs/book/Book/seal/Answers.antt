@@ -5,8 +5,8 @@ use Rattle.std.proofs.lemmas.List.{map-append}
 use Rattle.pfx_machine.specs.Refusals.{reply}
 use Rattle.pfx_machine.specs.declared.command.Command.TheVariants as command
 use Rattle.pfx_record.specs.Records.{plain, Recorded}
-use Rattle.pfx_slot.specs.Dealt.{Dealt, AllBack}
-use Rattle.pfx_world.specs.Session.{sealed}
+use Rattle.pfx_book_slot.specs.Dealt.{Dealt, AllBack}
+use Rattle.pfx_events_world.specs.Session.{sealed}
 use Rattle.pfx_book.specs.declared.note.Note.{Note}
 use Rattle.pfx_book.specs.declared.note.Note.TheVariants.{Accepted}
 use Rattle.pfx_book.specs.declared.line.Line.{Line}

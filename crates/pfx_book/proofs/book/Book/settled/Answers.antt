@@ -9,7 +9,7 @@ use Rattle.pfx_book.specs.Lines.{told}
 use Rattle.pfx_book.specs.Kept.{HasFailed}
 use Rattle.pfx_book.specs.Register.{Register}
 use Rattle.pfx_book.proofs.Notes.{backed_entries}
-use Rattle.pfx_redo.specs.Recording.{records_of}
+use Rattle.pfx_record_redo.specs.Recording.{records_of}
 use Rattle.pfx_book.proofs.Keeping.{flushed_is}
 use Rattle.pfx_book.proofs.Taking.{taken_are}
 use Rattle.pfx_book.proofs.book.Book.settled.Goals as goal

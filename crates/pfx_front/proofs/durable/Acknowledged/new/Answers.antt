@@ -1,9 +1,9 @@
 use Rattle.std.proofs.Common.{◌≡◌, ◌≤◌, Some, sym, ap, ◌∙◌, subst, arith, length}
 use Rattle.std.proofs.Math.Logic.{∥∥₁_map}
-use Rattle.pfx_board.specs.Word.{records_of}
-use Rattle.pfx_redo.specs.Applying.{applied}
-use Rattle.pfx_redo.proofs.States.{applied_behind}
-use Rattle.pfx_board.specs.Lasting.{Recovers}
+use Rattle.pfx_front_board.specs.Word.{records_of}
+use Rattle.pfx_record_redo.specs.Applying.{applied}
+use Rattle.pfx_record_redo.proofs.States.{applied_behind}
+use Rattle.pfx_front_board.specs.Lasting.{Recovers}
 use Rattle.pfx_front.specs.Lasting.{HasNumber}
 use Rattle.pfx_front.proofs.durable.Acknowledged.new.Goals as goal
 

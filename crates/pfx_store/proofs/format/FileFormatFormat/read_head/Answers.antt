@@ -1,5 +1,5 @@
-use Rattle.pfx_header.specs.Headers.{this_version}
-use Rattle.pfx_header.proofs.Meanings.{read_a_header}
+use Rattle.pfx_store_header.specs.Headers.{this_version}
+use Rattle.pfx_store_header.proofs.Meanings.{read_a_header}
 use Rattle.pfx_store.proofs.format.FileFormatFormat.read_head.Goals as goal
 
 pub invariant_of-result : goal.invariant_of-result

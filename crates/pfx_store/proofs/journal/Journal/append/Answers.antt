@@ -1,10 +1,10 @@
 use Rattle.std.proofs.Common.{◌≡◌, map, ◌+◌, ◌++◌, ◌∷◌, [], ℕ, List, length, refl, sym, ◌∙◌, ap, arith, subst, rules}
 use Rattle.std.specs.Prelude.{Some}
 use Rattle.pfx_disk.specs.declared.gates.TheConstants.{GATE_OPEN}
-use Rattle.pfx_redo.specs.Applying.{applied}
-use Rattle.pfx_format.specs.Format.{format}
-use Rattle.pfx_format.specs.Frames.{state_after}
-use Rattle.pfx_format.proofs.Keeping.{format_laws}
+use Rattle.pfx_record_redo.specs.Applying.{applied}
+use Rattle.pfx_store_format.specs.Format.{format}
+use Rattle.pfx_store_format.specs.Frames.{state_after}
+use Rattle.pfx_store_format.proofs.Keeping.{format_laws}
 use Rattle.pfx_record.specs.Batches.{PlainBatch, batch_bytes, batch_of}
 use Rattle.pfx_record.specs.Numbers.{number_bytes}
 use Rattle.pfx_record.specs.Records.{plain}

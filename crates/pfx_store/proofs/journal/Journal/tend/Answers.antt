@@ -1,6 +1,6 @@
 use Rattle.std.proofs.Common.{ℕ, List, ap, refl, sym, subst}
-use Rattle.pfx_format.specs.Format.{format}
-use Rattle.pfx_format.proofs.Keeping.{format_laws}
+use Rattle.pfx_store_format.specs.Format.{format}
+use Rattle.pfx_store_format.proofs.Keeping.{format_laws}
 use Rattle.pfx_store.specs.Standing.{Stands}
 use Rattle.pfx_store.proofs.Standings.{on_ok_then, stands_tended}
 use Rattle.pfx_store_file.specs.Acts.{tended_file}

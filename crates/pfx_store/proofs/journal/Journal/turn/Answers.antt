@@ -1,7 +1,7 @@
 use Rattle.std.proofs.Common.{◌+◌, ◌∙◌, ap, sym, true, refl, rules}
 use Rattle.std.proofs.lemmas.Bool.{true≢false}
-use Rattle.pfx_format.specs.Format.{format}
-use Rattle.pfx_format.proofs.Keeping.{format_laws}
+use Rattle.pfx_store_format.specs.Format.{format}
+use Rattle.pfx_store_format.proofs.Keeping.{format_laws}
 use Rattle.pfx_store_file.specs.Holding.{IsStart}
 use Rattle.pfx_store.proofs.Standings.{stands_turned}
 use Rattle.std.proofs.Common.{◌≡◌, ◌++◌, ◌∷◌, []}

@@ -1,8 +1,8 @@
 use Rattle.std.proofs.Common.{◌≡◌, ◌≤◌, length, false, sym, ap, ◌∙◌, subst, arith}
 use Rattle.std.proofs.lemmas.Bool.{false≢true}
-use Rattle.pfx_chronicle.specs.Chart.{acts_of, charted_honest, Noted}
+use Rattle.pfx_disk_chronicle.specs.Chart.{acts_of, charted_honest, Noted}
 use Rattle.pfx_disk.specs.Stop.{contents_after}
-use Rattle.pfx_format.specs.Format.{format}
+use Rattle.pfx_store_format.specs.Format.{format}
 use Rattle.pfx_store.specs.Stores.{PlainStore}
 use Rattle.pfx_store_file.specs.Holding.{IsBegun}
 use Rattle.pfx_store_file.specs.Sizes.{total_len}

@@ -2,7 +2,7 @@ use Rattle.std.proofs.Common.{rules}
 use Rattle.std.proofs.Common.{◌≡◌, ◌∙◌, ◌≤◌, ap, ◌++◌, ◌∷◌, [], sym, subst, length, arith}
 use Rattle.std.proofs.lemmas.Bool.{cond-true, false≢true, lt-ltb}
 use Rattle.pfx_disk.specs.declared.gates.TheConstants.{GATE_OPEN}
-use Rattle.pfx_recovery.specs.Store.{with_frame, turned_at}
+use Rattle.pfx_store_image.specs.Store.{with_frame, turned_at}
 use Rattle.pfx_store_file.specs.Holding.{Holds}
 use Rattle.pfx_store_file.specs.Tending.{append_calls, settled}
 use Rattle.pfx_store_file.proofs.Keeping.{keeps_then, keeps_none, room_there, room_made}

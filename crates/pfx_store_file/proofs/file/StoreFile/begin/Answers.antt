@@ -5,7 +5,7 @@ use Rattle.pfx_segment.specs.Acts.{close_acts}
 use Rattle.pfx_disk.specs.CallsMade.{HasMade, HasBrokenOff, HasKeptTo}
 use Rattle.pfx_store_file.specs.Checkpoints.{in_progress}
 use Rattle.pfx_store_file.specs.Files.{area_of}
-use Rattle.pfx_recovery.specs.Layout.{area_at}
+use Rattle.pfx_store_image.specs.Layout.{area_at}
 use Rattle.pfx_store_file.proofs.Keeping.{begin_keeps, begin_holds, begin_shut}
 use Rattle.pfx_store_file.proofs.file.StoreFile.begin.Goals as goal
 

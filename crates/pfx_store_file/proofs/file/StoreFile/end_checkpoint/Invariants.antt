@@ -1,7 +1,7 @@
 use Rattle.std.proofs.Common.{◌≡◌, ◌↔◌, ◌+◌, ℕ, List, length, Some, true, false}
 use Rattle.pfx_disk.specs.Disk.{IsHonest}
-use Rattle.pfx_recovery.specs.Codec.{Codec, Laws}
-use Rattle.pfx_recovery.specs.Store.{Parts, Replays}
+use Rattle.pfx_store_image.specs.Codec.{Codec, Laws}
+use Rattle.pfx_store_image.specs.Store.{Parts, Replays}
 use Rattle.pfx_store_file.specs.Checkpoints.{in_progress}
 use Rattle.pfx_store_file.specs.Calls.{GoesOn}
 use Rattle.pfx_store_file.specs.Holding.{Holds, KeepsAll}

@@ -4,7 +4,7 @@ use Rattle.std.proofs.Common.{ℕ, subst}
 use Rattle.pfx_segment.specs.Acts.{open_acts}
 use Rattle.pfx_disk.specs.CallsMade.{HasMade, HasBrokenOff, HasKeptTo}
 use Rattle.pfx_store_file.specs.Files.{area_of}
-use Rattle.pfx_recovery.specs.Layout.{area_at}
+use Rattle.pfx_store_image.specs.Layout.{area_at}
 use Rattle.pfx_store_file.proofs.Keeping.{finish_inside, finish_stand, finish_keeps, finish_holds}
 use Rattle.pfx_store_file.proofs.file.StoreFile.finish.Goals as goal
 

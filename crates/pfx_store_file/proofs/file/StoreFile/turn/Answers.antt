@@ -4,7 +4,7 @@ use Rattle.std.proofs.Common.{ℕ, Bool, ◌++◌, inl, subst, arith}
 use Rattle.pfx_segment.specs.Acts.{close_acts, put_acts}
 use Rattle.pfx_disk.specs.CallsMade.{HasMade, HasBrokenOff, HasKeptTo}
 use Rattle.pfx_store_file.specs.Files.{segment_of}
-use Rattle.pfx_recovery.specs.Layout.{segment_at}
+use Rattle.pfx_store_image.specs.Layout.{segment_at}
 use Rattle.pfx_store_file.proofs.Keeping.{keeps_still, has_frames, turn_known, turn_keeps, turn_holds}
 use Rattle.pfx_store_file.proofs.file.StoreFile.turn.Goals as goal
 

@@ -6,7 +6,7 @@ use Rattle.pfx_disk.specs.CallsMade.{HasMade, HasBrokenOff, HasKeptTo}
 use Rattle.pfx_disk.proofs.CallsMade.{write_made, write_broken, write_within}
 use Rattle.pfx_store_file.specs.Checkpoints.{in_progress, written}
 use Rattle.pfx_store_file.specs.Files.{area_of}
-use Rattle.pfx_recovery.specs.Layout.{area_at}
+use Rattle.pfx_store_image.specs.Layout.{area_at}
 use Rattle.pfx_store_file.specs.declared.progress.Checkpoint.TheVariants.{Writing}
 use Rattle.pfx_store_file.proofs.Keeping.{piece_keeps, piece_holds}
 use Rattle.pfx_store_file.proofs.file.StoreFile.write_piece.Goals as goal

@@ -1,8 +1,0 @@
-use Rattle.pfx_args.proofs.PlainLedger.{plain_ledger_taken, plain_ledger_asked}
-use Rattle.pfx_args.proofs.laws.plain_ledger.Goals as goal
-
-pub returns-clause-taken : goal.returns-clause-taken
-returns-clause-taken c = plain_ledger_taken c.args.program.now c.args.set.now c.args.slots.now c.requires.set c.requires.slots
-
-pub returns-clause-asked : goal.returns-clause-asked
-returns-clause-asked c = plain_ledger_asked c.args.program.now c.args.set.now c.args.slots.now c.requires.set c.requires.slots

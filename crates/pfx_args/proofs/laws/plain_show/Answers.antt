@@ -1,8 +1,0 @@
-use Rattle.pfx_args.proofs.PlainShow.{plain_show_taken, plain_show_asked}
-use Rattle.pfx_args.proofs.laws.plain_show.Goals as goal
-
-pub returns-clause-taken : goal.returns-clause-taken
-returns-clause-taken c = plain_show_taken c.args.program.now c.args.file.now c.requires.file
-
-pub returns-clause-asked : goal.returns-clause-asked
-returns-clause-asked c = plain_show_asked c.args.program.now c.args.file.now c.requires.file

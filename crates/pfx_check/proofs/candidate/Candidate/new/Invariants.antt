@@ -1,6 +1,0 @@
-use Rattle.std.proofs.Common.{◌≡◌}
-use Rattle.pfx_check.specs.Faults.{upto}
-use Rattle.pfx_check.proofs.candidate.Candidate.new.Given as goal
-
-abbrev pub invariant-loop-x : goal.invariant-loop-x
-invariant-loop-x l = l.numbers.items ≡ upto l.x

@@ -1,5 +1,0 @@
-use Rattle.pfx_check.proofs.Ones.{all_are_one}
-use Rattle.pfx_check.proofs.laws.faults_are_one.Goals as goal
-
-pub returns : goal.returns
-returns c = all_are_one

@@ -1,5 +1,0 @@
-use Rattle.pfx_check.proofs.Ones.{first_is}
-use Rattle.pfx_check.proofs.laws.first_is_the_sets.Goals as goal
-
-pub returns : goal.returns
-returns c = first_is

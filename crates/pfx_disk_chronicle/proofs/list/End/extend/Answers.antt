@@ -1,0 +1,15 @@
+use Rattle.std.proofs.Common.{sym, ◌∙◌, ap}
+use Rattle.pfx_disk_chronicle.proofs.Adding.{adds_moves}
+use Rattle.pfx_disk_chronicle.proofs.list.End.extend.Goals as goal
+
+pub compare_exchange-found-requires : goal.compare_exchange-found-requires
+compare_exchange-found-requires g c =
+    let h = c.args.self.now.head_is in
+    let offer = c.plain-offer.ensures in
+    let pen = c.no_pen-pen.ensures in (
+      ap (λ w. w.tracked) h,
+      c.past.invariant.1 ∙ sym (ap (λ w. w.book) h),
+      pen.0 ∙ (c.past.invariant.1 ∙ sym (ap (λ w. w.book) h)),
+      offer.0,
+      rw (ap (λ w. w.key) h, pen.1, offer.1, offer.3 ∙ c.requires.free) (adds_moves c.past.inside.seen.log (g.M.Plain.ask c.args.about.now) c.past.inside.count (sym c.past.invariant.0)),
+    )

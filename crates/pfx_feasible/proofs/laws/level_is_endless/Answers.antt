@@ -1,5 +1,0 @@
-use Rattle.pfx_feasible.proofs.Endless.{level_endless}
-use Rattle.pfx_feasible.proofs.laws.level_is_endless.Goals as goal
-
-pub returns : goal.returns
-returns c = level_endless

@@ -1,5 +1,0 @@
-use Rattle.pfx_feasible.proofs.Endless.{row_keeps}
-use Rattle.pfx_feasible.proofs.laws.pf_keeps_endless.Goals as goal
-
-pub returns : goal.returns
-returns c = row_keeps

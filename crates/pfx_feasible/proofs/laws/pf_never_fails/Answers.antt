@@ -1,5 +1,0 @@
-use Rattle.pfx_feasible.proofs.Endless.{start_succeeds}
-use Rattle.pfx_feasible.proofs.laws.pf_never_fails.Goals as goal
-
-pub returns : goal.returns
-returns c = start_succeeds

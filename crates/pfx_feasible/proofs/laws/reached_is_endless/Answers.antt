@@ -1,5 +1,0 @@
-use Rattle.pfx_feasible.proofs.Endless.{reached_endless}
-use Rattle.pfx_feasible.proofs.laws.reached_is_endless.Goals as goal
-
-pub returns : goal.returns
-returns c = reached_endless

@@ -1,5 +1,0 @@
-use Rattle.pfx_feasible.proofs.Endless.{start_endless}
-use Rattle.pfx_feasible.proofs.laws.start_is_endless.Goals as goal
-
-pub returns : goal.returns
-returns c = start_endless

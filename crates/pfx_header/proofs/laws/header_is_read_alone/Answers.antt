@@ -1,5 +1,0 @@
-use Rattle.pfx_header.proofs.Alone.{alone}
-use Rattle.pfx_header.proofs.laws.header_is_read_alone.Goals as goal
-
-pub returns : goal.returns
-returns c = alone

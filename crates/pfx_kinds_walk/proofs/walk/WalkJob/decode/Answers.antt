@@ -1,0 +1,10 @@
+use Rattle.std.proofs.Common.{sym, ◌∙◌}
+use Rattle.pfx_jobs.proofs.Codings.{bytes_eq-true}
+use Rattle.pfx_jobs.proofs.FromLaws.{decoded-spelling}
+use Rattle.pfx_kinds_walk.specs.WalkKind.{walk_kind, walk_laws}
+use Rattle.pfx_kinds_walk.proofs.walk.WalkJob.decode.Goals as goal
+
+pub returns-then-eq : goal.returns-then-eq
+returns-then-eq c =
+    let same = bytes_eq-true c.args.bytes.now c.encode.new.bytes (sym c.eq.ensures ∙ c.if-eq.true) in
+    decoded-spelling walk_kind walk_laws _ c.args.bytes.now (sym c.encode.ensures ∙ sym same)

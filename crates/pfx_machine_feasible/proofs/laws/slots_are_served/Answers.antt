@@ -1,0 +1,7 @@
+use Rattle.std.proofs.Common.{sym, subst}
+use Rattle.pfx_machine_feasible.proofs.Rows.{GoesOn, start_goes_on}
+use Rattle.pfx_machine_feasible.proofs.Serving.{served_behind}
+use Rattle.pfx_machine_feasible.proofs.laws.slots_are_served.Goals as goal
+
+pub returns : goal.returns
+returns g c = λ set filled B is H all. served_behind g.J.Job.kind g.met.J.Job.laws B H (subst GoesOn (sym is) (start_goes_on set filled)) all

@@ -1,4 +1,0 @@
-use Rattle.pfx_notes.proofs.fractions.greatest_common_divisor.Given as goal
-
-abbrev pub decreases-euclid : goal.decreases-euclid
-decreases-euclid l = l.small

@@ -1,9 +1,0 @@
-use Rattle.std.proofs.Common.{ap, ◌∙◌, option_map}
-use Rattle.serde_json.specs.Written.{has_float}
-use Rattle.pfx_objects.proofs.Whole.{also_whole}
-use Rattle.pfx_objects.proofs.said.also_line.Goals as goal
-
-pub object_line-requires : goal.object_line-requires
-object_line-requires c = record {
-  whole = ap has_float c.in_ok-object.ensures ∙ also_whole c.args.fault (option_map (λ n. n.now) c.args.note);
-}

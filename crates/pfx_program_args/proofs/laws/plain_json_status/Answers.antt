@@ -1,0 +1,8 @@
+use Rattle.pfx_program_args.proofs.PlainJson.{json_status_taken, json_status_asked}
+use Rattle.pfx_program_args.proofs.laws.plain_json_status.Goals as goal
+
+pub returns-clause-taken : goal.returns-clause-taken
+returns-clause-taken c = json_status_taken c.args.program.now c.args.file.now c.requires.file
+
+pub returns-clause-asked : goal.returns-clause-asked
+returns-clause-asked c = json_status_asked c.args.program.now c.args.file.now c.requires.file

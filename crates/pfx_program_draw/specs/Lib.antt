@@ -1,0 +1,13 @@
+pub mod Bars
+pub mod Drawing
+pub mod Each
+pub mod Frame
+pub mod Lags
+pub mod Lane
+pub mod Laws
+pub mod Line
+pub mod Phrases
+pub mod Picture
+pub mod Sizes
+pub mod Start
+pub mod Text

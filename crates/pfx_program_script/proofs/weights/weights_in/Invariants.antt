@@ -1,0 +1,7 @@
+use Rattle.std.proofs.Common.{length, ◌==◌}
+use Rattle.std.specs.List.{slice_split}
+use Rattle.pfx_program_script.proofs.WeightLemmas.{ReadSoFar}
+use Rattle.pfx_program_script.proofs.weights.weights_in.Given as goal
+
+abbrev pub invariant-loop-part : goal.invariant-loop-part
+invariant-loop-part l = ReadSoFar (slice_split (λ b. b == 32) l.text) (length l.yielded) l.weights.items

@@ -1,8 +1,0 @@
-use Rattle.std.proofs.Common.{◌≡◌, map, take}
-use Rattle.pfx_set_file.specs.SetFile.{weight_of}
-use Rattle.pfx_set_file.specs.Views.{task_view}
-use Rattle.pfx_set_file.proofs.set.SetText.weights.Given as goal
-
--- the weights of the tasks so far
-abbrev pub invariant-loop-task : goal.invariant-loop-task
-invariant-loop-task l = l.weights.items ≡ map weight_of (map task_view (take l.task-index l.self.tasks.items))

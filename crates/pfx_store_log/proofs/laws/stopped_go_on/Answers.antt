@@ -1,5 +1,0 @@
-use Rattle.pfx_store_log.proofs.Going.{stopped}
-use Rattle.pfx_store_log.proofs.laws.stopped_go_on.Goals as goal
-
-pub returns : goal.returns
-returns g c = stopped g.J.Job.kind g.met.J.Job.laws
