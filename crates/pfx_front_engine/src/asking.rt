@@ -1,11 +1,16 @@
 //! A command of a front's only client.
 ghost use Rattle.std.specs.Prelude.{◌≡◌, ◌≢◌, ◌<◌, [], true, IfOk, IfErr, OnOk, OnErr};
-ghost use Rattle.pfx_front.specs.Sole.{IsShownBy, state_of};
+ghost use Rattle.pfx_book.specs.Calls.{noted};
+ghost use Rattle.pfx_book.specs.Notes.{greatest};
+ghost use Rattle.pfx_book.specs.declared.note.Note.TheVariants.{Accepted};
+ghost use Rattle.pfx_front.specs.Calling.{HasNoReply};
+ghost use Rattle.pfx_front.specs.Sole.{IsAlone, IsShownBy, state_of};
 ghost use Rattle.pfx_machine.specs.declared.command.Command.{Command};
 ghost use Rattle.pfx_front_engine.specs.Asking.{AreAllAsked, AreAsked, AreSomeAsked, IsAnswered, IsUnanswered, IsFrontFault, why_machine, why_of};
 ghost use Rattle.pfx_front_engine.specs.Keeping.{IsSettled, KeepsBy};
 
 use crate::client::Client;
+use pfx_book::book::Pass;
 use pfx_book::faults::BookFault;
 use pfx_choice::ChoiceFault;
 use pfx_crew::desk::Desk;
@@ -55,6 +60,24 @@ fn stay_alone<R: Wait>(rt: &R, sole: bool)
     unreachable!()
 }
 
+/// One call of the front by its only client, whose notes are then all that has happened.
+fn call_alone<J: Job, B: Since<J>, K: Desk<Quantum<J>, Done<J>> + Drop, R: Wait>(
+    rt: &R,
+    front: &Front<J, B, K>,
+    pass: &mut Pass<J, B>,
+    command: Command<J>,
+) -> Result<(u64, Reply), FrontFault>
+where
+    K::Seat: Drop,
+    ensures ok { IfOk result (λ r. (pass.new ≡ noted (Accepted r.0 command r.1) pass.old) × (greatest pass.old.1 < r.0)) }
+    ensures err { IfErr result (HasNoReply command pass.old pass.new) }
+    ensures alone { IsAlone J.kind B.start pass.new.1 }
+{
+    let Heard { sole, said } = front.hear(rt, pass, command);
+    stay_alone(rt, sole);
+    said
+}
+
 /// Has a command carried out for the only client. The answer isn't an acknowledgement: `settle` is.
 pub(crate) fn ask<J: Job, B: Since<J>, K: Desk<Quantum<J>, Done<J>> + Drop, R: Wait>(
     rt: &R,
@@ -67,9 +90,7 @@ where
     ensures ok { IfOk result (λ r. IsAnswered J.kind B.start client.old command r.0 r.1 client.new) }
     ensures err { IfErr result (IsUnanswered J.kind B.start client.old command client.new) }
 {
-    let Heard { sole, said } = front.hear(rt, &mut client.pass, command);
-    stay_alone(rt, sole);
-    match said {
+    match call_alone(rt, front, &mut client.pass, command) {
         Ok((number, reply)) => {
             client.number = number;
             Ok((number, reply))

@@ -32,7 +32,7 @@ as_first kept is text = is ≡ Some []
 
 module _ (s : Plain AnyJob) where
   -- an engine that is known by how many commands it keeps
-  abbrev counted : Promise ℕ
+  abbrev counted : Promise AnyJob ℕ
   counted = record { state = λ kept. s; faults = λ t f. ⊥; settled = λ kept. ⊥; keeps = λ start H n kept. n ≤ kept }
 
   -- the line of a command waits until the command is kept

@@ -24,20 +24,20 @@ left_out : {J : Type 0} (n : ℕ) (rest : List (Command J)) → 1 ≤ n → [] �
 left_out zero rest some is = omega (arith, some)
 left_out (suc n) rest some is = cc
 
-none_left_out : {J : Type 0} (image : List ℕ) → AreHeld (one_slot 1 image ∷ []) [] → ⊥
-none_left_out image h = left_out h.0 h.3 h.1 h.4
+none_left_out : (J : Type 0) (image : List ℕ) → AreHeld {J = J} (one_slot 1 image ∷ []) [] → ⊥
+none_left_out J image h = left_out h.0 h.3 h.1 h.4
 
 -- nor is a command held that the session hadn't, nor one behind the last session
-none_beside : AreHeld [] (Slot ∷ []) → ⊥
-none_beside h = cc
+none_beside : (J : Type 0) → AreHeld {J = J} [] (Slot ∷ []) → ⊥
+none_beside J h = cc
 
 others : {J : Type 0} (n : ℕ) (rest : List (Command J)) → rest ≡ [] → Withdraw 0 ∷ [] ≡ take n (Slot ∷ []) ++ rest → ⊥
 others zero [] none is = cc
 others (suc n) [] none is = cc
 others n (c ∷ rest) none is = cc
 
-no_others : {J : Type 0} (image : List ℕ) → AreHeld (one_slot 1 image ∷ []) (Withdraw 0 ∷ []) → ⊥
-no_others image h = others h.0 h.3 h.5 h.4
+no_others : (J : Type 0) (image : List ℕ) → AreHeld {J = J} (one_slot 1 image ∷ []) (Withdraw 0 ∷ []) → ⊥
+no_others J image h = others h.0 h.3 h.5 h.4
 
 -- without a session nothing changed, and a session without commands left the state at which it began
 numbers_on : {J : Type 0} (K : Kind J) (s : Plain J) (last : Plain J) → last.number ≡ s.number + 1 → AreSessions K s [] last → ⊥

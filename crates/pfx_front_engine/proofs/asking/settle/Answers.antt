@@ -1,4 +1,4 @@
-use Rattle.std.proofs.Common.{refl, ap, ◌∙◌, subst}
+use Rattle.std.proofs.Common.{[], refl, ap, ◌∙◌, subst}
 use Rattle.pfx_book.specs.Notes.{alone}
 use Rattle.pfx_book.specs.declared.note.Note.TheVariants.{Receipt}
 use Rattle.pfx_front_engine.proofs.Notes.{alone_more, kept_lost, kept_receipt, settled_by, stays_with}
@@ -26,4 +26,4 @@ pub returns-in-Ok-clause-stays : goal.returns-in-Ok-clause-stays
 returns-in-Ok-clause-stays g c =
     let receipt = Receipt c.client.inside.number c.in-Ok._receipt.receipt.clock in
     let same = ap (λ p. alone p.1) c.in-Ok.ensures.ok.1 ∙ alone_more c.client.inside.pass.1 receipt refl in
-    subst (λ was. KeepsBy g.B.Named.start.number was _ 0 c.settled.new.pass.1) c.client.view_is (stays_with g.B.Named.start.number c.client.inside.pass.1 c.settled.new.pass.1 receipt refl same)
+    subst (λ was. KeepsBy g.B.Named.start.number was [] 0 c.settled.new.pass.1) c.client.view_is (stays_with g.B.Named.start.number c.client.inside.pass.1 c.settled.new.pass.1 receipt refl same)
