@@ -150,20 +150,34 @@ fn agrees_after(
 }
 
 /// How many commands of a list of 40 the machine and the plain programs agree on, up to the first on which they don't.
-fn list_agrees(alloc: Global, m: u32, tasks: &[(u32, u32)], seed: u32) -> Option<u32> {
-    let set = TaskSet::new(alloc, m, tasks).ok()?;
-    let mut state: State<AnyJob> = State::new(alloc, &set, SEGMENT).ok()?;
-    let mut happened: Vec<Happening<AnyJob>> = Vec::new(alloc);
-    let real = u16::try_from(tasks.len()).ok()?;
+fn commands_agree(
+    alloc: Global,
+    set: &TaskSet,
+    state: &mut State<AnyJob>,
+    happened: &mut Vec<Happening<AnyJob>>,
+    real: u16,
+    seed: u32,
+) -> u32 {
     let mut seed = seed;
     for number in 0..40 {
         seed = next(seed);
-        let command = some_command(seed, real)?;
-        if !agrees_after(alloc, &set, &mut state, &mut happened, command) {
-            return Some(number);
+        let Some(command) = some_command(seed, real) else {
+            return number;
+        };
+        if !agrees_after(alloc, set, state, happened, command) {
+            return number;
         }
     }
-    Some(40)
+    40
+}
+
+/// The same from the state of a set before its first command on.
+fn list_agrees(alloc: Global, m: u32, tasks: &[(u32, u32)], seed: u32) -> Option<u32> {
+    let real = u16::try_from(tasks.len()).ok()?;
+    let set = TaskSet::new(alloc, m, tasks).ok()?;
+    let mut state: State<AnyJob> = State::new(alloc, &set, SEGMENT).ok()?;
+    let mut happened: Vec<Happening<AnyJob>> = Vec::new(alloc);
+    Some(commands_agree(alloc, &set, &mut state, &mut happened, real, seed))
 }
 
 #[test]

@@ -41,17 +41,13 @@ fn refuses(
     weights: &[(u32, u32)],
     fault: MachineFault,
 ) -> bool {
-    let number = state.number();
-    let slot = state.slot();
+    let before = (state.number(), state.slot(), state.from());
     let Some(command) = reweigh(alloc, workers, weights) else {
         return false;
     };
     match state.apply(command) {
         Ok(_) => false,
-        Err(got) => got == fault
-            && state.number() == number
-            && state.slot() == slot
-            && state.from() == 0,
+        Err(got) => got == fault && (state.number(), state.slot(), state.from()) == before,
     }
 }
 
@@ -99,187 +95,27 @@ fn allocations(state: &State<AnyJob>) -> Option<(u64, u64, u64)> {
     Some((ledger.alloc(0), ledger.alloc(1), ledger.alloc(2)))
 }
 
-// Three tasks of 2/3 on two workers, and then of 1/3 on one.
-#[test]
-fn new_weights_come_into_force_where_all_are_level(rt: HostRuntime) {
-    let alloc = rt.alloc();
-    let thirds = [(1, 3), (1, 3), (1, 3)];
-    let Some(mut state) = begun(alloc, 2, &[(2, 3), (2, 3), (2, 3)], SEGMENT) else {
-        return assert!(rt; false, "the state");
-    };
-    let early = runs(&mut state, 1)
-        && refuses(
-            alloc,
-            &mut state,
-            1,
-            &thirds,
-            MachineFault::NotLevel { task: 0 },
-        )
-        && refuses(alloc, &mut state, 1, &thirds[..2], MachineFault::WrongCount);
-    assert!(rt; early, "ahead or behind");
-    let level = runs(&mut state, 2)
-        && takes(alloc, &mut state, 1, &thirds, 3)
-        && state.number() == 4;
-    assert!(rt; level, "level");
-    let behind = ran(&mut state, 3, &[0]) && state.number() == 5 && state.slot() == 4;
-    let counted = allocations(&state) == Some((1, 0, 0));
-    assert!(rt; behind && counted, "the slot behind");
-}
-
-// The real task is level earlier than the two idle ones.
-#[test]
-fn an_idle_task_may_not_be_level(rt: HostRuntime) {
-    let alloc = rt.alloc();
-    let Some(mut state) = begun(alloc, 2, &[(2, 4)], SEGMENT) else {
-        return assert!(rt; false, "the state");
-    };
-    let half = [(1, 2)];
-    let early = runs(&mut state, 2)
-        && refuses(
-            alloc,
-            &mut state,
-            2,
-            &half,
-            MachineFault::NotLevel { task: 1 },
-        );
-    assert!(rt; early, "an idle task");
-    assert!(rt;
-        runs(&mut state, 2) && takes(alloc, &mut state, 2, &half, 4),
-        "level"
-    );
-}
-
-// Sets that there are not, and segments that are too short.
-#[test]
-fn sets_without_room_are_refused(rt: HostRuntime) {
-    let alloc = rt.alloc();
-    let Some(mut state) = begun(alloc, 1, &[(1, 2)], 2137) else {
-        return assert!(rt; false, "the state");
-    };
-    let bad = MachineFault::NoSet(SetFault::BadWorkers);
-    assert!(rt; refuses(alloc, &mut state, 0, &[(1, 2)], bad), "no worker");
-    let bad = MachineFault::NoSet(SetFault::BadWeight { task: 0 });
-    assert!(rt; refuses(alloc, &mut state, 1, &[(2, 2)], bad), "no weight");
-    let small = MachineFault::SegmentTooSmall { least: 4233 };
-    assert!(rt;
-        refuses(alloc, &mut state, 2, &[(1, 2)], small),
-        "two workers"
-    );
-    assert!(rt; takes(alloc, &mut state, 1, &[(1, 3)], 0), "one worker");
-}
-
-/// Whether the board is of this slot and of a set that is in force since this one, and the first task's job is done.
-fn is_done_at(alloc: Global, state: &State<AnyJob>, from: u64, slot: u64) -> bool {
-    match state.board(alloc) {
-        Ok(board) => {
-            let first = board.lines.first().map(|line| line.job);
-            board.from == from && board.slot == slot && first == Some(JobStatus::Done)
-        }
+/// Whether a count of so many steps is given to the first task.
+fn is_given(state: &mut State<AnyJob>, steps: u64) -> bool {
+    match AnyJob::start("count", steps, b"") {
+        Ok(job) => state.apply(Command::Submit { task: 0, job }).is_ok(),
         Err(_) => false,
     }
 }
 
-// The jobs stay as they are.
-#[test]
-fn a_job_goes_on_over_new_weights(rt: HostRuntime) {
-    let alloc = rt.alloc();
-    let Some(mut state) = begun(alloc, 1, &[(1, 2)], SEGMENT) else {
-        return assert!(rt; false, "the state");
-    };
-    let Ok(job) = AnyJob::start("count", 2, b"") else {
-        return assert!(rt; false, "the job");
-    };
-    let given = state.apply(Command::Submit { task: 0, job }).is_ok() && runs(&mut state, 2);
-    let renewed = given && takes(alloc, &mut state, 1, &[(1, 3)], 2) && runs(&mut state, 3);
-    assert!(rt; renewed, "new weights");
-    assert!(rt; is_done_at(alloc, &state, 2, 5), "the job is done");
-}
-
-// As many idle tasks as there may be.
-#[test]
-fn one_half_on_64_workers_has_127_idle_tasks(rt: HostRuntime) {
-    let alloc = rt.alloc();
-    let half = [(1, 2)];
-    let Some(mut state) = begun(alloc, 1, &half, SEGMENT) else {
-        return assert!(rt; false, "the state");
-    };
-    assert!(rt; state.columns().total() == 2, "one idle task");
-    assert!(rt; takes(alloc, &mut state, 64, &half, 0), "64 workers");
-    assert!(rt; state.columns().total() == 128, "127 idle tasks");
-}
-
-/// So many weights 1/1024.
-fn alike(alloc: Global, count: usize) -> Vec<(u32, u32)> {
-    let mut weights = Vec::new(alloc);
-    for _ in 0..count {
-        let _ = weights.push((1, 1024));
-    }
-    weights
-}
-
-// The record of 1,024 weights is longer than the longest batch of one worker.
-#[test]
-fn as_many_weights_as_there_may_be_want_room(rt: HostRuntime) {
-    let alloc = rt.alloc();
-    let weights = alike(alloc, 1024);
-    let Some(mut short) = begun(alloc, 1, &weights, 8218) else {
-        return assert!(rt; false, "the first state");
-    };
-    let small = MachineFault::SegmentTooSmall { least: 8219 };
-    assert!(rt;
-        refuses(alloc, &mut short, 1, &weights, small),
-        "8,218 bytes"
-    );
-    let Some(mut enough) = begun(alloc, 1, &weights, 8219) else {
-        return assert!(rt; false, "the second state");
-    };
-    assert!(rt; takes(alloc, &mut enough, 1, &weights, 0), "8,219 bytes");
-}
-
-// Two workers, one, and two again, with rows of as many tasks.
-#[test]
-fn rows_have_as_many_tasks_as_there_are_workers(rt: HostRuntime) {
-    let alloc = rt.alloc();
-    let two = [(2, 3), (2, 3), (2, 3)];
-    let one = [(1, 3), (1, 3), (1, 3)];
-    let Some(mut state) = begun(alloc, 2, &two, SEGMENT) else {
-        return assert!(rt; false, "the state");
-    };
-    let first = ran(&mut state, 0, &[0, 1])
-        && ran(&mut state, 1, &[0, 2])
-        && ran(&mut state, 2, &[1, 2]);
-    assert!(rt;
-        first && takes(alloc, &mut state, 1, &one, 3),
-        "two workers"
-    );
-    let second = ran(&mut state, 3, &[0]) && ran(&mut state, 4, &[1]) && ran(&mut state, 5, &[2]);
-    assert!(rt;
-        second && takes(alloc, &mut state, 2, &two, 6),
-        "one worker"
-    );
-    assert!(rt;
-        ran(&mut state, 6, &[0, 1]) && state.number() == 9,
-        "two again"
-    );
-}
-
-// New weights take a number each, and no slot.
-#[test]
-fn two_come_into_force_at_one_slot(rt: HostRuntime) {
-    let alloc = rt.alloc();
-    let Some(mut state) = begun(alloc, 2, &[(2, 3), (2, 3), (2, 3)], SEGMENT) else {
-        return assert!(rt; false, "the state");
-    };
-    let first = runs(&mut state, 3) && takes(alloc, &mut state, 1, &[(1, 3), (1, 3), (1, 3)], 3);
-    assert!(rt; first && state.number() == 4, "the first");
-    let second = takes(alloc, &mut state, 2, &[(1, 3), (1, 3), (1, 3)], 3);
-    assert!(rt; second && state.number() == 5, "the second");
+/// Whether the board is of this slot and of a set that is in force since this one, with so many lines.
+fn is_board(alloc: Global, state: &State<AnyJob>, from: u64, slot: u64, lines: usize) -> bool {
     match state.board(alloc) {
-        Ok(board) => assert!(rt;
-            board.from == 3 && board.slot == 3 && board.lines.len() == 5,
-            "the board"
-        ),
-        Err(_) => assert!(rt; false, "no board"),
+        Ok(board) => board.from == from && board.slot == slot && board.lines.len() == lines,
+        Err(_) => false,
+    }
+}
+
+/// Whether the first task's job is done.
+fn is_done(alloc: Global, state: &State<AnyJob>) -> bool {
+    match state.board(alloc) {
+        Ok(board) => board.lines.first().map(|line| line.job) == Some(JobStatus::Done),
+        Err(_) => false,
     }
 }
 
@@ -292,43 +128,240 @@ fn next_quantum(alloc: Global, state: &mut State<AnyJob>) -> Option<(u64, u64, u
     }
 }
 
+/// What is done at a state, and what has to come of it.
+#[derive(Clone, Copy)]
+enum Step<'a> {
+    /// So many slots are run.
+    Runs(u32),
+    /// The next slot is this one, with this row.
+    Ran(u64, &'a [u16]),
+    /// There is no next slot, for this fault.
+    Ends(MachineFault),
+    /// New weights for so many workers come into force, from this slot on.
+    Takes(u32, &'a [(u32, u32)], u64),
+    /// They are refused for this fault, with nothing changed.
+    Refuses(u32, &'a [(u32, u32)], MachineFault),
+    /// A count of so many steps is given to the first task.
+    Counts(u64),
+    /// The first task's job is done.
+    Done,
+    /// The last command's number.
+    Number(u64),
+    /// How many tasks the set has, idle ones too.
+    Total(usize),
+    /// How many slots three tasks have got.
+    Got(u64, u64, u64),
+    /// The number, the slot and the steps left of the only quantum of the next slot.
+    Quantum(u64, u64, u32),
+    /// The slot that the board's set is in force since, the board's slot, and how many lines it has.
+    Board(u64, u64, usize),
+}
+
+/// Whether a step that does something goes as it should.
+fn goes(alloc: Global, state: &mut State<AnyJob>, step: &Step<'_>) -> bool {
+    match step {
+        Step::Runs(slots) => runs(state, *slots),
+        Step::Ran(slot, row) => ran(state, *slot, row),
+        Step::Ends(fault) => state.apply(Command::Slot).err() == Some(*fault),
+        Step::Takes(workers, weights, from) => takes(alloc, state, *workers, weights, *from),
+        Step::Refuses(workers, weights, fault) => refuses(alloc, state, *workers, weights, *fault),
+        Step::Counts(steps) => is_given(state, *steps),
+        Step::Quantum(number, slot, left) => {
+            next_quantum(alloc, state) == Some((*number, *slot, *left))
+        }
+        _ => stands(alloc, state, step),
+    }
+}
+
+/// Whether a step that only looks finds what it should.
+fn stands(alloc: Global, state: &State<AnyJob>, step: &Step<'_>) -> bool {
+    match step {
+        Step::Done => is_done(alloc, state),
+        Step::Number(number) => state.number() == *number,
+        Step::Total(total) => state.columns().total() == *total,
+        Step::Got(first, second, third) => allocations(state) == Some((*first, *second, *third)),
+        Step::Board(from, slot, lines) => is_board(alloc, state, *from, *slot, *lines),
+        _ => false,
+    }
+}
+
+/// How many steps go as they should, up to the first that doesn't.
+fn right_steps(alloc: Global, state: Option<State<AnyJob>>, steps: &[Step<'_>]) -> usize {
+    let Some(mut state) = state else {
+        return 0;
+    };
+    for (at, step) in steps.iter().enumerate() {
+        if !goes(alloc, &mut state, step) {
+            return at;
+        }
+    }
+    steps.len()
+}
+
+/// Three tasks of 2/3, and of 1/3.
+const TWO: [(u32, u32); 3] = [(2, 3), (2, 3), (2, 3)];
+
+const ONE: [(u32, u32); 3] = [(1, 3), (1, 3), (1, 3)];
+
+// Three tasks of 2/3 on two workers, and then of 1/3 on one.
+#[test]
+fn new_weights_come_into_force_where_all_are_level(rt: HostRuntime) {
+    let steps = [
+        Step::Runs(1),
+        Step::Refuses(1, &ONE, MachineFault::NotLevel { task: 0 }),
+        Step::Refuses(1, &[(1, 3), (1, 3)], MachineFault::WrongCount),
+        Step::Runs(2),
+        Step::Takes(1, &ONE, 3),
+        Step::Number(4),
+        Step::Ran(3, &[0]),
+        Step::Number(5),
+        Step::Board(3, 4, 3),
+        Step::Got(1, 0, 0),
+    ];
+    let right = right_steps(rt.alloc(), begun(rt.alloc(), 2, &TWO, SEGMENT), &steps);
+    assert!(rt; right == 10, "{right} of 10");
+}
+
+// The real task is level earlier than the two idle ones.
+#[test]
+fn an_idle_task_may_not_be_level(rt: HostRuntime) {
+    let steps = [
+        Step::Runs(2),
+        Step::Refuses(2, &[(1, 2)], MachineFault::NotLevel { task: 1 }),
+        Step::Runs(2),
+        Step::Takes(2, &[(1, 2)], 4),
+    ];
+    let right = right_steps(rt.alloc(), begun(rt.alloc(), 2, &[(2, 4)], SEGMENT), &steps);
+    assert!(rt; right == 4, "{right} of 4");
+}
+
+// Sets that there are not, and segments that are too short.
+#[test]
+fn sets_without_room_are_refused(rt: HostRuntime) {
+    let steps = [
+        Step::Refuses(0, &[(1, 2)], MachineFault::NoSet(SetFault::BadWorkers)),
+        Step::Refuses(
+            1,
+            &[(2, 2)],
+            MachineFault::NoSet(SetFault::BadWeight { task: 0 }),
+        ),
+        Step::Refuses(2, &[(1, 2)], MachineFault::SegmentTooSmall { least: 4233 }),
+        Step::Takes(1, &[(1, 3)], 0),
+    ];
+    let right = right_steps(rt.alloc(), begun(rt.alloc(), 1, &[(1, 2)], 2137), &steps);
+    assert!(rt; right == 4, "{right} of 4");
+}
+
+// The jobs stay as they are.
+#[test]
+fn a_job_goes_on_over_new_weights(rt: HostRuntime) {
+    let steps = [
+        Step::Counts(2),
+        Step::Runs(2),
+        Step::Takes(1, &[(1, 3)], 2),
+        Step::Runs(3),
+        Step::Board(2, 5, 2),
+        Step::Done,
+    ];
+    let right = right_steps(rt.alloc(), begun(rt.alloc(), 1, &[(1, 2)], SEGMENT), &steps);
+    assert!(rt; right == 6, "{right} of 6");
+}
+
+// As many idle tasks as there may be.
+#[test]
+fn one_half_on_64_workers_has_127_idle_tasks(rt: HostRuntime) {
+    let steps = [
+        Step::Total(2),
+        Step::Takes(64, &[(1, 2)], 0),
+        Step::Total(128),
+    ];
+    let right = right_steps(rt.alloc(), begun(rt.alloc(), 1, &[(1, 2)], SEGMENT), &steps);
+    assert!(rt; right == 3, "{right} of 3");
+}
+
+/// So many weights 1/1024.
+fn alike(alloc: Global, count: usize) -> Vec<(u32, u32)> {
+    let mut weights = Vec::new(alloc);
+    for _ in 0..count {
+        let _ = weights.push((1, 1024));
+    }
+    weights
+}
+
+/// Whether new weights 1/1024 for 1,024 such tasks of one worker are refused in the first segment, for the least one, and taken in the second.
+fn wants_room(alloc: Global, short: u32, least: u32) -> bool {
+    let weights = alike(alloc, 1024);
+    let small = [Step::Refuses(1, &weights, MachineFault::SegmentTooSmall { least })];
+    let taken = [Step::Takes(1, &weights, 0)];
+    right_steps(alloc, begun(alloc, 1, &weights, short), &small) == 1
+        && right_steps(alloc, begun(alloc, 1, &weights, least), &taken) == 1
+}
+
+// The record of 1,024 weights is longer than the longest batch of one worker.
+#[test]
+fn as_many_weights_as_there_may_be_want_room(rt: HostRuntime) {
+    assert!(rt; wants_room(rt.alloc(), 8218, 8219), "8,218 and 8,219 bytes");
+}
+
+// Two workers, one, and two again, with rows of as many tasks.
+#[test]
+fn rows_have_as_many_tasks_as_there_are_workers(rt: HostRuntime) {
+    let steps = [
+        Step::Ran(0, &[0, 1]),
+        Step::Ran(1, &[0, 2]),
+        Step::Ran(2, &[1, 2]),
+        Step::Takes(1, &ONE, 3),
+        Step::Ran(3, &[0]),
+        Step::Ran(4, &[1]),
+        Step::Ran(5, &[2]),
+        Step::Takes(2, &TWO, 6),
+        Step::Ran(6, &[0, 1]),
+        Step::Number(9),
+    ];
+    let right = right_steps(rt.alloc(), begun(rt.alloc(), 2, &TWO, SEGMENT), &steps);
+    assert!(rt; right == 10, "{right} of 10");
+}
+
+// New weights take a number each, and no slot.
+#[test]
+fn two_come_into_force_at_one_slot(rt: HostRuntime) {
+    let steps = [
+        Step::Runs(3),
+        Step::Takes(1, &ONE, 3),
+        Step::Number(4),
+        Step::Takes(2, &ONE, 3),
+        Step::Number(5),
+        Step::Board(3, 3, 5),
+    ];
+    let right = right_steps(rt.alloc(), begun(rt.alloc(), 2, &TWO, SEGMENT), &steps);
+    assert!(rt; right == 6, "{right} of 6");
+}
+
 // A job of five steps has two of them before new weights, and its quanta rise in number and slot.
 #[test]
 fn quanta_rise_over_new_weights(rt: HostRuntime) {
-    let alloc = rt.alloc();
-    let Some(mut state) = begun(alloc, 2, &[(2, 3), (2, 3), (2, 3)], SEGMENT) else {
-        return assert!(rt; false, "the state");
-    };
-    let Ok(job) = AnyJob::start("count", 5, b"") else {
-        return assert!(rt; false, "the job");
-    };
-    let given = state.apply(Command::Submit { task: 0, job }).is_ok();
-    assert!(rt;
-        given && next_quantum(alloc, &mut state) == Some((2, 0, 5)),
-        "the first"
-    );
-    assert!(rt;
-        runs(&mut state, 1) && next_quantum(alloc, &mut state) == Some((3, 1, 4)),
-        "the second"
-    );
-    let renewed = runs(&mut state, 2) && takes(alloc, &mut state, 1, &[(1, 3), (1, 3), (1, 3)], 3);
-    assert!(rt;
-        renewed && next_quantum(alloc, &mut state) == Some((6, 3, 3)),
-        "behind new weights"
-    );
-    assert!(rt;
-        runs(&mut state, 3) && next_quantum(alloc, &mut state) == Some((9, 6, 2)),
-        "three slots later"
-    );
+    let steps = [
+        Step::Counts(5),
+        Step::Quantum(2, 0, 5),
+        Step::Runs(1),
+        Step::Quantum(3, 1, 4),
+        Step::Runs(2),
+        Step::Takes(1, &ONE, 3),
+        Step::Quantum(6, 3, 3),
+        Step::Runs(3),
+        Step::Quantum(9, 6, 2),
+    ];
+    let right = right_steps(rt.alloc(), begun(rt.alloc(), 2, &TWO, SEGMENT), &steps);
+    assert!(rt; right == 9, "{right} of 9");
 }
 
-/// One task of 1/3 on one worker at the last slot, where no task is ahead or behind, and before the last number.
-fn level_at_the_limits(alloc: Global) -> Option<State<AnyJob>> {
+/// One task of 1/3 on one worker at the last slot, where no task is ahead or behind, at this number.
+fn level_at_the_last_slot(alloc: Global, number: u64) -> Option<State<AnyJob>> {
     let set = TaskSet::new(alloc, 1, &[(1, 3)]).ok()?;
     let third = ((1 << 40) - 1) / 3;
     state_at(
         alloc,
-        (1 << 48) - 2,
+        number,
         &set,
         (1 << 40) - 1,
         &[third, 2 * third],
@@ -340,96 +373,50 @@ fn level_at_the_limits(alloc: Global) -> Option<State<AnyJob>> {
 // they are.
 #[test]
 fn limits_stand_for_new_weights(rt: HostRuntime) {
-    let alloc = rt.alloc();
-    let Some(mut state) = level_at_the_limits(alloc) else {
-        return assert!(rt; false, "the state");
-    };
-    let last = (1 << 40) - 1;
-    assert!(rt;
-        takes(alloc, &mut state, 1, &[(1, 2)], last),
-        "the last slot"
-    );
-    assert!(rt; state.number() == (1 << 48) - 1, "the last number");
-    let weights: [&[(u32, u32)]; 3] = [&[], &[(1, 2), (1, 2)], &[(1, 2)]];
-    for weights in weights {
-        let Some(command) = reweigh(alloc, 0, weights) else {
-            return assert!(rt; false, "a command");
-        };
-        assert!(rt;
-            state.apply(command).err() == Some(MachineFault::NumberLimit),
-            "the number limit"
-        );
-    }
+    let steps = [
+        Step::Takes(1, &[(1, 2)], (1 << 40) - 1),
+        Step::Number((1 << 48) - 1),
+        Step::Refuses(0, &[], MachineFault::NumberLimit),
+        Step::Refuses(0, &[(1, 2), (1, 2)], MachineFault::NumberLimit),
+        Step::Refuses(0, &[(1, 2)], MachineFault::NumberLimit),
+    ];
+    let state = level_at_the_last_slot(rt.alloc(), (1 << 48) - 2);
+    let right = right_steps(rt.alloc(), state, &steps);
+    assert!(rt; right == 5, "{right} of 5");
 }
 
 // The slots are counted from the first one of all, whatever the set in force.
 #[test]
 fn no_slot_comes_behind_the_last_one(rt: HostRuntime) {
-    let alloc = rt.alloc();
-    let Ok(set) = TaskSet::new(alloc, 1, &[(1, 3)]) else {
-        return assert!(rt; false, "the set");
-    };
-    let third = ((1 << 40) - 1) / 3;
-    let Some(mut state) = state_at(alloc, 7, &set, (1 << 40) - 1, &[third, 2 * third], None) else {
-        return assert!(rt; false, "the state");
-    };
-    let limit = MachineFault::NoRow(ChoiceFault::SlotLimit);
-    assert!(rt;
-        takes(alloc, &mut state, 1, &[(1, 2)], (1 << 40) - 1),
-        "the last slot"
-    );
-    assert!(rt; state.apply(Command::Slot).err() == Some(limit), "no slot");
-    assert!(rt; state.number() == 8, "the number");
+    let steps = [
+        Step::Takes(1, &[(1, 2)], (1 << 40) - 1),
+        Step::Ends(MachineFault::NoRow(ChoiceFault::SlotLimit)),
+        Step::Number(8),
+    ];
+    let right = right_steps(rt.alloc(), level_at_the_last_slot(rt.alloc(), 7), &steps);
+    assert!(rt; right == 3, "{right} of 3");
 }
 
 // The first test that fails is told: the count, then the lags, then the set, then the room.
 #[test]
 fn refusals_come_in_their_order(rt: HostRuntime) {
-    let alloc = rt.alloc();
-    let Some(mut state) = begun(alloc, 1, &[(1, 2)], 2137) else {
-        return assert!(rt; false, "the state");
-    };
-    assert!(rt; runs(&mut state, 1), "a slot");
-    assert!(rt;
-        refuses(
-            alloc,
-            &mut state,
-            0,
-            &[(2, 2), (1, 2)],
-            MachineFault::WrongCount
-        ),
-        "the count"
-    );
-    assert!(rt;
-        refuses(
-            alloc,
-            &mut state,
-            0,
-            &[(2, 2)],
-            MachineFault::NotLevel { task: 0 }
-        ),
-        "the lags"
-    );
-    assert!(rt; runs(&mut state, 1), "level");
-    let rows = [
-        (0, (2, 2), MachineFault::NoSet(SetFault::BadWorkers)),
-        (65, (2, 2), MachineFault::NoSet(SetFault::BadWorkers)),
-        (
+    let bad = MachineFault::NoSet(SetFault::BadWorkers);
+    let large = SetFault::HyperperiodTooLarge { task: 0 };
+    let steps = [
+        Step::Runs(1),
+        Step::Refuses(0, &[(2, 2), (1, 2)], MachineFault::WrongCount),
+        Step::Refuses(0, &[(2, 2)], MachineFault::NotLevel { task: 0 }),
+        Step::Runs(1),
+        Step::Refuses(0, &[(2, 2)], bad),
+        Step::Refuses(65, &[(2, 2)], bad),
+        Step::Refuses(
             2,
-            (2, 2),
+            &[(2, 2)],
             MachineFault::NoSet(SetFault::BadWeight { task: 0 }),
         ),
-        (
-            2,
-            (1, 1_048_577),
-            MachineFault::NoSet(SetFault::HyperperiodTooLarge { task: 0 }),
-        ),
-        (2, (1, 2), MachineFault::SegmentTooSmall { least: 4233 }),
+        Step::Refuses(2, &[(1, 1_048_577)], MachineFault::NoSet(large)),
+        Step::Refuses(2, &[(1, 2)], MachineFault::SegmentTooSmall { least: 4233 }),
     ];
-    for (workers, weight, fault) in rows {
-        assert!(rt;
-            refuses(alloc, &mut state, workers, &[weight], fault),
-            "{workers}"
-        );
-    }
+    let right = right_steps(rt.alloc(), begun(rt.alloc(), 1, &[(1, 2)], 2137), &steps);
+    assert!(rt; right == 9, "{right} of 9");
 }
