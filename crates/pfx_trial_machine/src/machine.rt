@@ -97,29 +97,34 @@ fn runs(state: &mut State<AnyJob>, row: [u16; 2], left: u8, cells: u8) -> bool {
 
 /// How many of the rule's first five slots are as expected, up to the first that isn't, and one more if the numbers after
 /// them are right.
-fn slots_as_expected(alloc: Global) -> u32 {
-    let Some(mut state) = ruled(alloc) else {
-        return 0;
-    };
-    if !runs(&mut state, [0, 1], 2, 0b0000_0011) {
+fn right_slots(state: &mut State<AnyJob>) -> u32 {
+    if !runs(state, [0, 1], 2, 0b0000_0011) {
         return 0;
     }
-    if !runs(&mut state, [0, 2], 1, 0b0000_0111) {
+    if !runs(state, [0, 2], 1, 0b0000_0111) {
         return 1;
     }
-    if !runs(&mut state, [1, 2], 1, 0b0000_0111) {
+    if !runs(state, [1, 2], 1, 0b0000_0111) {
         return 2;
     }
-    if !runs(&mut state, [0, 1], 0, 0b0000_1101) {
+    if !runs(state, [0, 1], 0, 0b0000_1101) {
         return 3;
     }
-    if !runs(&mut state, [0, 2], 0, 0b0000_1101) {
+    if !runs(state, [0, 2], 0, 0b0000_1101) {
         return 4;
     }
     if state.number() == 6 && state.columns().slot() == 5 {
         6
     } else {
         5
+    }
+}
+
+/// The same from the state of a job with a rule on.
+fn slots_as_expected(alloc: Global) -> u32 {
+    match ruled(alloc) {
+        Some(mut state) => right_slots(&mut state),
+        None => 0,
     }
 }
 
@@ -206,34 +211,35 @@ fn opens_no_slot(alloc: Global, state: &mut State<AnyJob>) -> bool {
 }
 
 /// How many of these commands are answered as expected, up to the first that isn't.
-fn limits_as_expected(alloc: Global) -> u32 {
-    let Some(mut state) = at_the_limits(alloc) else {
-        return 0;
-    };
+fn right_limits(alloc: Global, state: &mut State<AnyJob>) -> u32 {
     if !refuses(
-        &mut state,
+        state,
         Command::Slot,
         MachineFault::NoRow(ChoiceFault::SlotLimit),
     ) {
         return 0;
     }
-    if !takes(&mut state, Command::Withdraw { task: 0 }, (1 << 48) - 1) {
+    if !takes(state, Command::Withdraw { task: 0 }, (1 << 48) - 1) {
         return 1;
     }
     let limit = MachineFault::NumberLimit;
-    if !refuses(&mut state, Command::Slot, limit) {
+    if !refuses(state, Command::Slot, limit) {
         return 2;
     }
-    if !refuses(&mut state, Command::Withdraw { task: 9 }, limit) {
+    if !refuses(state, Command::Withdraw { task: 9 }, limit) {
         return 3;
     }
-    if !refuses_count(&mut state, 0, 1, limit) {
+    if !refuses_count(state, 0, 1, limit) {
         return 4;
     }
-    if opens_no_slot(alloc, &mut state) {
-        6
-    } else {
-        5
+    if opens_no_slot(alloc, state) { 6 } else { 5 }
+}
+
+/// The same from the state at the limits on.
+fn limits_as_expected(alloc: Global) -> u32 {
+    match at_the_limits(alloc) {
+        Some(mut state) => right_limits(alloc, &mut state),
+        None => 0,
     }
 }
 
@@ -381,12 +387,21 @@ fn any_order_of_quanta_gives_one_reply(rt: HostRuntime) {
     assert!(rt; same == 9, "{same} slots of 9");
 }
 
+/// Whether a count is given to a task.
+fn is_given(state: &mut State<AnyJob>, task: u16, steps: u64) -> bool {
+    match count(task, steps) {
+        Some(command) => state.apply(command).is_ok(),
+        None => false,
+    }
+}
+
 /// The board of the three tasks after a slot, where two of them have jobs of one step.
 fn board(alloc: Global) -> Option<Board> {
     let mut state = thirds(alloc)?;
-    state.apply(count(0, 1)?).ok()?;
-    state.apply(count(2, 1)?).ok()?;
-    state.apply(Command::Slot).ok()?;
+    let given = is_given(&mut state, 0, 1) && is_given(&mut state, 2, 1);
+    if !given || state.apply(Command::Slot).is_err() {
+        return None;
+    }
     state.board(alloc).ok()
 }
 
