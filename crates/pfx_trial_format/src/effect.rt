@@ -224,11 +224,21 @@ fn new_weights(alloc: Global, workers: u8, weights: &[(u32, u32)]) -> Option<Rec
 /// A third of the slots for each of three tasks, which one worker has.
 const THIRDS: [(u32, u32); 3] = [(1, 3), (1, 3), (1, 3)];
 
+/// Whether new weights are right at a state, which has them then.
+fn renews(
+    alloc: Global,
+    state: &mut State<AnyJob>,
+    workers: u8,
+    weights: &[(u32, u32)],
+) -> Option<bool> {
+    let record = new_weights(alloc, workers, weights)?;
+    apply_reweigh(alloc, state, &record).ok()
+}
+
 /// Whether new weights are refused where they could come into force, and nothing changes.
 fn are_wrong(alloc: Global, workers: u8, weights: &[(u32, u32)]) -> Option<bool> {
     let mut state = busy_thirds(alloc)?;
-    let record = new_weights(alloc, workers, weights)?;
-    let right = apply_reweigh(alloc, &mut state, &record).ok()?;
+    let right = renews(alloc, &mut state, workers, weights)?;
     Some(!right && is_unchanged(alloc, &state))
 }
 
@@ -274,9 +284,19 @@ fn new_weights_at_another_lag_change_nothing(rt: HostRuntime) {
 /// The state with a job in which new weights have come into force.
 fn renewed(alloc: Global) -> Option<State<AnyJob>> {
     let mut state = busy_thirds(alloc)?;
-    let record = new_weights(alloc, 1, &THIRDS)?;
-    let right = apply_reweigh(alloc, &mut state, &record).ok()?;
-    if right { Some(state) } else { None }
+    if renews(alloc, &mut state, 1, &THIRDS)? {
+        Some(state)
+    } else {
+        None
+    }
+}
+
+/// Whether a row of two is refused at a state of one worker, and one of one is right.
+fn takes_one_alone(alloc: Global, state: &mut State<AnyJob>) -> bool {
+    let two = row_of(alloc, &[0, 1], stepped());
+    let refused = is_refused(state, two);
+    let one = row_of(alloc, &[0], stepped());
+    refused && is_right(state, one) && state.slot() == 1
 }
 
 /// Whether a row of two tasks is refused behind new weights for one worker, and one of the task with the job is taken over.
@@ -284,10 +304,7 @@ fn are_rows_of_one(alloc: Global) -> Option<bool> {
     let mut state = renewed(alloc)?;
     let renewed = state.number() == 2 && state.columns().workers() == 1;
     let stays = have_same_first_job(&state, &busy_thirds(alloc)?);
-    let two = row_of(alloc, &[0, 1], stepped());
-    let refused = is_refused(&mut state, two);
-    let one = row_of(alloc, &[0], stepped());
-    Some(renewed && stays && refused && is_right(&mut state, one) && state.slot() == 1)
+    Some(renewed && stays && takes_one_alone(alloc, &mut state))
 }
 
 #[test]

@@ -132,6 +132,17 @@ fn weights_among(number: u8, count: u8) -> [u8; 41] {
     frame
 }
 
+/// Whether frames are taken over, one after the other.
+fn are_taken_over(alloc: Global, state: &mut State<AnyJob>, frames: &[&[u8]]) -> bool {
+    for frame in frames {
+        match apply_frame(alloc, state, frame) {
+            Ok(true) => {}
+            _ => return false,
+        }
+    }
+    true
+}
+
 /// The state after frames of two workers, of one, and of two again: after so many of them, at most nine.
 fn behind_epochs(alloc: Global, many: usize) -> Option<State<AnyJob>> {
     let one = new_weights(4, 1, 1);
@@ -147,13 +158,13 @@ fn behind_epochs(alloc: Global, many: usize) -> Option<State<AnyJob>> {
         &two,
         &slot_frame(9, 0, 1),
     ];
+    let front = frames.get(..many.min(9))?;
     let mut state = new_state(alloc)?;
-    for frame in frames.iter().take(many) {
-        if !apply_frame(alloc, &mut state, frame).ok()? {
-            return None;
-        }
+    if are_taken_over(alloc, &mut state, front) {
+        Some(state)
+    } else {
+        None
     }
-    Some(state)
 }
 
 /// The number, the slot, where the set came into force, and the workers after so many of those frames.
