@@ -1,6 +1,6 @@
 //! `pfx run FILE SCRIPT`.
 
-ghost use Rattle.std.specs.Prelude.{◌≡◌, ◌<◌, unwrap_or, None};
+ghost use Rattle.std.specs.Prelude.{◌≡◌, unwrap_or, None};
 ghost use Rattle.pfx_disk.specs.File.{file_view};
 ghost use Rattle.pfx_front.specs.Starting.{Begins};
 ghost use Rattle.pfx_kinds.specs.AnyKind.{any_kind};
@@ -20,7 +20,7 @@ use pfx_front_engine::engine::WINDOW;
 use pfx_jobs::quantum::{Done, Quantum};
 use pfx_kinds::any::AnyJob;
 use pfx_log_store::LoggedStore;
-use pfx_program::{AtRefusal, Form, Report, level_slot};
+use pfx_program::{AtRefusal, Form, Report, Run, level_slot};
 use pfx_program_script::{Script, Whole};
 use pfx_program_store::{run_logged, run_logged_served, run_noted, run_served};
 use pfx_store::Store;
@@ -36,27 +36,16 @@ type JobDesk = ChannelDesk<Quantum<AnyJob>, Done<AnyJob>>;
 /// The most records of a script that share a commit.
 const GROUP: u32 = 16;
 
-/// How the records of a script are run.
-#[derive(Clone, Copy)]
-struct Way {
-    /// How many slots of a record are kept at once at the most.
-    window: u32,
-    /// What a refused record does.
-    at_refusal: AtRefusal,
-    /// Whether lines are text or objects.
-    form: Form,
-    ghost some: { 0 < window },
-}
-
-// The way with so many slots at once, or this many where none are said.
-fn way_of(window: Option<u32>, other: u32, strict: bool, form: Form) -> Way {
+// A run with so many slots at once, or this many where none are said.
+fn run_of(window: Option<u32>, other: u32, strict: bool, form: Form) -> Run {
     let at_refusal = if strict {
         AtRefusal::End
     } else {
         AtRefusal::GoOn
     };
-    Way {
+    Run {
         window: window.unwrap_or(other).max(1),
+        group: GROUP,
         at_refusal,
         form,
     }
@@ -70,24 +59,14 @@ fn run_alone<N: Charted>(
     list: Opened,
     store: Store<FileDisk, AnyJob>,
     script: &mut Script<Whole<Source>>,
-    way: Way,
+    run: Run,
     traces: &Traces,
 ) -> Result<(), Fault>
     requires list { list.seen.book ≡ N.calls }
     requires begins { Begins any_kind store.state N.failures N.clock N.held N.image store (file_view store.file.disk) }
 {
     let mut output = Told::new(rt, alloc, output_of(rt, &traces.failed), "lines", None);
-    let ran = run_noted::<_, _, FileDisk, N>(
-        alloc,
-        list,
-        store,
-        script,
-        way.window,
-        GROUP,
-        way.at_refusal,
-        way.form,
-        &mut output,
-    );
+    let ran = run_noted::<_, _, FileDisk, N>(alloc, list, store, script, run, &mut output);
     output.clear();
     traces.keep_said(ran.store.disk());
     traces.level.set(Some(level_slot(ran.store.state())));
@@ -126,7 +105,7 @@ fn run_beside<N: Charted>(
     list: Opened,
     beside: LoggedStore<FileDisk, FileDisk, AnyJob>,
     script: &mut Script<Whole<Source>>,
-    way: Way,
+    run: Run,
     traces: &Traces,
 ) -> Result<(), Fault>
     requires list { list.seen.book ≡ N.calls }
@@ -139,10 +118,7 @@ fn run_beside<N: Charted>(
         list,
         beside,
         script,
-        way.window,
-        GROUP,
-        way.at_refusal,
-        way.form,
+        run,
         &mut output,
     );
     output.clear();
@@ -158,7 +134,7 @@ fn run_by<N: Charted, R: Threads + Wait + Clock + Copy + Drop + Send + Sync + 's
     store: Store<FileDisk, AnyJob>,
     workers: u32,
     script: &mut Script<Whole<Source>>,
-    way: Way,
+    run: Run,
     traces: &Traces,
 ) -> Result<(), Fault>
     requires begins { Begins any_kind store.state (file_view store.file.disk).failures
@@ -175,10 +151,7 @@ fn run_by<N: Charted, R: Threads + Wait + Clock + Copy + Drop + Send + Sync + 's
         desk,
         workers,
         script,
-        way.window,
-        GROUP,
-        way.at_refusal,
-        way.form,
+        run,
         &mut output,
     );
     output.clear();
@@ -195,7 +168,7 @@ fn run_beside_by<N: Charted, R: Threads + Wait + Clock + Copy + Drop + Send + Sy
     beside: LoggedStore<FileDisk, FileDisk, AnyJob>,
     workers: u32,
     script: &mut Script<Whole<Source>>,
-    way: Way,
+    run: Run,
     traces: &Traces,
 ) -> Result<(), Fault>
     requires whole { failure_beside beside ≡ None }
@@ -213,10 +186,7 @@ fn run_beside_by<N: Charted, R: Threads + Wait + Clock + Copy + Drop + Send + Sy
         desk,
         workers,
         script,
-        way.window,
-        GROUP,
-        way.at_refusal,
-        way.form,
+        run,
         &mut output,
     );
     output.clear();
@@ -263,8 +233,8 @@ pub(crate) fn run<R: Threads + Wait + Clock + Copy + Drop + Send + Sync + 'stati
 ) -> Result<(), Fault> {
     let mut script = Script::new(alloc, Whole::new(input(rt, script)?));
     let store = opened(alloc, disk(rt, file)?, traces)?;
-    let alone = way_of(asked.batch, 1, asked.strict, asked.form);
-    let many = way_of(asked.batch, WINDOW, asked.strict, asked.form);
+    let alone = run_of(asked.batch, 1, asked.strict, asked.form);
+    let many = run_of(asked.batch, WINDOW, asked.strict, asked.form);
     let workers = workers_of(asked.workers, &store);
     if let Some(log) = asked.log {
         let beside = beside(rt, alloc, store, log, asked.after, traces)?;

@@ -7,10 +7,11 @@
 //! - **Only a run that went well has a report.** Where it fails, the fault is what there is to say, and what was refused before stands in
 //!   its output.
 
-ghost use Rattle.std.specs.Prelude.{◌≡◌, ◌<◌, None};
+ghost use Rattle.std.specs.Prelude.{◌≡◌, ◌<◌, ◌≤◌, None};
 ghost use Rattle.pfx_program.specs.Reports.{IsAdded};
 ghost use Rattle.pfx_program.specs.Script.{noted};
 
+use crate::Form;
 use pfx_fault::Fault;
 
 /// What a run of a script does behind a record that is refused.
@@ -20,6 +21,21 @@ pub enum AtRefusal {
     GoOn,
     /// It ends there, as if the script did.
     End,
+}
+
+/// How the records of a script are run.
+#[derive(Clone, Copy)]
+pub struct Run {
+    /// How many slots of a record are asked for in one call, 1 or more.
+    pub window: u32,
+    /// How many records share a call at the most, 16 or fewer.
+    pub group: u32,
+    /// What is done behind a record that is refused.
+    pub at_refusal: AtRefusal,
+    /// Whether lines are text or objects.
+    pub form: Form,
+    ghost some: { 0 < window },
+    ghost few: { group ≤ 16 },
 }
 
 /// A record of a script that was refused.

@@ -39,7 +39,7 @@ use crate::faults::{machine_fault, start_fault};
 use crate::grants::{is_next, started};
 use crate::groups::{Behind, Gathered, gather, run_group};
 use crate::printer::Printer;
-use crate::report::{AtRefusal, Report};
+use crate::report::{AtRefusal, Report, Run};
 use crate::show::shown;
 use crate::writing::{put_bytes, put_refused, put_reply, put_text, refuse};
 use csv::StringRecord;
@@ -492,13 +492,13 @@ fn together(at_refusal: AtRefusal, group: u32, accepted: u32) -> u32
 /// Runs the records of a script that are left over an engine: prints a line for each command, in the script's order, and
 /// `closed` with the last number at the end, once every accepted command is kept.
 ///
-/// The engine is asked for up to `window` slots of a record in one call, 1 or more. Records that give tasks jobs or take jobs away
-/// share a call, up to `group` of them, 16 at the most, as long as the next one stands ready and is of a task that none before it is
+/// The engine is asked for up to `run.window` slots of a record in one call. Records that give tasks jobs or take jobs away
+/// share a call, up to `run.group` of them, as long as the next one stands ready and is of a task that none before it is
 /// of: none is waited for before those that were read are answered. What is printed is the same for each window and each group: a
 /// line is printed once its command is kept, and the commands of a call are all kept before the first of their lines.
-/// By `form` lines are text, as `2 ran 0: 0 1`, or objects of JSON, as `{"did":"ran","number":2,"slot":0,"tasks":[0,1]}`.
+/// By `run.form` lines are text, as `2 ran 0: 0 1`, or objects of JSON, as `{"did":"ran","number":2,"slot":0,"tasks":[0,1]}`.
 ///
-/// A command that is refused has a line `refused`, takes no number and changes nothing, and the script goes on or, if `at_refusal` says so,
+/// A command that is refused has a line `refused`, takes no number and changes nothing, and the script goes on or, if `run.at_refusal` says so,
 /// ends there; a record of slots ends with its first refusal. After 1,048,576 accepted commands each further one is refused as
 /// SessionFull. The report counts the commands that were accepted and the records that were refused, and has the first of these, with
 /// its place, counted from 1 at the script's begin. `BadScript` tells the place, counted from 1, of the first record that has no form; the lines before it
@@ -509,23 +509,18 @@ fn together(at_refusal: AtRefusal, group: u32, accepted: u32) -> u32
 pub fn run_script<R: Read + Drop, W: Printer<E>, E: Engine<AnyJob>>(
     alloc: Global,
     script: &mut Script<R>,
-    window: u32,
-    group: u32,
-    at_refusal: AtRefusal,
-    form: Form,
+    run: Run,
     output: &mut W,
     engine: &mut E,
 ) -> Result<Report, Fault>
-    requires some { 0 < window }
-    requires few { group ≤ 16 }
-    requires may { MayRun E.promise W.allows form at_refusal script.old 0 engine.old (W.contents output.old) }
-    ensures { Runs E.promise form at_refusal (max window group) script.old script.new.failed engine.old engine.new
+    requires may { MayRun E.promise W.allows run.form run.at_refusal script.old 0 engine.old (W.contents output.old) }
+    ensures { Runs E.promise run.form run.at_refusal (max run.window run.group) script.old script.new.failed engine.old engine.new
         (W.contents output.old) (W.contents output.new) result }
 {
     let mut row = StringRecord::new(alloc);
     let mut report = Report::new();
     'groups: loop {
-        let most = together(at_refusal, group, report.accepted);
+        let most = together(run.at_refusal, run.group, report.accepted);
         let from = script.place();
         let Gathered {
             group: commands,
@@ -534,19 +529,21 @@ pub fn run_script<R: Read + Drop, W: Printer<E>, E: Engine<AnyJob>>(
         if let Behind::Failed(fault) = behind {
             return Err(fault);
         }
-        run_group(alloc, commands, from, &mut report, form, output, engine)?;
+        run_group(alloc, commands, from, &mut report, run.form, output, engine)?;
         match behind {
             Behind::Nothing => {}
             Behind::Record => {
                 let at = script.place();
                 let accepted = &mut report.accepted;
-                let why = run_row(alloc, at, &row, window, accepted, form, output, engine)?;
+                let why = run_row(
+                    alloc, at, &row, run.window, accepted, run.form, output, engine,
+                )?;
                 report.note(at, why);
-                if why.is_some() && at_refusal == AtRefusal::End {
-                    return close(alloc, report, form, output, engine);
+                if why.is_some() && run.at_refusal == AtRefusal::End {
+                    return close(alloc, report, run.form, output, engine);
                 }
             }
-            Behind::End => return close(alloc, report, form, output, engine),
+            Behind::End => return close(alloc, report, run.form, output, engine),
             Behind::Unread(fault) | Behind::Failed(fault) => return Err(fault),
         }
     }

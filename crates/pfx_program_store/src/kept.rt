@@ -1,5 +1,5 @@
 //! Running a script over a front at what keeps a store: the store itself, or one beside a log.
-ghost use Rattle.std.specs.Prelude.{◌≡◌, ◌⊎◌, ◌<◌, ◌≤◌, None};
+ghost use Rattle.std.specs.Prelude.{◌≡◌, ◌⊎◌, None};
 ghost use Rattle.pfx_front.specs.Starting.{IsFresh};
 ghost use Rattle.pfx_kinds.specs.AnyKind.{any_kind};
 ghost use Rattle.pfx_program_store.specs.Serving.{IsServedRun};
@@ -16,7 +16,7 @@ use pfx_front_engine::client::Client;
 use pfx_front_engine::engine::FrontEngine;
 use pfx_jobs::quantum::{Done, Quantum};
 use pfx_kinds::any::AnyJob;
-use pfx_program::{AtRefusal, Form, Report, run_script};
+use pfx_program::{Report, Run, run_script};
 use pfx_program_script::Script;
 use pfx_store::Keeper;
 use std::alloc::Global;
@@ -72,21 +72,16 @@ pub fn serve_kept<
     desk: K,
     workers: u32,
     script: &mut Script<I>,
-    window: u32,
-    group: u32,
-    at_refusal: AtRefusal,
-    form: Form,
+    run: Run,
     output: &mut W,
 ) -> Kept<D, S>
 where
     K::Seat: Drop + Send + 'static,
     requires named { (lists.tokens.table.shared.table_id ≡ B.table) × (lists.list.seen.book ≡ B.book) × (B.origin ≡ B.start) }
     requires marks { lists.marks.seen.book ≡ B.marks }
-    requires some { 0 < window }
-    requires few { group ≤ 16 }
     requires fresh { IsFresh any_kind B.start B.failures B.clock (S.kept keeper).file.broken (S.kept keeper).state (D.view (S.kept keeper).file.disk) }
     requires goes_on { S.failed keeper ≡ None }
-    ensures { IsServedRun form at_refusal B.start script.old script.new.failed (W.contents output.old) (W.contents output.new)
+    ensures { IsServedRun run.form run.at_refusal B.start script.old script.new.failed (W.contents output.old) (W.contents output.new)
         (D.view (S.kept result.keeper).file.disk) result.result }
 {
     let number = keeper.stored().state().number();
@@ -107,16 +102,7 @@ where
             if let Some(pass) = front.pass(&rt) {
                 let client = Client::new(pass, number);
                 let mut engine = FrontEngine { rt, front, client };
-                let result = run_script(
-                    alloc,
-                    script,
-                    window,
-                    group,
-                    at_refusal,
-                    form,
-                    output,
-                    &mut engine,
-                );
+                let result = run_script(alloc, script, run, output, &mut engine);
                 let FrontEngine { front, client, .. } = engine;
                 passes.push_reserved(client.into_pass());
                 if let Ok(left) = front.close_kept(&rt, crew, Given { passes, readers }) {

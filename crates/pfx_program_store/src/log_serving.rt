@@ -1,5 +1,5 @@
 // Running a script through a front on a store beside its log.
-ghost use Rattle.std.specs.Prelude.{◌≡◌, ◌<◌, ◌≤◌, None};
+ghost use Rattle.std.specs.Prelude.{◌≡◌, None};
 ghost use Rattle.pfx_front.specs.Starting.{Begins};
 ghost use Rattle.pfx_program_store.specs.Serving.{IsServedRun};
 ghost use Rattle.pfx_kinds.specs.AnyKind.{any_kind};
@@ -15,7 +15,7 @@ use pfx_front::name::{Names, Since};
 use pfx_jobs::quantum::{Done, Quantum};
 use pfx_kinds::any::AnyJob;
 use pfx_log_store::LoggedStore;
-use pfx_program::{AtRefusal, Form, Report};
+use pfx_program::{Report, Run};
 use pfx_program_script::Script;
 use std::alloc::Global;
 use std::io::{Read, Write};
@@ -50,28 +50,23 @@ fn serve<
     desk: K,
     workers: u32,
     script: &mut Script<I>,
-    window: u32,
-    group: u32,
-    at_refusal: AtRefusal,
-    form: Form,
+    run: Run,
     output: &mut W,
 ) -> LoggedServed<D, L>
 where
     K::Seat: Drop + Send + 'static,
     requires named { (names.tokens.table.shared.table_id ≡ B.table) × (names.list.seen.book ≡ B.book) × (B.origin ≡ B.start) }
     requires calls { (names.calls.seen.book ≡ B.calls) × (names.marks.seen.book ≡ B.marks) }
-    requires some { 0 < window }
-    requires few { group ≤ 16 }
     requires whole { failure_beside beside ≡ None }
     requires begins { Begins any_kind B.start B.failures B.clock B.held B.image beside.store (D.view beside.store.file.disk) }
-    ensures { IsServedRun form at_refusal B.start script.old script.new.failed (W.contents output.old) (W.contents output.new)
+    ensures { IsServedRun run.form run.at_refusal B.start script.old script.new.failed (W.contents output.old) (W.contents output.new)
         (D.view result.beside.store.file.disk) result.result }
 {
     let (lists, calls) = names.split();
     let noted = beside.noted::<B>(calls);
     let _broken = noted.store.is_broken();
     let ran = serve_kept::<I, W, Chronicle<D, B>, B, LoggedStore<Chronicle<D, B>, L, AnyJob>, K, R>(
-        rt, alloc, lists, noted, desk, workers, script, window, group, at_refusal, form, output,
+        rt, alloc, lists, noted, desk, workers, script, run, output,
     );
     let Kept { keeper, result, .. } = ran;
     LoggedServed {
@@ -100,27 +95,21 @@ pub fn run_logged_served<
     desk: K,
     workers: u32,
     script: &mut Script<I>,
-    window: u32,
-    group: u32,
-    at_refusal: AtRefusal,
-    form: Form,
+    run: Run,
     output: &mut W,
 ) -> LoggedServed<D, L>
 where
     K::Seat: Drop + Send + 'static,
-    requires some { 0 < window }
-    requires few { group ≤ 16 }
     requires whole { failure_beside beside ≡ None }
     requires begins { Begins any_kind beside.store.state (D.view beside.store.file.disk).failures
         (D.view beside.store.file.disk).clock N.held N.image beside.store (D.view beside.store.file.disk) }
-    ensures { IsServedRun form at_refusal beside.store.state script.old script.new.failed (W.contents output.old) (W.contents output.new)
+    ensures { IsServedRun run.form run.at_refusal beside.store.state script.old script.new.failed (W.contents output.old) (W.contents output.new)
         (D.view result.beside.store.file.disk) result.result }
 {
     let _broken = beside.store.is_broken();
     match Names::new(alloc) {
         Ok(names) => serve::<I, W, D, L, Brand, K, R>(
-            rt, alloc, beside, names, desk, workers, script, window, group, at_refusal, form,
-            output,
+            rt, alloc, beside, names, desk, workers, script, run, output,
         ),
         Err(_) => LoggedServed {
             beside,

@@ -1,5 +1,5 @@
 // Running a script on a store beside its log, the calls of whose disk are noted.
-ghost use Rattle.std.specs.Prelude.{◌≡◌, ◌<◌, ◌≤◌, None};
+ghost use Rattle.std.specs.Prelude.{◌≡◌, None};
 ghost use Rattle.pfx_disk.specs.Disk.{IsHonest, Only};
 ghost use Rattle.pfx_program_store.specs.Noting.{IsNotedRun};
 ghost use Rattle.pfx_kinds.specs.AnyKind.{any_kind};
@@ -15,7 +15,7 @@ use pfx_disk_chronicle::name::Charted;
 use pfx_fault::Fault;
 use pfx_kinds::any::AnyJob;
 use pfx_log_store::LoggedStore;
-use pfx_program::{AtRefusal, Form, Report};
+use pfx_program::{Report, Run};
 use pfx_program_script::Script;
 use pfx_store_engine::DurableEngine;
 use std::alloc::Global;
@@ -45,21 +45,16 @@ pub fn run_logged<R: Read + Drop, W: Write, D: Disk, L: Disk, B: Charted>(
     list: Opened,
     beside: LoggedStore<D, L, AnyJob>,
     script: &mut Script<R>,
-    window: u32,
-    group: u32,
-    at_refusal: AtRefusal,
-    form: Form,
+    run: Run,
     output: &mut W,
 ) -> LoggedRun<D, L, B>
-    requires some { 0 < window }
-    requires few { group ≤ 16 }
     requires list { list.seen.book ≡ B.calls }
     requires whole { failure_beside beside ≡ None }
     requires moment { ((D.view beside.store.file.disk).clock ≡ B.clock) × ((D.view beside.store.file.disk).failures ≡ B.failures) }
     requires honest { IsHonest (D.view beside.store.file.disk)
         → B.held × ((D.view beside.store.file.disk).contents ≡ B.image) × Only B.image (D.view beside.store.file.disk) }
     requires held { B.held → IsHeldBy any_kind beside.store B.image }
-    ensures ran { IsNotedRun IsDiskOrLog form at_refusal beside.store.state script.old script.new.failed (W.contents output.old) (W.contents output.new)
+    ensures ran { IsNotedRun IsDiskOrLog run.form run.at_refusal beside.store.state script.old script.new.failed (W.contents output.old) (W.contents output.new)
         B.held B.image result.moment (D.view result.beside.store.file.disk) result.beside.store.state result.result }
 {
     let noted = beside.noted::<B>(list);
@@ -71,16 +66,7 @@ pub fn run_logged<R: Read + Drop, W: Write, D: Disk, L: Disk, B: Charted>(
             result: Err(Fault::NoMemory),
         },
         Ok(mut engine) => {
-            let result = run_durable(
-                alloc,
-                script,
-                window,
-                group,
-                at_refusal,
-                form,
-                output,
-                &mut engine,
-            );
+            let result = run_durable(alloc, script, run, output, &mut engine);
             let after = engine.into_keeper();
             LoggedRun {
                 moment: after.store.disk().moment(),

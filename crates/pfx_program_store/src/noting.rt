@@ -5,7 +5,7 @@
 //!   never honest. It says it of the calls alone, under the name's premise, and not of a disk of its own; of an honest disk it says both.
 //!   The list exists in proofs alone, so a call of the disk costs a word's exchange more, and no memory.
 
-ghost use Rattle.std.specs.Prelude.{◌≡◌, ◌<◌, ◌≤◌, false};
+ghost use Rattle.std.specs.Prelude.{◌≡◌, false};
 ghost use Rattle.pfx_disk.specs.Disk.{IsHonest, Only};
 ghost use Rattle.pfx_fault.specs.declared.fields.Cause.TheVariants.{Device};
 ghost use Rattle.pfx_kinds.specs.AnyKind.{any_kind};
@@ -19,7 +19,7 @@ use pfx_disk_chronicle::list::{Moment, Opened};
 use pfx_disk_chronicle::name::Charted;
 use pfx_fault::Fault;
 use pfx_kinds::any::AnyJob;
-use pfx_program::{AtRefusal, Form, Report};
+use pfx_program::{Report, Run};
 use pfx_program_script::Script;
 use pfx_store::Store;
 use pfx_store_engine::DurableEngine;
@@ -48,21 +48,16 @@ pub fn run_noted<R: Read + Drop, W: Write, D: Disk, B: Charted>(
     list: Opened,
     store: Store<D, AnyJob>,
     script: &mut Script<R>,
-    window: u32,
-    group: u32,
-    at_refusal: AtRefusal,
-    form: Form,
+    run: Run,
     output: &mut W,
 ) -> NotedRun<D, B>
-    requires some { 0 < window }
-    requires few { group ≤ 16 }
     requires list { list.seen.book ≡ B.calls }
     requires whole { store.file.broken ≡ false }
     requires moment { ((D.view store.file.disk).clock ≡ B.clock) × ((D.view store.file.disk).failures ≡ B.failures) }
     requires honest { IsHonest (D.view store.file.disk)
         → B.held × ((D.view store.file.disk).contents ≡ B.image) × Only B.image (D.view store.file.disk) }
     requires held { B.held → IsHeldBy any_kind store B.image }
-    ensures ran { IsNotedRun (λ cause. cause ≡ Device) form at_refusal store.state script.old script.new.failed (W.contents output.old) (W.contents output.new)
+    ensures ran { IsNotedRun (λ cause. cause ≡ Device) run.form run.at_refusal store.state script.old script.new.failed (W.contents output.old) (W.contents output.new)
         B.held B.image result.moment (D.view result.store.file.disk) result.store.state result.result }
 {
     let noted = store.noted::<B>(list);
@@ -74,16 +69,7 @@ pub fn run_noted<R: Read + Drop, W: Write, D: Disk, B: Charted>(
             result: Err(Fault::NoMemory),
         },
         Ok(mut engine) => {
-            let result = run_durable(
-                alloc,
-                script,
-                window,
-                group,
-                at_refusal,
-                form,
-                output,
-                &mut engine,
-            );
+            let result = run_durable(alloc, script, run, output, &mut engine);
             let after = engine.into_keeper();
             NotedRun {
                 moment: after.disk().moment(),

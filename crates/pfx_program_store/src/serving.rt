@@ -1,5 +1,5 @@
 //! Running a script over a front.
-ghost use Rattle.std.specs.Prelude.{◌≡◌, ◌<◌, ◌≤◌};
+ghost use Rattle.std.specs.Prelude.{◌≡◌};
 ghost use Rattle.pfx_front.specs.Starting.{Begins};
 ghost use Rattle.pfx_kinds.specs.AnyKind.{any_kind};
 ghost use Rattle.pfx_program_store.specs.Serving.{IsServedRun};
@@ -13,7 +13,7 @@ use pfx_fault::Fault;
 use pfx_front::name::{Names, Since};
 use pfx_jobs::quantum::{Done, Quantum};
 use pfx_kinds::any::AnyJob;
-use pfx_program::{AtRefusal, Form, Report};
+use pfx_program::{Report, Run};
 use pfx_program_script::Script;
 use pfx_store::Store;
 use std::alloc::Global;
@@ -48,27 +48,22 @@ fn serve<
     desk: K,
     workers: u32,
     script: &mut Script<I>,
-    window: u32,
-    group: u32,
-    at_refusal: AtRefusal,
-    form: Form,
+    run: Run,
     output: &mut W,
 ) -> Served<D>
 where
     K::Seat: Drop + Send + 'static,
     requires named { (names.tokens.table.shared.table_id ≡ B.table) × (names.list.seen.book ≡ B.book) × (B.origin ≡ B.start) }
     requires calls { (names.calls.seen.book ≡ B.calls) × (names.marks.seen.book ≡ B.marks) }
-    requires some { 0 < window }
-    requires few { group ≤ 16 }
     requires begins { Begins any_kind B.start B.failures B.clock B.held B.image store (D.view store.file.disk) }
-    ensures { IsServedRun form at_refusal B.start script.old script.new.failed (W.contents output.old) (W.contents output.new)
+    ensures { IsServedRun run.form run.at_refusal B.start script.old script.new.failed (W.contents output.old) (W.contents output.new)
         (D.view result.store.file.disk) result.result }
 {
     let (lists, calls) = names.split();
     let noted = store.noted::<B>(calls);
     let _broken = noted.is_broken();
     let ran = serve_kept::<I, W, Chronicle<D, B>, B, Store<Chronicle<D, B>, AnyJob>, K, R>(
-        rt, alloc, lists, noted, desk, workers, script, window, group, at_refusal, form, output,
+        rt, alloc, lists, noted, desk, workers, script, run, output,
     );
     let Kept { keeper, result, .. } = ran;
     Served {
@@ -81,10 +76,10 @@ where
 /// for it and ended after it: with one thread for the flusher, and so many workers at the desk, or none, if the calling thread
 /// runs the jobs.
 ///
-/// Of the slots of a record up to `window` are asked for before the last of them is waited for, 1 or more, and 64 at the most; so are
-/// up to `group` records that stand ready together, as `run_script` says.
+/// Of the slots of a record up to `run.window` are asked for before the last of them is waited for, and 64 at the most; so are
+/// up to `run.group` records that stand ready together, as `run_script` says.
 ///
-/// What is printed is the same for any number of workers and any window, and by `form` text or JSON. A printed line is a
+/// What is printed is the same for any number of workers and any window, and by `run.form` text or JSON. A printed line is a
 /// receipt: whatever the run answers, each image that a stop may leave after it is recovered to the outcome of a beginning of
 /// the script's accepted commands which holds
 /// every command whose line was printed. `NoThread` says that the system gives no thread; then nothing was done.
@@ -105,25 +100,20 @@ pub fn run_served<
     desk: K,
     workers: u32,
     script: &mut Script<I>,
-    window: u32,
-    group: u32,
-    at_refusal: AtRefusal,
-    form: Form,
+    run: Run,
     output: &mut W,
 ) -> Served<D>
 where
     K::Seat: Drop + Send + 'static,
-    requires some { 0 < window }
-    requires few { group ≤ 16 }
     requires begins { Begins any_kind store.state (D.view store.file.disk).failures
         (D.view store.file.disk).clock N.held N.image store (D.view store.file.disk) }
-    ensures { IsServedRun form at_refusal store.state script.old script.new.failed (W.contents output.old) (W.contents output.new)
+    ensures { IsServedRun run.form run.at_refusal store.state script.old script.new.failed (W.contents output.old) (W.contents output.new)
         (D.view result.store.file.disk) result.result }
 {
     let _broken = store.is_broken();
     match Names::new(alloc) {
         Ok(names) => serve::<I, W, D, Brand, K, R>(
-            rt, alloc, store, names, desk, workers, script, window, group, at_refusal, form, output,
+            rt, alloc, store, names, desk, workers, script, run, output,
         ),
         Err(_) => Served {
             store,

@@ -11,7 +11,7 @@ use pfx_crew::channel::ChannelDesk;
 use pfx_disk::{Disk, MemoryDisk};
 use pfx_kinds::any::AnyJob;
 use pfx_kit::week::{FIRST_WEEK, SECOND_WEEK, WEEK};
-use pfx_program::{AtRefusal, Form};
+use pfx_program::{AtRefusal, Form, Run};
 use pfx_program_script::Script;
 use pfx_program_store::run_served;
 use pfx_store::Store;
@@ -55,10 +55,12 @@ fn printed<R: Threads + Wait + Clock + Copy + Drop + Send + Sync + 'static>(
         desk,
         workers,
         &mut script,
-        2,
-        0,
-        AtRefusal::GoOn,
-        Form::Text,
+        Run {
+            window: 2,
+            group: 0,
+            at_refusal: AtRefusal::GoOn,
+            form: Form::Text,
+        },
         &mut output,
     );
     if served.result.is_ok() && output.as_slice() == wanted.as_bytes() {

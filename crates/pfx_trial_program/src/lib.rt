@@ -9,7 +9,7 @@
 //! - `notes`: what stands below a fault's line, and what is said of each fault.
 //! - `objects`: the same as JSON.
 //! - `program`: plans of whole set files.
-//! - `scripts`: scripts over a state in memory.
+//! - `runs`, `scripts`: scripts over a state in memory.
 //! - `reweighs`: those that give tasks new weights.
 //! - `shown`: what is printed of a new store, of a state as its board, and of its jobs.
 //! - `jobs`: scripts that show what jobs have computed.
@@ -42,6 +42,8 @@ mod refused_sets;
 mod reports;
 #[cfg(test)]
 mod reweighs;
+#[cfg(test)]
+mod runs;
 #[cfg(test)]
 mod script;
 #[cfg(test)]

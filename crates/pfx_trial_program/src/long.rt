@@ -1,10 +1,11 @@
 //! Long scripts and plans, a slow writer, and the reading of a store's set.
 
 use crate::refused_sets::REFUSED_SETS;
+use crate::runs::one_by_one;
 use crate::scripts::thirds;
 use crate::torn::Torn;
 use pfx_fault::Fault;
-use pfx_program::{AtRefusal, Form, read_task_set, run_plan, run_script};
+use pfx_program::{Form, read_task_set, run_plan, run_script};
 use pfx_program_script::Script;
 use std::alloc::Global;
 use std::io;
@@ -33,10 +34,7 @@ fn runs_slots(alloc: Global, script: &[u8], slots: u32) -> bool {
     let end = run_script(
         alloc,
         &mut Script::new(alloc, script),
-        1,
-        0,
-        AtRefusal::GoOn,
-        Form::Text,
+        one_by_one(Form::Text),
         &mut written,
         &mut state,
     );
@@ -98,10 +96,7 @@ fn is_written_slowly(alloc: Global) -> bool {
     let end = run_script(
         alloc,
         &mut Script::new(alloc, script),
-        1,
-        0,
-        AtRefusal::GoOn,
-        Form::Text,
+        one_by_one(Form::Text),
         &mut output,
         &mut state,
     );
@@ -170,10 +165,7 @@ fn answers_worked(alloc: Global) -> bool {
     let end = run_script(
         alloc,
         &mut script,
-        1,
-        0,
-        AtRefusal::GoOn,
-        Form::Text,
+        one_by_one(Form::Text),
         &mut written,
         &mut state,
     );

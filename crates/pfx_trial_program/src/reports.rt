@@ -1,5 +1,6 @@
 //! What a run of a script counts, and where it ends if it ends at a refusal.
 
+use crate::runs::run_of;
 use crate::scripts::thirds;
 use pfx_fault::Fault;
 use pfx_program::{AtRefusal, Form, RefusedRecord, Report, run_script};
@@ -34,10 +35,7 @@ fn runs(
     let end = run_script(
         alloc,
         &mut script,
-        size.max(1),
-        size.min(16),
-        at_refusal,
-        Form::Text,
+        run_of(size, at_refusal, Form::Text),
         &mut written,
         &mut state,
     );

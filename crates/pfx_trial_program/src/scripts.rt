@@ -1,5 +1,6 @@
 //! Scripts over a state in memory, and what a failing reader or writer leaves.
 
+use crate::runs::one_by_one;
 use crate::torn::Torn;
 use csv::StringRecord;
 use pfx_fault::Fault;
@@ -7,7 +8,7 @@ use pfx_kinds::any::AnyJob;
 use pfx_kit::states::SEGMENT;
 use pfx_kit::week::{FIRST_WEEK, SECOND_WEEK, WEEK};
 use pfx_machine::State;
-use pfx_program::{AtRefusal, Form, run_record, run_script};
+use pfx_program::{AtRefusal, Form, Run, run_record, run_script};
 use pfx_program_script::Script;
 use pfx_weights::TaskSet;
 use std::alloc::Global;
@@ -38,10 +39,7 @@ pub fn prints_as(
     let got = run_script(
         alloc,
         &mut Script::new(alloc, script.as_bytes()),
-        1,
-        0,
-        AtRefusal::GoOn,
-        form,
+        one_by_one(form),
         &mut written,
         state,
     );
@@ -281,10 +279,7 @@ fn runs_up_to_the_tear(alloc: Global, state: &mut State<AnyJob>) -> bool {
     let end = run_script(
         alloc,
         &mut Script::new(alloc, input),
-        1,
-        0,
-        AtRefusal::GoOn,
-        Form::Text,
+        one_by_one(Form::Text),
         &mut written,
         state,
     );
@@ -333,10 +328,12 @@ fn answers_a_group_before_it_asks(alloc: Global, state: &mut State<AnyJob>) -> b
     let end = run_script(
         alloc,
         &mut Script::new(alloc, input),
-        1,
-        16,
-        AtRefusal::GoOn,
-        Form::Text,
+        Run {
+            window: 1,
+            group: 16,
+            at_refusal: AtRefusal::GoOn,
+            form: Form::Text,
+        },
         &mut written,
         state,
     );
@@ -396,10 +393,7 @@ fn writes_the_beginning(alloc: Global, state: &mut State<AnyJob>) -> bool {
     let end = run_script(
         alloc,
         &mut Script::new(alloc, WEEK.as_bytes()),
-        1,
-        0,
-        AtRefusal::GoOn,
-        Form::Text,
+        one_by_one(Form::Text),
         &mut output,
         state,
     );

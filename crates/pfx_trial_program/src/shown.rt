@@ -1,10 +1,11 @@
 //! What is printed of a new store, a state's board, and what its jobs have computed.
 
+use crate::runs::one_by_one;
 use crate::scripts::thirds;
 use pfx_fault::Fault;
 use pfx_kinds::any::AnyJob;
 use pfx_machine::{Command, State};
-use pfx_program::{AtRefusal, Form, created_line, run_script, run_show, run_status};
+use pfx_program::{Form, created_line, run_script, run_show, run_status};
 use pfx_program_script::Script;
 use pfx_weights::TaskSet;
 use std::alloc::Global;
@@ -130,10 +131,7 @@ fn shows_objects(alloc: Global) -> bool {
     if run_script(
         alloc,
         &mut script,
-        1,
-        0,
-        AtRefusal::GoOn,
-        Form::Text,
+        one_by_one(Form::Text),
         &mut lines,
         &mut state,
     )
@@ -160,10 +158,7 @@ fn shows_two_jobs(alloc: Global) -> bool {
     if run_script(
         alloc,
         &mut script,
-        1,
-        0,
-        AtRefusal::GoOn,
-        Form::Text,
+        one_by_one(Form::Text),
         &mut lines,
         &mut state,
     )

@@ -1,6 +1,7 @@
 //! Scripts whose slots are run several at once: the lines are those of slots that are run one at a time, up to a refusal
 //! within a window or at its border, and up to where a writer fails.
 
+use crate::runs::run_of;
 use pfx_fault::Fault;
 use pfx_kinds::any::AnyJob;
 use pfx_kit::states::state_at;
@@ -72,10 +73,7 @@ fn prints(alloc: Global, room: u64, window: u32) -> bool {
     let end = run_script(
         alloc,
         &mut Script::new(alloc, SCRIPT.as_bytes()),
-        window.max(1),
-        window.min(16),
-        AtRefusal::GoOn,
-        Form::Text,
+        run_of(window, AtRefusal::GoOn, Form::Text),
         &mut written,
         &mut state,
     );
@@ -130,10 +128,7 @@ fn takes_the_first(alloc: Global, all: &[u8], room: usize, window: u32) -> bool 
     let end = run_script(
         alloc,
         &mut Script::new(alloc, SCRIPT.as_bytes()),
-        window.max(1),
-        window.min(16),
-        AtRefusal::GoOn,
-        Form::Text,
+        run_of(window, AtRefusal::GoOn, Form::Text),
         &mut output,
         &mut state,
     );

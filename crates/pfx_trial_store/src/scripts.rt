@@ -8,13 +8,21 @@ use pfx_kinds::any::AnyJob;
 use pfx_kit::places::END;
 use pfx_kit::week::{FIRST_WEEK, SECOND_WEEK, WEEK};
 use pfx_machine::{Command, Reply};
-use pfx_program::{AtRefusal, Form, run_script};
+use pfx_program::{AtRefusal, Form, Run, run_script};
 use pfx_program_script::Script;
 use pfx_store_engine::{CallFault, Engine, StoreEngine, laws};
 use std::alloc::Global;
 use std::fs::{File, OpenOptions};
 use std::path::PathBuf;
 use std::{env, fs, process};
+
+/// A run that keeps each slot and each record by itself.
+const ONE_BY_ONE: Run = Run {
+    window: 1,
+    group: 0,
+    at_refusal: AtRefusal::GoOn,
+    form: Form::Text,
+};
 
 /// Whether a script prints this, and ends so.
 fn prints<D: Disk>(
@@ -28,10 +36,7 @@ fn prints<D: Disk>(
     let answer = run_script(
         alloc,
         &mut Script::new(alloc, script.as_bytes()),
-        1,
-        0,
-        AtRefusal::GoOn,
-        Form::Text,
+        ONE_BY_ONE,
         &mut written,
         engine,
     );
@@ -181,10 +186,7 @@ fn segments_are_turned(rt: HostRuntime) {
     let end = run_script(
         alloc,
         &mut Script::new(alloc, b"slot,,,800,\n".as_slice()),
-        1,
-        0,
-        AtRefusal::GoOn,
-        Form::Text,
+        ONE_BY_ONE,
         &mut written,
         &mut engine,
     );

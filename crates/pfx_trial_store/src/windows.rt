@@ -6,7 +6,7 @@ use crate::stops::{kept_by, survivors};
 use pfx_disk::{Disk, Fate, FaultDisk, MemoryDisk};
 use pfx_fault::{Cause, Fault};
 use pfx_kinds::any::AnyJob;
-use pfx_program::{AtRefusal, Form};
+use pfx_program::{AtRefusal, Form, Run};
 use pfx_program_script::Script;
 use pfx_program_store::run_durable;
 use pfx_store_engine::StoreEngine;
@@ -24,10 +24,12 @@ fn run<D: Disk>(
     let end = run_durable(
         alloc,
         &mut Script::new(alloc, script.as_bytes()),
-        window.max(1),
-        window.min(16),
-        AtRefusal::GoOn,
-        Form::Text,
+        Run {
+            window: window.max(1),
+            group: window.min(16),
+            at_refusal: AtRefusal::GoOn,
+            form: Form::Text,
+        },
         &mut written,
         engine,
     );

@@ -5,6 +5,6 @@ use Rattle.pfx_program_store.proofs.log_serving.run_logged_served.Goals as goal
 
 pub returns-in-Err : goal.returns-in-Err
 returns-in-Err g c =
-    unserved c.args.form c.args.at_refusal c.args.beside.store.state (g.D.Disk.view c.args.beside.store.file.disk) c.args.script.now
+    unserved c.args.run.form c.args.run.at_refusal c.args.beside.store.state (g.D.Disk.view c.args.beside.store.file.disk) c.args.script.now
     c.args.script.now.failed (g.W.Write.contents c.args.output.now) NoMemory (inr refl)
     (λ honest image here. c.is_broken-broken.ensures.recovered c.requires.begins.whole honest image here)

@@ -20,9 +20,9 @@ returns-in-Err g c =
     let whole : noted.file.broken ≡ false = ap (λ s. s.file.broken) c.noted-noted.ensures.store in
     let state : noted.state ≡ c.args.beside.store.state = ap (λ s. s.state) c.noted-noted.ensures.store in
     record {
-      ran = subst (λ t. IsNotedRun IsDiskOrLog c.args.form c.args.at_refusal c.args.beside.store.state c.args.script.now c.args.script.now.failed (g.W.Write.contents c.args.output.now) (g.W.Write.contents c.args.output.now) held image c.moment.result
+      ran = subst (λ t. IsNotedRun IsDiskOrLog c.args.run.form c.args.run.at_refusal c.args.beside.store.state c.args.script.now c.args.script.now.failed (g.W.Write.contents c.args.output.now) (g.W.Write.contents c.args.output.now) held image c.moment.result
           (g.D.Disk.view c.told.result.store.file.disk) t (Err fault.NoMemory)) (sym (c.told.ensures.state.0 ∙ ap (λ b. b.store.state) c.in-Err.ensures.given_back ∙ state))
-          (noted_none IsDiskOrLog c.args.form c.args.at_refusal c.args.beside.store.state c.args.script.now c.args.script.now.failed (g.W.Write.contents c.args.output.now) held image c.moment.result
+          (noted_none IsDiskOrLog c.args.run.form c.args.run.at_refusal c.args.beside.store.state c.args.script.now c.args.script.now.failed (g.W.Write.contents c.args.output.now) held image c.moment.result
           (g.D.Disk.view c.told.result.store.file.disk) (view c.in-Err.back.store.file.disk).now
           (λ honest. (along.follows honest).premise)
           (λ so left behind. subst (λ d. (view d).now left) c.disk.ensures (c.moment.ensures.images so left behind))
@@ -44,13 +44,13 @@ returns-in-Ok g c =
     let whole : noted.file.broken ≡ false = ap (λ s. s.file.broken) c.noted-noted.ensures.store in
     let at : begun.keeper.store.state ≡ c.args.beside.store.state = ap (λ b. b.store.state) c.in-Ok.ensures.keeper ∙ ap (λ s. s.state) c.noted-noted.ensures.store in
     record {
-      ran = subst (λ t. IsNotedRun IsDiskOrLog c.args.form c.args.at_refusal c.args.beside.store.state c.args.script.now c.run_durable-result.new.script.failed (g.W.Write.contents c.args.output.now) (g.W.Write.contents c.run_durable-result.new.output) held image
+      ran = subst (λ t. IsNotedRun IsDiskOrLog c.args.run.form c.args.run.at_refusal c.args.beside.store.state c.args.script.now c.run_durable-result.new.script.failed (g.W.Write.contents c.args.output.now) (g.W.Write.contents c.run_durable-result.new.output) held image
           c.moment-in-Ok.result (g.D.Disk.view c.told-in-Ok.result.store.file.disk) t c.run_durable-result.result) (sym (c.told-in-Ok.ensures.state.0 ∙ ap (λ b. b.store.state) c.into_keeper-after.ensures))
-          (subst (λ s. IsNotedRun IsDiskOrLog c.args.form c.args.at_refusal s c.args.script.now c.run_durable-result.new.script.failed (g.W.Write.contents c.args.output.now) (g.W.Write.contents c.run_durable-result.new.output) held image
+          (subst (λ s. IsNotedRun IsDiskOrLog c.args.run.form c.args.run.at_refusal s c.args.script.now c.run_durable-result.new.script.failed (g.W.Write.contents c.args.output.now) (g.W.Write.contents c.run_durable-result.new.output) held image
           c.moment-in-Ok.result (g.D.Disk.view c.told-in-Ok.result.store.file.disk) c.run_durable-result.new.engine.keeper.store.state c.run_durable-result.result) at
           (noted_run (MayFail (λ beside. failure_beside beside)) IsDiskOrLog disk_or_log held image c.moment-in-Ok.result (g.D.Disk.view c.told-in-Ok.result.store.file.disk) (λ honest. (along.follows honest).premise)
-          (λ engine. view engine.keeper.store.file.disk) (λ engine. failure_beside engine.keeper) (λ engine. engine.keeper.store.state) c.args.form c.args.at_refusal
-          (max c.args.window c.args.group) c.args.script.now c.run_durable-result.new.script.failed begun c.run_durable-result.new.engine (g.W.Write.contents c.args.output.now) (g.W.Write.contents c.run_durable-result.new.output)
+          (λ engine. view engine.keeper.store.file.disk) (λ engine. failure_beside engine.keeper) (λ engine. engine.keeper.store.state) c.args.run.form c.args.run.at_refusal
+          (max c.args.run.window c.args.run.group) c.args.script.now c.run_durable-result.new.script.failed begun c.run_durable-result.new.engine (g.W.Write.contents c.args.output.now) (g.W.Write.contents c.run_durable-result.new.output)
           c.run_durable-result.result c.run_durable-result.ensures.runs
           (ap (λ b. failure_beside b) c.in-Ok.ensures.keeper ∙ none_failed c.noted-noted.result.store.file.broken c.noted-noted.result.log.broken c.noted-noted.result.stopped whole (ap (λ f. f.broken) c.noted-noted.ensures.log.0 ∙ (log_whole c.args.beside.store.file.broken c.args.beside.log.broken c.args.beside.stopped c.requires.whole).0) (c.noted-noted.ensures.log.2 ∙ (log_whole c.args.beside.store.file.broken c.args.beside.log.broken c.args.beside.stopped c.requires.whole).1))
           (λ so. charted_honest held image clock failures begun.keeper.store.file.disk.made begun.keeper.store.file.disk.late begun.keeper.store.file.disk.failed so)

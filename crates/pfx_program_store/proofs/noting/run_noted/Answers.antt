@@ -19,9 +19,9 @@ returns-in-Err g c =
     let whole : noted.file.broken ≡ false = ap (λ s. s.file.broken) c.noted-noted.ensures in
     let state : noted.state ≡ c.args.store.state = ap (λ s. s.state) c.noted-noted.ensures in
     record {
-      ran = subst (λ t. IsNotedRun (λ why. why ≡ cause.Device) c.args.form c.args.at_refusal c.args.store.state c.args.script.now c.args.script.now.failed (g.W.Write.contents c.args.output.now) (g.W.Write.contents c.args.output.now) held image c.moment.result
+      ran = subst (λ t. IsNotedRun (λ why. why ≡ cause.Device) c.args.run.form c.args.run.at_refusal c.args.store.state c.args.script.now c.args.script.now.failed (g.W.Write.contents c.args.output.now) (g.W.Write.contents c.args.output.now) held image c.moment.result
           (g.D.Disk.view c.told.result.file.disk) t (Err fault.NoMemory)) (sym (c.told.ensures.state.0 ∙ ap (λ s. s.state) c.in-Err.ensures.given_back ∙ state))
-          (noted_none (λ why. why ≡ cause.Device) c.args.form c.args.at_refusal c.args.store.state c.args.script.now c.args.script.now.failed (g.W.Write.contents c.args.output.now) held image c.moment.result
+          (noted_none (λ why. why ≡ cause.Device) c.args.run.form c.args.run.at_refusal c.args.store.state c.args.script.now c.args.script.now.failed (g.W.Write.contents c.args.output.now) held image c.moment.result
           (g.D.Disk.view c.told.result.file.disk) (view c.in-Err.back.file.disk).now
           (λ honest. (along.follows honest).premise)
           (λ so left behind. subst (λ d. (view d).now left) c.disk.ensures (c.moment.ensures.images so left behind))
@@ -43,13 +43,13 @@ returns-in-Ok g c =
     let whole : noted.file.broken ≡ false = ap (λ s. s.file.broken) c.noted-noted.ensures in
     let at : begun.keeper.state ≡ c.args.store.state = ap (λ s. s.state) c.in-Ok.ensures.keeper ∙ ap (λ s. s.state) c.noted-noted.ensures in
     record {
-      ran = subst (λ t. IsNotedRun (λ why. why ≡ cause.Device) c.args.form c.args.at_refusal c.args.store.state c.args.script.now c.run_durable-result.new.script.failed (g.W.Write.contents c.args.output.now) (g.W.Write.contents c.run_durable-result.new.output) held image
+      ran = subst (λ t. IsNotedRun (λ why. why ≡ cause.Device) c.args.run.form c.args.run.at_refusal c.args.store.state c.args.script.now c.run_durable-result.new.script.failed (g.W.Write.contents c.args.output.now) (g.W.Write.contents c.run_durable-result.new.output) held image
           c.moment-in-Ok.result (g.D.Disk.view c.told-in-Ok.result.file.disk) t c.run_durable-result.result) (sym (c.told-in-Ok.ensures.state.0 ∙ ap (λ s. s.state) c.into_keeper-after.ensures))
-          (subst (λ s. IsNotedRun (λ why. why ≡ cause.Device) c.args.form c.args.at_refusal s c.args.script.now c.run_durable-result.new.script.failed (g.W.Write.contents c.args.output.now) (g.W.Write.contents c.run_durable-result.new.output) held image
+          (subst (λ s. IsNotedRun (λ why. why ≡ cause.Device) c.args.run.form c.args.run.at_refusal s c.args.script.now c.run_durable-result.new.script.failed (g.W.Write.contents c.args.output.now) (g.W.Write.contents c.run_durable-result.new.output) held image
           c.moment-in-Ok.result (g.D.Disk.view c.told-in-Ok.result.file.disk) c.run_durable-result.new.engine.keeper.state c.run_durable-result.result) at
           (noted_run (MayFail (λ store. failure_of store)) (λ why. why ≡ cause.Device) device_only held image c.moment-in-Ok.result (g.D.Disk.view c.told-in-Ok.result.file.disk) (λ honest. (along.follows honest).premise)
-          (λ engine. view engine.keeper.file.disk) (λ engine. failure_of engine.keeper) (λ engine. engine.keeper.state) c.args.form c.args.at_refusal
-          (max c.args.window c.args.group) c.args.script.now c.run_durable-result.new.script.failed begun c.run_durable-result.new.engine (g.W.Write.contents c.args.output.now) (g.W.Write.contents c.run_durable-result.new.output)
+          (λ engine. view engine.keeper.file.disk) (λ engine. failure_of engine.keeper) (λ engine. engine.keeper.state) c.args.run.form c.args.run.at_refusal
+          (max c.args.run.window c.args.run.group) c.args.script.now c.run_durable-result.new.script.failed begun c.run_durable-result.new.engine (g.W.Write.contents c.args.output.now) (g.W.Write.contents c.run_durable-result.new.output)
           c.run_durable-result.result c.run_durable-result.ensures.runs
           (ap (λ s. failure_of s) c.in-Ok.ensures.keeper ∙ ap (λ b. if b then Some cause.Device else None) whole)
           (λ so. charted_honest held image clock failures begun.keeper.file.disk.made begun.keeper.file.disk.late begun.keeper.file.disk.failed so)

@@ -17,5 +17,5 @@ pub returns : goal.returns
 returns g c =
     let d = c.serve_kept-ran.result.keeper.file.disk in
     told_run g.B.Charted.held g.B.Charted.image g.B.Charted.clock g.B.Charted.failures d.made d.late d.failed (g.D.Disk.view c.told.result.file.disk) c.told.ensures.along
-    c.args.form c.args.at_refusal g.B.Named.start c.args.script.now c.serve_kept-ran.new.script.failed (g.W.Write.contents c.args.output.now)
+    c.args.run.form c.args.run.at_refusal g.B.Named.start c.args.script.now c.serve_kept-ran.new.script.failed (g.W.Write.contents c.args.output.now)
     (g.W.Write.contents c.serve_kept-ran.new.output) c.serve_kept-ran.result.result c.serve_kept-ran.ensures
