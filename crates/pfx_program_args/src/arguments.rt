@@ -1,9 +1,9 @@
 //! How a subcommand and the arguments that several share are made, and what was found for these.
 
 ghost use Rattle.std.specs.Prelude.{◌≡◌, IfOk, option_map};
-ghost use Rattle.clap.specs.Simple.{new_app};
+ghost use Rattle.clap.specs.Simple.{App, new_app, with_rule};
 ghost use Rattle.clap.specs.Matches.{found_of};
-ghost use Rattle.clap.specs.Walk.{rows_of, texts};
+ghost use Rattle.clap.specs.Walk.{Rule, rows_of, texts};
 ghost use Rattle.pfx_program_args.specs.Commands.{required, as_json, IsArgument, IsCommand};
 ghost use Rattle.pfx_program_args.specs.Requests.{flag_at, text_at, texts_at, number_at, wide_number_at};
 
@@ -17,20 +17,30 @@ pub(crate) fn subcommand<'a>(
     about: &'a str,
     long: &'a str,
     example: &'a str,
-) -> Command<'a>
-    ensures { IsCommand result (new_app name.entry.now) }
+) -> Result<Command<'a>, AllocError>
+    ensures { IfOk result (λ c. IsCommand c (new_app name.entry.now)) }
 {
-    Command::new(alloc, name)
-        .about(about)
-        .long_about(long)
-        .after_help(example)
+    let command = Command::new(alloc, name).about(about).long_about(long);
+    Ok(command.after_help(example))
+}
+
+// A command with one more argument, if it could be made. What could be is handed on as it is, so that no maker of a command has a way out
+// for each of its arguments.
+pub(crate) fn with_argument<'a>(
+    command: Result<Command<'a>, AllocError>,
+    argument: Arg<'a>,
+) -> Result<Command<'a>, AllocError>
+    ensures { (app : App) (rule : Rule) → IfOk command.entry (λ c. IsCommand c app) → IsArgument argument.entry rule
+        → IfOk result (λ c. IsCommand c (with_rule app rule)) }
+{
+    command?.arg(argument)
 }
 
 // A word that has to be there, by its name in the usage.
-pub(crate) fn required_word<'a>(alloc: Global, name: &'a str) -> Arg<'a>
+pub(crate) fn required_word<'a>(alloc: Global, name: &'a str, help: &'a str) -> Arg<'a>
     ensures { IsArgument result (required name.entry.now) }
 {
-    Arg::new(alloc, name).required(true)
+    Arg::new(alloc, name).required(true).help(help)
 }
 
 // Whether what is printed is JSON.

@@ -9,6 +9,7 @@ ghost use Rattle.pfx_program_args.specs.Requests.{asked_by, form_of, audit_in};
 
 use crate::arguments::{
     flag_under, json_flag, number_under, required_word, subcommand, texts_under, wide_number_under,
+    with_argument,
 };
 use crate::{AuditForm, Request};
 use clap::{Arg, ArgAction, ArgMatches, Command, value_parser};
@@ -58,9 +59,8 @@ const EXAMPLE: &str = "Example:
 fn history_words<'a>(alloc: Global) -> Arg<'a>
     ensures { IsArgument result history }
 {
-    required_word(alloc, "LOG").num_args(1..).help(
-        "The logs in their order; the last may be the store's file",
-    )
+    let help = "The logs in their order; the last may be the store's file";
+    required_word(alloc, "LOG", help).num_args(1..)
 }
 
 fn every_option<'a>(alloc: Global) -> Arg<'a>
@@ -97,25 +97,28 @@ fn csv_flag<'a>(alloc: Global) -> Arg<'a>
 fn bare_audit<'a>(alloc: Global) -> Result<Command<'a>, AllocError>
     ensures { IfOk result (λ c. IsCommand c audit_words) }
 {
-    subcommand(alloc, "audit", ABOUT, LONG, EXAMPLE).arg(history_words(alloc))
+    let command = subcommand(alloc, "audit", ABOUT, LONG, EXAMPLE);
+    with_argument(command, history_words(alloc))
 }
 
 // And with the windows.
 fn windowed_audit<'a>(alloc: Global) -> Result<Command<'a>, AllocError>
     ensures { IfOk result (λ c. IsCommand c audit_in_windows) }
 {
+    let command = with_argument(bare_audit(alloc), every_option(alloc));
     let from = numbered_option(alloc, "from", "The slot that the first window begins at");
+    let command = with_argument(command, from);
     let to = numbered_option(alloc, "to", "The slot that the last window ends before");
-    let command = bare_audit(alloc)?.arg(every_option(alloc))?;
-    command.arg(from)?.arg(to)
+    with_argument(command, to)
 }
 
 pub(crate) fn audit_command<'a>(alloc: Global) -> Result<Command<'a>, AllocError>
     ensures { IfOk result (λ c. IsCommand c audit_app) }
 {
     let number = numbered_option(alloc, "number", "The number of a record to print alone");
-    let command = windowed_audit(alloc)?.arg(number)?;
-    command.arg(csv_flag(alloc))?.arg(json_flag(alloc))
+    let command = with_argument(windowed_audit(alloc), number);
+    let command = with_argument(command, csv_flag(alloc));
+    with_argument(command, json_flag(alloc))
 }
 
 fn form_of(csv: bool, json: bool) -> AuditForm

@@ -7,7 +7,9 @@ ghost use Rattle.pfx_program_args.specs.Commands.{check_words, check_app, IsComm
 ghost use Rattle.pfx_program_args.specs.Requests.{asked_by, check_in};
 
 use crate::Request;
-use crate::arguments::{flag_under, json_flag, required_word, subcommand, text_under};
+use crate::arguments::{
+    flag_under, json_flag, required_word, subcommand, text_under, with_argument,
+};
 use clap::{ArgMatches, Command};
 use std::alloc::{AllocError, Global};
 
@@ -44,14 +46,14 @@ const EXAMPLE: &str = "Example:
 fn bare_check<'a>(alloc: Global) -> Result<Command<'a>, AllocError>
     ensures { IfOk result (λ c. IsCommand c check_words) }
 {
-    let set = required_word(alloc, "SET").help("The set file, in TOML; - is standard input");
-    subcommand(alloc, "check", ABOUT, LONG, EXAMPLE).arg(set)
+    let set = required_word(alloc, "SET", "The set file, in TOML; - is standard input");
+    with_argument(subcommand(alloc, "check", ABOUT, LONG, EXAMPLE), set)
 }
 
 pub(crate) fn check_command<'a>(alloc: Global) -> Result<Command<'a>, AllocError>
     ensures { IfOk result (λ c. IsCommand c check_app) }
 {
-    bare_check(alloc)?.arg(json_flag(alloc))
+    with_argument(bare_check(alloc), json_flag(alloc))
 }
 
 pub(crate) fn check_request<'a>(matches: &ArgMatches<'a>) -> Option<Request<'a>>

@@ -7,7 +7,7 @@ ghost use Rattle.pfx_program_args.specs.Commands.{drawn_slots, draw_words, draw_
 ghost use Rattle.pfx_program_args.specs.Requests.{asked_by, draw_in};
 
 use crate::Request;
-use crate::arguments::{number_under, required_word, subcommand, text_under};
+use crate::arguments::{number_under, required_word, subcommand, text_under, with_argument};
 use crate::plan::at_option;
 use clap::{Arg, ArgMatches, Command, value_parser};
 use std::alloc::{AllocError, Global};
@@ -29,24 +29,23 @@ const EXAMPLE: &str = "Example:
 fn slots_word<'a>(alloc: Global) -> Arg<'a>
     ensures { IsArgument result drawn_slots }
 {
-    required_word(alloc, "SLOTS")
-        .help("How many slots to draw, 1 to 1440")
-        .value_parser(value_parser!(u32).range(1..=1440))
+    let slots = required_word(alloc, "SLOTS", "How many slots to draw, 1 to 1440");
+    slots.value_parser(value_parser!(u32).range(1..=1440))
 }
 
 // The command without its option.
 fn bare_draw<'a>(alloc: Global) -> Result<Command<'a>, AllocError>
     ensures { IfOk result (λ c. IsCommand c draw_words) }
 {
-    let set = required_word(alloc, "SET").help("The set file, in TOML; - is standard input");
-    let command = subcommand(alloc, "draw", ABOUT, LONG, EXAMPLE);
-    command.arg(set)?.arg(slots_word(alloc))
+    let set = required_word(alloc, "SET", "The set file, in TOML; - is standard input");
+    let command = with_argument(subcommand(alloc, "draw", ABOUT, LONG, EXAMPLE), set);
+    with_argument(command, slots_word(alloc))
 }
 
 pub(crate) fn draw_command<'a>(alloc: Global) -> Result<Command<'a>, AllocError>
     ensures { IfOk result (λ c. IsCommand c draw_app) }
 {
-    bare_draw(alloc)?.arg(at_option(alloc))
+    with_argument(bare_draw(alloc), at_option(alloc))
 }
 
 pub(crate) fn draw_request<'a>(matches: &ArgMatches<'a>) -> Option<Request<'a>>

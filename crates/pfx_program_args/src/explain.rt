@@ -7,7 +7,9 @@ ghost use Rattle.pfx_program_args.specs.Commands.{explain_words, explain_app, Is
 ghost use Rattle.pfx_program_args.specs.Requests.{asked_by, explain_in};
 
 use crate::Request;
-use crate::arguments::{flag_under, json_flag, required_word, subcommand, text_under};
+use crate::arguments::{
+    flag_under, json_flag, required_word, subcommand, text_under, with_argument,
+};
 use clap::{ArgMatches, Command};
 use std::alloc::{AllocError, Global};
 
@@ -27,14 +29,14 @@ const EXAMPLE: &str = "Example:
 fn bare_explain<'a>(alloc: Global) -> Result<Command<'a>, AllocError>
     ensures { IfOk result (λ c. IsCommand c explain_words) }
 {
-    let fault = required_word(alloc, "FAULT").help("The fault's number or its name");
-    subcommand(alloc, "explain", ABOUT, LONG, EXAMPLE).arg(fault)
+    let fault = required_word(alloc, "FAULT", "The fault's number or its name");
+    with_argument(subcommand(alloc, "explain", ABOUT, LONG, EXAMPLE), fault)
 }
 
 pub(crate) fn explain_command<'a>(alloc: Global) -> Result<Command<'a>, AllocError>
     ensures { IfOk result (λ c. IsCommand c explain_app) }
 {
-    bare_explain(alloc)?.arg(json_flag(alloc))
+    with_argument(bare_explain(alloc), json_flag(alloc))
 }
 
 pub(crate) fn explain_request<'a>(matches: &ArgMatches<'a>) -> Option<Request<'a>>

@@ -7,7 +7,9 @@ ghost use Rattle.pfx_program_args.specs.Commands.{head_words, head_app, IsComman
 ghost use Rattle.pfx_program_args.specs.Requests.{asked_by, head_in};
 
 use crate::Request;
-use crate::arguments::{flag_under, json_flag, required_word, subcommand, text_under};
+use crate::arguments::{
+    flag_under, json_flag, required_word, subcommand, text_under, with_argument,
+};
 use clap::{ArgMatches, Command};
 use std::alloc::{AllocError, Global};
 
@@ -34,14 +36,14 @@ const EXAMPLE: &str = "Example:
 fn bare_head<'a>(alloc: Global) -> Result<Command<'a>, AllocError>
     ensures { IfOk result (λ c. IsCommand c head_words) }
 {
-    let log = required_word(alloc, "LOG").help("The log's file");
-    subcommand(alloc, "head", ABOUT, LONG, EXAMPLE).arg(log)
+    let log = required_word(alloc, "LOG", "The log's file");
+    with_argument(subcommand(alloc, "head", ABOUT, LONG, EXAMPLE), log)
 }
 
 pub(crate) fn head_command<'a>(alloc: Global) -> Result<Command<'a>, AllocError>
     ensures { IfOk result (λ c. IsCommand c head_app) }
 {
-    bare_head(alloc)?.arg(json_flag(alloc))
+    with_argument(bare_head(alloc), json_flag(alloc))
 }
 
 pub(crate) fn head_request<'a>(matches: &ArgMatches<'a>) -> Option<Request<'a>>

@@ -7,7 +7,9 @@ ghost use Rattle.pfx_program_args.specs.Commands.{init_words, init_app, IsComman
 ghost use Rattle.pfx_program_args.specs.Requests.{asked_by, init_in};
 
 use crate::Request;
-use crate::arguments::{flag_under, json_flag, required_word, subcommand, text_under};
+use crate::arguments::{
+    flag_under, json_flag, required_word, subcommand, text_under, with_argument,
+};
 use crate::plan::at_option;
 use clap::{ArgMatches, Command};
 use std::alloc::{AllocError, Global};
@@ -41,18 +43,17 @@ const EXAMPLE: &str = "Example:
 fn bare_init<'a>(alloc: Global) -> Result<Command<'a>, AllocError>
     ensures { IfOk result (λ c. IsCommand c init_words) }
 {
-    let set = required_word(alloc, "SET").help("The set file, in TOML; - is standard input");
-    let file = required_word(alloc, "FILE").help("The file to make the store in");
-    let command = subcommand(alloc, "init", ABOUT, LONG, EXAMPLE);
-    command.arg(set)?.arg(file)
+    let set = required_word(alloc, "SET", "The set file, in TOML; - is standard input");
+    let command = with_argument(subcommand(alloc, "init", ABOUT, LONG, EXAMPLE), set);
+    let file = required_word(alloc, "FILE", "The file to make the store in");
+    with_argument(command, file)
 }
 
 pub(crate) fn init_command<'a>(alloc: Global) -> Result<Command<'a>, AllocError>
     ensures { IfOk result (λ c. IsCommand c init_app) }
 {
-    bare_init(alloc)?
-        .arg(at_option(alloc))?
-        .arg(json_flag(alloc))
+    let command = with_argument(bare_init(alloc), at_option(alloc));
+    with_argument(command, json_flag(alloc))
 }
 
 pub(crate) fn init_request<'a>(matches: &ArgMatches<'a>) -> Option<Request<'a>>

@@ -7,7 +7,9 @@ ghost use Rattle.pfx_program_args.specs.Commands.{migrate_words, migrate_app, Is
 ghost use Rattle.pfx_program_args.specs.Requests.{asked_by, migrate_in};
 
 use crate::Request;
-use crate::arguments::{flag_under, json_flag, required_word, subcommand, text_under};
+use crate::arguments::{
+    flag_under, json_flag, required_word, subcommand, text_under, with_argument,
+};
 use clap::{ArgMatches, Command};
 use std::alloc::{AllocError, Global};
 
@@ -33,16 +35,16 @@ const EXAMPLE: &str = "Example:
 fn bare_migrate<'a>(alloc: Global) -> Result<Command<'a>, AllocError>
     ensures { IfOk result (λ c. IsCommand c migrate_words) }
 {
-    let old = required_word(alloc, "OLD").help("The file of the store of version 1");
-    let new = required_word(alloc, "NEW").help("The file to make the store in");
-    let command = subcommand(alloc, "migrate", ABOUT, LONG, EXAMPLE);
-    command.arg(old)?.arg(new)
+    let old = required_word(alloc, "OLD", "The file of the store of version 1");
+    let command = with_argument(subcommand(alloc, "migrate", ABOUT, LONG, EXAMPLE), old);
+    let new = required_word(alloc, "NEW", "The file to make the store in");
+    with_argument(command, new)
 }
 
 pub(crate) fn migrate_command<'a>(alloc: Global) -> Result<Command<'a>, AllocError>
     ensures { IfOk result (λ c. IsCommand c migrate_app) }
 {
-    bare_migrate(alloc)?.arg(json_flag(alloc))
+    with_argument(bare_migrate(alloc), json_flag(alloc))
 }
 
 pub(crate) fn migrate_request<'a>(matches: &ArgMatches<'a>) -> Option<Request<'a>>

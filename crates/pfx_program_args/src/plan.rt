@@ -8,7 +8,7 @@ ghost use Rattle.pfx_program_args.specs.Requests.{asked_by, plan_in};
 
 use crate::Request;
 use crate::arguments::{
-    flag_under, json_flag, number_under, required_word, subcommand, text_under,
+    flag_under, json_flag, number_under, required_word, subcommand, text_under, with_argument,
 };
 use clap::{Arg, ArgAction, ArgMatches, Command, value_parser};
 use std::alloc::{AllocError, Global};
@@ -39,9 +39,8 @@ const EXAMPLE: &str = "Example:
 fn slots_word<'a>(alloc: Global) -> Arg<'a>
     ensures { IsArgument result slots }
 {
-    required_word(alloc, "SLOTS")
-        .help("How many slots to print, 0 to 1048576")
-        .value_parser(value_parser!(u32).range(0..=1_048_576))
+    let slots = required_word(alloc, "SLOTS", "How many slots to print, 0 to 1048576");
+    slots.value_parser(value_parser!(u32).range(0..=1_048_576))
 }
 
 pub(crate) fn at_option<'a>(alloc: Global) -> Arg<'a>
@@ -65,18 +64,17 @@ fn ledger_flag<'a>(alloc: Global) -> Arg<'a>
 fn bare_plan<'a>(alloc: Global) -> Result<Command<'a>, AllocError>
     ensures { IfOk result (λ c. IsCommand c plan_words) }
 {
-    let set = required_word(alloc, "SET").help("The set file, in TOML; - is standard input");
-    let command = subcommand(alloc, "plan", ABOUT, LONG, EXAMPLE);
-    command.arg(set)?.arg(slots_word(alloc))
+    let set = required_word(alloc, "SET", "The set file, in TOML; - is standard input");
+    let command = with_argument(subcommand(alloc, "plan", ABOUT, LONG, EXAMPLE), set);
+    with_argument(command, slots_word(alloc))
 }
 
 pub(crate) fn plan_command<'a>(alloc: Global) -> Result<Command<'a>, AllocError>
     ensures { IfOk result (λ c. IsCommand c plan_app) }
 {
-    bare_plan(alloc)?
-        .arg(at_option(alloc))?
-        .arg(ledger_flag(alloc))?
-        .arg(json_flag(alloc))
+    let command = with_argument(bare_plan(alloc), at_option(alloc));
+    let command = with_argument(command, ledger_flag(alloc));
+    with_argument(command, json_flag(alloc))
 }
 
 pub(crate) fn plan_request<'a>(matches: &ArgMatches<'a>) -> Option<Request<'a>>

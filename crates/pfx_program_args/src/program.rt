@@ -6,7 +6,7 @@ ghost use Rattle.clap.specs.Kinds.{FailsBy};
 ghost use Rattle.clap.specs.Takes.{takes};
 ghost use Rattle.clap.specs.Values.{kind_of};
 ghost use Rattle.clap.specs.Walk.{texts};
-ghost use Rattle.clap.specs.Simple.{subcommand_rows_of};
+ghost use Rattle.clap.specs.Simple.{App, subcommand_rows_of, with_subcommand};
 ghost use Rattle.pfx_program_args.specs.Commands.{bare_app, pfx_app, IsCommand};
 ghost use Rattle.pfx_program_args.specs.Requests.{asked_by, asked_in, asked};
 
@@ -61,22 +61,32 @@ fn bare_command<'a>(alloc: Global) -> Command<'a>
         .after_help(EXAMPLE)
 }
 
+// A command with one more subcommand, if both could be made.
+fn with_subcommand<'a>(
+    command: Result<Command<'a>, AllocError>,
+    subcommand: Result<Command<'a>, AllocError>,
+) -> Result<Command<'a>, AllocError>
+    ensures { (app sub : App) → IfOk command.entry (λ c. IsCommand c app) → IfOk subcommand.entry (λ c. IsCommand c sub)
+        → IfOk result (λ c. IsCommand c (with_subcommand app sub.top)) }
+{
+    command?.subcommand(subcommand?)
+}
+
 fn pfx_command<'a>(alloc: Global) -> Result<Command<'a>, AllocError>
     ensures { IfOk result (λ c. IsCommand c pfx_app) }
 {
-    bare_command(alloc)
-        .subcommand(plan_command(alloc)?)?
-        .subcommand(init_command(alloc)?)?
-        .subcommand(run_command(alloc)?)?
-        .subcommand(status_command(alloc)?)?
-        .subcommand(replay_command(alloc)?)?
-        .subcommand(show_command(alloc)?)?
-        .subcommand(draw_command(alloc)?)?
-        .subcommand(check_command(alloc)?)?
-        .subcommand(explain_command(alloc)?)?
-        .subcommand(migrate_command(alloc)?)?
-        .subcommand(audit_command(alloc)?)?
-        .subcommand(head_command(alloc)?)
+    let command = with_subcommand(Ok(bare_command(alloc)), plan_command(alloc));
+    let command = with_subcommand(command, init_command(alloc));
+    let command = with_subcommand(command, run_command(alloc));
+    let command = with_subcommand(command, status_command(alloc));
+    let command = with_subcommand(command, replay_command(alloc));
+    let command = with_subcommand(command, show_command(alloc));
+    let command = with_subcommand(command, draw_command(alloc));
+    let command = with_subcommand(command, check_command(alloc));
+    let command = with_subcommand(command, explain_command(alloc));
+    let command = with_subcommand(command, migrate_command(alloc));
+    let command = with_subcommand(command, audit_command(alloc));
+    with_subcommand(command, head_command(alloc))
 }
 
 fn request_in<'a>(

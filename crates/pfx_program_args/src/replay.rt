@@ -7,7 +7,9 @@ ghost use Rattle.pfx_program_args.specs.Commands.{replay_words, replay_app, IsCo
 ghost use Rattle.pfx_program_args.specs.Requests.{asked_by, replay_in};
 
 use crate::Request;
-use crate::arguments::{flag_under, json_flag, required_word, subcommand, text_under};
+use crate::arguments::{
+    flag_under, json_flag, required_word, subcommand, text_under, with_argument,
+};
 use clap::{ArgMatches, Command};
 use std::alloc::{AllocError, Global};
 
@@ -38,14 +40,14 @@ const EXAMPLE: &str = "Example:
 fn bare_replay<'a>(alloc: Global) -> Result<Command<'a>, AllocError>
     ensures { IfOk result (λ c. IsCommand c replay_words) }
 {
-    let file = required_word(alloc, "FILE").help("The store's file");
-    subcommand(alloc, "replay", ABOUT, LONG, EXAMPLE).arg(file)
+    let file = required_word(alloc, "FILE", "The store's file");
+    with_argument(subcommand(alloc, "replay", ABOUT, LONG, EXAMPLE), file)
 }
 
 pub(crate) fn replay_command<'a>(alloc: Global) -> Result<Command<'a>, AllocError>
     ensures { IfOk result (λ c. IsCommand c replay_app) }
 {
-    bare_replay(alloc)?.arg(json_flag(alloc))
+    with_argument(bare_replay(alloc), json_flag(alloc))
 }
 
 pub(crate) fn replay_request<'a>(matches: &ArgMatches<'a>) -> Option<Request<'a>>

@@ -9,7 +9,7 @@ ghost use Rattle.pfx_program_args.specs.Requests.{asked_by, run_in};
 
 use crate::Request;
 use crate::arguments::{
-    flag_under, json_flag, number_under, required_word, subcommand, text_under,
+    flag_under, json_flag, number_under, required_word, subcommand, text_under, with_argument,
 };
 use clap::{Arg, ArgAction, ArgMatches, Command, value_parser};
 use std::alloc::{AllocError, Global};
@@ -130,33 +130,33 @@ fn strict_flag<'a>(alloc: Global) -> Arg<'a>
 fn bare_run<'a>(alloc: Global) -> Result<Command<'a>, AllocError>
     ensures { IfOk result (λ c. IsCommand c run_words) }
 {
-    let file = required_word(alloc, "FILE").help("The store's file");
-    let script = required_word(alloc, "SCRIPT").help("The script, in CSV; - is standard input");
-    let command = subcommand(alloc, "run", ABOUT, LONG, EXAMPLE);
-    command.arg(file)?.arg(script)
+    let file = required_word(alloc, "FILE", "The store's file");
+    let command = with_argument(subcommand(alloc, "run", ABOUT, LONG, EXAMPLE), file);
+    let script = required_word(alloc, "SCRIPT", "The script, in CSV; - is standard input");
+    with_argument(command, script)
 }
 
 // And with the numbers that it takes.
 fn numbered_run<'a>(alloc: Global) -> Result<Command<'a>, AllocError>
     ensures { IfOk result (λ c. IsCommand c run_by_batch) }
 {
-    let command = bare_run(alloc)?.arg(workers_option(alloc))?;
-    command.arg(batch_option(alloc))
+    let command = with_argument(bare_run(alloc), workers_option(alloc));
+    with_argument(command, batch_option(alloc))
 }
 
 // And with its logs.
 fn logged_run<'a>(alloc: Global) -> Result<Command<'a>, AllocError>
     ensures { IfOk result (λ c. IsCommand c run_after_log) }
 {
-    let command = numbered_run(alloc)?.arg(log_option(alloc))?;
-    command.arg(after_option(alloc))
+    let command = with_argument(numbered_run(alloc), log_option(alloc));
+    with_argument(command, after_option(alloc))
 }
 
 pub(crate) fn run_command<'a>(alloc: Global) -> Result<Command<'a>, AllocError>
     ensures { IfOk result (λ c. IsCommand c run_app) }
 {
-    let command = logged_run(alloc)?.arg(strict_flag(alloc))?;
-    command.arg(json_flag(alloc))
+    let command = with_argument(logged_run(alloc), strict_flag(alloc));
+    with_argument(command, json_flag(alloc))
 }
 
 pub(crate) fn run_request<'a>(matches: &ArgMatches<'a>) -> Option<Request<'a>>

@@ -8,7 +8,7 @@ ghost use Rattle.pfx_program_args.specs.Requests.{asked_by, show_in};
 
 use crate::Request;
 use crate::arguments::{
-    flag_under, json_flag, number_under, required_word, subcommand, text_under,
+    flag_under, json_flag, number_under, required_word, subcommand, text_under, with_argument,
 };
 use clap::{Arg, ArgMatches, Command, value_parser};
 use std::alloc::{AllocError, Global};
@@ -51,16 +51,15 @@ fn task_word<'a>(alloc: Global) -> Arg<'a>
 fn bare_show<'a>(alloc: Global) -> Result<Command<'a>, AllocError>
     ensures { IfOk result (λ c. IsCommand c show_words) }
 {
-    let file = required_word(alloc, "FILE").help("The store's file");
-    subcommand(alloc, "show", ABOUT, LONG, EXAMPLE).arg(file)
+    let file = required_word(alloc, "FILE", "The store's file");
+    with_argument(subcommand(alloc, "show", ABOUT, LONG, EXAMPLE), file)
 }
 
 pub(crate) fn show_command<'a>(alloc: Global) -> Result<Command<'a>, AllocError>
     ensures { IfOk result (λ c. IsCommand c show_app) }
 {
-    bare_show(alloc)?
-        .arg(task_word(alloc))?
-        .arg(json_flag(alloc))
+    let command = with_argument(bare_show(alloc), task_word(alloc));
+    with_argument(command, json_flag(alloc))
 }
 
 pub(crate) fn show_request<'a>(matches: &ArgMatches<'a>) -> Option<Request<'a>>

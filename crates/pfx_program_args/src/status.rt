@@ -7,7 +7,9 @@ ghost use Rattle.pfx_program_args.specs.Commands.{status_words, status_app, IsCo
 ghost use Rattle.pfx_program_args.specs.Requests.{asked_by, status_in};
 
 use crate::Request;
-use crate::arguments::{flag_under, json_flag, required_word, subcommand, text_under};
+use crate::arguments::{
+    flag_under, json_flag, required_word, subcommand, text_under, with_argument,
+};
 use clap::{ArgMatches, Command};
 use std::alloc::{AllocError, Global};
 
@@ -35,14 +37,14 @@ const EXAMPLE: &str = "Example:
 fn bare_status<'a>(alloc: Global) -> Result<Command<'a>, AllocError>
     ensures { IfOk result (λ c. IsCommand c status_words) }
 {
-    let file = required_word(alloc, "FILE").help("The store's file");
-    subcommand(alloc, "status", ABOUT, LONG, EXAMPLE).arg(file)
+    let file = required_word(alloc, "FILE", "The store's file");
+    with_argument(subcommand(alloc, "status", ABOUT, LONG, EXAMPLE), file)
 }
 
 pub(crate) fn status_command<'a>(alloc: Global) -> Result<Command<'a>, AllocError>
     ensures { IfOk result (λ c. IsCommand c status_app) }
 {
-    bare_status(alloc)?.arg(json_flag(alloc))
+    with_argument(bare_status(alloc), json_flag(alloc))
 }
 
 pub(crate) fn status_request<'a>(matches: &ArgMatches<'a>) -> Option<Request<'a>>

@@ -1,7 +1,7 @@
 //! Notes of files that can't be opened, and of stores.
 
 use crate::texts;
-use crate::words::{Said, Texts, Word, say, written};
+use crate::words::{Texts, Word, say, written};
 use pfx_fault::{Fault, Part};
 use pfx_program_explain::Note;
 use std::alloc::{AllocError, Global};
@@ -162,94 +162,89 @@ fn part_text(part: Part) -> &'static str {
     }
 }
 
-// What is said of a fault of a store's file.
-fn said_of<'a>(path: &'a str, script: Option<&'a str>, fault: Fault) -> Option<Said<'a>> {
-    let file = Word::Text(path);
+// What a fault of a file tells beside the file. `script` is the word behind the store's.
+fn words_of<'a>(script: Option<&'a str>, fault: Fault) -> (Word<'a>, Word<'a>) {
+    let nothing = Word::Text("");
     match fault {
-        Fault::NotAStore => match script {
-            Some(script) => say(texts::NO_STORE_FIRST, &[file, Word::Text(script)]),
-            None => say(texts::NO_STORE, &[file]),
-        },
-        Fault::Damaged { at, what } => {
-            let texts = if what == Part::Length {
-                texts::DAMAGED_LENGTH
-            } else {
-                texts::DAMAGED
-            };
-            let part = Word::Text(part_text(what));
-            say(texts, &[file, Word::Number(at), part])
+        Fault::NotAStore => (Word::Text(script.unwrap_or("")), nothing),
+        Fault::Damaged { at, what } => (Word::Number(at), Word::Text(part_text(what))),
+        Fault::WrongVersion { version } => (Word::Number(u64::from(version)), nothing),
+        Fault::NoSuchTask { task } | Fault::NoJob { task } => {
+            (Word::Number(u64::from(task)), nothing)
         }
-        Fault::WrongVersion { version } => {
-            let texts = if version == 1 {
-                texts::VERSION_ONE
-            } else {
-                texts::VERSION
-            };
-            say(texts, &[file, Word::Number(u64::from(version))])
-        }
-        Fault::NotEmpty => say(texts::NOT_EMPTY, &[file]),
-        Fault::Busy => say(texts::BUSY, &[file]),
-        Fault::NoSuchTask { task } => {
-            say(texts::NO_SUCH_TASK, &[file, Word::Number(u64::from(task))])
-        }
-        Fault::NoJob { task } => say(texts::NO_JOB, &[file, Word::Number(u64::from(task))]),
+        Fault::LogGap { log, file } => (Word::Number(log), Word::Number(file)),
+        Fault::LogDamaged { at } => (Word::Number(at), nothing),
+        Fault::WrongLogVersion { version } => (Word::Number(u64::from(version)), nothing),
+        _ => (nothing, nothing),
+    }
+}
+
+// The texts of a fault of a store's file.
+fn store_texts(script: Option<&str>, fault: Fault) -> Option<Texts> {
+    match fault {
+        Fault::NotAStore if script.is_some() => Some(texts::NO_STORE_FIRST),
+        Fault::NotAStore => Some(texts::NO_STORE),
+        Fault::Damaged { what, .. } if what == Part::Length => Some(texts::DAMAGED_LENGTH),
+        Fault::Damaged { .. } => Some(texts::DAMAGED),
+        Fault::WrongVersion { version: 1 } => Some(texts::VERSION_ONE),
+        Fault::WrongVersion { .. } => Some(texts::VERSION),
+        Fault::NotEmpty => Some(texts::NOT_EMPTY),
+        Fault::Busy => Some(texts::BUSY),
+        Fault::NoSuchTask { .. } => Some(texts::NO_SUCH_TASK),
+        Fault::NoJob { .. } => Some(texts::NO_JOB),
         _ => None,
     }
 }
 
-// What is said of a fault of a log.
-fn said_of_log<'a>(path: &'a str, fault: Fault) -> Option<Said<'a>> {
-    let file = Word::Text(path);
+// The texts of a fault of a log.
+fn log_texts(fault: Fault) -> Option<Texts> {
     match fault {
-        Fault::LogGap { log, file: begin } => {
-            let texts = if log < begin {
-                texts::LOG_GAP
-            } else {
-                texts::LOG_AHEAD
-            };
-            say(texts, &[file, Word::Number(log), Word::Number(begin)])
-        }
-        Fault::NotALog => say(texts::NO_LOG, &[file]),
-        Fault::NotEmpty => say(texts::LOG_NOT_EMPTY, &[file]),
-        Fault::Busy => say(texts::LOG_BUSY, &[file]),
-        Fault::LogDamaged { at } => say(texts::DAMAGED_LOG, &[file, Word::Number(at)]),
-        Fault::WrongLogVersion { version } => {
-            say(
-                texts::LOG_VERSION,
-                &[file, Word::Number(u64::from(version))],
-            )
-        }
+        Fault::LogGap { log, file } if log < file => Some(texts::LOG_GAP),
+        Fault::LogGap { .. } => Some(texts::LOG_AHEAD),
+        Fault::NotALog => Some(texts::NO_LOG),
+        Fault::NotEmpty => Some(texts::LOG_NOT_EMPTY),
+        Fault::Busy => Some(texts::LOG_BUSY),
+        Fault::LogDamaged { .. } => Some(texts::DAMAGED_LOG),
+        Fault::WrongLogVersion { .. } => Some(texts::LOG_VERSION),
         _ => None,
     }
 }
 
-// What is said of a part of a history that isn't the next one.
-fn said_of_history<'a>(path: &'a str, fault: Fault) -> Option<Said<'a>> {
-    let file = Word::Text(path);
+// The texts of a part of a history that isn't the next one.
+fn history_texts(fault: Fault) -> Option<Texts> {
     match fault {
-        Fault::LogGap { log, file: begin } => {
-            let texts = if log == begin {
-                texts::OTHER_HISTORY
-            } else {
-                texts::HISTORY_GAP
-            };
-            say(texts, &[file, Word::Number(log), Word::Number(begin)])
-        }
-        Fault::NotALog => say(texts::NO_HISTORY, &[file]),
-        Fault::Busy => say(texts::HISTORY_BUSY, &[file]),
-        _ => said_of_log(path, fault),
+        Fault::LogGap { log, file } if log == file => Some(texts::OTHER_HISTORY),
+        Fault::LogGap { .. } => Some(texts::HISTORY_GAP),
+        Fault::NotALog => Some(texts::NO_HISTORY),
+        Fault::Busy => Some(texts::HISTORY_BUSY),
+        _ => log_texts(fault),
     }
+}
+
+// The note of a fault of the file at this path, with these texts.
+fn fault_note(
+    alloc: Global,
+    texts: Option<Texts>,
+    path: &str,
+    script: Option<&str>,
+    fault: Fault,
+) -> Result<Option<Note>, AllocError> {
+    let Some(texts) = texts else {
+        return Ok(None);
+    };
+    let (first, second) = words_of(script, fault);
+    written(alloc, say(texts, &[Word::Text(path), first, second]))
 }
 
 /// The note of a fault of the part of a history at this path: a log, or a store's file behind logs. `None` if the fault is of another kind.
 /// Fails only if memory runs out.
 pub fn history_note(alloc: Global, path: &str, fault: Fault) -> Result<Option<Note>, AllocError> {
-    written(alloc, said_of_history(path, fault))
+    fault_note(alloc, history_texts(fault), path, None, fault)
 }
 
 /// The note of a fault of the log at this path. `None` if the fault is of another kind. Fails only if memory runs out.
 pub fn log_note(alloc: Global, path: &str, fault: Fault) -> Result<Option<Note>, AllocError> {
-    written(alloc, said_of_log(path, fault))
+    fault_note(alloc, log_texts(fault), path, None, fault)
 }
 
 /// The note of a fault of a store's file. `script` is the word behind the store's, if that file is a store. `None` if the fault
@@ -260,5 +255,5 @@ pub fn store_note(
     script: Option<&str>,
     fault: Fault,
 ) -> Result<Option<Note>, AllocError> {
-    written(alloc, said_of(path, script, fault))
+    fault_note(alloc, store_texts(script, fault), path, script, fault)
 }

@@ -190,6 +190,26 @@ fn put_refusal(alloc: Global, text: &mut String, fault: Fault) -> Result<(), All
     text.push_str(said.as_str())
 }
 
+fn put_idle(alloc: Global, text: &mut String, task: usize) -> Result<(), AllocError> {
+    text.push_str("idle ")?;
+    put_task(alloc, text, task, None)
+}
+
+fn put_fraction(alloc: Global, text: &mut String, fraction: Fraction) -> Result<(), AllocError> {
+    put_number(alloc, text, fraction.parts)?;
+    if fraction.whole == 1 {
+        return Ok(());
+    }
+    text.push('/')?;
+    put_number(alloc, text, fraction.whole)
+}
+
+fn put_either(alloc: Global, text: &mut String, number: u64) -> Result<(), AllocError> {
+    put_number(alloc, text, number)?;
+    text.push_str(" or ")?;
+    put_number(alloc, text, number.saturating_add(1))
+}
+
 fn put_word(alloc: Global, text: &mut String, word: Word<'_>) -> Result<(), AllocError> {
     match word {
         Word::Text(word) => text.push_str(word),
@@ -199,27 +219,13 @@ fn put_word(alloc: Global, text: &mut String, word: Word<'_>) -> Result<(), Allo
         Word::At(file, place) => put_file(alloc, text, file, place),
         Word::Task(task, name) => put_task(alloc, text, task, name),
         Word::Name(name) => put_name(text, name),
-        Word::Idle(task) => {
-            text.push_str("idle ")?;
-            put_task(alloc, text, task, None)
-        }
+        Word::Idle(task) => put_idle(alloc, text, task),
         Word::Zeros(total) => put_zeros(text, total),
         Word::Count(count, noun) => put_count(alloc, text, count, noun),
         Word::Are(count) => text.push_str(if count == 1 { "is" } else { "are" }),
-        Word::Fraction(Fraction { parts, whole }) => {
-            put_number(alloc, text, parts)?;
-            if whole == 1 {
-                return Ok(());
-            }
-            text.push('/')?;
-            put_number(alloc, text, whole)
-        }
+        Word::Fraction(fraction) => put_fraction(alloc, text, fraction),
         Word::Refusal(fault) => put_refusal(alloc, text, fault),
-        Word::Either(number) => {
-            put_number(alloc, text, number)?;
-            text.push_str(" or ")?;
-            put_number(alloc, text, number.saturating_add(1))
-        }
+        Word::Either(number) => put_either(alloc, text, number),
     }
 }
 
