@@ -1,4 +1,3 @@
-pub mod Builds
 pub mod Numbers
 pub mod Examples
 pub mod Plain
