@@ -246,6 +246,30 @@ fn tell_block(
     Ok(())
 }
 
+// Why an audit came to no answer, and which part is to blame.
+fn audit_fault(
+    rt: &HostRuntime,
+    alloc: Global,
+    paths: &[&str],
+    logs: &[FileDisk],
+    fault: AuditFault,
+    traces: &Traces,
+) -> Fault {
+    match fault {
+        AuditFault::Log { index, fault } => {
+            traces.at_part.set(index);
+            if let Some(disk) = logs.get(index) {
+                traces.keep_said(disk);
+            }
+            part_fault(rt, alloc, paths, index, fault)
+        }
+        AuditFault::File(fault) => {
+            traces.at_part.set(logs.len());
+            end_fault(rt, alloc, &paths[..logs.len().min(paths.len())], fault)
+        }
+    }
+}
+
 // Audits a history whose parts are these, and prints what was sought in it.
 fn audited(
     rt: &HostRuntime,
@@ -269,32 +293,16 @@ fn audited(
             if let Some(sought) = asked.number
                 && watcher.is_found()
             {
-                tell_block(
-                    rt,
-                    alloc,
-                    logs,
-                    sought,
-                    asked.form == AuditForm::Json,
-                    traces,
-                )?;
+                let json = asked.form == AuditForm::Json;
+                tell_block(rt, alloc, logs, sought, json, traces)?;
             }
             let end = HistoryEnd::Agrees { number, log };
             Ok((end, watcher.is_found()))
         }
         Ok(differs) => Ok((differs, true)),
-        Err(fault) => Err(match (watcher.failed(), fault) {
-            (Some(failed), _) => failed,
-            (None, AuditFault::Log { index, fault }) => {
-                traces.at_part.set(index);
-                if let Some(disk) = logs.get(index) {
-                    traces.keep_said(disk);
-                }
-                part_fault(rt, alloc, paths, index, fault)
-            }
-            (None, AuditFault::File(fault)) => {
-                traces.at_part.set(logs.len());
-                end_fault(rt, alloc, &paths[..logs.len().min(paths.len())], fault)
-            }
+        Err(fault) => Err(match watcher.failed() {
+            Some(failed) => failed,
+            None => audit_fault(rt, alloc, paths, logs, fault, traces),
         }),
     }
 }

@@ -37,14 +37,14 @@ type JobDesk = ChannelDesk<Quantum<AnyJob>, Done<AnyJob>>;
 const GROUP: u32 = 16;
 
 // A run with so many slots at once, or this many where none are said.
-fn run_of(window: Option<u32>, other: u32, strict: bool, form: Form) -> Run {
+fn run_of(batch: Option<u32>, other: u32, strict: bool, form: Form) -> Run {
     let at_refusal = if strict {
         AtRefusal::End
     } else {
         AtRefusal::GoOn
     };
     Run {
-        window: window.unwrap_or(other).max(1),
+        batch: batch.unwrap_or(other).max(1),
         group: GROUP,
         at_refusal,
         form,

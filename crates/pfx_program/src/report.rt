@@ -27,14 +27,14 @@ pub enum AtRefusal {
 #[derive(Clone, Copy)]
 pub struct Run {
     /// How many slots of a record are asked for in one call, 1 or more.
-    pub window: u32,
+    pub batch: u32,
     /// How many records share a call at the most, 16 or fewer.
     pub group: u32,
     /// What is done behind a record that is refused.
     pub at_refusal: AtRefusal,
     /// Whether lines are text or objects.
     pub form: Form,
-    ghost some: { 0 < window },
+    ghost some: { 0 < batch },
     ghost few: { group ≤ 16 },
 }
 

@@ -2,7 +2,7 @@
 //!
 //! Why it is so:
 //! - **How many are tried at once is the caller's number, and is part of what a run ends with** (`Stopped`): with 1, which is the
-//!   program's if the words don't say, a failure leaves one command in doubt, as without windows. The only cost of a larger number is
+//!   program's if the words don't say, a failure leaves one command in doubt, as without batches. The only cost of a larger number is
 //!   that more commands after the printed ones are in doubt, and that lines come later.
 //! - **What a script's weights take of memory is asked for before the count of commands is looked at**: a run that has none left ends as
 //!   NoMemory though its next line would be SessionFull.
@@ -111,30 +111,30 @@ fn put_replies<W: Printer<E>, E>(
     Ok(())
 }
 
-// Carries out some of the slots that are left, as many as the window has at the most, and prints their lines: how many, and if
+// Carries out some of the slots that are left, as many as the batch has at the most, and prints their lines: how many, and if
 // there are none, why the first one is refused.
-fn run_window<W: Printer<E>, E: Engine<AnyJob>>(
+fn run_batch<W: Printer<E>, E: Engine<AnyJob>>(
     alloc: Global,
     left: u32,
-    window: u32,
+    batch: u32,
     accepted: &mut u32,
     form: Form,
     output: &mut W,
     engine: &mut E,
 ) -> Result<(u32, Option<Fault>), Fault>
     requires left { 0 < left }
-    requires some { 0 < window }
+    requires some { 0 < batch }
     requires may { MayPrint E.promise W.allows engine.old (W.contents output.old) (slot_steps (run_of E.promise form engine.old accepted.old) left) }
     ensures ok { IfOk result (λ went. Slotted E.promise form left went.0 went.1 accepted.old engine.old engine.new (W.contents output.old) (W.contents output.new)) }
     ensures counts { IfOk result (λ went. accepted.new ≡ accepted.old + went.0) }
-    ensures err { IfErr result (Stopped E.promise window ⊥ (slot_steps (run_of E.promise form engine.old accepted.old) left) engine.old engine.new
+    ensures err { IfErr result (Stopped E.promise batch ⊥ (slot_steps (run_of E.promise form engine.old accepted.old) left) engine.old engine.new
         (W.contents output.old) (W.contents output.new)) }
 {
     if *accepted >= MOST {
         put_refused(alloc, form, output, engine, Fault::SessionFull)?;
         return Ok((0, Some(Fault::SessionFull)));
     }
-    match engine.slots(alloc, left.min(window).min(MOST - *accepted)) {
+    match engine.slots(alloc, left.min(batch).min(MOST - *accepted)) {
         Ok(said) => {
             let ran = said.len() as u32;
             *accepted += ran;
@@ -154,24 +154,24 @@ fn run_window<W: Printer<E>, E: Engine<AnyJob>>(
 fn run_slots<W: Printer<E>, E: Engine<AnyJob>>(
     alloc: Global,
     count: u32,
-    window: u32,
+    batch: u32,
     accepted: &mut u32,
     form: Form,
     output: &mut W,
     engine: &mut E,
 ) -> Result<Option<Fault>, Fault>
-    requires some { 0 < window }
+    requires some { 0 < batch }
     requires may { MayPrint E.promise W.allows engine.old (W.contents output.old) (slot_steps (run_of E.promise form engine.old accepted.old) count) }
     ensures ok { OnOk result (Carried E.promise (slot_steps (run_of E.promise form engine.old accepted.old) count) engine.old engine.new
         (W.contents output.old) (W.contents output.new)) }
     ensures counts { OnOk result (accepted.new ≡ accepted.old + length (commands_of (slot_steps (run_of E.promise form engine.old accepted.old) count))) }
     ensures told { IfOk result (λ why. why ≡ refusal_of (slot_steps (run_of E.promise form engine.old accepted.old) count)) }
-    ensures err { IfErr result (Stopped E.promise window ⊥ (slot_steps (run_of E.promise form engine.old accepted.old) count) engine.old engine.new
+    ensures err { IfErr result (Stopped E.promise batch ⊥ (slot_steps (run_of E.promise form engine.old accepted.old) count) engine.old engine.new
         (W.contents output.old) (W.contents output.new)) }
 {
     let mut left = count;
     while left > 0 {
-        let (ran, why) = run_window(alloc, left, window, accepted, form, output, engine)?;
+        let (ran, why) = run_batch(alloc, left, batch, accepted, form, output, engine)?;
         if ran == 0 {
             return Ok(why);
         }
@@ -366,20 +366,20 @@ fn close<W: Printer<E>, E: Engine<AnyJob>>(
 fn run_verb<W: Printer<E>, E: Engine<AnyJob>>(
     alloc: Global,
     verb: Verb<'_>,
-    window: u32,
+    batch: u32,
     accepted: &mut u32,
     form: Form,
     output: &mut W,
     engine: &mut E,
 ) -> Result<Option<Fault>, Fault>
-    requires some { 0 < window }
+    requires some { 0 < batch }
     requires may { MayPrint E.promise W.allows engine.old (W.contents output.old) (verb_steps (run_of E.promise form engine.old accepted.old) (said_by verb)) }
     ensures ok { OnOk result (Carried E.promise (verb_steps (run_of E.promise form engine.old accepted.old) (said_by verb.entry)) engine.old engine.new
         (W.contents output.old) (W.contents output.new)) }
     ensures counts { OnOk result
         (accepted.new ≡ accepted.old + length (commands_of (verb_steps (run_of E.promise form engine.old accepted.old) (said_by verb.entry)))) }
     ensures told { IfOk result (λ why. why ≡ refusal_of (verb_steps (run_of E.promise form engine.old accepted.old) (said_by verb.entry))) }
-    ensures err { IfErr result (Stopped E.promise window ⊥ (verb_steps (run_of E.promise form engine.old accepted.old) (said_by verb.entry))
+    ensures err { IfErr result (Stopped E.promise batch ⊥ (verb_steps (run_of E.promise form engine.old accepted.old) (said_by verb.entry))
         engine.old engine.new (W.contents output.old) (W.contents output.new)) }
 {
     match verb {
@@ -392,7 +392,7 @@ fn run_verb<W: Printer<E>, E: Engine<AnyJob>>(
             let job = started(kind, goal, text);
             run_submit(alloc, task, job, accepted, form, output, engine)
         }
-        Verb::Slot { count } => run_slots(alloc, count, window, accepted, form, output, engine),
+        Verb::Slot { count } => run_slots(alloc, count, batch, accepted, form, output, engine),
         Verb::Withdraw { task } => {
             run_command(
                 alloc,
@@ -423,29 +423,29 @@ fn run_row<W: Printer<E>, E: Engine<AnyJob>>(
     alloc: Global,
     at: u64,
     row: &StringRecord,
-    window: u32,
+    batch: u32,
     accepted: &mut u32,
     form: Form,
     output: &mut W,
     engine: &mut E,
 ) -> Result<Option<Fault>, Fault>
-    requires some { 0 < window }
+    requires some { 0 < batch }
     requires text { AllText (fields_of row.now) }
     requires may { (verb : Said) → verb_of (fields_of row.now) ≡ Some verb
         → MayPrint E.promise W.allows engine.old (W.contents output.old) (verb_steps (run_of E.promise form engine.old accepted.old) verb) }
     ensures done { IfOk result (λ why. RowDone E.promise form (fields_of row.now) why accepted.old accepted.new engine.old engine.new
         (W.contents output.old) (W.contents output.new)) }
-    ensures fails { IfErr result (RowFails E.promise form window (fields_of row.now) at accepted.old engine.old engine.new (W.contents output.old) (W.contents output.new)) }
+    ensures fails { IfErr result (RowFails E.promise form batch (fields_of row.now) at accepted.old engine.old engine.new (W.contents output.old) (W.contents output.new)) }
 {
     let Some(verb) = read_verb(row) else {
         return Err(Fault::BadScript { at });
     };
-    run_verb(alloc, verb, window, accepted, form, output, engine)
+    run_verb(alloc, verb, batch, accepted, form, output, engine)
 }
 
 /// Reads the next record of a script, carries out what it asks for and prints its lines: `true` if there is a record,
 /// `false` if none is left, and then nothing is done. `row` is the memory of a record, `accepted` counts the commands of a
-/// run: after 1,048,576 of them each further one is refused as SessionFull. `window` and `form` are as `run_script` has them.
+/// run: after 1,048,576 of them each further one is refused as SessionFull. `batch` and `form` are as `run_script` has them.
 ///
 /// With `true` exactly the record's text was written, each line once its command was kept, and of the records none
 /// after it was read: the script has them left. So a record is answered before the next one is waited for.
@@ -455,25 +455,25 @@ pub fn run_record<R: Read + Drop, W: Printer<E>, E: Engine<AnyJob>>(
     alloc: Global,
     script: &mut Script<R>,
     row: &mut StringRecord,
-    window: u32,
+    batch: u32,
     accepted: &mut u32,
     form: Form,
     output: &mut W,
     engine: &mut E,
 ) -> Result<bool, Fault>
-    requires some { 0 < window }
+    requires some { 0 < batch }
     requires may { MayRun E.promise W.allows form AtRefusal.GoOn script.old accepted.old engine.old (W.contents output.old) }
     ensures answers { IfOk result (λ more. Answers E.promise form script.old more script.new accepted.old accepted.new engine.old engine.new
         (W.contents output.old) (W.contents output.new)) }
     ensures fails { IfErr result
-        (IsUnanswered E.promise form window script.old script.new accepted.old engine.old engine.new (W.contents output.old) (W.contents output.new)) }
+        (IsUnanswered E.promise form batch script.old script.new accepted.old engine.old engine.new (W.contents output.old) (W.contents output.new)) }
     ensures counts { script.new.place < 2 ^ 64 }
 {
     if !script.next(row)? {
         return Ok(false);
     }
     let at = script.place();
-    run_row(alloc, at, row, window, accepted, form, output, engine)?;
+    run_row(alloc, at, row, batch, accepted, form, output, engine)?;
     Ok(true)
 }
 
@@ -492,9 +492,9 @@ fn together(at_refusal: AtRefusal, group: u32, accepted: u32) -> u32
 /// Runs the records of a script that are left over an engine: prints a line for each command, in the script's order, and
 /// `closed` with the last number at the end, once every accepted command is kept.
 ///
-/// The engine is asked for up to `run.window` slots of a record in one call. Records that give tasks jobs or take jobs away
+/// The engine is asked for up to `run.batch` slots of a record in one call. Records that give tasks jobs or take jobs away
 /// share a call, up to `run.group` of them, as long as the next one stands ready and is of a task that none before it is
-/// of: none is waited for before those that were read are answered. What is printed is the same for each window and each group: a
+/// of: none is waited for before those that were read are answered. What is printed is the same for each batch and each group: a
 /// line is printed once its command is kept, and the commands of a call are all kept before the first of their lines.
 /// By `run.form` lines are text, as `2 ran 0: 0 1`, or objects of JSON, as `{"did":"ran","number":2,"slot":0,"tasks":[0,1]}`.
 ///
@@ -503,7 +503,7 @@ fn together(at_refusal: AtRefusal, group: u32, accepted: u32) -> u32
 /// SessionFull. The report counts the commands that were accepted and the records that were refused, and has the first of these, with
 /// its place, counted from 1 at the script's begin. `BadScript` tells the place, counted from 1, of the first record that has no form; the lines before it
 /// are printed, and its commands stand. After any other fault whole lines are printed, but for the writer's own, and the
-/// command of each of them is carried out and kept; of as many commands more as the window or the group has it isn't known:
+/// command of each of them is carried out and kept; of as many commands more as the batch or the group has it isn't known:
 /// `InputFailed` says that the script's reading failed, `OutputFailed` that the writer did, and all others come from the
 /// memory or the engine.
 pub fn run_script<R: Read + Drop, W: Printer<E>, E: Engine<AnyJob>>(
@@ -514,7 +514,7 @@ pub fn run_script<R: Read + Drop, W: Printer<E>, E: Engine<AnyJob>>(
     engine: &mut E,
 ) -> Result<Report, Fault>
     requires may { MayRun E.promise W.allows run.form run.at_refusal script.old 0 engine.old (W.contents output.old) }
-    ensures { Runs E.promise run.form run.at_refusal (max run.window run.group) script.old script.new.failed engine.old engine.new
+    ensures { Runs E.promise run.form run.at_refusal (max run.batch run.group) script.old script.new.failed engine.old engine.new
         (W.contents output.old) (W.contents output.new) result }
 {
     let mut row = StringRecord::new(alloc);
@@ -536,7 +536,7 @@ pub fn run_script<R: Read + Drop, W: Printer<E>, E: Engine<AnyJob>>(
                 let at = script.place();
                 let accepted = &mut report.accepted;
                 let why = run_row(
-                    alloc, at, &row, run.window, accepted, run.form, output, engine,
+                    alloc, at, &row, run.batch, accepted, run.form, output, engine,
                 )?;
                 report.note(at, why);
                 if why.is_some() && run.at_refusal == AtRefusal::End {

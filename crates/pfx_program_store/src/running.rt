@@ -22,7 +22,7 @@ use std::io::{Read, Write};
 
 /// Runs the records of a script that are left on an engine's store, as `run_script` does over any engine.
 ///
-/// Of the slots of a record up to `run.window` share a frame, and 16 at the most; so do up to `run.group` records that stand
+/// Of the slots of a record up to `run.batch` share a frame, and 16 at the most; so do up to `run.group` records that stand
 /// ready together, as `run_script` says. By `run.form` lines are text or JSON.
 ///
 /// A printed line is a receipt: whatever the run answers, each image that a stop may leave after it is recovered to the
@@ -35,7 +35,7 @@ pub fn run_durable<R: Read + Drop, W: Write, D: Disk, K: Keeper<D, AnyJob>>(
     output: &mut W,
     engine: &mut DurableEngine<D, AnyJob, K>,
 ) -> Result<Report, Fault>
-    ensures runs { Runs ⟦<DurableEngine<D, AnyJob, K> as Engine<AnyJob>>⟧.promise run.form run.at_refusal (max run.window run.group) script.old script.new.failed engine.old engine.new
+    ensures runs { Runs ⟦<DurableEngine<D, AnyJob, K> as Engine<AnyJob>>⟧.promise run.form run.at_refusal (max run.batch run.group) script.old script.new.failed engine.old engine.new
         (W.contents output.old) (W.contents output.new) result }
     ensures printed { K.failed engine.old.keeper ≡ None → IsHonest (D.view (K.kept engine.old.keeper).file.disk)
         → Anchors any_kind (D.view (K.kept engine.old.keeper).file.disk) (K.kept engine.old.keeper).state

@@ -76,10 +76,10 @@ where
 /// for it and ended after it: with one thread for the flusher, and so many workers at the desk, or none, if the calling thread
 /// runs the jobs.
 ///
-/// Of the slots of a record up to `run.window` are asked for before the last of them is waited for, and 64 at the most; so are
+/// Of the slots of a record up to `run.batch` are asked for before the last of them is waited for, and 64 at the most; so are
 /// up to `run.group` records that stand ready together, as `run_script` says.
 ///
-/// What is printed is the same for any number of workers and any window, and by `run.form` text or JSON. A printed line is a
+/// What is printed is the same for any number of workers and any batch, and by `run.form` text or JSON. A printed line is a
 /// receipt: whatever the run answers, each image that a stop may leave after it is recovered to the outcome of a beginning of
 /// the script's accepted commands which holds
 /// every command whose line was printed. `NoThread` says that the system gives no thread; then nothing was done.

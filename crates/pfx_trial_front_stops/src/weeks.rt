@@ -56,7 +56,7 @@ fn printed<R: Threads + Wait + Clock + Copy + Drop + Send + Sync + 'static>(
         workers,
         &mut script,
         Run {
-            window: 2,
+            batch: 2,
             group: 0,
             at_refusal: AtRefusal::GoOn,
             form: Form::Text,

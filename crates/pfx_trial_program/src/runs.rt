@@ -4,7 +4,7 @@ use pfx_program::{AtRefusal, Form, Run};
 /// A run whose calls have so many slots of a record, 1 or more, and as many records, 16 at the most.
 pub fn run_of(size: u32, at_refusal: AtRefusal, form: Form) -> Run {
     Run {
-        window: size.max(1),
+        batch: size.max(1),
         group: size.min(16),
         at_refusal,
         form,

@@ -329,7 +329,7 @@ fn answers_a_group_before_it_asks(alloc: Global, state: &mut State<AnyJob>) -> b
         alloc,
         &mut Script::new(alloc, input),
         Run {
-            window: 1,
+            batch: 1,
             group: 16,
             at_refusal: AtRefusal::GoOn,
             form: Form::Text,

@@ -18,7 +18,7 @@ use std::{env, fs, process};
 
 /// A run that keeps each slot and each record by itself.
 const ONE_BY_ONE: Run = Run {
-    window: 1,
+    batch: 1,
     group: 0,
     at_refusal: AtRefusal::GoOn,
     form: Form::Text,

@@ -25,7 +25,7 @@ fn run<D: Disk>(
         alloc,
         &mut Script::new(alloc, script.as_bytes()),
         Run {
-            window: window.max(1),
+            batch: window.max(1),
             group: window.min(16),
             at_refusal: AtRefusal::GoOn,
             form: Form::Text,

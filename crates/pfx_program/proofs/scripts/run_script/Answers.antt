@@ -44,8 +44,8 @@ returns-in_err-run_group g c =
     let group = c.gather-commands.result.group.items in
     let is : c.from_residual.result ≡ Err c.in_err-run_group.field-0.0 = search rules in
     let few = c.gather-commands.ensures.few in
-    let top = le-max_right c.args.run.window c.args.run.group in
-    let wide : length group ≤ max c.args.run.window c.args.run.group = omega (arith, few, c.together-most.ensures.group, top) in
+    let top = le-max_right c.args.run.batch c.args.run.group in
+    let wide : length group ≤ max c.args.run.batch c.args.run.group = omega (arith, few, c.together-most.ensures.group, top) in
     let (mid, h) = gathers P.faults (P.state c.groups.engine) c.groups.script c.gather-commands.new.script (fields_of c.gather-commands.new.row) group c.gather-commands.result.behind c.gather-commands.ensures.behind c.in_default.not-Failed in
     rw is (group_halts P c.args.run.form c.args.run.at_refusal L c.args.script.now c.groups.script mid c.args.engine.now c.groups.engine c.gather-commands.new.engine c.run_group.new.engine c.groups.report group c.in_err-run_group.field-0.0
     (g.W.Printer.contents c.args.output.now) (g.W.Printer.contents c.groups.output) (g.W.Printer.contents c.run_group.new.output) c.gather-commands.new.script.failed wide c.groups.invariant h (may_share c.args.run.at_refusal c.gather-commands.result.group.items c.together-most.result c.gather-commands.ensures.few c.together-most.ensures.ends) c.gather-commands.ensures.same
@@ -75,7 +75,7 @@ returns-in_err-why-in-Record g c =
     c.gather-commands.result.group.items (g.W.Printer.contents c.args.output.now) (g.W.Printer.contents c.groups.output) (g.W.Printer.contents c.run_group.new.output) c.groups.invariant h.1 (may_share c.args.run.at_refusal c.gather-commands.result.group.items c.together-most.result c.gather-commands.ensures.few c.together-most.ensures.ends) c.gather-commands.ensures.same settled
     c.in_ok-run_group.ensures.ok (rw c.place-from.ensures at c.in_ok-run_group.ensures.counts) in
     rw is (row_halts P c.args.run.form c.args.run.at_refusal L c.args.script.now h.0 c.gather-commands.new.script c.args.engine.now c.run_group.new.engine c.run_row.new.engine c.run_group.new.report c.place-at.result (fields_of c.gather-commands.new.row)
-    c.in_err-why-in-Record.field-0.0 (g.W.Printer.contents c.args.output.now) (g.W.Printer.contents c.run_group.new.output) (g.W.Printer.contents c.run_row.new.output) (le-max_left c.args.run.window c.args.run.group) c.place-at.ensures now h.2
+    c.in_err-why-in-Record.field-0.0 (g.W.Printer.contents c.args.output.now) (g.W.Printer.contents c.run_group.new.output) (g.W.Printer.contents c.run_row.new.output) (le-max_left c.args.run.batch c.args.run.group) c.place-at.ensures now h.2
     c.in_err-why-in-Record.ensures.fails)
 
 pub groups-preserved : goal.groups-preserved
@@ -103,8 +103,8 @@ returns-in-End g c =
     group_runs P c.args.run.form c.args.run.at_refusal L c.args.script.now c.groups.script h.0 c.args.engine.now c.groups.engine c.gather-commands.new.engine c.run_group.new.engine c.groups.report c.run_group.new.report
     c.gather-commands.result.group.items (g.W.Printer.contents c.args.output.now) (g.W.Printer.contents c.groups.output) (g.W.Printer.contents c.run_group.new.output) c.groups.invariant h.1 (may_share c.args.run.at_refusal c.gather-commands.result.group.items c.together-most.result c.gather-commands.ensures.few c.together-most.ensures.ends) c.gather-commands.ensures.same settled
     c.in_ok-run_group.ensures.ok (rw c.place-from.ensures at c.in_ok-run_group.ensures.counts) in
-    let top = le-max_left c.args.run.window c.args.run.group in
-    let some : 1 ≤ max c.args.run.window c.args.run.group = omega (arith, top, c.args.run.some) in
+    let top = le-max_left c.args.run.batch c.args.run.group in
+    let some : 1 ≤ max c.args.run.batch c.args.run.group = omega (arith, top, c.args.run.some) in
     closes P c.args.run.form c.args.run.at_refusal L some c.args.script.now h.0 c.args.engine.now c.run_group.new.engine c.close-in-End.new.engine c.run_group.new.report (g.W.Printer.contents c.args.output.now) (g.W.Printer.contents c.run_group.new.output)
     (g.W.Printer.contents c.close-in-End.new.output) c.gather-commands.new.script.failed c.close-in-End.result now h.2.2 c.close-in-End.ensures.ok c.close-in-End.ensures.settled c.close-in-End.ensures.same c.close-in-End.ensures.err
 
@@ -167,8 +167,8 @@ returns-then-eq g c =
     let ends : c.args.run.at_refusal ≡ End = search rules in
     let there : is_some c.in_ok-why-in-Record.why ≡ true = search rules in
     let (f, why) = some_of c.in_ok-why-in-Record.why there in
-    let top = le-max_left c.args.run.window c.args.run.group in
-    let some : 1 ≤ max c.args.run.window c.args.run.group = omega (arith, top, c.args.run.some) in
+    let top = le-max_left c.args.run.batch c.args.run.group in
+    let some : 1 ≤ max c.args.run.batch c.args.run.group = omega (arith, top, c.args.run.some) in
     row_ends P c.args.run.form c.args.run.at_refusal L some c.args.script.now h.0 c.gather-commands.new.script c.args.engine.now c.run_group.new.engine c.run_row.new.engine c.close.new.engine c.run_group.new.report c.note.new.self
     c.run_row.new.accepted (fields_of c.gather-commands.new.row) f (g.W.Printer.contents c.args.output.now) (g.W.Printer.contents c.run_group.new.output) (g.W.Printer.contents c.run_row.new.output) (g.W.Printer.contents c.close.new.output)
     c.gather-commands.new.script.failed c.close.result now h.2 ends (rw why at c.in_ok-why-in-Record.ensures.done) (rw (c.place-at.ensures, why) at c.note.ensures) c.close.ensures.ok c.close.ensures.settled c.close.ensures.same c.close.ensures.err

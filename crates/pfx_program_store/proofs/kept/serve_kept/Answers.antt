@@ -30,7 +30,7 @@ returns-in-Ok-close_kept g c =
     let session : IsSession any_kind B left.book (pass ∷ []) =
     subst (λ (l : List (ℕ × List (Note AnyJob))). IsSession any_kind B left.book l) only c.in-Ok-close_kept.ensures.session in
     served c.args.run.form c.args.run.at_refusal B left.book (g.D.Disk.view (g.S.Keeper.kept left.keeper).file.disk) _ pass.1 (session_alone any_kind B left.book pass.0 pass.1 session) session.commands
-    {E = FrontEngine AnyJob g.row.B.Denot g.row.K.Denot g.row.R.Denot g.row.K-Seat.Denot _ g.B.Since g.B.Named g.B.Room g.B.Begun g.B.Naming g.B.Charted} (λ e. e.client) (max c.args.run.window c.args.run.group) _ c.run_script-result.new.engine c.new-client.ensures (sym c.into_pass.ensures) c.in-Ok-close_kept.ensures.images c.args.script.now
+    {E = FrontEngine AnyJob g.row.B.Denot g.row.K.Denot g.row.R.Denot g.row.K-Seat.Denot _ g.B.Since g.B.Named g.B.Room g.B.Begun g.B.Naming g.B.Charted} (λ e. e.client) (max c.args.run.batch c.args.run.group) _ c.run_script-result.new.engine c.new-client.ensures (sym c.into_pass.ensures) c.in-Ok-close_kept.ensures.images c.args.script.now
     c.run_script-result.new.script.failed (g.W.Write.contents c.args.output.now) (g.W.Write.contents c.run_script-result.new.output) c.run_script-result.result c.run_script-result.ensures
 
 pub returns-after-pass : goal.returns-after-pass

@@ -50,7 +50,7 @@ returns-in-Ok g c =
           c.moment-in-Ok.result (g.D.Disk.view c.told-in-Ok.result.store.file.disk) c.run_durable-result.new.engine.keeper.store.state c.run_durable-result.result) at
           (noted_run (MayFail (λ beside. failure_beside beside)) IsDiskOrLog disk_or_log held image c.moment-in-Ok.result (g.D.Disk.view c.told-in-Ok.result.store.file.disk) (λ honest. (along.follows honest).premise)
           (λ engine. view engine.keeper.store.file.disk) (λ engine. failure_beside engine.keeper) (λ engine. engine.keeper.store.state) c.args.run.form c.args.run.at_refusal
-          (max c.args.run.window c.args.run.group) c.args.script.now c.run_durable-result.new.script.failed begun c.run_durable-result.new.engine (g.W.Write.contents c.args.output.now) (g.W.Write.contents c.run_durable-result.new.output)
+          (max c.args.run.batch c.args.run.group) c.args.script.now c.run_durable-result.new.script.failed begun c.run_durable-result.new.engine (g.W.Write.contents c.args.output.now) (g.W.Write.contents c.run_durable-result.new.output)
           c.run_durable-result.result c.run_durable-result.ensures.runs
           (ap (λ b. failure_beside b) c.in-Ok.ensures.keeper ∙ none_failed c.noted-noted.result.store.file.broken c.noted-noted.result.log.broken c.noted-noted.result.stopped whole (ap (λ f. f.broken) c.noted-noted.ensures.log.0 ∙ (log_whole c.args.beside.store.file.broken c.args.beside.log.broken c.args.beside.stopped c.requires.whole).0) (c.noted-noted.ensures.log.2 ∙ (log_whole c.args.beside.store.file.broken c.args.beside.log.broken c.args.beside.stopped c.requires.whole).1))
           (λ so. charted_honest held image clock failures begun.keeper.store.file.disk.made begun.keeper.store.file.disk.late begun.keeper.store.file.disk.failed so)

@@ -49,7 +49,7 @@ returns-in-Ok g c =
           c.moment-in-Ok.result (g.D.Disk.view c.told-in-Ok.result.file.disk) c.run_durable-result.new.engine.keeper.state c.run_durable-result.result) at
           (noted_run (MayFail (λ store. failure_of store)) (λ why. why ≡ cause.Device) device_only held image c.moment-in-Ok.result (g.D.Disk.view c.told-in-Ok.result.file.disk) (λ honest. (along.follows honest).premise)
           (λ engine. view engine.keeper.file.disk) (λ engine. failure_of engine.keeper) (λ engine. engine.keeper.state) c.args.run.form c.args.run.at_refusal
-          (max c.args.run.window c.args.run.group) c.args.script.now c.run_durable-result.new.script.failed begun c.run_durable-result.new.engine (g.W.Write.contents c.args.output.now) (g.W.Write.contents c.run_durable-result.new.output)
+          (max c.args.run.batch c.args.run.group) c.args.script.now c.run_durable-result.new.script.failed begun c.run_durable-result.new.engine (g.W.Write.contents c.args.output.now) (g.W.Write.contents c.run_durable-result.new.output)
           c.run_durable-result.result c.run_durable-result.ensures.runs
           (ap (λ s. failure_of s) c.in-Ok.ensures.keeper ∙ ap (λ b. if b then Some cause.Device else None) whole)
           (λ so. charted_honest held image clock failures begun.keeper.file.disk.made begun.keeper.file.disk.late begun.keeper.file.disk.failed so)

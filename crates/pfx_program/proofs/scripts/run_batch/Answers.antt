@@ -12,7 +12,7 @@ use Rattle.pfx_program.specs.Answers.{refused_line}
 use Rattle.pfx_program.specs.Printing.{MayPrint}
 use Rattle.pfx_store_engine.specs.Promises.{slots_for}
 use Rattle.pfx_fault.specs.declared.refusals.Fault.{Fault}
-use Rattle.pfx_program.proofs.scripts.run_window.Goals as goal
+use Rattle.pfx_program.proofs.scripts.run_batch.Goals as goal
 use Rattle.pfx_kinds.specs.declared.any.AnyJob.{AnyJob}
 
 pub returns-in_err-put_refused-clause-err : goal.returns-in_err-put_refused-clause-err
@@ -22,7 +22,7 @@ returns-in_err-put_refused-clause-err g c =
     let is : c.from_residual.result ≡ Err c.in_err-put_refused.field-0.0 = search rules in
     let step : command_step (run_of P c.args.form c.args.engine.now c.args.accepted.now) Slot ≡ refused c.args.form fault.SessionFull = search rules in
     let first : c.args.left ≡ suc (c.args.left - 1) = omega (arith, c.requires.left) in
-    let some : 1 ≤ c.args.window = c.requires.some in
+    let some : 1 ≤ c.args.batch = c.requires.some in
     rw is (refused_unwritten P c.args.form L (c.args.left - 1) c.args.accepted.now c.args.left (refused c.args.form fault.SessionFull) c.args.engine.now c.args.engine.now (g.W.Printer.contents c.args.output.now) (g.W.Printer.contents c.put_refused.new.output)
     c.in_err-put_refused.field-0.0 first step refl
     (stopped_wider P L ⊥ (refused c.args.form fault.SessionFull ∷ []) c.args.engine.now c.args.engine.now (g.W.Printer.contents c.args.output.now) (g.W.Printer.contents c.put_refused.new.output) c.in_err-put_refused.field-0.0 some
@@ -44,7 +44,7 @@ pub returns-in_err-put_replies-in-Ok-clause-err : goal.returns-in_err-put_replie
 returns-in_err-put_replies-in-Ok-clause-err g c =
     let P = g.E.Engine.promise in
     let is : c.from_residual-in_err-put_replies-in-Ok.result ≡ Err c.in_err-put_replies-in-Ok.field-0.0 = search rules in
-    rw is (done_unwritten P c.args.form g.met.E.Engine.laws c.min-2.result c.args.accepted.now c.args.left c.args.window c.args.engine.now c.slots.new.self (g.W.Printer.contents c.args.output.now) (g.W.Printer.contents c.put_replies.new.output)
+    rw is (done_unwritten P c.args.form g.met.E.Engine.laws c.min-2.result c.args.accepted.now c.args.left c.args.batch c.args.engine.now c.slots.new.self (g.W.Printer.contents c.args.output.now) (g.W.Printer.contents c.put_replies.new.output)
     c.in-Ok.said.items c.in_err-put_replies-in-Ok.field-0.0 c.in-Ok.ensures.done (omega (arith, c.min.ensures, c.min-2.ensures)) (omega (arith, c.min.ensures, c.min-2.ensures))
     (omega (arith, c.min-2.ensures, c.if-accepted-ge-MOST.false)) (rw c.deref.ensures.value at c.in_err-put_replies-in-Ok.ensures.err))
 
@@ -56,7 +56,7 @@ returns-in_err-put_refused-in-Err-Refused-clause-err g c =
     let (why, kept, settled) = rw c.in-Err-Refused.field-0-is at c.in-Err-Refused.ensures.not_done in
     let step : command_step (run_of P c.args.form c.args.engine.now c.args.accepted.now) Slot ≡ refused c.args.form (fault_of_machine c.in-Err-Refused.fault) = search rules in
     let first : c.args.left ≡ suc (c.args.left - 1) = omega (arith, c.requires.left) in
-    let some : 1 ≤ c.args.window = c.requires.some in
+    let some : 1 ≤ c.args.batch = c.requires.some in
     rw is (refused_unwritten P c.args.form L (c.args.left - 1) c.args.accepted.now c.args.left (refused c.args.form (fault_of_machine c.in-Err-Refused.fault)) c.args.engine.now c.slots.new.self (g.W.Printer.contents c.args.output.now)
     (g.W.Printer.contents c.put_refused-in-Err-Refused.new.output) c.in_err-put_refused-in-Err-Refused.field-0.0 first step refl
     (stopped_wider P L ⊥ (refused c.args.form (fault_of_machine c.in-Err-Refused.fault) ∷ []) c.args.engine.now c.slots.new.self (g.W.Printer.contents c.args.output.now) (g.W.Printer.contents c.put_refused-in-Err-Refused.new.output)
@@ -86,7 +86,7 @@ pub returns-in-Err-Failed-clause-err : goal.returns-in-Err-Failed-clause-err
 returns-in-Err-Failed-clause-err g c =
     let P = g.E.Engine.promise in
     let (why, left) = rw c.in-Err-Failed.field-0-is at c.in-Err-Failed.ensures.not_done in
-    left_stopped P c.args.form g.met.E.Engine.laws c.min-2.result c.args.accepted.now c.args.left c.args.window c.args.engine.now c.slots.new.self (g.W.Printer.contents c.args.output.now) c.in-Err-Failed.fault
+    left_stopped P c.args.form g.met.E.Engine.laws c.min-2.result c.args.accepted.now c.args.left c.args.batch c.args.engine.now c.slots.new.self (g.W.Printer.contents c.args.output.now) c.in-Err-Failed.fault
     (omega (arith, c.min.ensures, c.min-2.ensures)) (omega (arith, c.min.ensures, c.min-2.ensures)) (omega (arith, c.min-2.ensures, c.if-accepted-ge-MOST.false)) why left
 
 pub put_refused-requires : goal.put_refused-requires
