@@ -1,6 +1,6 @@
 -- Records one after the other.
 use Rattle.std.specs.Prelude.{◌≡◌, ◌+◌, if◌then◌else◌, Bool, true, false, ℕ, Option, List, [], ◌∷◌, length, map, ◌<◌, ◌≤◌, Some, None, IsTrue, refl}
-use Rattle.std.proofs.Common.{zero, suc, get_or, drop, sym, ◌∙◌, ap, ap₂, subst, arith}
+use Rattle.std.proofs.Common.{zero, suc, get_or, drop, sym, ◌∙◌, ap, ap₂, subst, inr, arith}
 use Rattle.std.proofs.lemmas.Option.{none-some}
 use Rattle.pfx_jobs.specs.Kind.{Kind, Laws}
 use Rattle.pfx_kinds.specs.declared.units.Unit.{Unit}
@@ -19,11 +19,13 @@ use Rattle.pfx_machine.specs.Plain.{IsState}
 use Rattle.pfx_replay.specs.Commands.{Follow, AreNext, command_of, commands_of, is_next}
 use Rattle.pfx_replay.specs.Judged.{GivesAll}
 use Rattle.pfx_replay.specs.Stated.{plain_of}
-use Rattle.pfx_replay.specs.Verdicts.{IsFirst, IsWrong}
+use Rattle.pfx_replay.specs.Verdicts.{History, IsFirst, IsVerdict, IsWrong, Leads}
 use Rattle.pfx_replay.specs.declared.jobs.PlainState.{PlainState}
 use Rattle.pfx_replay.specs.declared.judged.Judged.{Judged}
 use Rattle.pfx_replay.specs.declared.judged.Judged.TheVariants.{Agrees, Differs}
 use Rattle.pfx_replay.specs.declared.verdict.Difference.{Difference}
+use Rattle.pfx_replay.specs.declared.verdict.Difference.TheVariants.{Row, State, Answer, Checkpoint}
+use Rattle.pfx_replay.specs.declared.verdict.Verdict.TheVariants as verdict
 use Rattle.pfx_replay.proofs.Sessions as sessions
 
 module _ {J : Type 0} (K : Kind J) (L : Laws K) (unit : J → Option Unit) where
@@ -87,6 +89,13 @@ module _ {J : Type 0} (K : Kind J) (L : Laws K) (unit : J → Option Unit) where
     number = omega (arith, number);
     wrong = subst (λ t. IsWrong K unit what t one) (sym (outcome-none K s)) wrong;
   }
+
+-- what is wrong first behind a checkpoint that the records before lead to
+pub first_then : {J : Type 0} (K : Kind J) (unit : J → Option Unit) (h : History J) → Leads K unit h → (what : Difference) (n : ℕ) → IsFirst K unit what h.checkpoint h.behind n → IsVerdict K unit h (verdict.Differs n what)
+first_then K unit h leads Row n is = inr (leads, is)
+first_then K unit h leads State n is = inr (leads, is)
+first_then K unit h leads Answer n is = inr (leads, is)
+first_then K unit h leads Checkpoint n is = absurd is.wrong
 
 -- the number after records
 pub follow_number : {J : Type 0} (K : Kind J) (L : Laws K) (unit : J → Option Unit) (s : machine.Plain J) (records : List (Recorded J)) → IsState s → Follow K unit s records → (outcome K s (commands_of records)).number ≡ s.number + length records

@@ -1,9 +1,9 @@
 -- Frames that stand in an image, and the records in them.
-use Rattle.std.specs.Prelude.{◌≡◌, ◌≢◌, ◌<◌, ◌≤◌, ◌+◌, ℕ, List, [], ◌∷◌, ◌++◌, length, not, if◌then◌else◌, take, drop, Option, Some, None, refl}
+use Rattle.std.specs.Prelude.{◌≡◌, ◌≢◌, ◌<◌, ◌≤◌, ◌+◌, ℕ, List, [], ◌∷◌, ◌++◌, length, not, if◌then◌else◌, slice_index, take, drop, Option, Some, None, MatchOption, refl}
 use Rattle.std.specs.Prelude.{Vec}
 use Rattle.std.specs.declared.alloc.Global.{Global}
 use Rattle.pfx_segment.specs.Reading.{views}
-use Rattle.std.proofs.Common.{zero, suc, get_or, sym, ◌∙◌, ap, ap₂, arith, append-nil, append_assoc, length-append, subst}
+use Rattle.std.proofs.Common.{zero, suc, get_or, sym, ◌∙◌, ap, ap₂, arith, append-nil, length-append, subst}
 use Rattle.pfx_record_redo.specs.Applying.{applied, after_record, is_right}
 use Rattle.pfx_jobs.specs.Kind.{Kind, Laws}
 use Rattle.pfx_machine.specs.Plain.{Plain}
@@ -14,7 +14,8 @@ use Rattle.pfx_record.proofs.Bodies.{one_batch}
 use Rattle.pfx_segment.specs.Frames.{AreFrames}
 use Rattle.pfx_segment.proofs.FrameLemmas.{read_is}
 use Rattle.pfx_store_image.specs.Codec.{Codec}
-use Rattle.pfx_store_image.specs.Layout.{area_at, segment_at}
+use Rattle.pfx_disk.specs.declared.gates.TheConstants.{GATE_OPEN}
+use Rattle.pfx_store_image.specs.Layout.{area_at, first_at, segment_at}
 use Rattle.pfx_store_image.specs.Store.{Parts, Replays}
 use Rattle.pfx_store_image.proofs.Answers.{ok_same}
 use Rattle.pfx_store_image.proofs.Stages.{replay_is}
@@ -42,21 +43,70 @@ module _ {H S : Type 0} (K : Codec H S) where
   pub one_end : (s : S) (frames : List (List ℕ)) (t u : S) → Replays K s frames t → Replays K s frames u → t ≡ u
   one_end s frames t u one other = ok_same t u (sym (replay_is K 0 s frames t one) ∙ replay_is K 0 s frames u other)
 
-  some_one : (a b : S) → Some a ≡ Some b → a ≡ b
+  pub some_one : (a b : S) → Some a ≡ Some b → a ≡ b
   some_one a b h = ap (λ o. elim o [ Some x ↦ x | None ↦ a ]) h
 
-  -- a way is the one that was found
-  pub way_is : (h : H) (p : Parts S) (image : List ℕ) (at body place segment : ℕ) (start : S) (found : List (List ℕ)) → at ≡ area_at (K.layout h) (not p.area) → body ≡ (K.layout h).body
-      → place ≡ segment_at (K.layout h) (not p.segment) → segment ≡ (K.layout h).segment → place + segment ≤ length image
-      → Some start ≡ K.read_state h (take body (drop (at + 1) image)) → AreFrames (place + 9) (place + segment) found image
-      → (s : S) (frames : List (List ℕ)) → IsWay K h p image s frames → (s ≡ start) × (frames ≡ found)
-  way_is h p image at body place segment start found at_is body_is place_is segment_is inside read are s frames way =
-      let room : place + 9 < place + segment = omega (arith, (K.layout h).room, segment_is) in
-      let there : AreFrames (place + 9) (place + segment) frames image = subst (λ k. AreFrames (k + 9) (k + segment) frames image) (sym place_is)
-      (subst (λ k. AreFrames (segment_at (K.layout h) (not p.segment) + 9) (segment_at (K.layout h) (not p.segment) + k) frames image) (sym segment_is) way.segment.are) in (
-        some_one s start (sym way.area.body ∙ ap₂ (λ a b. K.read_state h (take b (drop (a + 1) image))) (sym at_is) (sym body_is) ∙ sym read),
-        one_run (place + 9) (place + segment) frames found image room inside there are,
+  -- frames behind one that leads on
+  pub back_from : (s r t : S) (frame : List ℕ) (frames : List (List ℕ)) → K.apply s frame ≡ Some r → Replays K s (frame ∷ frames) t → Replays K r frames t
+  back_from s r t frame frames is run = subst (λ q. Replays K q frames t) (some_one run.0 r (sym run.1 ∙ is)) run.2
+
+  -- these frames stand in an open segment of so many bytes at this place, which begins behind a number
+  module _ (image : List ℕ) (place len number : ℕ) where
+    abbrev pub Stand : List (List ℕ) → Type 0
+    Stand frames = (slice_index image place ≡ GATE_OPEN) × (K.segment_number (first_at place image) ≡ number + 1) × AreFrames (place + 9) (place + len) frames image
+
+    pub stand_found : slice_index image place ≡ GATE_OPEN → K.segment_number (first_at place image) ≡ number + 1 → (found : Option (Vec (Vec ℕ Global) Global))
+        → MatchOption found ((frames : List (List ℕ)) → AreFrames (place + 9) (place + len) frames image → ⊥) (λ frames. AreFrames (place + 9) (place + len) (views frames.items) image)
+        → MatchOption found ((frames : List (List ℕ)) → Stand frames → ⊥) (λ frames. Stand (views frames.items))
+    stand_found gate is None none = λ frames stand. none frames stand.2
+    stand_found gate is (Some frames) are = (gate, is, are)
+
+  -- Frames of a segment at this place lead on from a state, which the checkpoint area at that place holds, to a number.
+  module _ (h : H) (image : List ℕ) (at body place len number : ℕ) where
+    abbrev LeadFrom : S → List (List ℕ) → Type 0
+    LeadFrom s frames = (slice_index image place ≡ GATE_OPEN) × (K.segment_number (first_at place image) ≡ K.number s + 1)
+        × AreFrames (place + 9) (place + len) frames image × ((t : S) × Replays K s frames t × (K.number t ≡ number))
+
+    abbrev pub Lead : S → List (List ℕ) → Type 0
+    Lead s frames = (Some s ≡ K.read_state h (take body (drop (at + 1) image))) × (slice_index image place ≡ GATE_OPEN) × (K.segment_number (first_at place image) ≡ K.number s + 1)
+        × AreFrames (place + 9) (place + len) frames image × ((t : S) × Replays K s frames t × (K.number t ≡ number))
+
+    pub lead_found : (s : S) → Some s ≡ K.read_state h (take body (drop (at + 1) image)) → (found : Option (Vec (Vec ℕ Global) Global))
+        → MatchOption found ((frames : List (List ℕ)) → LeadFrom s frames → ⊥) (λ frames. LeadFrom s (views frames.items))
+        → MatchOption found ((r : S) → (frames : List (List ℕ)) → Lead r frames → ⊥) (λ frames. (r : S) × Lead r (views frames.items))
+    lead_found s read None none = λ r frames lead. none frames (subst (λ q. LeadFrom q frames) (some_one r s (lead.0 ∙ sym read)) (lead.1, lead.2, lead.3, lead.4))
+    lead_found s read (Some frames) lead = (s, (read, lead.0, lead.1, lead.2, lead.3))
+
+    -- a way is just that, where they aren't in use
+    module _ (p : Parts S) (at_is : at ≡ area_at (K.layout h) (not p.area)) (body_is : body ≡ (K.layout h).body) (place_is : place ≡ segment_at (K.layout h) (not p.segment)) (len_is : len ≡ (K.layout h).segment)
+        (number_is : K.number p.base ≡ number) where
+      abbrev other : ℕ
+      other = segment_at (K.layout h) (not p.segment)
+
+      body_there : K.read_state h (take body (drop (at + 1) image)) ≡ K.read_state h (take (K.layout h).body (drop (area_at (K.layout h) (not p.area) + 1) image))
+      body_there = ap₂ (λ a b. K.read_state h (take b (drop (a + 1) image))) at_is body_is
+
+      pub lead_there : (s : S) (frames : List (List ℕ)) → IsWay K h p image s frames → Lead s frames
+      lead_there s frames way = (
+        sym (body_there ∙ way.area.body),
+        ap (slice_index image) place_is ∙ way.segment.gate,
+        ap (λ k. K.segment_number (first_at k image)) place_is ∙ way.segment.number,
+        subst (λ k. AreFrames (k + 9) (k + len) frames image) (sym place_is) (subst (λ k. AreFrames (other + 9) (other + k) frames image) (sym len_is) way.segment.are),
+        (way.reached, way.leads, way.number ∙ number_is),
       )
+
+      pub way_there : slice_index image at ≡ GATE_OPEN → (s : S) (frames : List (List ℕ)) → Lead s frames → IsWay K h p image s frames
+      way_there gate s frames lead = record {
+        area = record { gate = ap (slice_index image) (sym at_is) ∙ gate; body = sym body_there ∙ sym lead.0 };
+        segment = record {
+          gate = ap (slice_index image) (sym place_is) ∙ lead.1;
+          number = ap (λ k. K.segment_number (first_at k image)) (sym place_is) ∙ lead.2;
+          are = subst (λ k. AreFrames (other + 9) (other + k) frames image) len_is (subst (λ k. AreFrames (k + 9) (k + len) frames image) place_is lead.3);
+        };
+        reached = lead.4.0;
+        leads = lead.4.1;
+        number = lead.4.2 ∙ sym number_is;
+      }
 
 module _ {J : Type 0} (K : Kind J) (L : Laws K) where
   none_of : {A : Type 0} (o : Option A) → ((a : A) → o ≡ Some a → ⊥) → o ≡ None

@@ -1,6 +1,7 @@
 -- What is known of a file that a store leaves.
-use Rattle.std.specs.Prelude.{◌≡◌, ◌+◌, ◌++◌, ℕ, List, [], not, take, drop, Bool, true, false, Option, Some, None, MatchOption, refl}
+use Rattle.std.specs.Prelude.{◌≡◌, ◌+◌, ◌++◌, ℕ, List, [], not, take, drop, Bool, true, false, Option, Some, None, Vec, MatchOption, refl}
 use Rattle.std.proofs.Common.{sym, ◌∙◌, ap, ap₂, subst}
+use Rattle.std.specs.declared.alloc.Global.{Global}
 use Rattle.pfx_record_redo.specs.Applying.{applied}
 use Rattle.pfx_store_format.specs.Areas.{read_area}
 use Rattle.pfx_store_format.specs.Format.{format, layout}
@@ -12,8 +13,10 @@ use Rattle.pfx_record.specs.Records.{Recorded}
 use Rattle.pfx_store_image.specs.Layout.{segment_at, area_at}
 use Rattle.pfx_store_image.specs.Store.{Parts, IsStore, Other, Replays}
 use Rattle.pfx_segment.specs.Frames.{AreFrames}
+use Rattle.pfx_segment.specs.Reading.{views}
 use Rattle.pfx_replay.specs.Trails.{IsWay, IsWayIf, history, records_behind}
 use Rattle.pfx_replay.specs.Verdicts.{IsVerdict}
+use Rattle.pfx_replay.specs.Ways.{way_of}
 use Rattle.pfx_replay.specs.declared.verdict.Verdict.{Verdict}
 use Rattle.pfx_replay.proofs.FrameRuns.{frames_applied, replays_joined}
 
@@ -24,6 +27,15 @@ AreIn h image b frames = AreFrames (segment_at (layout h) b + 9) (segment_at (la
 pub verdict_by : (found : Option Verdict) (Nothing : Type 0) (P Q : Verdict → Type 0) → MatchOption found Nothing P → (Nothing → ⊥) → ((v : Verdict) → P v → Q v) → MatchOption found ⊥ Q
 verdict_by None N P Q h never f = absurd (never h)
 verdict_by (Some v) N P Q h never f = f v h
+
+-- what is answered of these records
+module _ {J : Type 0} (K : Kind J) (unit : J → Option Unit) where
+  abbrev pub Answered : Plain J → List (Recorded J) → Plain J → List (Recorded J) → Option Verdict → Type 0
+  Answered start before base behind found =
+      MatchOption found ((x y : Plain J) → applied K start before ≡ Some x → applied K base behind ≡ Some y → ⊥) (λ v. IsVerdict K unit (record { start = start; before = before; checkpoint = base; behind = behind }) v)
+
+  pub answered_as : (found : Option Verdict) (a b : Plain J) (before again : List (Recorded J)) (base : Plain J) (behind : List (Recorded J)) → a ≡ b → before ≡ again → Answered a before base behind found → Answered b again base behind found
+  answered_as found a b before again base behind same also given = subst (λ s. Answered s again base behind found) same (subst (λ l. Answered a l base behind found) also given)
 
 module _ {J : Type 0} (K : Kind J) (L : Laws K) (h : Header) where
   some_same : {A : Type 0} (a b : A) → Some a ≡ Some b → a ≡ b
@@ -56,14 +68,6 @@ module _ {J : Type 0} (K : Kind J) (L : Laws K) (h : Header) where
         let lead = lead_before p.turned p t image is.other in
         frames_applied K L p.base t (p.before ++ p.frames) (replays_joined K L p.base p.middle t p.before p.frames lead is.state)
 
-    -- what is answered of these records
-    abbrev pub Answered : (J → Option Unit) → Plain J → List (Recorded J) → Plain J → List (Recorded J) → Option Verdict → Type 0
-    Answered unit start before base behind found =
-        MatchOption found ((x y : Plain J) → applied K start before ≡ Some x → applied K base behind ≡ Some y → ⊥) (λ v. IsVerdict K unit (record { start = start; before = before; checkpoint = base; behind = behind }) v)
-
-    pub answered_as : (unit : J → Option Unit) (found : Option Verdict) (a b : Plain J) (before again : List (Recorded J)) (base : Plain J) (behind : List (Recorded J)) → a ≡ b → before ≡ again → Answered unit a before base behind found → Answered unit b again base behind found
-    answered_as unit found a b before again base behind same also given = subst (λ s. Answered unit s again base behind found) same (subst (λ l. Answered unit a l base behind found) also given)
-
     -- the verdict where no way leads from the other checkpoint
     pub verdict_none : (unit : J → Option Unit) (found : Option Verdict) (base : Plain J) (behind : List (Recorded J)) → base ≡ p.base → behind ≡ records_behind K p.base (p.before ++ p.frames) → IsWayIf (format K) h p image None
         → MatchOption found ((x y : Plain J) → applied K base [] ≡ Some x → applied K base behind ≡ Some y → ⊥) (λ v. IsVerdict K unit (record { start = base; before = []; checkpoint = base; behind = behind }) v)
@@ -94,3 +98,10 @@ module _ {J : Type 0} (K : Kind J) (L : Laws K) (h : Header) where
               (subst (λ l. IsVerdict K unit (record { start = start; before = records_behind K start frames; checkpoint = base; behind = l }) v) behind_same
               (subst (λ l. IsVerdict K unit (record { start = start; before = l; checkpoint = base; behind = behind }) v) before_same verdict)),
         ))
+
+    -- the verdict where this way was found, or none
+    pub verdict_way : (unit : J → Option Unit) (found : Option Verdict) (base : Plain J) (behind : List (Recorded J)) (way : Option (Plain J × Vec (Vec ℕ Global) Global)) → base ≡ p.base → behind ≡ records_behind K p.base (p.before ++ p.frames) → IsWayIf (format K) h p image (way_of way)
+        → MatchOption way (Answered K unit base [] base behind found) (λ w. Answered K unit w.0 (records_behind K w.0 (views w.1.items)) base behind found)
+        → MatchOption found ⊥ (λ v. (way : Option (Plain J × List (List ℕ))) × IsWayIf (format K) h p image way × IsVerdict K unit (history K p way) v)
+    verdict_way unit found base behind None base_same behind_same way given = verdict_none unit found base behind base_same behind_same way given
+    verdict_way unit found base behind (Some w) base_same behind_same way given = verdict_some unit found w.0 base (views w.1.items) (records_behind K w.0 (views w.1.items)) behind base_same refl behind_same way given

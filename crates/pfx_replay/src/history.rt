@@ -1,11 +1,11 @@
 // A history against what its commands do.
-ghost use Rattle.std.specs.Prelude.{◌≡◌, ◌↔◌, ◌<◌, ℕ, length, map, IsTrue, IfOk, Some};
+ghost use Rattle.std.specs.Prelude.{◌≡◌, ◌↔◌, ◌<◌, ℕ, List, length, map, IsTrue, IfOk, MatchOption, Some};
 ghost use Rattle.pfx_record_redo.specs.Applying.{applied};
 ghost use Rattle.pfx_machine.specs.Plain.{Plain};
-ghost use Rattle.pfx_record.specs.Records.{plain};
+ghost use Rattle.pfx_record.specs.Records.{Recorded, plain};
 ghost use Rattle.pfx_replay.specs.Shown.{ledger_of};
 ghost use Rattle.pfx_replay.specs.Stated.{plain_of};
-ghost use Rattle.pfx_replay.specs.Verdicts.{History, IsVerdict};
+ghost use Rattle.pfx_replay.specs.Verdicts.{History, IsVerdict, Leads};
 
 use crate::jobs::PlainState;
 use crate::judged::Judged;
@@ -93,6 +93,37 @@ pub fn are_states<J: Job>(one: &PlainState<J>, other: &PlainState<J>) -> bool
     are_jobs(&one.jobs, &other.jobs)
 }
 
+// The verdict on records that lead from a start to a checkpoint, or `None` if they agree and lead to what it holds.
+fn judge_before<J: Job + Units>(
+    alloc: Global,
+    start: PlainState<J>,
+    before: &[Record<J>],
+    checkpoint: &PlainState<J>,
+) -> Result<Option<Verdict>, AllocError>
+    requires { (t : Plain J) × (applied J.kind (plain_of start) (map plain before.now) ≡ Some t) }
+    ensures { let history : List (Recorded J) → History J = λ behind. record {
+      start = plain_of start;
+      before = map plain before.now;
+      checkpoint = plain_of checkpoint.now;
+      behind = behind;
+    } in
+        IfOk result (λ found. (behind : List (Recorded J))
+        → MatchOption found (Leads J.kind J.unit (history behind)) (IsVerdict J.kind J.unit (history behind))) }
+{
+    match judge_all(alloc, start, before)? {
+        Judged::Differs { number, what } => Ok(Some(Verdict::Differs { number, what })),
+        Judged::Agrees(reached) => {
+            if are_states(&reached, checkpoint) {
+                return Ok(None);
+            }
+            Ok(Some(Verdict::Differs {
+                number: checkpoint.number,
+                what: Difference::Checkpoint,
+            }))
+        }
+    }
+}
+
 /// The verdict on records that lead from a start to a checkpoint, and on from there.
 pub(crate) fn judge_history<J: Job + Units>(
     alloc: Global,
@@ -110,16 +141,8 @@ pub(crate) fn judge_history<J: Job + Units>(
       behind = map plain behind.now;
     })) }
 {
-    let number = checkpoint.number;
-    let reached = match judge_all(alloc, start, before)? {
-        Judged::Agrees(reached) => reached,
-        Judged::Differs { number, what } => return Ok(Verdict::Differs { number, what }),
-    };
-    if !are_states(&reached, &checkpoint) {
-        return Ok(Verdict::Differs {
-            number,
-            what: Difference::Checkpoint,
-        });
+    if let Some(verdict) = judge_before(alloc, start, before, &checkpoint)? {
+        return Ok(verdict);
     }
     match judge_all(alloc, checkpoint, behind)? {
         Judged::Agrees(last) => Ok(Verdict::Agrees {

@@ -3,7 +3,7 @@
 // Why it is so:
 // - **What a record holds decides what is compared**: a slot's row and states. A submit's or a withdrawal's record says what its command
 //   says, and recovery has already tested that the state lets it pass.
-ghost use Rattle.std.specs.Prelude.{◌≡◌, ◌≢◌, ◌↔◌, ◌+◌, ◌∷◌, [], ℕ, List, length, map, slice_get, slice_index_or, IsTrue, IfOk, Some, None, Ok};
+ghost use Rattle.std.specs.Prelude.{◌≡◌, ◌≢◌, ◌↔◌, ◌+◌, ◌∷◌, [], ℕ, List, length, map, slice_get, slice_index_or, IsTrue, IfOk, MatchOption, Some, None, Ok};
 ghost use Rattle.pfx_machine.specs.Choosing.{row_in};
 ghost use Rattle.pfx_machine.specs.Outcome.{outcome};
 ghost use Rattle.pfx_machine.specs.Plain.{Plain};
@@ -15,6 +15,7 @@ ghost use Rattle.pfx_record_redo.specs.Recording.{place_of, state_after_step};
 ghost use Rattle.pfx_replay.specs.Commands.{is_next};
 ghost use Rattle.pfx_replay.specs.Judged.{GivesAll, GivesOne};
 ghost use Rattle.pfx_replay.specs.Stated.{plain_of};
+ghost use Rattle.pfx_replay.specs.Verdicts.{IsWrong};
 
 use crate::jobs::PlainState;
 use crate::judged::Judged;
@@ -87,6 +88,26 @@ fn are_tasks<J>(row: &[Place<J>], tasks: &[u16]) -> bool
     true
 }
 
+// What differs in a slot's record at a state whose row is of these tasks.
+fn difference_in<J: Job + Units>(
+    state: &PlainState<J>,
+    row: &[Place<J>],
+    tasks: &[u16],
+) -> Option<Difference>
+    requires { row_in (plain_of state.now) ≡ Ok tasks.now }
+    ensures { MatchOption result
+        ((tasks_of row.now ≡ tasks.now) × (row.now ≡ map (place_of J.kind state.now.jobs.items) (tasks_of row.now)))
+        (λ what. IsWrong J.kind J.unit what (plain_of state.now) (ran row.now)) }
+{
+    if !are_tasks(row, tasks) {
+        return Some(Difference::Row);
+    }
+    if !are_stepped(&state.jobs, row) {
+        return Some(Difference::State);
+    }
+    None
+}
+
 // A slot's record.
 fn judge_row<J: Job + Units>(
     alloc: Global,
@@ -103,19 +124,10 @@ fn judge_row<J: Job + Units>(
             what: Difference::Row,
         });
     };
-    if !are_tasks(row, &tasks) {
-        return Ok(Judged::Differs {
-            number,
-            what: Difference::Row,
-        });
+    match difference_in(&state, row, &tasks) {
+        Some(what) => Ok(Judged::Differs { number, what }),
+        None => Ok(Judged::Agrees(state.ran(&tasks))),
     }
-    if !are_stepped(&state.jobs, row) {
-        return Ok(Judged::Differs {
-            number,
-            what: Difference::State,
-        });
-    }
-    Ok(Judged::Agrees(state.ran(&tasks)))
 }
 
 // How many units a task was given.

@@ -3,14 +3,19 @@
 //! Why it is so:
 //! - **A replay takes the disk and gives it back**, as `open` does: it opens the file first, so what is refused is refused by the same
 //!   test, and then reads all bytes once and works in memory.
-ghost use Rattle.std.specs.Prelude.{◌≡◌, ◌≤◌, ℕ, List, length, Err, IfOk, IfErr, IsErrOf, MatchResult};
+ghost use Rattle.std.specs.Prelude.{◌≡◌, ◌≤◌, ℕ, List, length, Option, Err, Ok, IfOk, IfErr, IsErrOf, MatchResult};
 ghost use Rattle.pfx_disk.specs.Disk.{IsHonest, HasFailed};
-ghost use Rattle.pfx_store_format.specs.Format.{format};
+ghost use Rattle.pfx_machine.specs.Plain.{Plain};
+ghost use Rattle.pfx_store_file.specs.Checkpoints.{in_progress};
+ghost use Rattle.pfx_store_file.specs.Sizes.{HasSizes, total_len};
+ghost use Rattle.pfx_store_format.specs.Format.{format, layout};
 ghost use Rattle.pfx_store_recover.specs.Answers.{IsRefusal};
-ghost use Rattle.pfx_store_recover.specs.Looking.{IsKept, Looks, Reaches};
+ghost use Rattle.pfx_store_recover.specs.Looking.{IsKept, Looks, Reaches, ReadsKept};
 ghost use Rattle.pfx_store_image.specs.Recovery.{found, recovered};
+ghost use Rattle.pfx_store_image.specs.Store.{IsStore, Parts};
 ghost use Rattle.pfx_replay.specs.Reading.{IsNoRefusal};
-ghost use Rattle.pfx_replay.specs.Trails.{IsReplayed};
+ghost use Rattle.pfx_replay.specs.Trails.{IsReplayed, IsWayIf, history};
+ghost use Rattle.pfx_replay.specs.Verdicts.{IsVerdict};
 
 use crate::file::judge_file;
 use crate::verdict::Verdict;
@@ -18,7 +23,8 @@ use pfx_disk::Disk;
 use pfx_fault::Part;
 use pfx_jobs::job::Job;
 use pfx_kinds::units::Units;
-use pfx_store::FileFormat;
+use pfx_store::{FileFormat, FileHeader};
+use pfx_store_file::Places;
 use pfx_store_recover::{OpenFault, Opened, Refusal, open};
 use std::alloc::Global;
 
@@ -34,6 +40,46 @@ pub fn read_image<D: Disk>(alloc: Global, disk: &mut D, len: usize) -> Result<Ve
     let mut image = vec![in alloc; 0; len]?;
     disk.read(0, &mut image)?;
     Ok(image)
+}
+
+// The verdict on the file of a disk that was opened, with this header and these places.
+fn verdict_on<J: Job + Units, D: Disk>(
+    alloc: Global,
+    disk: &mut D,
+    header: &FileHeader,
+    places: &Places,
+) -> Result<Verdict, OpenFault>
+    requires sized { HasSizes (layout header.now) places.now.sizes }
+    requires inside { Reaches (total_len places.now.sizes) (D.view disk.old) }
+    ensures { ReadsKept (D.view disk.old) (D.view disk.new) result (λ bytes. (p : Parts (Plain J)) → (t : Plain J)
+        → IsStore (format J.kind) header.now p t bytes
+        → p.area ≡ places.now.area → p.segment ≡ places.now.segment → p.turned ≡ in_progress places.now.checkpoint
+        → MatchResult result (λ verdict. (way : Option (Plain J × List (List ℕ))) × IsWayIf (format J.kind) header.now p bytes way
+        × IsVerdict J.kind J.unit (history J.kind p way) verdict) IsNoRefusal) }
+{
+    let image = read_image(alloc, disk, places.sizes.file_len())?;
+    let turned = places.checkpoint.in_progress();
+    match judge_file::<J>(alloc, header, &image, places.area, places.segment, turned)? {
+        Some(verdict) => Ok(verdict),
+        None => Err(OpenFault::Refused(Refusal::Damaged {
+            at: 0,
+            what: Part::Checkpoint,
+        })),
+    }
+}
+
+// An answer, and the disk beside it.
+fn with_disk<D: Disk>(
+    answer: Result<Verdict, OpenFault>,
+    disk: D,
+) -> Result<(Verdict, D), (OpenFault, D)>
+    ensures answer { MatchResult result (λ r. answer ≡ Ok r.0) (λ e. answer ≡ Err e.0) }
+    ensures disk { MatchResult result (λ r. r.1 ≡ disk) (λ e. e.1 ≡ disk) }
+{
+    match answer {
+        Ok(verdict) => Ok((verdict, disk)),
+        Err(fault) => Err((fault, disk)),
+    }
 }
 
 /// Reads a store's file and runs its commands again, from the lesser checkpoint on if the file has the records from
@@ -60,26 +106,6 @@ pub fn replay<J: Job + Units, D: Disk>(
     };
     let places = file.places;
     let mut disk = file.into_disk();
-    let image = match read_image(alloc, &mut disk, places.sizes.file_len()) {
-        Ok(image) => image,
-        Err(fault) => return Err((fault, disk)),
-    };
-    match judge_file::<J>(
-        alloc,
-        &header,
-        &image,
-        places.area,
-        places.segment,
-        places.checkpoint.in_progress(),
-    ) {
-        Ok(Some(verdict)) => Ok((verdict, disk)),
-        Ok(None) => Err((
-            OpenFault::Refused(Refusal::Damaged {
-                at: 0,
-                what: Part::Checkpoint,
-            }),
-            disk,
-        )),
-        Err(_) => Err((OpenFault::NoMemory, disk)),
-    }
+    let verdict = verdict_on::<J, D>(alloc, &mut disk, &header, &places);
+    with_disk(verdict, disk)
 }

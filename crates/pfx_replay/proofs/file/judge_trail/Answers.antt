@@ -1,24 +1,20 @@
-use Rattle.std.proofs.Common.{◌≡◌, ◌∙◌, Some, map, sym, subst}
-use Rattle.std.proofs.lemmas.Option.{none-some}
+use Rattle.std.proofs.Common.{map, subst}
 use Rattle.pfx_record.specs.Records.{plain}
-use Rattle.pfx_record_redo.specs.Applying.{applied}
 use Rattle.pfx_replay.specs.Verdicts.{IsVerdict}
 use Rattle.pfx_replay.specs.Stated.{plain_of}
 use Rattle.pfx_replay.proofs.file.judge_trail.Goals as goal
 
-pub returns-then-not-branch : goal.returns-then-not-branch
-returns-then-not-branch g c = λ t u led on. none-some t (sym (c.in_ok-apply_all.ensures.wrong c.if-not-branch.true) ∙ led)
+pub returns-in_default : goal.returns-in_default
+returns-in_default g c t u led on = (rw c.in_default.is at c.in_ok-first.ensures) t led
 
-pub returns-then-not-branch-2 : goal.returns-then-not-branch-2
-returns-then-not-branch-2 g c = λ t u led on. none-some u (sym (c.in_ok-apply_all-2.ensures.wrong c.if-not-branch-2.true) ∙ on)
+pub returns-in_default-2 : goal.returns-in_default-2
+returns-in_default-2 g c t u led on = (rw c.in_default-2.is at c.in_ok-checkpoint.ensures) u on
 
 pub judge_history-requires-clause-before : goal.judge_history-requires-clause-before
-judge_history-requires-clause-before g c =
-    (c.apply_all.new.state, subst (λ s. applied g.J.Job.kind s (map plain c.args.before.now) ≡ Some c.apply_all.new.state) (sym c.in_ok-first.ensures) (c.in_ok-apply_all.ensures.taken c.if-not-branch.false))
+judge_history-requires-clause-before g c = (let first = rw c.in-Some.is at c.in_ok-first.ensures in first.1)
 
 pub judge_history-requires-clause-behind : goal.judge_history-requires-clause-behind
-judge_history-requires-clause-behind g c =
-    (c.apply_all-2.new.state, subst (λ s. applied g.J.Job.kind s (map plain c.args.behind.now) ≡ Some c.apply_all-2.new.state) (sym c.in_ok-checkpoint.ensures) (c.in_ok-apply_all-2.ensures.taken c.if-not-branch-2.false))
+judge_history-requires-clause-behind g c = (let checkpoint = rw c.in-Some-2.is at c.in_ok-checkpoint.ensures in checkpoint.1)
 
 pub returns : goal.returns
 returns g c =
@@ -27,5 +23,7 @@ returns g c =
     let before = map plain c.args.before.now in
     let behind = map plain c.args.behind.now in
     let verdict = c.in_ok-verdict.verdict in
-    subst (λ s. IsVerdict K unit (record { start = s; before = before; checkpoint = c.args.base; behind = behind }) verdict) c.in_ok-first.ensures
-    (subst (λ t. IsVerdict K unit (record { start = plain_of c.in_ok-first.first; before = before; checkpoint = t; behind = behind }) verdict) c.in_ok-checkpoint.ensures c.in_ok-verdict.ensures)
+    let first = rw c.in-Some.is at c.in_ok-first.ensures in
+    let checkpoint = rw c.in-Some-2.is at c.in_ok-checkpoint.ensures in
+    subst (λ s. IsVerdict K unit (record { start = s; before = before; checkpoint = c.args.base.now; behind = behind }) verdict) first.0
+    (subst (λ t. IsVerdict K unit (record { start = plain_of c.in-Some.first; before = before; checkpoint = t; behind = behind }) verdict) checkpoint.0 c.in_ok-verdict.ensures)

@@ -1,16 +1,23 @@
-use Rattle.std.proofs.Common.{◌∙◌, sym, ap, map, IsTrue, rules}
+use Rattle.std.proofs.Common.{◌∙◌, ap, map}
 use Rattle.pfx_machine.specs.Plain.{Plain}
 use Rattle.pfx_record.specs.Records.{plain}
 use Rattle.pfx_replay.specs.Stated.{plain_of}
-use Rattle.pfx_replay.proofs.Following.{follow_number}
+use Rattle.pfx_replay.proofs.Following.{first_then, follow_number}
 use Rattle.pfx_replay.proofs.history.judge_history.Goals as goal
 
-pub returns-in-Agrees-2 : goal.returns-in-Agrees-2
-returns-in-Agrees-2 g c =
+pub returns-in-Agrees : goal.returns-in-Agrees
+returns-in-Agrees g c =
     let K = g.J.Job.kind in
-    let first = rw c.in-Agrees.is at c.in_ok-reached.ensures in
-    let then = rw c.in-Agrees-2.is at c.in_ok-last.ensures in
-    let yes : IsTrue c.are_states.result = search rules in
-    let same = c.are_states.ensures.0 yes in
+    let leads = rw c.in_default.is at (c.in_ok-verdict.ensures (map plain c.args.behind.now)) in
+    let then = rw c.in-Agrees.is at c.in_ok-last.ensures in
     let number = ap (λ (s : Plain _). s.number) then.1 ∙ follow_number K g.met.J.Job.laws g.J.Units.unit (plain_of c.args.checkpoint) (map plain c.args.behind.now) c.args.checkpoint.kept then.0 in
-    (record { follow = first.0; checkpoint = sym same ∙ first.1 }, then.0, number)
+    (leads, then.0, number)
+
+pub returns-in-Some : goal.returns-in-Some
+returns-in-Some g c = rw c.in-Some.is at (c.in_ok-verdict.ensures (map plain c.args.behind.now))
+
+pub returns-in-Differs : goal.returns-in-Differs
+returns-in-Differs g c =
+    let leads = rw c.in_default.is at (c.in_ok-verdict.ensures (map plain c.args.behind.now)) in
+    let then = rw c.in-Differs.is at c.in_ok-last.ensures in
+    first_then g.J.Job.kind g.J.Units.unit _ leads c.in-Differs.what c.in-Differs.number then
