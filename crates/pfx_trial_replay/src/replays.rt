@@ -14,6 +14,7 @@ use pfx_store_file::Tended;
 use pfx_store_recover::{OpenFault, Refusal};
 use pfx_weights::{TaskSet, Weights};
 use std::alloc::Global;
+use std::process::Abort;
 
 /// A disk with these bytes, and room for the file and for so many calls.
 fn disk_of(alloc: Global, bytes: &[u8]) -> Option<MemoryDisk> {
@@ -23,69 +24,47 @@ fn disk_of(alloc: Global, bytes: &[u8]) -> Option<MemoryDisk> {
     MemoryDisk::new(alloc, bytes, END, 400, 60_000).ok()
 }
 
+/// The engine over a store of these tests.
+type Engine = StoreEngine<MemoryDisk, AnyJob>;
+
+/// What the engine is asked for.
+#[derive(Clone, Copy)]
+enum Step {
+    /// A slot.
+    Slot,
+    /// A submit of rule 110 with three steps to task 0.
+    Work,
+    /// The answer of a unit of task 0, counted in the weights that are in force from a slot on. That of unit 0 starts the task.
+    Answer { since: u32, unit: u64 },
+    /// The same weights and workers anew.
+    Reweigh,
+}
+
+/// A new store.
+fn new_store(alloc: Global, set: &TaskSet) -> Option<Store<MemoryDisk, AnyJob>> {
+    let disk = disk_of(alloc, &[])?;
+    Store::init(alloc, disk, set, 8192).ok()
+}
+
 /// The engine over a new store.
-fn begun(alloc: Global) -> Option<StoreEngine<MemoryDisk, AnyJob>> {
+fn begun(alloc: Global) -> Option<Engine> {
     let set = TaskSet::new(alloc, 2, &[(2, 3), (2, 3), (2, 3)]).ok()?;
-    let store = Store::init(alloc, disk_of(alloc, &[])?, &set, 8192).ok()?;
+    let store = new_store(alloc, &set)?;
     DurableEngine::new(alloc, store).ok()
 }
 
-/// The engine after so many slots.
-fn behind_slots(alloc: Global, count: u32) -> Option<StoreEngine<MemoryDisk, AnyJob>> {
-    let mut engine = begun(alloc)?;
-    for _ in 0..count {
-        engine.execute(alloc, Command::Slot).ok()?;
-    }
-    Some(engine)
-}
-
-/// All bytes of a store's file.
-fn file_of(alloc: Global, store: Store<MemoryDisk, AnyJob>) -> Option<Vec<u8>> {
-    let mut disk = store.into_disk();
-    let n = disk.len().ok()?;
-    let mut out = Vec::new(alloc);
-    out.resize(n, 0).ok()?;
-    disk.read(0, &mut out).ok()?;
-    Some(out)
-}
-
-/// The file after a submit of rule 110 with three steps to task 0, and five slots.
-fn worked(alloc: Global) -> Option<Vec<u8>> {
-    let mut engine = begun(alloc)?;
-    let job = AnyJob::start("rule", 3, b"110:00000001").ok()?;
-    engine
-        .execute(alloc, Command::Submit { task: 0, job })
-        .ok()?;
-    for _ in 0..5 {
-        engine.execute(alloc, Command::Slot).ok()?;
-    }
-    file_of(alloc, engine.into_keeper())
-}
-
-/// The answer of a unit of task 0.
-fn answer(unit: u64) -> Option<Command<AnyJob>> {
-    let job = AnyJob::start("own", unit, b"s=500;ck=9f2c").ok()?;
-    Some(Command::Submit { task: 0, job })
-}
-
-/// The file after the start of task 0, one slot, and the answers of these of its units: a store takes any.
-fn answered(alloc: Global, units: &[u64]) -> Option<Vec<u8>> {
-    let mut engine = begun(alloc)?;
-    engine.execute(alloc, answer(0)?).ok()?;
-    engine.execute(alloc, Command::Slot).ok()?;
-    for unit in units {
-        engine.execute(alloc, answer(*unit)?).ok()?;
-    }
-    file_of(alloc, engine.into_keeper())
-}
-
 /// The answer of a unit of task 0, counted in the weights that are in force from this slot on.
-fn answer_since(since: u32, unit: u64) -> Option<Command<AnyJob>> {
+fn answer(since: u32, unit: u64) -> Option<AnyJob> {
     let mut job = AnyJob::start("own", unit, b"s=500;ck=9f2c").ok()?;
     if let AnyJob::Own(own) = &mut job {
         own.count_from(u64::from(since));
     }
-    Some(Command::Submit { task: 0, job })
+    Some(job)
+}
+
+/// The submit of a job to task 0.
+fn submit(job: Option<AnyJob>) -> Option<Command<AnyJob>> {
+    Some(Command::Submit { task: 0, job: job? })
 }
 
 /// The same weights and workers anew.
@@ -97,34 +76,115 @@ fn same_weights(alloc: Global) -> Option<Command<AnyJob>> {
     })
 }
 
-/// The file after three slots, the answers of the two units of task 0, new weights from slot 3 on, a slot that task 0 gets, and these
-/// answers.
-fn answered_anew(alloc: Global, units: &[(u32, u64)]) -> Option<Vec<u8>> {
-    let mut engine = behind_slots(alloc, 3)?;
-    engine.execute(alloc, answer(1)?).ok()?;
-    engine.execute(alloc, answer(2)?).ok()?;
-    engine.execute(alloc, same_weights(alloc)?).ok()?;
-    engine.execute(alloc, Command::Slot).ok()?;
-    for (since, unit) in units {
-        let command = answer_since(*since, *unit)?;
-        engine.execute(alloc, command).ok()?;
+/// The command of a step.
+fn command_of(alloc: Global, step: Step) -> Option<Command<AnyJob>> {
+    match step {
+        Step::Slot => Some(Command::Slot),
+        Step::Work => submit(AnyJob::start("rule", 3, b"110:00000001").ok()),
+        Step::Answer { since, unit } => submit(answer(since, unit)),
+        Step::Reweigh => same_weights(alloc),
     }
-    file_of(alloc, engine.into_keeper())
 }
 
-/// The file after so many slots.
-fn slots(alloc: Global, count: u32) -> Option<Vec<u8>> {
-    file_of(alloc, behind_slots(alloc, count)?.into_keeper())
+/// Whether the engine takes a step.
+fn takes_one(alloc: Global, engine: &mut Engine, step: Step) -> bool {
+    match command_of(alloc, step) {
+        Some(command) => engine.execute(alloc, command).is_ok(),
+        None => false,
+    }
+}
+
+/// Whether the engine takes steps, one after the other.
+fn takes(alloc: Global, engine: &mut Engine, steps: &[Step]) -> bool {
+    for step in steps {
+        if !takes_one(alloc, engine, *step) {
+            return false;
+        }
+    }
+    true
+}
+
+/// Whether the engine takes answers of units of task 0, each counted in the weights from a slot on.
+fn takes_answers(alloc: Global, engine: &mut Engine, answers: &[(u32, u64)]) -> bool {
+    for (since, unit) in answers {
+        let step = Step::Answer {
+            since: *since,
+            unit: *unit,
+        };
+        if !takes_one(alloc, engine, step) {
+            return false;
+        }
+    }
+    true
+}
+
+/// The store after these steps from the engine over it on.
+fn with_steps(
+    alloc: Global,
+    engine: Option<Engine>,
+    steps: &[Step],
+) -> Option<Store<MemoryDisk, AnyJob>> {
+    let mut engine = engine?;
+    if takes(alloc, &mut engine, steps) {
+        Some(engine.into_keeper())
+    } else {
+        None
+    }
+}
+
+/// The store after ten slots.
+fn ten_slots(alloc: Global) -> Option<Store<MemoryDisk, AnyJob>> {
+    with_steps(alloc, begun(alloc), &[Step::Slot; 10])
+}
+
+/// All bytes of a disk.
+fn bytes_on(alloc: Global, disk: &mut MemoryDisk) -> Option<Vec<u8>> {
+    let n = disk.len().ok()?;
+    let mut out = Vec::new(alloc);
+    out.resize(n, 0).ok()?;
+    disk.read(0, &mut out).ok()?;
+    Some(out)
+}
+
+/// All bytes of a store's file.
+fn file_of(alloc: Global, store: Store<MemoryDisk, AnyJob>) -> Option<Vec<u8>> {
+    let mut disk = store.into_disk();
+    bytes_on(alloc, &mut disk)
+}
+
+/// The file of a new store after these steps.
+fn file_behind(alloc: Global, steps: &[Step]) -> Option<Vec<u8>> {
+    file_of(alloc, with_steps(alloc, begun(alloc), steps)?)
+}
+
+/// The file after a submit of rule 110 with three steps to task 0, and five slots.
+fn worked(alloc: Global) -> Option<Vec<u8>> {
+    let slot = Step::Slot;
+    file_behind(alloc, &[Step::Work, slot, slot, slot, slot, slot])
+}
+
+/// The file after these steps and these answers: a store takes any.
+fn answered(alloc: Global, steps: &[Step], answers: &[(u32, u64)]) -> Option<Vec<u8>> {
+    let mut engine = begun(alloc)?;
+    if takes(alloc, &mut engine, steps) && takes_answers(alloc, &mut engine, answers) {
+        file_of(alloc, engine.into_keeper())
+    } else {
+        None
+    }
+}
+
+/// Turns the store and takes the steps of its checkpoint.
+fn checkpoint(store: &mut Store<MemoryDisk, AnyJob>) -> bool {
+    store.turn() == Ok(true)
+        && store.tend() == Ok(Tended::Closed)
+        && store.tend() == Ok(Tended::Piece)
+        && store.tend() == Ok(Tended::Finished)
 }
 
 /// The file after ten slots, a turn and a whole checkpoint.
 fn checkpointed(alloc: Global) -> Option<Vec<u8>> {
-    let mut store = behind_slots(alloc, 10)?.into_keeper();
-    let is_ended = store.turn() == Ok(true)
-        && store.tend() == Ok(Tended::Closed)
-        && store.tend() == Ok(Tended::Piece)
-        && store.tend() == Ok(Tended::Finished);
-    if is_ended {
+    let mut store = ten_slots(alloc)?;
+    if checkpoint(&mut store) {
         file_of(alloc, store)
     } else {
         None
@@ -133,7 +193,7 @@ fn checkpointed(alloc: Global) -> Option<Vec<u8>> {
 
 /// The file after ten slots and a turn, whose checkpoint hasn't begun.
 fn turned(alloc: Global) -> Option<Vec<u8>> {
-    let mut store = behind_slots(alloc, 10)?.into_keeper();
+    let mut store = ten_slots(alloc)?;
     if store.turn() == Ok(true) {
         file_of(alloc, store)
     } else {
@@ -141,16 +201,38 @@ fn turned(alloc: Global) -> Option<Vec<u8>> {
     }
 }
 
-/// The bytes with one of them changed from a value to another, if it has the first.
-fn with_byte(bytes: Option<Vec<u8>>, at: usize, from: u8, to: u8) -> Option<Vec<u8>> {
+/// Changes one of the bytes from a value to another, if it has the first.
+fn changes(bytes: &mut [u8], at: usize, from: u8, to: u8) -> bool {
+    match bytes.get_mut(at) {
+        Some(byte) => {
+            let is_there = *byte == from;
+            if is_there {
+                *byte = to;
+            }
+            is_there
+        }
+        None => false,
+    }
+}
+
+/// Changes bytes, each at its place from a value to another, if all have the first ones.
+fn changes_all(bytes: &mut [u8], places: &[(usize, u8, u8)]) -> bool {
+    for (at, from, to) in places {
+        if !changes(bytes, *at, *from, *to) {
+            return false;
+        }
+    }
+    true
+}
+
+/// The bytes with some of them changed, each at its place from a value to another, if they have the first ones.
+fn with_bytes(bytes: Option<Vec<u8>>, places: &[(usize, u8, u8)]) -> Option<Vec<u8>> {
     let mut bytes = bytes?;
-    if bytes.get(at) != Some(&from) {
-        return None;
+    if changes_all(&mut bytes, places) {
+        Some(bytes)
+    } else {
+        None
     }
-    if let Some(byte) = bytes.get_mut(at) {
-        *byte = to;
-    }
-    Some(bytes)
 }
 
 /// What a replay of the bytes says.
@@ -179,50 +261,67 @@ fn differs(number: u64, what: Difference) -> Option<Verdict> {
     Some(Verdict::Differs { number, what })
 }
 
-#[test]
-fn answers_have_to_be_of_the_next_unit(rt: HostRuntime) {
-    let alloc = rt.alloc();
-    let none = verdict_of(alloc, answered(alloc, &[]));
-    check(&rt, none == agrees(2), "a start");
-    let one = verdict_of(alloc, answered(alloc, &[1]));
-    check(&rt, one == agrees(3), "an answer");
-    let rows: [(&[u64], u64); 4] = [(&[0], 3), (&[2], 3), (&[1, 1], 4), (&[1, 2, 3], 4)];
-    for (at, (units, number)) in rows.iter().enumerate() {
-        let found = verdict_of(alloc, answered(alloc, units));
-        let holds = found == differs(*number, Difference::Answer);
-        check_at(&rt, holds, "row", at);
+/// Ends a test if a replay of a file after these steps and the answers of a row says anything else than what stands beside them.
+fn check_answers(
+    rt: &impl Abort,
+    alloc: Global,
+    steps: &[Step],
+    rows: &[(&[(u32, u64)], Option<Verdict>)],
+) {
+    for (at, (answers, wanted)) in rows.iter().enumerate() {
+        let found = verdict_of(alloc, answered(alloc, steps, answers));
+        check_at(rt, found == *wanted, "row", at);
     }
 }
 
-// Behind new weights the first unit is the next one, and it has to say from which slot on it counts.
+/// At the command of this number the answer isn't of the next unit.
+fn no_next(number: u64) -> Option<Verdict> {
+    differs(number, Difference::Answer)
+}
+
+#[test]
+fn answers_have_to_be_of_the_next_unit(rt: HostRuntime) {
+    let start = Step::Answer { since: 0, unit: 0 };
+    let rows: [(&[(u32, u64)], Option<Verdict>); 6] = [
+        (&[], agrees(2)),
+        (&[(0, 1)], agrees(3)),
+        (&[(0, 0)], no_next(3)),
+        (&[(0, 2)], no_next(3)),
+        (&[(0, 1), (0, 1)], no_next(4)),
+        (&[(0, 1), (0, 2), (0, 3)], no_next(4)),
+    ];
+    check_answers(&rt, rt.alloc(), &[start, Step::Slot], &rows);
+}
+
+// Behind new weights the first unit is the next one, and it has to say from which slot on it counts. Before them are three slots, and the
+// answers of the two units of task 0; behind them, from slot 3 on, a slot that task 0 gets.
 #[test]
 fn answers_count_in_the_weights_in_force(rt: HostRuntime) {
-    let alloc = rt.alloc();
-    let none = verdict_of(alloc, answered_anew(alloc, &[]));
-    check(&rt, none == agrees(7), "new weights");
-    let one = verdict_of(alloc, answered_anew(alloc, &[(3, 1)]));
-    check(&rt, one == agrees(8), "an answer");
-    let rows: [(&[(u32, u64)], u64); 7] = [
-        (&[(3, 3)], 8),
-        (&[(0, 3)], 8),
-        (&[(0, 1)], 8),
-        (&[(2, 1)], 8),
-        (&[(4, 1)], 8),
-        (&[(3, 1), (3, 1)], 9),
-        (&[(3, 1), (3, 2)], 9),
+    let slot = Step::Slot;
+    let one = Step::Answer { since: 0, unit: 1 };
+    let two = Step::Answer { since: 0, unit: 2 };
+    let rows: [(&[(u32, u64)], Option<Verdict>); 9] = [
+        (&[], agrees(7)),
+        (&[(3, 1)], agrees(8)),
+        (&[(3, 3)], no_next(8)),
+        (&[(0, 3)], no_next(8)),
+        (&[(0, 1)], no_next(8)),
+        (&[(2, 1)], no_next(8)),
+        (&[(4, 1)], no_next(8)),
+        (&[(3, 1), (3, 1)], no_next(9)),
+        (&[(3, 1), (3, 2)], no_next(9)),
     ];
-    for (at, (units, number)) in rows.iter().enumerate() {
-        let found = verdict_of(alloc, answered_anew(alloc, units));
-        let holds = found == differs(*number, Difference::Answer);
-        check_at(&rt, holds, "row", at);
-    }
+    let steps = [slot, slot, slot, one, two, Step::Reweigh, slot];
+    check_answers(&rt, rt.alloc(), &steps, &rows);
 }
 
 #[test]
 fn whole_files_agree(rt: HostRuntime) {
     let alloc = rt.alloc();
-    check(&rt, verdict_of(alloc, slots(alloc, 0)) == agrees(0), "new");
-    check(&rt, verdict_of(alloc, slots(alloc, 1)) == agrees(1), "one");
+    let new = verdict_of(alloc, file_behind(alloc, &[]));
+    check(&rt, new == agrees(0), "new");
+    let one = verdict_of(alloc, file_behind(alloc, &[Step::Slot]));
+    check(&rt, one == agrees(1), "one");
     check(&rt, verdict_of(alloc, worked(alloc)) == agrees(6), "worked");
     check(
         &rt,
@@ -239,7 +338,7 @@ fn whole_files_agree(rt: HostRuntime) {
 #[test]
 fn a_changed_state_differs(rt: HostRuntime) {
     let alloc = rt.alloc();
-    let changed = with_byte(worked(alloc), FIRST_FRAME + 323, 7, 6);
+    let changed = with_bytes(worked(alloc), &[(FIRST_FRAME + 323, 7, 6)]);
     check(
         &rt,
         verdict_of(alloc, changed) == differs(3, Difference::State),
@@ -250,7 +349,8 @@ fn a_changed_state_differs(rt: HostRuntime) {
 #[test]
 fn a_changed_row_differs(rt: HostRuntime) {
     let alloc = rt.alloc();
-    let changed = with_byte(slots(alloc, 1), FIRST_FRAME + 19, 1, 2);
+    let file = file_behind(alloc, &[Step::Slot]);
+    let changed = with_bytes(file, &[(FIRST_FRAME + 19, 1, 2)]);
     check(
         &rt,
         verdict_of(alloc, changed) == differs(1, Difference::Row),
@@ -262,8 +362,8 @@ fn a_changed_row_differs(rt: HostRuntime) {
 fn a_changed_checkpoint_differs(rt: HostRuntime) {
     let alloc = rt.alloc();
     let second = SECOND_AREA + TASKS + TASK;
-    let first = with_byte(checkpointed(alloc), second, 7, 6);
-    let changed = with_byte(first, second + TASK, 6, 7);
+    let places = [(second, 7, 6), (second + TASK, 6, 7)];
+    let changed = with_bytes(checkpointed(alloc), &places);
     check(
         &rt,
         verdict_of(alloc, changed) == differs(10, Difference::Checkpoint),
@@ -273,10 +373,10 @@ fn a_changed_checkpoint_differs(rt: HostRuntime) {
 
 /// The bytes of a new store's file with the frames of three slots on two workers, of new weights for one, and of a slot of this task.
 fn renewed(alloc: Global, task: u8) -> Option<Vec<u8>> {
-    let mut bytes = slots(alloc, 0)?;
     let weights = new_weights(4, 1, 1);
     let row = row_of_one(5, task);
     let frames: [&[u8]; 3] = [&LEVEL, &weights, &row];
+    let mut bytes = file_behind(alloc, &[])?;
     if put_all(&mut bytes, FIRST_FRAME, &frames) {
         Some(bytes)
     } else {
@@ -284,18 +384,15 @@ fn renewed(alloc: Global, task: u8) -> Option<Vec<u8>> {
     }
 }
 
-/// Turns the store and takes the steps of its checkpoint.
-fn checkpoint(store: &mut Store<MemoryDisk, AnyJob>) -> bool {
-    store.turn() == Ok(true)
-        && store.tend() == Ok(Tended::Closed)
-        && store.tend() == Ok(Tended::Piece)
-        && store.tend() == Ok(Tended::Finished)
+/// The store that a disk with these bytes holds.
+fn opened(alloc: Global, bytes: &[u8]) -> Option<Store<MemoryDisk, AnyJob>> {
+    let disk = disk_of(alloc, bytes)?;
+    Store::open(alloc, disk).ok()
 }
 
 /// The store of that file after a checkpoint, in which the other area holds the set before.
 fn checkpointed_anew(alloc: Global) -> Option<Store<MemoryDisk, AnyJob>> {
-    let disk = disk_of(alloc, &renewed(alloc, 0)?)?;
-    let mut store = Store::open(alloc, disk).ok()?;
+    let mut store = opened(alloc, &renewed(alloc, 0)?)?;
     if checkpoint(&mut store) {
         Some(store)
     } else {
@@ -308,24 +405,21 @@ fn file_checkpointed_anew(alloc: Global) -> Option<Vec<u8>> {
     file_of(alloc, checkpointed_anew(alloc)?)
 }
 
-/// The store with so many slots more.
-fn with_slots(
+/// The store after these steps more.
+fn with_more(
     alloc: Global,
     store: Store<MemoryDisk, AnyJob>,
-    count: u32,
+    steps: &[Step],
 ) -> Option<Store<MemoryDisk, AnyJob>> {
-    let mut engine = DurableEngine::new(alloc, store).ok()?;
-    for _ in 0..count {
-        engine.execute(alloc, Command::Slot).ok()?;
-    }
-    Some(engine.into_keeper())
+    with_steps(alloc, DurableEngine::new(alloc, store).ok(), steps)
 }
 
 /// The file after two slots more, a second checkpoint and a slot: both areas hold another set than the header.
 fn file_checkpointed_twice(alloc: Global) -> Option<Vec<u8>> {
-    let mut store = with_slots(alloc, checkpointed_anew(alloc)?, 2)?;
+    let before = checkpointed_anew(alloc)?;
+    let mut store = with_more(alloc, before, &[Step::Slot; 2])?;
     if checkpoint(&mut store) {
-        file_of(alloc, with_slots(alloc, store, 1)?)
+        file_of(alloc, with_more(alloc, store, &[Step::Slot])?)
     } else {
         None
     }
@@ -369,35 +463,40 @@ fn a_changed_checkpoint_of_new_weights_differs(rt: HostRuntime) {
         [(set + 5, 3, 2), (set + 13, 3, 4), (set + 21, 3, 4)],
     ];
     for (number, row) in rows.iter().enumerate() {
-        let mut bytes = file_checkpointed_anew(alloc);
-        for (at, from, to) in row {
-            bytes = with_byte(bytes, *at, *from, *to);
-        }
+        let bytes = with_bytes(file_checkpointed_anew(alloc), row);
         let found = verdict_of(alloc, bytes);
         let holds = found == differs(5, Difference::Checkpoint);
         check_at(&rt, holds, "row", number);
     }
 }
 
+/// Why a replay of so many of a file's first bytes has to be refused.
+fn wanted_of(cut: usize) -> Refusal {
+    if cut < HEADER {
+        Refusal::NotAStore
+    } else {
+        Refusal::Damaged {
+            at: cut,
+            what: Part::Length,
+        }
+    }
+}
+
+/// Whether a replay of so many of the first bytes is refused so.
+fn is_refused(alloc: Global, bytes: &[u8], cut: usize) -> bool {
+    match bytes.get(..cut) {
+        Some(front) => fault_of(alloc, front) == Some(OpenFault::Refused(wanted_of(cut))),
+        None => false,
+    }
+}
+
 #[test]
 fn other_files_are_refused(rt: HostRuntime) {
     let alloc = rt.alloc();
-    let bytes = slots(alloc, 1).unwrap_or(Vec::new(alloc));
-    let none = OpenFault::Refused(Refusal::NotAStore);
-    check(&rt, fault_of(alloc, &[]) == Some(none), "empty");
+    check(&rt, is_refused(alloc, &[], 0), "empty");
+    let bytes = file_behind(alloc, &[Step::Slot]).unwrap_or(Vec::new(alloc));
     check(&rt, bytes.len() == END, "length");
     for cut in [0, 16, HEADER - 1, HEADER, FIRST_FRAME, END - 1] {
-        let Some(front) = bytes.get(..cut) else {
-            continue;
-        };
-        let wanted = if cut < HEADER {
-            none
-        } else {
-            OpenFault::Refused(Refusal::Damaged {
-                at: cut,
-                what: Part::Length,
-            })
-        };
-        check_at(&rt, fault_of(alloc, front) == Some(wanted), "cut", cut);
+        check_at(&rt, is_refused(alloc, &bytes, cut), "cut", cut);
     }
 }
