@@ -1,20 +1,14 @@
 //! Worked rows, and the choice beside a plain program.
 
-use crate::columns::start;
+use crate::columns::{ledger_at, start};
 use crate::plain;
 use pfx_choice::{ChoiceFault, Chooser, PlanFault, choose, give, plan};
 use pfx_columns::Columns;
-use pfx_weights::{Row, TaskSet};
+use pfx_weights::Row;
 use std::alloc::Global;
 
-/// Whether the plan of so many slots has these rows.
-fn plans(alloc: Global, m: u32, tasks: &[(u32, u32)], expected: &[&[u16]]) -> bool {
-    let Some(ledger) = start(alloc, m, tasks) else {
-        return false;
-    };
-    let Ok(planned) = plan(alloc, ledger, expected.len() as u64) else {
-        return false;
-    };
+/// Whether these are the rows.
+fn are_rows(planned: &[Row], expected: &[&[u16]]) -> bool {
     if planned.len() != expected.len() {
         return false;
     }
@@ -26,22 +20,37 @@ fn plans(alloc: Global, m: u32, tasks: &[(u32, u32)], expected: &[&[u16]]) -> bo
     true
 }
 
+/// Whether the plan of so many slots has these rows.
+fn plans(alloc: Global, m: u32, tasks: &[(u32, u32)], expected: &[&[u16]]) -> bool {
+    let Some(ledger) = start(alloc, m, tasks) else {
+        return false;
+    };
+    match plan(alloc, ledger, expected.len() as u64) {
+        Ok(planned) => are_rows(&planned, expected),
+        Err(_) => false,
+    }
+}
+
+/// The workers and the weights of a set, and the rows of its first slots.
+type Worked = (u32, &'static [(u32, u32)], &'static [&'static [u16]]);
+
+const WORKED: [Worked; 6] = [
+    (
+        2,
+        &[(2, 3), (2, 3), (2, 3)],
+        &[&[0, 1], &[0, 2], &[1, 2], &[0, 1]],
+    ),
+    (1, &[(1, 2), (1, 3)], &[&[0], &[1], &[0], &[1], &[0], &[2]]),
+    (2, &[(1, 2)], &[&[0, 1], &[2, 3]]),
+    (2, &[(4, 5)], &[&[0, 1], &[0, 1], &[0, 2], &[0, 1], &[1, 2]]),
+    (2, &[(2, 3), (2, 5)], &[&[0, 2], &[1, 2], &[0, 2]]),
+    (1, &[(1, 2)], &[]),
+];
+
 #[test]
 fn plans_worked_sets(rt: HostRuntime) {
-    let rows: [(u32, &[(u32, u32)], &[&[u16]]); 6] = [
-        (
-            2,
-            &[(2, 3), (2, 3), (2, 3)],
-            &[&[0, 1], &[0, 2], &[1, 2], &[0, 1]],
-        ),
-        (1, &[(1, 2), (1, 3)], &[&[0], &[1], &[0], &[1], &[0], &[2]]),
-        (2, &[(1, 2)], &[&[0, 1], &[2, 3]]),
-        (2, &[(4, 5)], &[&[0, 1], &[0, 1], &[0, 2], &[0, 1], &[1, 2]]),
-        (2, &[(2, 3), (2, 5)], &[&[0, 2], &[1, 2], &[0, 2]]),
-        (1, &[(1, 2)], &[]),
-    ];
-    for (at, (m, tasks, expected)) in rows.into_iter().enumerate() {
-        assert!(rt; plans(rt.alloc(), m, tasks, expected), "set {at}");
+    for (at, (m, tasks, expected)) in WORKED.iter().enumerate() {
+        assert!(rt; plans(rt.alloc(), *m, tasks, expected), "set {at}");
     }
 }
 
@@ -96,13 +105,7 @@ fn has_no_row(
     allocs: [u64; 4],
     fault: ChoiceFault,
 ) -> bool {
-    let Ok(set) = TaskSet::new(alloc, m, tasks) else {
-        return false;
-    };
-    if set.total() != 4 {
-        return false;
-    }
-    let Ok(ledger) = Columns::from_allocations(alloc, &set, 2, &allocs) else {
+    let Some(ledger) = ledger_at(alloc, m, tasks, 2, &allocs) else {
         return false;
     };
     ledger.slot() == 2
@@ -113,16 +116,9 @@ fn has_no_row(
 /// Whether no row is chosen in the last slot of all, if every task of a set with a period of 3 is punctual.
 fn ends_at_the_last_slot(alloc: Global) -> bool {
     let last = (1 << 40) - 1;
-    let Ok(set) = TaskSet::new(alloc, 2, &[(2, 3), (2, 3), (2, 3)]) else {
-        return false;
-    };
-    if set.total() != 3 {
-        return false;
-    }
-    let allocs = [last / 3 * 2, last / 3 * 2, last / 3 * 2];
-    match Columns::from_allocations(alloc, &set, last, &allocs) {
-        Ok(ledger) => choose(alloc, &ledger).err() == Some(ChoiceFault::SlotLimit),
-        Err(_) => false,
+    match ledger_at(alloc, 2, &[(2, 3); 3], last, &[last / 3 * 2; 3]) {
+        Some(ledger) => choose(alloc, &ledger).err() == Some(ChoiceFault::SlotLimit),
+        None => false,
     }
 }
 
@@ -143,16 +139,13 @@ fn says_why_there_is_no_row(rt: HostRuntime) {
     assert!(rt; ends_at_the_last_slot(rt.alloc()));
 }
 
-/// Gives the ledger a slot, and says whether the choice and the plain program agree on it.
-pub fn slot_agrees(
-    alloc: Global,
+/// Gives the ledger the slot that is chosen, and says whether its row is the expected one.
+fn gives_expected(
     ledger: &mut Columns,
     chooser: &mut Chooser,
     kept: &mut Row,
+    expected: &[u16],
 ) -> bool {
-    let Ok(expected) = plain::plain_row(alloc, ledger) else {
-        return false;
-    };
     let Ok(row) = chooser.choose(ledger) else {
         return false;
     };
@@ -160,22 +153,40 @@ pub fn slot_agrees(
         return false;
     }
     give(ledger, &row);
-    row.as_slice() == expected.as_slice() && kept.as_slice() == expected.as_slice()
+    row.as_slice() == expected && kept.as_slice() == expected
 }
 
-/// Whether the choice and the plain program agree on so many slots of a set.
-fn agrees(alloc: Global, m: u32, tasks: &[(u32, u32)], slots: u32) -> bool {
-    let Some(mut ledger) = start(alloc, m, tasks) else {
-        return false;
-    };
+/// Gives the ledger a slot, and says whether the choice and the plain program agree on it.
+pub fn slot_agrees(
+    alloc: Global,
+    ledger: &mut Columns,
+    chooser: &mut Chooser,
+    kept: &mut Row,
+) -> bool {
+    match plain::plain_row(alloc, ledger) {
+        Ok(expected) => gives_expected(ledger, chooser, kept, &expected),
+        Err(_) => false,
+    }
+}
+
+/// Whether the choice and the plain program agree on so many slots from a ledger on.
+pub fn slots_agree(alloc: Global, ledger: &mut Columns, slots: u32) -> bool {
     let mut chooser = Chooser::new(alloc);
     let mut kept = Row::empty();
     for _slot in 0..slots {
-        if !slot_agrees(alloc, &mut ledger, &mut chooser, &mut kept) {
+        if !slot_agrees(alloc, ledger, &mut chooser, &mut kept) {
             return false;
         }
     }
     true
+}
+
+/// The same of a set.
+fn agrees(alloc: Global, m: u32, tasks: &[(u32, u32)], slots: u32) -> bool {
+    match start(alloc, m, tasks) {
+        Some(mut ledger) => slots_agree(alloc, &mut ledger, slots),
+        None => false,
+    }
 }
 
 #[test]

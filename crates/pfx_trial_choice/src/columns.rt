@@ -14,6 +14,21 @@ pub fn start(alloc: Global, m: u32, tasks: &[(u32, u32)]) -> Option<Columns> {
     Columns::zero(alloc, &set).ok()
 }
 
+/// The ledger of a set at a slot with these allocations, if there is one for each task.
+pub fn ledger_at(
+    alloc: Global,
+    m: u32,
+    tasks: &[(u32, u32)],
+    slot: u64,
+    allocs: &[u64],
+) -> Option<Columns> {
+    let set = TaskSet::new(alloc, m, tasks).ok()?;
+    if set.total() != allocs.len() || slot >= 1 << 40 {
+        return None;
+    }
+    Columns::from_allocations(alloc, &set, slot, allocs).ok()
+}
+
 /// Three tasks of 2/3 on two workers.
 fn thirds(alloc: Global) -> Option<Columns> {
     start(alloc, 2, &[(2, 3), (2, 3), (2, 3)])
@@ -96,22 +111,41 @@ fn is_round(ledger: &Columns) -> bool {
         && rank.phase() == 0
 }
 
-/// The first of three rows after which the ledger isn't as expected, or 3 if it isn't after all of them.
+/// Rows, and the lags and the classes behind each of them.
+const ROUND: [([u16; 2], [i32; 3], [Class; 3]); 3] = [
+    (
+        [0, 1],
+        [-1, -1, 2],
+        [Class::Contending, Class::Contending, Class::Urgent],
+    ),
+    (
+        [0, 2],
+        [-2, 1, 1],
+        [Class::Tnegru, Class::Urgent, Class::Urgent],
+    ),
+    (
+        [1, 2],
+        [0, 0, 0],
+        [Class::Contending, Class::Contending, Class::Contending],
+    ),
+];
+
+/// The first of these rows after which the ledger isn't as expected, or 3 if it isn't after all of them.
+fn first_wrong_of(ledger: &mut Columns) -> Option<usize> {
+    for (at, (numbers, lags, kinds)) in ROUND.iter().enumerate() {
+        if !goes_on(ledger, *numbers, *lags, *kinds) {
+            return Some(at);
+        }
+    }
+    if is_round(ledger) { None } else { Some(3) }
+}
+
+/// The same from the start of the three tasks.
 fn first_wrong_row(alloc: Global) -> Option<usize> {
-    let Some(mut ledger) = thirds(alloc) else {
-        return Some(0);
-    };
-    let (c, u, t) = (Class::Contending, Class::Urgent, Class::Tnegru);
-    if !goes_on(&mut ledger, [0, 1], [-1, -1, 2], [c, c, u]) {
-        return Some(0);
+    match thirds(alloc) {
+        Some(mut ledger) => first_wrong_of(&mut ledger),
+        None => Some(0),
     }
-    if !goes_on(&mut ledger, [0, 2], [-2, 1, 1], [t, u, u]) {
-        return Some(1);
-    }
-    if !goes_on(&mut ledger, [1, 2], [0, 0, 0], [c, c, c]) {
-        return Some(2);
-    }
-    if is_round(&ledger) { None } else { Some(3) }
 }
 
 #[test]
@@ -186,62 +220,85 @@ const SIXTHS: [(u32, u32); 4] = [(1, 3), (1, 3), (1, 6), (1, 6)];
 
 const THIRDS: [(u32, u32); 4] = [(2, 3), (2, 3), (5, 6), (5, 6)];
 
-/// Whether the ledger of these allocations is made, or refused for the first task that is out of range, if there is one.
-fn takes_allocations(
+/// The fault that a first task out of range is, if there is one.
+fn out_of_range(first: Option<u16>) -> Option<LedgerFault> {
+    match first {
+        Some(task) => Some(LedgerFault::OutOfRange { task }),
+        None => None,
+    }
+}
+
+/// Whether the ledger of four tasks' allocations is made, or refused for this fault, if there is one.
+fn are_taken(
     alloc: Global,
-    m: u32,
-    tasks: &[(u32, u32)],
+    set: &TaskSet,
     slot: u64,
-    allocs: [u64; 4],
-    first: Option<u16>,
+    allocs: &[u64; 4],
+    fault: Option<LedgerFault>,
 ) -> bool {
-    let Ok(set) = TaskSet::new(alloc, m, tasks) else {
-        return false;
-    };
-    if set.total() != 4 || slot >= 1 << 40 || lag_check(&set, slot, &allocs) != first {
+    if set.total() != 4 || slot >= 1 << 40 {
         return false;
     }
-    match Columns::from_allocations(alloc, &set, slot, &allocs) {
-        Ok(_) => first.is_none(),
-        Err(LedgerFault::OutOfRange { task }) => first == Some(task),
+    let first = out_of_range(lag_check(set, slot, allocs));
+    let is_told = first == fault || first.is_none() && fault == Some(LedgerFault::WrongSum);
+    is_told && Columns::from_allocations(alloc, set, slot, allocs).err() == fault
+}
+
+/// The same of the tasks of a set.
+fn takes_allocations(alloc: Global, given: &Given) -> bool {
+    let (m, tasks, slot, allocs, fault) = given;
+    match TaskSet::new(alloc, *m, tasks) {
+        Ok(set) => are_taken(alloc, &set, *slot, allocs, *fault),
         Err(_) => false,
     }
 }
 
-/// Whether allocations that are a slot short are refused, each of them in range.
-fn refuses_a_wrong_sum(alloc: Global) -> bool {
-    let Ok(set) = TaskSet::new(alloc, 1, &SIXTHS) else {
-        return false;
-    };
-    if set.total() != 4 || lag_check(&set, 2, &[0, 0, 1, 0]).is_some() {
-        return false;
-    }
-    match Columns::from_allocations(alloc, &set, 2, &[0, 0, 1, 0]) {
-        Err(LedgerFault::WrongSum) => true,
-        _ => false,
-    }
-}
+/// Workers, tasks, a slot, allocations, and what these are refused for, if they are.
+type Given = (u32, [(u32, u32); 4], u64, [u64; 4], Option<LedgerFault>);
+
+const LATE: u64 = 1 << 39;
+
+const GIVEN: [Given; 8] = [
+    (1, SIXTHS, 2, [0, 0, 1, 1], None),
+    (
+        1,
+        SIXTHS,
+        2,
+        [0, 0, 2, 0],
+        Some(LedgerFault::OutOfRange { task: 2 }),
+    ),
+    (3, THIRDS, 2, [2, 2, 1, 1], None),
+    (1, SIXTHS, 6, [2, 2, 1, 1], None),
+    (
+        1,
+        SIXTHS,
+        6,
+        [2, 2, 1, u64::MAX],
+        Some(LedgerFault::OutOfRange { task: 3 }),
+    ),
+    (
+        1,
+        SIXTHS,
+        6,
+        [0, 4, 1, 1],
+        Some(LedgerFault::OutOfRange { task: 0 }),
+    ),
+    (
+        3,
+        THIRDS,
+        LATE,
+        [LATE, 0, 0, 0],
+        Some(LedgerFault::OutOfRange { task: 0 }),
+    ),
+    // A slot short, with each task in range.
+    (1, SIXTHS, 2, [0, 0, 1, 0], Some(LedgerFault::WrongSum)),
+];
 
 #[test]
 fn takes_given_allocations(rt: HostRuntime) {
-    let late = 1 << 39;
-    // The first task that is out of range, if there is one.
-    let rows: [(u32, [(u32, u32); 4], u64, [u64; 4], Option<u16>); 7] = [
-        (1, SIXTHS, 2, [0, 0, 1, 1], None),
-        (1, SIXTHS, 2, [0, 0, 2, 0], Some(2)),
-        (3, THIRDS, 2, [2, 2, 1, 1], None),
-        (1, SIXTHS, 6, [2, 2, 1, 1], None),
-        (1, SIXTHS, 6, [2, 2, 1, u64::MAX], Some(3)),
-        (1, SIXTHS, 6, [0, 4, 1, 1], Some(0)),
-        (3, THIRDS, late, [late, 0, 0, 0], Some(0)),
-    ];
-    for (at, (m, tasks, slot, allocs, first)) in rows.into_iter().enumerate() {
-        assert!(rt;
-            takes_allocations(rt.alloc(), m, &tasks, slot, allocs, first),
-            "row {at}, slot {slot}"
-        );
+    for (at, given) in GIVEN.iter().enumerate() {
+        assert!(rt; takes_allocations(rt.alloc(), given), "row {at}");
     }
-    assert!(rt; refuses_a_wrong_sum(rt.alloc()));
 }
 
 /// Whether one task has a class, and all others have another.
@@ -263,40 +320,39 @@ fn takes_one(ledger: &mut Columns, task: u16) -> bool {
     }
 }
 
-/// Whether of `n` tasks of 1/n on one worker, which run in turn, the first has run ahead after slot 0, if the others
-/// contend, and the last is urgent before slot n - 1, if the others have run ahead.
+/// Whether of `n` tasks that run in turn the first has run ahead after slot 0, if the others contend, and the last is urgent
+/// before slot n - 1, if the others have run ahead.
+fn gives_turns(ledger: &mut Columns, n: u16) -> bool {
+    let (c, u, t) = (Class::Contending, Class::Urgent, Class::Tnegru);
+    if !takes_one(ledger, 0) || !has_lone(ledger, 0, t, c) {
+        return false;
+    }
+    for task in 1..n.saturating_sub(1) {
+        if !takes_one(ledger, task) {
+            return false;
+        }
+    }
+    has_lone(ledger, n.saturating_sub(1) as usize, u, t)
+}
+
+/// The same for tasks of 1/n on one worker.
 fn takes_turns(alloc: Global, n: u16) -> bool {
     let mut tasks = Vec::new(alloc);
     if tasks.resize(n as usize, (1, n as u32)).is_err() {
         return false;
     }
-    let Some(mut ledger) = start(alloc, 1, &tasks) else {
-        return false;
-    };
-    let (c, u, t) = (Class::Contending, Class::Urgent, Class::Tnegru);
-    if !takes_one(&mut ledger, 0) || !has_lone(&ledger, 0, t, c) {
-        return false;
+    match start(alloc, 1, &tasks) {
+        Some(mut ledger) => gives_turns(&mut ledger, n),
+        None => false,
     }
-    for task in 1..n.saturating_sub(1) {
-        if !takes_one(&mut ledger, task) {
-            return false;
-        }
-    }
-    has_lone(&ledger, n.saturating_sub(1) as usize, u, t)
 }
 
 /// Whether of four tasks on three workers two have run ahead and two are urgent.
 fn has_four_on_three(alloc: Global) -> bool {
-    let Ok(set) = TaskSet::new(alloc, 3, &THIRDS) else {
-        return false;
-    };
-    if set.total() != 4 {
-        return false;
-    }
     let (u, t) = (Class::Urgent, Class::Tnegru);
-    match Columns::from_allocations(alloc, &set, 2, &[2, 2, 1, 1]) {
-        Ok(ledger) => has_classes(&ledger, &[t, t, u, u]),
-        Err(_) => false,
+    match ledger_at(alloc, 3, &THIRDS, 2, &[2, 2, 1, 1]) {
+        Some(ledger) => has_classes(&ledger, &[t, t, u, u]),
+        None => false,
     }
 }
 
@@ -399,21 +455,35 @@ fn advance_both(ledger: &mut Columns, kept: &mut [Record], row: &Row) -> Option<
     }
 }
 
-/// Runs both bodies over some slots, each with rows from another task on, and says how many rows were refused, if the
-/// two say the same all along.
+/// The row of this slot: in every third one that of the first tasks, and else one from another task on.
+fn row_at(alloc: Global, ledger: &Columns, slot: usize) -> Option<Row> {
+    if slot % 3 == 2 {
+        first_tasks(alloc, ledger)
+    } else {
+        some_row(alloc, ledger, slot.wrapping_mul(7))
+    }
+}
+
+/// Runs both bodies over some slots, and says how many rows were refused, if the two say the same all along.
+fn advance_through(
+    alloc: Global,
+    ledger: &mut Columns,
+    kept: &mut [Record],
+    slots: usize,
+) -> Option<u32> {
+    let mut refused = 0u32;
+    for slot in 0..slots {
+        let row = row_at(alloc, ledger, slot)?;
+        refused = refused.wrapping_add(advance_both(ledger, kept, &row)?);
+    }
+    Some(refused)
+}
+
+/// The same from slot 0 of a set on.
 fn run_both(alloc: Global, set: &TaskSet, slots: usize) -> Option<u32> {
     let mut ledger = Columns::zero(alloc, set).ok()?;
     let mut kept = records::start(alloc, set)?;
-    let mut refused = 0u32;
-    for slot in 0..slots {
-        let row = if slot % 3 == 2 {
-            first_tasks(alloc, &ledger)?
-        } else {
-            some_row(alloc, &ledger, slot.wrapping_mul(7))?
-        };
-        refused = refused.wrapping_add(advance_both(&mut ledger, &mut kept, &row)?);
-    }
-    Some(refused)
+    advance_through(alloc, &mut ledger, &mut kept, slots)
 }
 
 /// `run_both` for a number of tasks of a quarter of a worker each on average.

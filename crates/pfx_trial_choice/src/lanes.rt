@@ -5,11 +5,20 @@ ghost use Rattle.std.specs.Bool.{OnTrue};
 ghost use Rattle.pfx_lanes.specs.Classes.{IsLane, AreLanes};
 
 use pfx_lanes::{advance_lanes, classify, lag_after};
-use std::alloc::Global;
+use std::alloc::{AllocError, Global};
 use std::cmp::Ordering;
 
 /// The lengths: none, one, around one turn of sixteen and two, and the most tasks that a ledger has, less one.
 const LENGTHS: [u32; 9] = [0, 1, 15, 16, 17, 31, 32, 33, 1151];
+
+/// What the columns hold of one task.
+#[derive(Clone, Copy)]
+struct Place {
+    lag: i32,
+    phase: i32,
+    e: i32,
+    p: i32,
+}
 
 /// The columns of some tasks.
 #[derive(Drop)]
@@ -20,22 +29,60 @@ struct Places {
     p: Vec<i32>,
 }
 
+impl Places {
+    /// Of no task.
+    fn new(alloc: Global) -> Places {
+        Places {
+            lag: Vec::new(alloc),
+            phase: Vec::new(alloc),
+            e: Vec::new(alloc),
+            p: Vec::new(alloc),
+        }
+    }
+
+    /// One more task.
+    fn push(&mut self, place: Place) -> Result<(), AllocError> {
+        self.lag.push(place.lag)?;
+        self.phase.push(place.phase)?;
+        self.e.push(place.e)?;
+        self.p.push(place.p)?;
+        Ok(())
+    }
+
+    /// What the columns hold of task `k`, if each of them has it.
+    fn place(&self, k: usize) -> Option<Place> {
+        let (lag, phase, e, p) = (&self.lag[..], &self.phase[..], &self.e[..], &self.p[..]);
+        if k >= lag.len() || k >= phase.len() || k >= e.len() || k >= p.len() {
+            return None;
+        }
+        Some(Place {
+            lag: lag[k],
+            phase: phase[k],
+            e: e[k],
+            p: p[k],
+        })
+    }
+}
+
+/// A place by its number: all signs of lags and symbols are among those of the first few.
+fn some_place(x: u32) -> Place {
+    let period = 2 + x.wrapping_mul(37) % 23;
+    let due = 1 + x.wrapping_mul(11) % (period - 1);
+    Place {
+        lag: (x.wrapping_mul(71) % (2 * period - 1)) as i32 - (period as i32 - 1),
+        phase: (x.wrapping_mul(53) % period) as i32,
+        e: due as i32,
+        p: period as i32,
+    }
+}
+
 /// Places with all signs of lags and symbols.
 fn some_places(alloc: Global, n: u32) -> Option<Places> {
-    let mut lag = Vec::new(alloc);
-    let mut phase = Vec::new(alloc);
-    let mut e = Vec::new(alloc);
-    let mut p = Vec::new(alloc);
+    let mut all = Places::new(alloc);
     for x in 0..n {
-        let period = 2 + x.wrapping_mul(37) % 23;
-        let due = 1 + x.wrapping_mul(11) % (period - 1);
-        p.push(period as i32).ok()?;
-        e.push(due as i32).ok()?;
-        phase.push((x.wrapping_mul(53) % period) as i32).ok()?;
-        lag.push((x.wrapping_mul(71) % (2 * period - 1)) as i32 - (period as i32 - 1))
-            .ok()?;
+        all.push(some_place(x)).ok()?;
     }
-    Some(Places { lag, phase, e, p })
+    Some(all)
 }
 
 fn is_lane(lag: i32, phase: i32, e: i32, p: i32) -> bool
@@ -69,8 +116,20 @@ fn are_lanes(lag: &[i32], phase: &[i32], e: &[i32], p: &[i32]) -> bool
     true
 }
 
+/// Whether the columns have as many places as the first of them, and each place is one of a ledger.
+fn fit(lag: &[i32], phase: &[i32], e: &[i32], p: &[i32]) -> bool
+    ensures phase { OnTrue result (length phase.now ≡ length lag.now) }
+    ensures e { OnTrue result (length e.now ≡ length lag.now) }
+    ensures p { OnTrue result (length p.now ≡ length lag.now) }
+    ensures lanes { OnTrue result (AreLanes lag.now phase.now e.now p.now) }
+{
+    let n = lag.len();
+    phase.len() == n && e.len() == n && p.len() == n && are_lanes(lag, phase, e, p)
+}
+
 /// The class of a place, by the signs of its lag and of phase + e - p.
-fn plain_class(lag: i32, phase: i32, e: i32, p: i32) -> u8 {
+fn plain_class(place: Place) -> u8 {
+    let Place { lag, phase, e, p } = place;
     let symbol = (i64::from(phase) + i64::from(e)).cmp(&i64::from(p));
     match (lag.cmp(&0), symbol) {
         (Ordering::Greater, Ordering::Equal | Ordering::Greater) => 1,
@@ -81,16 +140,27 @@ fn plain_class(lag: i32, phase: i32, e: i32, p: i32) -> u8 {
 
 /// Whether these are the plain loop's classes.
 fn are_plain_classes(all: &Places, classes: &[u8]) -> bool {
-    let (lag, phase, e, p) = (&all.lag[..], &all.phase[..], &all.e[..], &all.p[..]);
     for (k, class) in classes.iter().enumerate() {
-        if k >= lag.len() || k >= phase.len() || k >= e.len() || k >= p.len() {
-            return false;
-        }
-        if *class != plain_class(lag[k], phase[k], e[k], p[k]) {
-            return false;
+        match all.place(k) {
+            Some(place) => {
+                if *class != plain_class(place) {
+                    return false;
+                }
+            }
+            None => return false,
         }
     }
     true
+}
+
+/// Whether `classify` gives the plain loop's classes.
+fn are_classified(all: &Places, out: &mut [u8]) -> bool {
+    let (lag, phase, e, p) = (&all.lag[..], &all.phase[..], &all.e[..], &all.p[..]);
+    if out.len() != lag.len() || !fit(lag, phase, e, p) {
+        return false;
+    }
+    classify(lag, phase, e, p, out);
+    are_plain_classes(all, out)
 }
 
 /// Whether `classify` and the plain loop agree on so many places.
@@ -98,21 +168,10 @@ fn classes_agree(alloc: Global, n: u32) -> bool {
     let Some(all) = some_places(alloc, n) else {
         return false;
     };
-    let Ok(mut out) = vec![in alloc; 9u8; n as usize] else {
-        return false;
-    };
-    let (lag, phase, e, p) = (&all.lag[..], &all.phase[..], &all.e[..], &all.p[..]);
-    if lag.len() != n as usize || out.len() != lag.len() {
-        return false;
+    match vec![in alloc; 9u8; n as usize] {
+        Ok(mut out) => are_classified(&all, &mut out),
+        Err(_) => false,
     }
-    if phase.len() != lag.len() || e.len() != lag.len() || p.len() != lag.len() {
-        return false;
-    }
-    if !are_lanes(lag, phase, e, p) {
-        return false;
-    }
-    classify(lag, phase, e, p, &mut out);
-    are_plain_classes(&all, &out)
 }
 
 #[test]
@@ -122,22 +181,23 @@ fn classes_at_each_length(rt: HostRuntime) {
     }
 }
 
-/// Whether place `k` went one slot on.
-fn went_on(before: &Places, after: &Places, k: usize) -> Option<bool> {
-    let e = *before.e.get(k)?;
-    let p = *before.p.get(k)?;
-    let taken = if k % 3 == 0 { p } else { 0 };
-    let reach = before.phase.get(k)?.wrapping_add(e);
+/// Whether a place went one slot on, in which its task ran or rested.
+fn went_on(before: Place, after: Place, ran: bool) -> bool {
+    let Place { lag, phase, e, p } = before;
+    let taken = if ran { p } else { 0 };
+    let reach = phase.wrapping_add(e);
     let wrapped = if reach < p { 0 } else { p };
-    let lag = before.lag.get(k)?.wrapping_add(e).wrapping_sub(taken);
-    let phase = reach.wrapping_sub(wrapped);
-    Some(*after.lag.get(k)? == lag && *after.phase.get(k)? == phase)
+    after.lag == lag.wrapping_add(e).wrapping_sub(taken)
+        && after.phase == reach.wrapping_sub(wrapped)
 }
 
-/// Whether each of so many places went one slot on.
+/// Whether each of so many places went one slot on, in which every third task ran.
 fn all_went_on(before: &Places, after: &Places, n: usize) -> bool {
     for k in 0..n {
-        if went_on(before, after, k) != Some(true) {
+        let (Some(old), Some(new)) = (before.place(k), after.place(k)) else {
+            return false;
+        };
+        if !went_on(old, new, k % 3 == 0) {
             return false;
         }
     }
@@ -155,11 +215,7 @@ fn thirds(alloc: Global, n: usize) -> Option<Vec<u8>> {
 
 /// Advances the places by a slot, if they are lanes.
 fn step(all: &mut Places, chosen: &[u8]) -> bool {
-    let n = all.lag.len();
-    if all.phase.len() != n || all.e.len() != n || all.p.len() != n || chosen.len() != n {
-        return false;
-    }
-    if !are_lanes(&all.lag, &all.phase, &all.e, &all.p) {
+    if chosen.len() != all.lag.len() || !fit(&all.lag, &all.phase, &all.e, &all.p) {
         return false;
     }
     advance_lanes(&mut all.lag, &mut all.phase, &all.e, &all.p, chosen);

@@ -1,10 +1,10 @@
 //! The choice of more than 16 tasks, by their places, beside the plain program.
 
-use crate::choice::slot_agrees;
-use crate::columns::start;
+use crate::choice::{slot_agrees, slots_agree};
+use crate::columns::{ledger_at, start};
 use pfx_choice::{ChoiceFault, Chooser, choose};
 use pfx_columns::Columns;
-use pfx_weights::{Row, TaskSet};
+use pfx_weights::Row;
 use std::alloc::Global;
 
 /// Tasks of one weight, and how many slots each of them got.
@@ -23,36 +23,41 @@ fn part_of(weight: (u32, u32), alloc: u64, times: usize) -> Part {
     }
 }
 
-/// The ledger at a slot of the tasks of these parts, which leave no worker idle.
-fn ledger_of(alloc: Global, m: u32, slot: u64, parts: &[Part]) -> Option<Columns> {
-    let mut tasks = Vec::new(alloc);
+/// The weight of each task of these parts.
+fn weights_of(alloc: Global, parts: &[Part]) -> Option<Vec<(u32, u32)>> {
+    let mut weights = Vec::new(alloc);
+    for part in parts {
+        for _task in 0..part.times {
+            weights.push(part.weight).ok()?;
+        }
+    }
+    Some(weights)
+}
+
+/// How many slots each task of these parts got.
+fn allocs_of(alloc: Global, parts: &[Part]) -> Option<Vec<u64>> {
     let mut allocs = Vec::new(alloc);
     for part in parts {
         for _task in 0..part.times {
-            tasks.push(part.weight).ok()?;
             allocs.push(part.alloc).ok()?;
         }
     }
-    let set = TaskSet::new(alloc, m, &tasks).ok()?;
-    if set.total() != allocs.len() || slot >= 1 << 40 {
-        return None;
-    }
-    Columns::from_allocations(alloc, &set, slot, &allocs).ok()
+    Some(allocs)
 }
 
-/// Whether the choice and the plain program agree on so many slots from a ledger on.
+/// The ledger at a slot of the tasks of these parts, which leave no worker idle.
+fn ledger_of(alloc: Global, m: u32, slot: u64, parts: &[Part]) -> Option<Columns> {
+    let weights = weights_of(alloc, parts)?;
+    let allocs = allocs_of(alloc, parts)?;
+    ledger_at(alloc, m, &weights, slot, &allocs)
+}
+
+/// Whether the choice and the plain program agree on so many slots from a ledger of more than 16 tasks on.
 fn agrees_from(alloc: Global, ledger: Option<Columns>, slots: u32) -> bool {
-    let Some(mut ledger) = ledger else {
-        return false;
-    };
-    let mut chooser = Chooser::new(alloc);
-    let mut kept = Row::empty();
-    for _slot in 0..slots {
-        if ledger.total() <= 16 || !slot_agrees(alloc, &mut ledger, &mut chooser, &mut kept) {
-            return false;
-        }
+    match ledger {
+        Some(mut ledger) => ledger.total() > 16 && slots_agree(alloc, &mut ledger, slots),
+        None => false,
     }
-    true
 }
 
 /// Weights from far below to just below 1; the last two have leads of hundreds of slots.

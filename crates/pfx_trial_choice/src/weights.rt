@@ -33,21 +33,24 @@ fn fills(alloc: Global, m: u32, tasks: &[(u32, u32)], hyper: u32, idle: &[(u32, 
         && has_weights(&set, tasks.len(), idle)
 }
 
+/// Workers, the given weights, the hyperperiod, and the idle tasks.
+type Filled = (u32, &'static [(u32, u32)], u32, &'static [(u32, u32)]);
+
+const FILLED: [Filled; 7] = [
+    (2, &[(2, 3), (2, 3), (2, 3)], 3, &[]),
+    (1, &[(1, 2), (1, 3)], 6, &[(1, 6)]),
+    (2, &[(1, 2)], 2, &[(1, 2), (1, 2), (1, 2)]),
+    (2, &[(4, 5)], 5, &[(4, 5), (2, 5)]),
+    (2, &[(2, 3), (2, 5)], 15, &[(14, 15)]),
+    (1, &[(1, 1048576)], 1048576, &[(1048575, 1048576)]),
+    (3, &[(5, 12), (7, 18)], 36, &[(35, 36), (35, 36), (9, 36)]),
+];
+
 #[test]
 fn fills_with_idle_tasks(rt: HostRuntime) {
-    // Workers, the given weights, the hyperperiod, and the idle tasks.
-    let rows: [(u32, &[(u32, u32)], u32, &[(u32, u32)]); 7] = [
-        (2, &[(2, 3), (2, 3), (2, 3)], 3, &[]),
-        (1, &[(1, 2), (1, 3)], 6, &[(1, 6)]),
-        (2, &[(1, 2)], 2, &[(1, 2), (1, 2), (1, 2)]),
-        (2, &[(4, 5)], 5, &[(4, 5), (2, 5)]),
-        (2, &[(2, 3), (2, 5)], 15, &[(14, 15)]),
-        (1, &[(1, 1048576)], 1048576, &[(1048575, 1048576)]),
-        (3, &[(5, 12), (7, 18)], 36, &[(35, 36), (35, 36), (9, 36)]),
-    ];
-    for (m, tasks, hyper, idle) in rows {
+    for (m, tasks, hyper, idle) in &FILLED {
         assert!(rt;
-            fills(rt.alloc(), m, tasks, hyper, idle),
+            fills(rt.alloc(), *m, tasks, *hyper, idle),
             "{m} workers, hyperperiod {hyper}"
         );
     }
@@ -88,36 +91,40 @@ fn is_refused(alloc: Global, m: u32, tasks: &[(u32, u32)], fault: SetFault) -> b
     }
 }
 
+/// Workers, the given weights, and what they are refused for.
+type Refused = (u32, &'static [(u32, u32)], SetFault);
+
+const REFUSED: [Refused; 12] = [
+    (0, &[], SetFault::NoTasks),
+    (0, &[(1, 2)], SetFault::BadWorkers),
+    (65, &[(1, 2)], SetFault::BadWorkers),
+    (65, &[(3, 3)], SetFault::BadWorkers),
+    (1, &[(3, 3)], SetFault::BadWeight { task: 0 }),
+    (1, &[(0, 3)], SetFault::BadWeight { task: 0 }),
+    (1, &[(1, 2), (0, 0)], SetFault::BadWeight { task: 1 }),
+    (1, &[(1, 1048576), (4, 3)], SetFault::BadWeight { task: 1 }),
+    (
+        1,
+        &[(1, 1048576), (1, 3)],
+        SetFault::HyperperiodTooLarge { task: 1 },
+    ),
+    (
+        1,
+        &[(1, 4294967295)],
+        SetFault::HyperperiodTooLarge { task: 0 },
+    ),
+    (1, &[(2, 3), (2, 3)], SetFault::Overload),
+    (
+        64,
+        &[(1, 1048577)],
+        SetFault::HyperperiodTooLarge { task: 0 },
+    ),
+];
+
 #[test]
 fn names_the_first_fault(rt: HostRuntime) {
-    let rows: [(u32, &[(u32, u32)], SetFault); 12] = [
-        (0, &[], SetFault::NoTasks),
-        (0, &[(1, 2)], SetFault::BadWorkers),
-        (65, &[(1, 2)], SetFault::BadWorkers),
-        (65, &[(3, 3)], SetFault::BadWorkers),
-        (1, &[(3, 3)], SetFault::BadWeight { task: 0 }),
-        (1, &[(0, 3)], SetFault::BadWeight { task: 0 }),
-        (1, &[(1, 2), (0, 0)], SetFault::BadWeight { task: 1 }),
-        (1, &[(1, 1048576), (4, 3)], SetFault::BadWeight { task: 1 }),
-        (
-            1,
-            &[(1, 1048576), (1, 3)],
-            SetFault::HyperperiodTooLarge { task: 1 },
-        ),
-        (
-            1,
-            &[(1, 4294967295)],
-            SetFault::HyperperiodTooLarge { task: 0 },
-        ),
-        (1, &[(2, 3), (2, 3)], SetFault::Overload),
-        (
-            64,
-            &[(1, 1048577)],
-            SetFault::HyperperiodTooLarge { task: 0 },
-        ),
-    ];
-    for (at, (m, tasks, fault)) in rows.into_iter().enumerate() {
-        assert!(rt; is_refused(rt.alloc(), m, tasks, fault), "row {at}");
+    for (at, (m, tasks, fault)) in REFUSED.iter().enumerate() {
+        assert!(rt; is_refused(rt.alloc(), *m, tasks, *fault), "row {at}");
     }
 }
 
