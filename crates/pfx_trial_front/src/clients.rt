@@ -3,7 +3,7 @@
 use crate::answers::{is_accepted, is_settled};
 use crate::fronts::{Ended, is_kept};
 use crate::service::{Ask, Service};
-use crate::sessions::{Session, Visit, in_memory};
+use crate::sessions::{Session, Visit, both, in_memory};
 use pfx_book::book::Pass;
 use pfx_crew::desk::Desk;
 use pfx_front::calls::Front;
@@ -51,10 +51,7 @@ where
         move || client(rt, alloc, front, one, 0),
         move || client(rt, alloc, front, other, 1),
     );
-    let mut passes = Vec::new(alloc);
-    passes.push(other).ok()?;
-    passes.push(one).ok()?;
-    Some((first && second, passes))
+    both(alloc, first && second, other, one)
 }
 
 /// Whether all is in the store.

@@ -3,8 +3,8 @@
 use crate::answers::{is_number, is_shown, is_told_and_shown};
 use crate::fronts::{Ended, have_looked};
 use crate::service::{Ask, Service};
-use crate::sessions::{Session, Visit, alone, is_right};
-use crate::stores::{SEGMENT, desk, memory};
+use crate::sessions::{Session, Visit, alone, on_disk};
+use crate::stores::{SEGMENT, memory};
 use pfx_disk::{Latch, LatchDisk};
 use std::alloc::Global;
 use std::sync::Wait;
@@ -56,14 +56,7 @@ fn is_held<R: Threads + Wait + Clock + Copy + Drop + Send + Sync + 'static>(
     alloc: Global,
 ) -> Option<bool> {
     let (disk, latch) = LatchDisk::new(rt, alloc, memory(alloc)?, FIRST_SYNC).ok()?;
-    is_right(
-        rt,
-        alloc,
-        disk,
-        SEGMENT,
-        desk(alloc)?,
-        Session::Held { latch },
-    )
+    on_disk(rt, alloc, disk, SEGMENT, Session::Held { latch })
 }
 
 #[test]

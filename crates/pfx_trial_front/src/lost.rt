@@ -3,8 +3,8 @@
 use crate::answers::{is_number, is_refused};
 use crate::fronts::{Ended, have_looked};
 use crate::service::{Ask, Service};
-use crate::sessions::{Session, Visit, alone, is_right};
-use crate::stores::{SEGMENT, desk, memory};
+use crate::sessions::{Session, Visit, alone, on_disk};
+use crate::stores::{SEGMENT, memory};
 use pfx_book::note::Loss;
 use pfx_disk::FaultDisk;
 use pfx_fault::Cause;
@@ -52,7 +52,7 @@ fn is_failed<R: Threads + Wait + Clock + Copy + Drop + Send + Sync + 'static>(
     alloc: Global,
 ) -> Option<bool> {
     let disk = FaultDisk::new(memory(alloc)?, FIRST_SYNC);
-    is_right(rt, alloc, disk, SEGMENT, desk(alloc)?, Session::Lost)
+    on_disk(rt, alloc, disk, SEGMENT, Session::Lost)
 }
 
 #[test]

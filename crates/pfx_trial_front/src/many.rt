@@ -35,6 +35,18 @@ fn client<F: Service, R: Wait>(rt: &R, alloc: Global, front: &F, pass: F::Pass) 
     (pass, settled)
 }
 
+/// The passes of these visits, if all were settled.
+fn settled_passes<P: Drop>(alloc: Global, visits: Vec<(P, bool)>) -> Option<Vec<P>> {
+    let mut passes = Vec::new(alloc);
+    for (pass, settled) in visits {
+        if !settled {
+            return None;
+        }
+        passes.push(pass).ok()?;
+    }
+    Some(passes)
+}
+
 /// All clients at once. Their passes, if all were settled.
 fn visited<
     B: Since<AnyJob> + Send + Sync,
@@ -50,14 +62,10 @@ where
         waiting,
         &|pass: Pass<AnyJob, B>| client(rt, alloc, front, pass),
     );
-    let mut passes = Vec::new(alloc);
-    for (pass, settled) in visits.ok()? {
-        if !settled {
-            return None;
-        }
-        passes.push(pass).ok()?;
+    match visits {
+        Ok(visits) => settled_passes(alloc, visits),
+        Err(_) => None,
     }
-    Some(passes)
 }
 
 /// Whether each task takes a job.

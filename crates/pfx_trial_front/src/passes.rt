@@ -10,15 +10,22 @@ use std::sync::Wait;
 /// How many passes a front gives.
 const MOST: usize = 64;
 
+/// Whether a slot is run, with a receipt.
+fn is_called<F: Service, R: Wait>(rt: &R, alloc: Global, front: &F, pass: &mut F::Pass) -> bool {
+    let called = is_accepted(&front.ask(rt, alloc, pass, Ask::Slot));
+    let settled = is_settled(rt, front, pass);
+    called && settled
+}
+
 /// Whether there are 64 passes, by the last of which a slot is run, and no more.
 pub fn visit<F: Service, R: Wait>(rt: &R, alloc: Global, front: &F) -> Option<Visit<F::Pass>> {
     let mut passes = admit(rt, alloc, front, 100)?;
     let all = passes.len() == MOST && front.admit(rt).is_none();
-    let mut last = passes.pop()?;
-    let called = is_accepted(&front.ask(rt, alloc, &mut last, Ask::Slot));
-    let settled = is_settled(rt, front, &mut last);
-    passes.push(last).ok()?;
-    Some((all && called && settled, passes))
+    let called = match passes.last_mut() {
+        Some(last) => is_called(rt, alloc, front, last),
+        None => false,
+    };
+    Some((all && called, passes))
 }
 
 /// Whether all is in the store, and all passes come back.

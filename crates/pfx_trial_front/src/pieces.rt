@@ -3,8 +3,8 @@
 use crate::answers::{is_accepted, is_number, is_settled};
 use crate::fronts::{Ended, is_kept};
 use crate::service::{Ask, Service};
-use crate::sessions::{Session, Visit, alone, is_right};
-use crate::stores::{desk, memory};
+use crate::sessions::{Session, Visit, alone, on_disk};
+use crate::stores::memory;
 use pfx_disk::{FaultDisk, Latch, LatchDisk};
 use pfx_fault::Cause;
 use std::alloc::Global;
@@ -82,7 +82,7 @@ fn holds_a_piece<R: Threads + Wait + Clock + Copy + Drop + Send + Sync + 'static
 ) -> Option<bool> {
     let (disk, latch) = LatchDisk::new(rt, alloc, memory(alloc)?, FIRST_PIECE).ok()?;
     let session = Session::HeldPiece { latch };
-    is_right(rt, alloc, disk, SEGMENT, desk(alloc)?, session)
+    on_disk(rt, alloc, disk, SEGMENT, session)
 }
 
 /// Whether a piece that fails leaves all that was marked, so that the call held above is a checkpoint's and no append's.
@@ -91,7 +91,7 @@ fn fails_at_a_piece<R: Threads + Wait + Clock + Copy + Drop + Send + Sync + 'sta
     alloc: Global,
 ) -> Option<bool> {
     let disk = FaultDisk::new(memory(alloc)?, FIRST_PIECE);
-    is_right(rt, alloc, disk, SEGMENT, desk(alloc)?, Session::LostPiece)
+    on_disk(rt, alloc, disk, SEGMENT, Session::LostPiece)
 }
 
 #[test]

@@ -3,14 +3,16 @@
 use crate::answers::{is_first_slot, is_number, is_refused, is_told_and_shown};
 use crate::fronts::{Ended, Served, have_looked, left_by};
 use crate::service::{Answer, Ask, Service};
-use crate::sessions::{Session, Visit, in_memory};
+use crate::sessions::{Session, Visit, both, in_memory};
 use pfx_book::book::Pass;
 use pfx_book::faults::BookFault;
 use pfx_crew::desk::Desk;
 use pfx_disk::Disk;
+use pfx_front::calls::Front;
 use pfx_front::closing::{Closed, Given};
 use pfx_front::faults::{CallFault, CloseFault};
 use pfx_front::name::Since;
+use pfx_front::start::Crew;
 use pfx_jobs::quantum::{Done, Quantum};
 use pfx_kinds::any::AnyJob;
 use pfx_machine::{MachineFault, Reply};
@@ -18,6 +20,13 @@ use pfx_store::Store;
 use std::alloc::Global;
 use std::sync::Wait;
 use std::thread::Threads;
+
+/// A front that couldn't be closed, its threads, and what was given back.
+type Reopened<B, D, K, R> = (
+    Front<AnyJob, B, K>,
+    Crew<AnyJob, B, D, K, R>,
+    Given<AnyJob, B>,
+);
 
 /// Whether a command was refused by the machine for this fault.
 fn is_faulty(answer: &Answer, fault: MachineFault) -> bool {
@@ -64,6 +73,21 @@ fn is_reweighed<F: Service, R: Wait>(rt: &R, alloc: Global, front: &F, pass: &mu
         && renewed
 }
 
+/// Whether all that one client asks is answered as it should be.
+fn is_answered<F: Service, R: Wait>(
+    rt: &R,
+    alloc: Global,
+    front: &F,
+    pass: &mut F::Pass,
+    reader: &mut F::Reader,
+) -> bool {
+    let submitted = are_submitted(rt, alloc, front, pass);
+    let run = is_run(rt, alloc, front, pass);
+    let settled = is_told_and_shown(rt, alloc, front, pass, reader, 2);
+    let renewed = is_reweighed(rt, alloc, front, pass);
+    submitted && run && settled && renewed
+}
+
 /// One client's session, beside another one that has nothing but its pass.
 pub fn visit<F: Service, R: Wait>(
     rt: &R,
@@ -73,19 +97,38 @@ pub fn visit<F: Service, R: Wait>(
 ) -> Option<Visit<F::Pass>> {
     let mut first = front.admit(rt)?;
     let second = front.admit(rt)?;
-    let submitted = are_submitted(rt, alloc, front, &mut first);
-    let run = is_run(rt, alloc, front, &mut first);
-    let settled = is_told_and_shown(rt, alloc, front, &mut first, reader, 2);
-    let renewed = is_reweighed(rt, alloc, front, &mut first);
-    let mut passes = Vec::new(alloc);
-    passes.push(second).ok()?;
-    passes.push(first).ok()?;
-    Some((submitted && run && settled && renewed, passes))
+    let answered = is_answered(rt, alloc, front, &mut first, reader);
+    both(alloc, answered, second, first)
 }
 
 /// Whether the reader saw the last publication, and all commands are kept.
 pub fn has_ended(ended: &Ended) -> bool {
     have_looked(&ended.looked, 1) && ended.marked == 7 && ended.number == 7
+}
+
+/// The end of a front that goes on behind a close with a pass out, and gets that pass.
+fn closed_with<
+    B: Since<AnyJob>,
+    K: Desk<Quantum<AnyJob>, Done<AnyJob>> + Drop,
+    D: Disk + Drop,
+    R: Threads + Wait + Drop,
+>(
+    rt: &R,
+    alloc: Global,
+    open: Reopened<B, D, K, R>,
+    pass: Pass<AnyJob, B>,
+) -> Option<Closed<AnyJob, B, D>>
+where
+    K::Seat: Drop,
+{
+    let (front, crew, given) = open;
+    let (mut given, mut pass) = (given, pass);
+    let slot = front.ask(rt, alloc, &mut pass, Ask::Slot);
+    if !is_number(&slot, 7) {
+        return None;
+    }
+    given.passes.push(pass).ok()?;
+    front.close(rt, crew, given).ok()
 }
 
 /// The end of a front that was to be closed without the last of these passes, which said so, and that goes on.
@@ -105,17 +148,13 @@ where
 {
     let (front, crew, readers) = served;
     let mut passes = passes;
-    let mut last = passes.pop()?;
-    let Err((fault, front, crew, given)) = front.close(rt, crew, Given { passes, readers }) else {
-        return None;
-    };
-    let mut given = given;
-    let slot = front.ask(rt, alloc, &mut last, Ask::Slot);
-    if fault != (CloseFault::PassOut { count: 1 }) || !is_number(&slot, 7) {
-        return None;
+    let last = passes.pop()?;
+    match front.close(rt, crew, Given { passes, readers }) {
+        Err((CloseFault::PassOut { count: 1 }, front, crew, given)) => {
+            closed_with(rt, alloc, (front, crew, given), last)
+        }
+        _ => None,
     }
-    given.passes.push(last).ok()?;
-    front.close(rt, crew, given).ok()
 }
 
 /// Whether the store has these many commands and its new set once it is opened again.

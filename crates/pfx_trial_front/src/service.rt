@@ -89,10 +89,7 @@ pub trait Service {
 
 /// One worker, and for each of three tasks the weight 1/3.
 fn thirds(alloc: Global) -> Option<Command<AnyJob>> {
-    let mut items = Vec::new(alloc);
-    for _weight in 0..3 {
-        items.push((1, 3)).ok()?;
-    }
+    let items = Vec::from_elem(alloc, (1, 3), 3).ok()?;
     let weights = Weights::new(items);
     Some(Command::Reweigh {
         workers: 1,
@@ -124,6 +121,17 @@ fn open_jobs(board: &Board) -> u32 {
 /// How many steps a task's job has left. `None` if the task has no job.
 fn left(state: &State<AnyJob>, task: usize) -> Option<u32> {
     Some(state.jobs().get(task)?.as_ref()?.left())
+}
+
+/// What a client knows of a state.
+fn known_of(state: &State<AnyJob>) -> Copied {
+    let jobs = [left(state, 0), left(state, 1), left(state, 2)];
+    (state.number(), jobs)
+}
+
+/// The number of a board, and at how many tasks a job is open there.
+fn shown_on(board: &Board) -> (u64, u32) {
+    (board.number, open_jobs(board))
 }
 
 /// Waits for the receipt of what was accepted last. `None` if nothing was.
@@ -195,14 +203,20 @@ where
         pass: &mut Pass<AnyJob, B>,
         reader: &mut Reader<AnyJob, B>,
     ) -> Option<u64> {
-        let acknowledged = settle_last(rt, self, pass)?.ok()?;
-        reader.told(&acknowledged.receipt);
-        Some(acknowledged.receipt.number)
+        match settle_last(rt, self, pass)? {
+            Ok(acknowledged) => {
+                reader.told(&acknowledged.receipt);
+                Some(acknowledged.receipt.number)
+            }
+            Err(_) => None,
+        }
     }
 
     fn shown(&self, alloc: Global, reader: &mut Reader<AnyJob, B>) -> Option<(u64, u32)> {
-        let board = reader.status(alloc).ok()?;
-        Some((board.number, open_jobs(&board)))
+        match reader.status(alloc) {
+            Ok(board) => Some(shown_on(&board)),
+            Err(_) => None,
+        }
     }
 
     fn lost(&self, pass: &Pass<AnyJob, B>) -> Option<Loss> {
@@ -214,17 +228,18 @@ where
     }
 
     fn copied<R: Wait>(&self, rt: &R, pass: &mut Pass<AnyJob, B>) -> Option<Option<Copied>> {
-        let Some(copy) = self.state(rt, pass).ok()? else {
-            return Some(None);
-        };
-        let jobs = [left(&copy, 0), left(&copy, 1), left(&copy, 2)];
-        Some(Some((copy.number(), jobs)))
+        match self.state(rt, pass) {
+            Ok(Some(copy)) => Some(Some(known_of(&copy))),
+            Ok(None) => Some(None),
+            Err(_) => None,
+        }
     }
 
     fn boarded<R: Wait>(&self, rt: &R, pass: &mut Pass<AnyJob, B>) -> Option<Option<(u64, u32)>> {
-        let Some(board) = self.board(rt, pass).ok()? else {
-            return Some(None);
-        };
-        Some(Some((board.number, open_jobs(&board))))
+        match self.board(rt, pass) {
+            Ok(Some(board)) => Some(Some(shown_on(&board))),
+            Ok(None) => Some(None),
+            Err(_) => None,
+        }
     }
 }

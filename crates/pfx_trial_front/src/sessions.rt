@@ -57,6 +57,14 @@ pub fn alone<P: Drop>(alloc: Global, answered: bool, pass: P) -> Option<Visit<P>
     Some((answered, passes))
 }
 
+/// The visit of two clients.
+pub fn both<P: Drop>(alloc: Global, answered: bool, one: P, other: P) -> Option<Visit<P>> {
+    let mut passes = Vec::new(alloc);
+    passes.push(one).ok()?;
+    passes.push(other).ok()?;
+    Some((answered, passes))
+}
+
 /// How many workers there are.
 fn workers_of(session: &Session) -> u32 {
     match session {
@@ -126,6 +134,25 @@ fn has_ended(session: &Session, ended: &Ended) -> bool {
     }
 }
 
+/// The same at a front with a reader.
+fn visit_served<
+    B: Since<AnyJob> + Send + Sync,
+    K: Desk<Quantum<AnyJob>, Done<AnyJob>> + Drop + Send + Sync,
+    D: Disk + Drop,
+    R: Threads + Wait + Drop + Sync,
+>(
+    rt: &R,
+    alloc: Global,
+    served: &mut Served<B, D, K, R>,
+    session: &Session,
+) -> Option<Visit<Pass<AnyJob, B>>>
+where
+    K::Seat: Drop + Send,
+{
+    let reader = served.2.get_mut(0)?;
+    visit(rt, alloc, &served.0, reader, session)
+}
+
 /// Whether the front of a session ends as it should.
 fn ends<
     B: Since<AnyJob>,
@@ -145,7 +172,10 @@ where
     if matches!(session, Session::Served { .. }) {
         return served::is_ended(rt, alloc, served, passes);
     }
-    Some(has_ended(session, &end(rt, served, passes)?))
+    match end(rt, served, passes) {
+        Some(ended) => Some(has_ended(session, &ended)),
+        None => None,
+    }
 }
 
 /// Whether all is as it should be in a session at a front of this store.
@@ -170,9 +200,9 @@ where
 {
     let workers = workers_of(&session);
     let mut served = begin::<B, K, D, R>(rt, alloc, names, store, desk, workers)?;
-    let reader = served.2.get_mut(0)?;
-    let (answered, passes) = visit(&rt, alloc, &served.0, reader, &session)?;
-    Some(answered && ends(&rt, alloc, served, passes, &session)?)
+    let (answered, passes) = visit_served(&rt, alloc, &mut served, &session)?;
+    let ended = ends(&rt, alloc, served, passes, &session)?;
+    Some(answered && ended)
 }
 
 /// The same by a name of its own.
@@ -208,11 +238,20 @@ where
     serve_named(rt, alloc, Names::new(alloc).ok()?, store, desk, session)
 }
 
+/// The same at a desk of channels.
+pub fn on_disk<
+    D: Disk + Drop + Send + 'static,
+    R: Threads + Wait + Clock + Copy + Drop + Send + Sync + 'static,
+>(rt: R, alloc: Global, disk: D, segment: u32, session: Session) -> Option<bool> {
+    let desk = desk(alloc)?;
+    is_right(rt, alloc, disk, segment, desk, session)
+}
+
 /// The same of a store in memory, with segments that hold what the tests do.
 pub fn in_memory<R: Threads + Wait + Clock + Copy + Drop + Send + Sync + 'static>(
     rt: R,
     alloc: Global,
     session: Session,
 ) -> Option<bool> {
-    is_right(rt, alloc, memory(alloc)?, SEGMENT, desk(alloc)?, session)
+    on_disk(rt, alloc, memory(alloc)?, SEGMENT, session)
 }

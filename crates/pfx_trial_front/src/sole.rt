@@ -3,7 +3,7 @@
 use crate::answers::is_accepted;
 use crate::fronts::{Ended, is_kept};
 use crate::service::{Ask, Service};
-use crate::sessions::{Session, Visit, in_memory};
+use crate::sessions::{Session, Visit, both, in_memory};
 use std::alloc::Global;
 use std::sync::Wait;
 
@@ -37,18 +37,26 @@ fn is_told_nothing<F: Service, R: Wait>(
     others && !front.is_alone(rt, pass)
 }
 
+/// Whether the only client knows that it is, and is given a copy of its state behind its commands.
+fn is_served_alone<F: Service, R: Wait>(
+    rt: &R,
+    alloc: Global,
+    front: &F,
+    pass: &mut F::Pass,
+) -> bool {
+    let sole = front.is_alone(rt, pass);
+    let accepted = are_accepted(rt, alloc, front, pass);
+    let copied = is_copied(rt, front, pass);
+    sole && accepted && copied
+}
+
 /// Whether the only client is given a copy of its state, and one of two clients none.
 pub fn visit<F: Service, R: Wait>(rt: &R, alloc: Global, front: &F) -> Option<Visit<F::Pass>> {
     let mut first = front.admit(rt)?;
-    let sole = front.is_alone(rt, &mut first);
-    let accepted = are_accepted(rt, alloc, front, &mut first);
-    let copied = is_copied(rt, front, &mut first);
+    let served = is_served_alone(rt, alloc, front, &mut first);
     let second = front.admit(rt)?;
     let refused = is_told_nothing(rt, alloc, front, &mut first);
-    let mut passes = Vec::new(alloc);
-    passes.push(first).ok()?;
-    passes.push(second).ok()?;
-    Some((sole && accepted && copied && refused, passes))
+    both(alloc, served && refused, first, second)
 }
 
 /// Whether all is in the store.
