@@ -24,7 +24,12 @@ fn disk_of(alloc: Global, bytes: &[u8]) -> Option<MemoryDisk> {
     MemoryDisk::new(alloc, bytes, END, 400, 60_000).ok()
 }
 
-/// The engine over a store of these tests.
+/// A store of these tests, and the engine over one, behind a pointer: a proof spells what a function holds itself at each of its steps.
+type Held = Box<Store<MemoryDisk, AnyJob>>;
+
+type Driven = Box<StoreEngine<MemoryDisk, AnyJob>>;
+
+/// The engine as it is lent.
 type Engine = StoreEngine<MemoryDisk, AnyJob>;
 
 /// What the engine is asked for.
@@ -41,16 +46,27 @@ enum Step {
 }
 
 /// A new store.
-fn new_store(alloc: Global, set: &TaskSet) -> Option<Store<MemoryDisk, AnyJob>> {
+fn new_store(alloc: Global, set: &TaskSet) -> Option<Held> {
     let disk = disk_of(alloc, &[])?;
-    Store::init(alloc, disk, set, 8192).ok()
+    Box::new(alloc, Store::init(alloc, disk, set, 8192).ok()?).ok()
+}
+
+/// The engine over a store.
+fn driven(alloc: Global, store: Held) -> Option<Driven> {
+    let engine = DurableEngine::new(alloc, Box::into_inner(store)).ok()?;
+    Box::new(alloc, engine).ok()
 }
 
 /// The engine over a new store.
-fn begun(alloc: Global) -> Option<Engine> {
+fn begun(alloc: Global) -> Option<Driven> {
     let set = TaskSet::new(alloc, 2, &[(2, 3), (2, 3), (2, 3)]).ok()?;
     let store = new_store(alloc, &set)?;
-    DurableEngine::new(alloc, store).ok()
+    driven(alloc, store)
+}
+
+/// The store of an engine.
+fn kept(alloc: Global, engine: Driven) -> Option<Held> {
+    Box::new(alloc, Box::into_inner(engine).into_keeper()).ok()
 }
 
 /// The answer of a unit of task 0, counted in the weights that are in force from this slot on.
@@ -119,21 +135,17 @@ fn takes_answers(alloc: Global, engine: &mut Engine, answers: &[(u32, u64)]) -> 
 }
 
 /// The store after these steps from the engine over it on.
-fn with_steps(
-    alloc: Global,
-    engine: Option<Engine>,
-    steps: &[Step],
-) -> Option<Store<MemoryDisk, AnyJob>> {
+fn with_steps(alloc: Global, engine: Option<Driven>, steps: &[Step]) -> Option<Held> {
     let mut engine = engine?;
     if takes(alloc, &mut engine, steps) {
-        Some(engine.into_keeper())
+        kept(alloc, engine)
     } else {
         None
     }
 }
 
 /// The store after ten slots.
-fn ten_slots(alloc: Global) -> Option<Store<MemoryDisk, AnyJob>> {
+fn ten_slots(alloc: Global) -> Option<Held> {
     with_steps(alloc, begun(alloc), &[Step::Slot; 10])
 }
 
@@ -147,8 +159,8 @@ fn bytes_on(alloc: Global, disk: &mut MemoryDisk) -> Option<Vec<u8>> {
 }
 
 /// All bytes of a store's file.
-fn file_of(alloc: Global, store: Store<MemoryDisk, AnyJob>) -> Option<Vec<u8>> {
-    let mut disk = store.into_disk();
+fn file_of(alloc: Global, store: Held) -> Option<Vec<u8>> {
+    let mut disk = Box::into_inner(store).into_disk();
     bytes_on(alloc, &mut disk)
 }
 
@@ -167,7 +179,7 @@ fn worked(alloc: Global) -> Option<Vec<u8>> {
 fn answered(alloc: Global, steps: &[Step], answers: &[(u32, u64)]) -> Option<Vec<u8>> {
     let mut engine = begun(alloc)?;
     if takes(alloc, &mut engine, steps) && takes_answers(alloc, &mut engine, answers) {
-        file_of(alloc, engine.into_keeper())
+        file_of(alloc, kept(alloc, engine)?)
     } else {
         None
     }
@@ -385,13 +397,13 @@ fn renewed(alloc: Global, task: u8) -> Option<Vec<u8>> {
 }
 
 /// The store that a disk with these bytes holds.
-fn opened(alloc: Global, bytes: &[u8]) -> Option<Store<MemoryDisk, AnyJob>> {
+fn opened(alloc: Global, bytes: &[u8]) -> Option<Held> {
     let disk = disk_of(alloc, bytes)?;
-    Store::open(alloc, disk).ok()
+    Box::new(alloc, Store::open(alloc, disk).ok()?).ok()
 }
 
 /// The store of that file after a checkpoint, in which the other area holds the set before.
-fn checkpointed_anew(alloc: Global) -> Option<Store<MemoryDisk, AnyJob>> {
+fn checkpointed_anew(alloc: Global) -> Option<Held> {
     let mut store = opened(alloc, &renewed(alloc, 0)?)?;
     if checkpoint(&mut store) {
         Some(store)
@@ -406,12 +418,8 @@ fn file_checkpointed_anew(alloc: Global) -> Option<Vec<u8>> {
 }
 
 /// The store after these steps more.
-fn with_more(
-    alloc: Global,
-    store: Store<MemoryDisk, AnyJob>,
-    steps: &[Step],
-) -> Option<Store<MemoryDisk, AnyJob>> {
-    with_steps(alloc, DurableEngine::new(alloc, store).ok(), steps)
+fn with_more(alloc: Global, store: Held, steps: &[Step]) -> Option<Held> {
+    with_steps(alloc, driven(alloc, store), steps)
 }
 
 /// The file after two slots more, a second checkpoint and a slot: both areas hold another set than the header.
