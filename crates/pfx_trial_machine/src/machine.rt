@@ -9,10 +9,13 @@ use pfx_machine::{Answer, Board, Command, JobStatus, MachineFault, Reply, State,
 use pfx_weights::TaskSet;
 use std::alloc::Global;
 
+/// A state behind a pointer: a proof spells what a function holds itself at each of its steps.
+pub type Held = Box<State<AnyJob>>;
+
 /// Three tasks of 2/3 on two workers, before the first command.
-fn thirds(alloc: Global) -> Option<State<AnyJob>> {
+fn thirds(alloc: Global) -> Option<Held> {
     let set = TaskSet::new(alloc, 2, &[(2, 3), (2, 3), (2, 3)]).ok()?;
-    State::new(alloc, &set, SEGMENT).ok()
+    Box::new(alloc, State::new(alloc, &set, SEGMENT).ok()?).ok()
 }
 
 /// A submit of a count of `goal` steps.
@@ -74,7 +77,7 @@ fn row_of(reply: &Reply) -> &[u16] {
 }
 
 /// The three tasks, of which the first has a rule of three steps.
-fn ruled(alloc: Global) -> Option<State<AnyJob>> {
+fn ruled(alloc: Global) -> Option<Held> {
     let mut state = thirds(alloc)?;
     let job = AnyJob::start("rule", 3, b"110:00000001").ok()?;
     match state.apply(Command::Submit { task: 0, job }) {
@@ -188,18 +191,13 @@ fn refuses_by_name(rt: HostRuntime) {
 }
 
 /// One task of 1/2 with a job, at the last slot and before the last number.
-fn at_the_limits(alloc: Global) -> Option<State<AnyJob>> {
+fn at_the_limits(alloc: Global) -> Option<Held> {
     let set = TaskSet::new(alloc, 1, &[(1, 2)]).ok()?;
     let allocs = [1 << 39, (1 << 39) - 1];
     let job = AnyJob::start("count", 1, b"").ok()?;
-    state_at(
-        alloc,
-        (1 << 48) - 2,
-        &set,
-        (1 << 40) - 1,
-        &allocs,
-        Some(job),
-    )
+    let (number, slot) = ((1 << 48) - 2, (1 << 40) - 1);
+    let state = state_at(alloc, number, &set, slot, &allocs, Some(job))?;
+    Box::new(alloc, state).ok()
 }
 
 /// Whether a slot at the number limit isn't opened, for that.

@@ -1,5 +1,6 @@
 //! Worked sets with new weights.
 
+use crate::machine::Held;
 use pfx_choice::ChoiceFault;
 use pfx_jobs::job::Job;
 use pfx_kinds::any::AnyJob;
@@ -9,9 +10,9 @@ use pfx_weights::{SetFault, TaskSet, Weights};
 use std::alloc::Global;
 
 /// The state of a set before its first command.
-fn begun(alloc: Global, workers: u32, tasks: &[(u32, u32)], segment: u32) -> Option<State<AnyJob>> {
+fn begun(alloc: Global, workers: u32, tasks: &[(u32, u32)], segment: u32) -> Option<Held> {
     let set = TaskSet::new(alloc, workers, tasks).ok()?;
-    State::new(alloc, &set, segment).ok()
+    Box::new(alloc, State::new(alloc, &set, segment).ok()?).ok()
 }
 
 /// A Reweigh.
@@ -186,7 +187,7 @@ fn stands(alloc: Global, state: &State<AnyJob>, step: &Step<'_>) -> bool {
 }
 
 /// How many steps go as they should, up to the first that doesn't.
-fn right_steps(alloc: Global, state: Option<State<AnyJob>>, steps: &[Step<'_>]) -> usize {
+fn right_steps(alloc: Global, state: Option<Held>, steps: &[Step<'_>]) -> usize {
     let Some(mut state) = state else {
         return 0;
     };
@@ -356,17 +357,12 @@ fn quanta_rise_over_new_weights(rt: HostRuntime) {
 }
 
 /// One task of 1/3 on one worker at the last slot, where no task is ahead or behind, at this number.
-fn level_at_the_last_slot(alloc: Global, number: u64) -> Option<State<AnyJob>> {
+fn level_at_the_last_slot(alloc: Global, number: u64) -> Option<Held> {
     let set = TaskSet::new(alloc, 1, &[(1, 3)]).ok()?;
-    let third = ((1 << 40) - 1) / 3;
-    state_at(
-        alloc,
-        number,
-        &set,
-        (1 << 40) - 1,
-        &[third, 2 * third],
-        None,
-    )
+    let slot = (1 << 40) - 1;
+    let allocs = [slot / 3, 2 * (slot / 3)];
+    let state = state_at(alloc, number, &set, slot, &allocs, None)?;
+    Box::new(alloc, state).ok()
 }
 
 // New weights come into force at the last slot, and no slot comes behind them; behind the last number there is none for them, whatever
