@@ -2,8 +2,8 @@
 //! by byte: a header of 41 bytes, checkpoint areas of 428, and 17,281 bytes in all.
 
 use crate::check::{check, check_pair};
-use crate::held::{held, is_held};
-use pfx_disk::{Disk, Fate, FaultDisk, GATE_OPEN, MemoryDisk};
+use crate::held::{Kept, failing, held, is_held, memory_under};
+use pfx_disk::{Disk, Fate, GATE_OPEN, MemoryDisk};
 use pfx_store_create::laws::a_new_file_can_be_made;
 use pfx_store_create::{CreateFault, create, create_file, new_places};
 use pfx_store_file::{Checkpoint, PIECE, Places, Sizes, StoreFile};
@@ -28,8 +28,9 @@ const LEN: usize = 17_281;
 /// The length is asked for; a byte and a sync; five pieces and a sync; a byte and a sync.
 const CALLS: u64 = 11;
 
-fn empty_disk(alloc: Global) -> Option<MemoryDisk> {
-    MemoryDisk::new(alloc, &[], LEN, 40, 20_000).ok()
+fn empty_disk(alloc: Global) -> Option<Kept> {
+    let disk = MemoryDisk::new(alloc, &[], LEN, 40, 20_000).ok()?;
+    Box::new(alloc, disk).ok()
 }
 
 fn create_here<D: Disk>(disk: &mut D) -> Result<(), CreateFault> {
@@ -80,9 +81,9 @@ fn holds_file<D: Disk>(alloc: Global, disk: &mut D, wanted: bool) -> bool {
 }
 
 /// The disk on which the file was made.
-fn made(alloc: Global) -> Option<MemoryDisk> {
+fn made(alloc: Global) -> Option<Kept> {
     let mut disk = empty_disk(alloc)?;
-    create_here(&mut disk).ok()?;
+    create_here(&mut *disk).ok()?;
     Some(disk)
 }
 
@@ -95,7 +96,7 @@ fn a_new_file_takes_ten_writes_and_syncs(rt: HostRuntime) {
     check(&rt, disk.clock() == CALLS, "calls");
     check(&rt, disk.failures() == 0, "failures");
     check(&rt, (LEN - 1).div_ceil(PIECE) == 5, "pieces");
-    check(&rt, holds_file(alloc, &mut disk, true), "the bytes");
+    check(&rt, holds_file(alloc, &mut *disk, true), "the bytes");
     a_new_file_can_be_made();
 }
 
@@ -104,10 +105,10 @@ fn begins(alloc: Global, first: &[u8; 8]) -> bool {
     let Some(mut disk) = empty_disk(alloc) else {
         return false;
     };
-    if create::<_, u8, Vec<u8>>(&mut disk, &HEAD, &BODY, first, SEGMENT).is_err() {
+    if create::<MemoryDisk, u8, Vec<u8>>(&mut disk, &HEAD, &BODY, first, SEGMENT).is_err() {
         return false;
     }
-    match held(alloc, &mut disk) {
+    match held(alloc, &mut *disk) {
         Some(bytes) => begins_with(&bytes, first),
         None => false,
     }
@@ -135,36 +136,33 @@ fn disk_is_given_back(alloc: Global, disk: MemoryDisk) -> bool {
     }
 }
 
+fn disk_of_a_byte(alloc: Global) -> Option<Kept> {
+    let disk = MemoryDisk::new(alloc, &[7], LEN, 40, 20_000).ok()?;
+    Box::new(alloc, disk).ok()
+}
+
 #[test]
 fn a_disk_that_holds_a_byte_is_left_alone(rt: HostRuntime) {
     let alloc = rt.alloc();
-    let Ok(mut disk) = MemoryDisk::new(alloc, &[7], LEN, 40, 20_000) else {
+    let Some(mut disk) = disk_of_a_byte(alloc) else {
         return check(&rt, false, "a disk");
     };
     check(&rt, byte_is_left_alone(alloc, &mut disk), "left alone");
+    let disk = Box::into_inner(disk);
     check(&rt, disk_is_given_back(alloc, disk), "given back");
-}
-
-/// The disk whose k-th call fails, with its work done or not.
-fn faulty(alloc: Global, k: u64, works: bool) -> Option<FaultDisk<MemoryDisk>> {
-    let memory = empty_disk(alloc)?;
-    Some(match works {
-        false => FaultDisk::new(memory, k),
-        true => FaultDisk::with_work_done(memory, k),
-    })
 }
 
 /// Whether a failing call ends the making, with no store left unless its gate was written; call 11 isn't made.
 fn is_ended(alloc: Global, k: u64, works: bool) -> Option<bool> {
-    let mut disk = faulty(alloc, k, works)?;
-    let answer = create_here(&mut disk);
-    let mut memory = disk.into_inner();
+    let mut disk = failing(alloc, empty_disk(alloc)?, k, works)?;
+    let answer = create_here(&mut *disk);
+    let mut memory = memory_under(alloc, disk)?;
     if k == CALLS {
-        return Some(answer == Ok(()) && holds_file(alloc, &mut memory, true));
+        return Some(answer == Ok(()) && holds_file(alloc, &mut *memory, true));
     }
     // The write of the gate, and the sync after it.
     let is_opened = k == 10 || k == 9 && works;
-    let is_left = holds_file(alloc, &mut memory, is_opened);
+    let is_left = holds_file(alloc, &mut *memory, is_opened);
     let is_counted = memory.clock() == k.saturating_add(3);
     Some(answer == Err(CreateFault::Device) && is_left && is_counted)
 }
@@ -262,11 +260,21 @@ fn are_at_the_start(places: &Places) -> bool {
         && !places.segment_open
 }
 
+/// A file behind a pointer.
+type Filed = Box<StoreFile<MemoryDisk>>;
+
+/// A new file.
+fn new_file(alloc: Global) -> Option<Filed> {
+    let disk = Box::into_inner(empty_disk(alloc)?);
+    Box::new(alloc, file_here(disk).ok()?).ok()
+}
+
 /// Whether the file takes the frame by four calls, and holds it.
-fn takes_frame(alloc: Global, mut file: StoreFile<MemoryDisk>) -> Option<bool> {
+fn takes_frame(alloc: Global, mut file: Filed) -> Option<bool> {
     file.append::<u8, Vec<u8>>(&FRAME).ok()?;
     let is_counted = file.disk.clock() == CALLS + 4;
-    let bytes = held(alloc, &mut file.into_disk())?;
+    let mut disk = Box::into_inner(file).into_disk();
+    let bytes = held(alloc, &mut disk)?;
     let is_open = bytes.get(906) == Some(&GATE_OPEN);
     Some(is_counted && is_open && bytes.get(907..929) == Some(FRAME.as_slice()))
 }
@@ -274,10 +282,7 @@ fn takes_frame(alloc: Global, mut file: StoreFile<MemoryDisk>) -> Option<bool> {
 #[test]
 fn a_new_file_takes_a_frame(rt: HostRuntime) {
     let alloc = rt.alloc();
-    let Some(disk) = empty_disk(alloc) else {
-        return check(&rt, false, "a disk");
-    };
-    let Ok(file) = file_here(disk) else {
+    let Some(file) = new_file(alloc) else {
         return check(&rt, false, "a file");
     };
     check(&rt, have_lengths(&file.places), "lengths");

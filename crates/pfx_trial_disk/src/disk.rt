@@ -1,7 +1,7 @@
 //! A run over each disk, stops after each of its calls with every fate of the writes, and faults at each call.
 
 use crate::check::{check, check_pair};
-use crate::held::{has_failed_at, held, is_held};
+use crate::held::{Failing, Kept, failing, has_failed_at, held, is_held, memory_under};
 use pfx_disk::laws::{torn_writes_compose, write_beside, write_synced};
 use pfx_disk::{DeviceFailed, Disk, Fate, FaultDisk, FileDisk, Latch, LatchDisk, MemoryDisk};
 use std::alloc::{AllocError, Global};
@@ -58,6 +58,11 @@ const MADE: [Made; 14] = [
     Made::Looked,
     Made::Wrote(1, &[3]),
 ];
+
+/// The first of these, so many.
+fn made_before(after: usize) -> Option<&'static [Made]> {
+    MADE.get(..after)
+}
 
 /// Writes after a call of `len`; past the end it writes nothing.
 fn write<D: Disk>(disk: &mut D, at: usize, bytes: &[u8]) -> Result<(), DeviceFailed> {
@@ -181,28 +186,45 @@ fn fates_of(n: usize) -> [Fate; 3] {
     [kinds[n % 3], kinds[n / 3 % 3], kinds[n / 9 % 3]]
 }
 
-/// Whether a stop of the run leaves what is expected and what the rule allows, and a later stop leaves the same until
-/// something is written.
-fn is_left(alloc: Global, disk: &MemoryDisk, after: usize, fates: &[Fate; 3]) -> Option<bool> {
+/// Whether the bytes are what a stop leaves by the fates.
+fn are_expected(alloc: Global, made: &[Made], fates: &[Fate], bytes: &[u8]) -> Option<bool> {
+    let expected = expected(alloc, made, fates).ok()?;
+    Some(expected.as_slice() == bytes)
+}
+
+/// What a stop after so many calls leaves.
+fn left_by(alloc: Global, disk: &MemoryDisk, after: usize, fates: &[Fate]) -> Option<Kept> {
     if disk.clock() < after as u64 {
         return None;
     }
-    let mut left = disk.stopped(alloc, after, fates).ok()?;
-    let made = MADE.get(..after)?;
-    let image = held(alloc, &mut left)?;
-    let expected = expected(alloc, made, fates).ok()?;
+    Box::new(alloc, disk.stopped(alloc, after, fates).ok()?).ok()
+}
+
+/// Whether a stop of the run leaves what is expected and what the rule allows, and a later stop leaves the same until
+/// something is written.
+fn is_left(alloc: Global, disk: &MemoryDisk, after: usize, fates: &[Fate; 3]) -> Option<bool> {
+    let made = made_before(after)?;
+    let mut left = left_by(alloc, disk, after, fates)?;
+    let image = held(alloc, &mut *left)?;
+    let is_expected = are_expected(alloc, made, fates, &image)?;
     let is_lawful = may_be_left(alloc, made, &image).ok()?;
-    let mut again = left.stopped(alloc, 0, fates).ok()?;
-    Some(image.as_slice() == expected.as_slice() && is_lawful && is_held(alloc, &mut again, &image))
+    let mut again = left_by(alloc, &left, 0, fates)?;
+    Some(is_expected && is_lawful && is_held(alloc, &mut *again, &image))
+}
+
+/// A disk with room for the run and little more.
+fn short_memory(alloc: Global) -> Option<Kept> {
+    let disk = MemoryDisk::new(alloc, START, 16, 20, 20).ok()?;
+    Box::new(alloc, disk).ok()
 }
 
 #[test]
 fn stops_behind_every_call_with_every_fate(rt: HostRuntime) {
     let alloc = rt.alloc();
-    let Ok(mut disk) = MemoryDisk::new(alloc, START, 16, 20, 20) else {
+    let Some(mut disk) = short_memory(alloc) else {
         return check(&rt, false, "a disk");
     };
-    check(&rt, run(&mut disk).is_ok(), "the run");
+    check(&rt, run(&mut *disk).is_ok(), "the run");
     check(&rt, disk.clock() == 14, "the run's calls");
     for after in 0..15 {
         for n in 0..27 {
@@ -220,23 +242,25 @@ fn is_run<D: Disk>(alloc: Global, disk: &mut D) -> bool {
     run(disk).is_ok() && is_held(alloc, disk, HELD) && disk.clock() == 16 && disk.failures() == 0
 }
 
-fn memory(alloc: Global) -> Option<MemoryDisk> {
-    MemoryDisk::new(alloc, START, 16, 64, 64).ok()
+fn memory(alloc: Global) -> Option<Kept> {
+    let disk = MemoryDisk::new(alloc, START, 16, 64, 64).ok()?;
+    Box::new(alloc, disk).ok()
 }
 
 fn memory_is_run(alloc: Global) -> Option<bool> {
     let mut disk = memory(alloc)?;
-    Some(is_run(alloc, &mut disk))
+    Some(is_run(alloc, &mut *disk))
 }
 
 fn fault_disk_is_run(alloc: Global) -> Option<bool> {
-    let mut disk = FaultDisk::new(memory(alloc)?, 100);
-    Some(is_run(alloc, &mut disk))
+    let mut disk = failing(alloc, memory(alloc)?, 100, false)?;
+    Some(is_run(alloc, &mut *disk))
 }
 
 /// Whether a released disk is run, and the memory within it holds the same.
 fn gate_disk_is_run<R: Wait + Drop>(rt: R, alloc: Global) -> Option<bool> {
-    let (mut disk, gate) = LatchDisk::new(rt, alloc, memory(alloc)?, 3).ok()?;
+    let memory = Box::into_inner(memory(alloc)?);
+    let (mut disk, gate) = LatchDisk::new(rt, alloc, memory, 3).ok()?;
     gate.release();
     let is_run = is_run(alloc, &mut disk);
     let mut memory = disk.into_inner();
@@ -334,15 +358,6 @@ fn what_the_system_refuses_is_told(rt: HostRuntime) {
     }
 }
 
-/// The disk whose k-th call fails, with its work done or not.
-fn faulty(alloc: Global, k: usize, works: bool) -> Option<FaultDisk<MemoryDisk>> {
-    let memory = memory(alloc)?;
-    Some(match works {
-        false => FaultDisk::new(memory, k as u64),
-        true => FaultDisk::with_work_done(memory, k as u64),
-    })
-}
-
 /// Whether the run ends at the call that fails, which is counted once.
 fn is_counted_once(disk: &mut FaultDisk<MemoryDisk>, k: usize) -> bool {
     run(disk) == Err(DeviceFailed)
@@ -353,12 +368,12 @@ fn is_counted_once(disk: &mut FaultDisk<MemoryDisk>, k: usize) -> bool {
 
 /// Whether a fault at this call is counted once, and what was done by then is on the disk.
 fn is_faulty_once(alloc: Global, k: usize, works: bool) -> Option<bool> {
-    let mut disk = faulty(alloc, k, works)?;
+    let mut disk = failing(alloc, memory(alloc)?, k as u64, works)?;
     let is_counted = is_counted_once(&mut disk, k);
-    let mut memory = disk.into_inner();
-    let done = MADE.get(..if works { k.saturating_add(1) } else { k })?;
-    let expected = expected(alloc, done, &[]).ok()?;
-    Some(is_counted && is_held(alloc, &mut memory, &expected))
+    let mut memory = memory_under(alloc, disk)?;
+    let done = made_before(if works { k.saturating_add(1) } else { k })?;
+    let bytes = held(alloc, &mut *memory)?;
+    Some(is_counted && are_expected(alloc, done, &[], &bytes)?)
 }
 
 #[test]
@@ -374,11 +389,12 @@ fn a_fault_is_counted_once(rt: HostRuntime) {
 
 /// Whether a write is synced and read back, and another one stands beside it.
 fn are_synced_and_beside(alloc: Global) -> Option<bool> {
-    let mut disk = MemoryDisk::new(alloc, START, 16, 20, 20).ok()?;
+    let mut disk = short_memory(alloc)?;
     let mut back = [0; 2];
-    let is_synced = write_synced(&mut disk, 0, &[8, 9], &mut back) == Ok(());
-    let is_beside = write_beside(&mut disk, 3, 0, &[5]) == Ok(());
-    Some(is_synced && is_beside && back == [8, 9] && is_held(alloc, &mut disk, &[5, 9, 3, 4]))
+    let is_synced = write_synced(&mut *disk, 0, &[8, 9], &mut back) == Ok(());
+    let is_beside = write_beside(&mut *disk, 3, 0, &[5]) == Ok(());
+    let is_held = is_held(alloc, &mut *disk, &[5, 9, 3, 4]);
+    Some(is_synced && is_beside && back == [8, 9] && is_held)
 }
 
 #[test]
@@ -419,7 +435,8 @@ fn release_later(gate: &Latch, told: &Told) {
 }
 
 fn is_call_held<R: Wait + Threads + Sync + Drop>(rt: &R, alloc: Global) -> Option<bool> {
-    let (mut disk, gate) = LatchDisk::new(rt, alloc, memory(alloc)?, 1).ok()?;
+    let memory = Box::into_inner(memory(alloc)?);
+    let (mut disk, gate) = LatchDisk::new(rt, alloc, memory, 1).ok()?;
     let told = Told {
         asked: AtomicU64::new(0),
         released: AtomicU64::new(0),
@@ -450,15 +467,16 @@ fn is_gated<R: Wait + Drop>(rt: R, alloc: Global, disk: MemoryDisk) -> bool {
 #[test]
 fn refused_memory_is_an_answer(rt: HostRuntime) {
     let alloc = rt.alloc();
-    let Ok(mut disk) = MemoryDisk::new(alloc, START, 16, 20, 20) else {
+    let Some(mut disk) = short_memory(alloc) else {
         return;
     };
-    check(&rt, run(&mut disk).is_ok(), "the run");
+    check(&rt, run(&mut *disk).is_ok(), "the run");
     assert!(rt; 4 <= disk.clock());
-    let Ok(mut left) = disk.stopped(alloc, 4, &[Fate::Filled(5)]) else {
+    let Some(mut left) = left_by(alloc, &disk, 4, &[Fate::Filled(5)]) else {
         let is_same = disk.clock() == 14 && disk.failures() == 0;
         return check(&rt, is_same, "a stop refused");
     };
     check(&rt, left.len() == Ok(5), "a stop");
+    let left = Box::into_inner(left);
     check(&rt, is_gated(&rt, alloc, left), "a gate");
 }

@@ -1,7 +1,27 @@
 //! What disks hold, and which call has failed.
 
-use pfx_disk::Disk;
+use pfx_disk::{Disk, FaultDisk, MemoryDisk};
 use std::alloc::Global;
+
+/// A disk in memory, and one that fails over it, each behind a pointer: a proof spells what a function holds itself at each of its steps.
+pub type Kept = Box<MemoryDisk>;
+
+pub type Failing = Box<FaultDisk<MemoryDisk>>;
+
+/// Such a disk over one in memory, whose call of number k, counted from 0, fails, with its work done or not.
+pub fn failing(alloc: Global, memory: Kept, k: u64, works: bool) -> Option<Failing> {
+    let memory = Box::into_inner(memory);
+    let disk = match works {
+        false => FaultDisk::new(memory, k),
+        true => FaultDisk::with_work_done(memory, k),
+    };
+    Box::new(alloc, disk).ok()
+}
+
+/// The disk in memory under one that fails.
+pub fn memory_under(alloc: Global, disk: Failing) -> Option<Kept> {
+    Box::new(alloc, Box::into_inner(disk).into_inner()).ok()
+}
 
 /// All bytes of the disk, by two calls.
 pub fn held<D: Disk>(alloc: Global, disk: &mut D) -> Option<Vec<u8>> {

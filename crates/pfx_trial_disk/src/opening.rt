@@ -10,6 +10,7 @@ use pfx_fault::Part;
 use pfx_store_file::{StoreFile, Tended};
 use pfx_store_recover::{OpenFault, Opened, Refusal, open};
 use std::alloc::Global;
+use std::process::Abort;
 
 const LEN: usize = 104;
 
@@ -52,9 +53,12 @@ fn two_segments() -> [u8; 104] {
     bytes
 }
 
-fn opened(alloc: Global, bytes: &[u8]) -> Option<Opened<MemoryDisk, Toy>> {
+/// What was opened, behind a pointer: a proof spells what a function holds itself at each of its steps.
+type Found = Box<Opened<MemoryDisk, Toy>>;
+
+fn opened(alloc: Global, bytes: &[u8]) -> Option<Found> {
     let disk = MemoryDisk::new(alloc, bytes, bytes.len(), 200, 1000).ok()?;
-    open::<Toy, MemoryDisk>(alloc, disk).ok()
+    Box::new(alloc, open::<Toy, MemoryDisk>(alloc, disk).ok()?).ok()
 }
 
 /// Whether the file is refused so.
@@ -172,6 +176,14 @@ fn changed(changes: &[(usize, u8); 2]) -> [u8; 104] {
     bytes
 }
 
+/// Ends a test if a file with two segments and two bytes changed isn't refused as it says beside them.
+fn check_refusals(rt: &impl Abort, alloc: Global, cases: &[([(usize, u8); 2], Refusal)]) {
+    for (number, case) in cases.iter().enumerate() {
+        let holds = is_refused(alloc, &changed(&case.0), case.1);
+        check_at(rt, holds, "row", number);
+    }
+}
+
 // Each test that fails, by two bytes of a file with two segments.
 #[test]
 fn each_test_has_its_refusal(rt: HostRuntime) {
@@ -196,10 +208,7 @@ fn each_test_has_its_refusal(rt: HostRuntime) {
         ([(44, 0), (63, 4)], damaged(29, Part::Record)),
         ([(63, 4), (63, 4)], damaged(62, Part::Segment)),
     ];
-    for (number, case) in cases.iter().enumerate() {
-        let holds = is_refused(rt.alloc(), &changed(&case.0), case.1);
-        check_at(&rt, holds, "row", number);
-    }
+    check_refusals(&rt, rt.alloc(), &cases);
 }
 
 #[test]
@@ -218,6 +227,12 @@ fn a_file_of_another_length_is_refused(rt: HostRuntime) {
 /// Whether the checkpoint's next step is this one.
 fn takes_step(file: &mut StoreFile<MemoryDisk>, middle: &[u8], step: Tended) -> bool {
     middle.len() == file.places.sizes.body && file.tend::<u8, Tally>(middle) == Ok(step)
+}
+
+/// The file that was opened, and the body of its checkpoint, if one is in progress.
+fn in_progress(alloc: Global, opened: Found) -> Option<(Box<StoreFile<MemoryDisk>>, Vec<u8>)> {
+    let Opened { file, middle, .. } = Box::into_inner(opened);
+    Some((Box::new(alloc, file).ok()?, middle?))
 }
 
 /// Whether the file opens at the same state, with the checkpoint ended.
@@ -239,9 +254,9 @@ fn an_opened_file_goes_on(rt: HostRuntime) {
     let Some(opened) = opened(alloc, &two_segments()) else {
         return check(&rt, false, "opened");
     };
-    let Opened { file, middle, .. } = opened;
-    let mut file = file;
-    let middle = middle.unwrap_or(Vec::new(alloc));
+    let Some((mut file, middle)) = in_progress(alloc, opened) else {
+        return check(&rt, false, "a checkpoint");
+    };
     check(
         &rt,
         takes_step(&mut file, &middle, Tended::Closed),
@@ -252,7 +267,8 @@ fn an_opened_file_goes_on(rt: HostRuntime) {
     check(&rt, holds, "finished");
     let holds = takes_step(&mut file, &middle, Tended::Nothing);
     check(&rt, holds, "nothing");
-    check(&rt, opens_again(alloc, file.into_disk()), "opened again");
+    let disk = Box::into_inner(file).into_disk();
+    check(&rt, opens_again(alloc, disk), "opened again");
 }
 
 /// Whether the disk is handed back at the k-th call, which fails, and the file opens then.

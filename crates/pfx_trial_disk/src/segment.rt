@@ -1,10 +1,11 @@
 //! Frames of one row of two tasks behind their gates, in a segment that has room for three of them and a closed gate.
-ghost use Rattle.std.specs.Prelude.{◌≤◌, ◌<◌, length};
+ghost use Rattle.std.specs.Prelude.{◌≤◌, ◌<◌, length, IfSome};
 ghost use Rattle.pfx_disk.specs.Disk.{IsHonest};
+ghost use Rattle.pfx_disk.specs.Memory.{memory_view};
 
 use crate::check::{check, check_pair};
-use crate::held::{has_failed_at, is_held};
-use pfx_disk::{DeviceFailed, Disk, Fate, FaultDisk, GATE_OPEN, MemoryDisk};
+use crate::held::{Kept, failing, has_failed_at, is_held};
+use pfx_disk::{DeviceFailed, Disk, Fate, GATE_OPEN, MemoryDisk};
 use pfx_segment::frame::{COUNT_AT, FIRST_AT, FRAME_HEAD, LENGTH_AT, frame_len_at};
 use pfx_segment::laws::{frames_stay, reading_gives_the_frames};
 use pfx_segment::{ReadFault, close, open_gate, prepare, put_behind, read_one};
@@ -96,8 +97,11 @@ fn has_frames<D: Disk>(alloc: Global, disk: &mut D, number: usize) -> bool {
 }
 
 /// A disk of zeros.
-fn zeros(alloc: Global) -> Option<MemoryDisk> {
-    MemoryDisk::new(alloc, &[0; 76], END, 100, 100).ok()
+fn zeros(alloc: Global) -> Option<Kept>
+    ensures { IfSome result (λ disk. END ≤ length (memory_view disk.value).contents) }
+{
+    let disk = MemoryDisk::new(alloc, &[0; 76], END, 100, 100).ok()?;
+    Box::new(alloc, disk).ok()
 }
 
 /// Whether so many calls were made, and none failed.
@@ -105,11 +109,17 @@ fn has_made<D: Disk>(disk: &D, calls: u64) -> bool {
     disk.clock() == calls && disk.failures() == 0
 }
 
+/// The disk after the three frames.
+fn filled(alloc: Global) -> Option<Kept> {
+    let mut disk = zeros(alloc)?;
+    put_three(&mut *disk).ok()?;
+    Some(disk)
+}
+
 fn three_frames_are_put(alloc: Global) -> Option<bool> {
-    let mut disk = MemoryDisk::new(alloc, &[0; 76], END, 100, 100).ok()?;
-    put_three(&mut disk).ok()?;
-    let is_made = has_made(&disk, 12);
-    Some(is_made && has_frames(alloc, &mut disk, 3))
+    let mut disk = filled(alloc)?;
+    let is_made = has_made(&*disk, 12);
+    Some(is_made && has_frames(alloc, &mut *disk, 3))
 }
 
 #[test]
@@ -136,13 +146,6 @@ fn a_head_says_how_long_its_frame_is(rt: HostRuntime) {
     check(&rt, is_head_told(), "length, first number and count");
 }
 
-/// The disk after the three frames.
-fn filled(alloc: Global) -> Option<MemoryDisk> {
-    let mut disk = MemoryDisk::new(alloc, &[0; 76], END, 100, 100).ok()?;
-    put_three(&mut disk).ok()?;
-    Some(disk)
-}
-
 /// How many frames survive a stop.
 fn surviving(after: usize, fate: Fate) -> usize {
     let is_opened = match fate {
@@ -166,9 +169,9 @@ fn is_left(alloc: Global, disk: &MemoryDisk, after: usize, fate: Fate) -> Option
     if disk.clock() < after as u64 {
         return None;
     }
-    let mut left = disk.stopped(alloc, after, &[fate]).ok()?;
+    let mut left = Box::new(alloc, disk.stopped(alloc, after, &[fate]).ok()?).ok()?;
     let survived = surviving(after, fate);
-    Some(has_frames(alloc, &mut left, survived) && goes_on(alloc, &mut left, survived))
+    Some(has_frames(alloc, &mut *left, survived) && goes_on(alloc, &mut left, survived))
 }
 
 // As a frame is put behind its gate, a stop after its first call or before its third leaves the frames of before, whatever becomes of
@@ -198,15 +201,11 @@ fn stops_leave_the_frames_with_or_without_the_new_one(rt: HostRuntime) {
 /// Whether the frame is broken off at call k, with its work done or not, and what is read has it exactly if its gate was
 /// written.
 fn is_ended(alloc: Global, k: u64, works: bool) -> Option<bool> {
-    let memory = zeros(alloc)?;
-    let mut disk = match works {
-        false => FaultDisk::new(memory, k),
-        true => FaultDisk::with_work_done(memory, k),
-    };
-    let answer = put_next(&mut disk, 0);
-    let is_failed = answer == Err(DeviceFailed) && has_failed_at(&disk, k);
+    let mut disk = failing(alloc, zeros(alloc)?, k, works)?;
+    let answer = put_next(&mut *disk, 0);
+    let is_failed = answer == Err(DeviceFailed) && has_failed_at(&*disk, k);
     let is_new = k == 4 || k == 3 && works;
-    Some(is_failed && has_frames(alloc, &mut disk, usize::from(is_new)))
+    Some(is_failed && has_frames(alloc, &mut *disk, usize::from(is_new)))
 }
 
 #[test]

@@ -1,10 +1,10 @@
 //! Small files of the codec of `pfx_store_image`'s worked rows: a header of two bytes, checkpoint areas of a gate, a number and a sum,
 //! segments of 42 bytes, and frames of 16 bytes, whose one record is a byte that is added to the sum.
-ghost use Rattle.std.specs.Prelude.{◌≡◌, IfSome};
+ghost use Rattle.std.specs.Prelude.{◌≡◌};
 ghost use Rattle.pfx_store_file.specs.Sizes.{total_len};
 
 use crate::check::{check, check_at, check_pair};
-use crate::held::{has_failed_at, held};
+use crate::held::{Kept, has_failed_at, held};
 use pfx_disk::{Disk, Fate, FaultDisk, GATE_OPEN, MemoryDisk};
 use pfx_store_create::new_places;
 use pfx_store_file::laws::{calls_compose, store_is_recovered};
@@ -19,9 +19,7 @@ const SEGMENTS: [usize; 2] = [8, 50];
 
 /// The places of a new file.
 fn places() -> Places
-    ensures len { total_len result.sizes ≡ 92 }
-    ensures body { result.sizes.body ≡ 2 }
-    ensures segment { result.sizes.segment ≡ 42 }
+    ensures { total_len result.sizes ≡ 92 }
 {
     new_places(Sizes {
         head: 2,
@@ -98,22 +96,78 @@ fn plain(image: &[u8]) -> (u8, u8) {
     state
 }
 
-fn file_in_memory(alloc: Global) -> Option<StoreFile<MemoryDisk>>
-    ensures body { IfSome result (λ file. file.places.sizes.body ≡ 2) }
-    ensures segment { IfSome result (λ file. file.places.sizes.segment ≡ 42) }
-{
+/// Appends the frame of this number.
+fn append<D: Disk>(file: &mut StoreFile<D>, number: u8, record: u8) -> Result<(), StoreFault> {
+    file.append::<u8, (u8, u8)>(&frame(number, record))
+}
+
+/// The same with a turn if it doesn't fit: then the checkpoint has this body.
+fn append_or_turn<D: Disk>(
+    file: &mut StoreFile<D>,
+    body: &[u8; 2],
+    number: u8,
+    record: u8,
+) -> Result<bool, StoreFault> {
+    if file.places.sizes.body != 2 || file.places.sizes.segment != 42 {
+        return Err(StoreFault::NoRoom);
+    }
+    file.append_or_turn::<u8, (u8, u8)>(body, &start(number), &frame(number, record))
+}
+
+/// The same behind a step of the checkpoint at number 2.
+fn tend_and_append<D: Disk>(
+    file: &mut StoreFile<D>,
+    number: u8,
+    record: u8,
+) -> Result<(), StoreFault> {
+    if file.places.sizes.body != 2 {
+        return Err(StoreFault::NoRoom);
+    }
+    let _tended = file.tend::<u8, (u8, u8)>(&[2, 11])?;
+    let _fits = append_or_turn(file, &[2, 11], number, record)?;
+    Ok(())
+}
+
+/// Two frames fill the first segment; the third turns, and the checkpoint at number 2 takes three steps.
+fn run_one<D: Disk>(file: &mut StoreFile<D>, number: usize) -> Result<(), StoreFault> {
+    match number {
+        1 => append(file, 1, 5),
+        2 => append(file, 2, 6),
+        3 => {
+            let _turned = append_or_turn(file, &[0, 0], 3, 7)?;
+            Ok(())
+        }
+        4 => tend_and_append(file, 4, 8),
+        _ => tend_and_append(file, 5, 9),
+    }
+}
+
+/// Five frames, with the clock before the first and behind each.
+fn run<D: Disk>(file: &mut StoreFile<D>, clocks: &mut [u64; 6]) -> Result<(), StoreFault> {
+    clocks[0] = file.disk.clock();
+    for number in 1..6 {
+        run_one(file, number)?;
+        clocks[number] = file.disk.clock();
+    }
+    Ok(())
+}
+
+/// A file behind a pointer: a proof spells what a function holds itself at each of its steps.
+type Filed = Box<StoreFile<MemoryDisk>>;
+
+fn file_in_memory(alloc: Global) -> Option<Filed> {
     let disk = MemoryDisk::new(alloc, &new_bytes(), LEN, 200, 400).ok()?;
-    Some(StoreFile::new::<u8, (u8, u8)>(disk, places()))
+    Box::new(alloc, StoreFile::new::<u8, (u8, u8)>(disk, places())).ok()
 }
 
 /// A new file with so many of the two frames that fill its first segment.
-fn file_with_frames(alloc: Global, number: usize) -> Option<StoreFile<MemoryDisk>> {
+fn file_with_frames(alloc: Global, number: usize) -> Option<Filed> {
     let mut file = file_in_memory(alloc)?;
     if number > 0 {
-        file.append::<u8, (u8, u8)>(&frame(1, 5)).ok()?;
+        append(&mut file, 1, 5).ok()?;
     }
     if number > 1 {
-        file.append::<u8, (u8, u8)>(&frame(2, 6)).ok()?;
+        append(&mut file, 2, 6).ok()?;
     }
     Some(file)
 }
@@ -126,19 +180,34 @@ fn has_made(alloc: Global, number: usize, calls: u64, turns: bool) -> bool {
     }
 }
 
-/// Whether the bytes have two frames behind their gates.
+/// Whether the bytes have a frame behind this gate, which is open.
+fn is_frame(bytes: &[u8], gate: usize, number: u8, record: u8) -> bool {
+    let found = bytes.get(gate.saturating_add(1)..gate.saturating_add(16));
+    is_open(bytes, gate) && found == frame(number, record).get(..15)
+}
+
+/// Whether the bytes have two frames behind their gates, and a closed gate.
 fn are_two_frames(bytes: &[u8]) -> bool {
-    is_open(bytes, 17)
-        && bytes.get(18..33) == frame(1, 5).get(..15)
-        && is_open(bytes, 33)
-        && bytes.get(34..50) == frame(2, 6).get(..)
+    is_frame(bytes, 17, 1, 5)
+        && is_frame(bytes, 33, 2, 6)
+        && bytes.get(49) == Some(&0)
         && plain(bytes) == (2, 11)
 }
 
+/// A file's disk.
+fn disk_of(alloc: Global, file: Filed) -> Option<Kept> {
+    Box::new(alloc, Box::into_inner(file).into_disk()).ok()
+}
+
+/// All bytes of a file.
+fn bytes_of(alloc: Global, file: Filed) -> Option<Vec<u8>> {
+    held(alloc, &mut *disk_of(alloc, file)?)
+}
+
 fn two_frames_are_held(alloc: Global) -> Option<bool> {
-    let mut file = file_with_frames(alloc, 2)?;
+    let file = file_with_frames(alloc, 2)?;
     let is_full = file.disk.clock() == 8 && file.places.gate == 49;
-    let bytes = held(alloc, &mut file.disk)?;
+    let bytes = bytes_of(alloc, file)?;
     Some(is_full && are_two_frames(&bytes))
 }
 
@@ -152,7 +221,7 @@ fn a_frame_takes_four_calls(rt: HostRuntime) {
 
 fn third_is_refused(alloc: Global) -> Option<bool> {
     let mut file = file_with_frames(alloc, 2)?;
-    let refused = file.append::<u8, (u8, u8)>(&frame(3, 7));
+    let refused = append(&mut file, 3, 7);
     let is_same = file.disk.clock() == 8 && file.places.gate == 49 && !file.broken;
     Some(refused == Err(StoreFault::NoRoom) && is_same && !file.has_room(16))
 }
@@ -162,38 +231,11 @@ fn a_frame_that_does_not_fit_makes_no_call(rt: HostRuntime) {
     check(&rt, third_is_refused(rt.alloc()) == Some(true), "the third");
 }
 
-/// Two frames fill the first segment; the third turns, and the checkpoint at number 2 takes three steps.
-fn run<D: Disk>(file: &mut StoreFile<D>, clocks: &mut [u64; 6]) -> Result<(), StoreFault>
-    requires body { file.old.places.sizes.body ≡ 2 }
-    requires segment { file.old.places.sizes.segment ≡ 42 }
-{
-    clocks[0] = file.disk.clock();
-    file.append::<u8, (u8, u8)>(&frame(1, 5))?;
-    clocks[1] = file.disk.clock();
-    file.append::<u8, (u8, u8)>(&frame(2, 6))?;
-    clocks[2] = file.disk.clock();
-    let _turned = file.append_or_turn::<u8, (u8, u8)>(&[0, 0], &start(3), &frame(3, 7))?;
-    clocks[3] = file.disk.clock();
-    let _closed = file.tend::<u8, (u8, u8)>(&[2, 11])?;
-    let _fits = file.append_or_turn::<u8, (u8, u8)>(&[2, 11], &start(4), &frame(4, 8))?;
-    clocks[4] = file.disk.clock();
-    let _piece = file.tend::<u8, (u8, u8)>(&[2, 11])?;
-    let _fits = file.append_or_turn::<u8, (u8, u8)>(&[2, 11], &start(5), &frame(5, 9))?;
-    clocks[5] = file.disk.clock();
-    Ok(())
-}
-
 /// What the third frame's append and the fourth's answer: whether the file was turned for it.
 fn turns_of(alloc: Global) -> Option<(bool, bool)> {
-    let mut file = file_in_memory(alloc)?;
-    file.append::<u8, (u8, u8)>(&frame(1, 5)).ok()?;
-    file.append::<u8, (u8, u8)>(&frame(2, 6)).ok()?;
-    let third = file
-        .append_or_turn::<u8, (u8, u8)>(&[0, 0], &start(3), &frame(3, 7))
-        .ok()?;
-    let fourth = file
-        .append_or_turn::<u8, (u8, u8)>(&[2, 11], &start(4), &frame(4, 8))
-        .ok()?;
+    let mut file = file_with_frames(alloc, 2)?;
+    let third = append_or_turn(&mut file, &[0, 0], 3, 7).ok()?;
+    let fourth = append_or_turn(&mut file, &[2, 11], 4, 8).ok()?;
     Some((third, fourth))
 }
 
@@ -207,7 +249,7 @@ fn an_append_tells_whether_it_turned(rt: HostRuntime) {
 }
 
 /// The file with one frame, turned.
-fn turned(alloc: Global) -> Option<StoreFile<MemoryDisk>> {
+fn turned(alloc: Global) -> Option<Filed> {
     let mut file = file_with_frames(alloc, 1)?;
     if !file.can_turn::<u8, (u8, u8)>() {
         return None;
@@ -242,15 +284,15 @@ fn a_checkpoint_takes_its_steps(rt: HostRuntime) {
     check(&rt, takes_step(&mut file, Tended::Piece, 13), "a piece");
     check(&rt, takes_step(&mut file, Tended::Finished, 16), "finished");
     check(&rt, takes_step(&mut file, Tended::Nothing, 16), "nothing");
-    let bytes = held(alloc, &mut file.disk).unwrap_or(Vec::new(alloc));
+    let bytes = bytes_of(alloc, file).unwrap_or(Vec::new(alloc));
     check(&rt, has_checkpoint(&bytes), "the bytes");
 }
 
 /// The disk after the run, which notes its clocks.
-fn run_in_memory(alloc: Global, clocks: &mut [u64; 6]) -> Option<MemoryDisk> {
+fn run_in_memory(alloc: Global, clocks: &mut [u64; 6]) -> Option<Kept> {
     let mut file = file_in_memory(alloc)?;
     run(&mut file, clocks).ok()?;
-    Some(file.into_disk())
+    disk_of(alloc, file)
 }
 
 /// How many frames were appended before so many calls.
@@ -320,15 +362,19 @@ fn stops_keep_what_was_appended(rt: HostRuntime) {
 /// Whether the file is broken, and refuses a frame with no further call.
 fn is_broken<D: Disk>(file: &mut StoreFile<D>) -> bool {
     let clock = file.disk.clock();
-    file.broken
-        && file.append::<u8, (u8, u8)>(&frame(1, 5)) == Err(StoreFault::Broken)
-        && file.disk.clock() == clock
+    file.broken && append(file, 1, 5) == Err(StoreFault::Broken) && file.disk.clock() == clock
+}
+
+/// A new file on a disk whose k-th call fails.
+fn failing_file(alloc: Global, k: u64) -> Option<Box<StoreFile<FaultDisk<MemoryDisk>>>> {
+    let disk = MemoryDisk::new(alloc, &new_bytes(), LEN, 200, 400).ok()?;
+    let file = StoreFile::new::<u8, (u8, u8)>(FaultDisk::new(disk, k), places());
+    Box::new(alloc, file).ok()
 }
 
 /// Whether the run ends at the k-th call, which fails, and the file is broken from then on.
 fn is_ended(alloc: Global, k: u64) -> Option<bool> {
-    let disk = MemoryDisk::new(alloc, &new_bytes(), LEN, 200, 400).ok()?;
-    let mut file = StoreFile::new::<u8, (u8, u8)>(FaultDisk::new(disk, k), places());
+    let mut file = failing_file(alloc, k)?;
     let mut clocks = [0; 6];
     let is_failed = run(&mut file, &mut clocks) == Err(StoreFault::Device);
     let is_counted = has_failed_at(&file.disk, k);
@@ -344,14 +390,14 @@ fn a_failed_call_breaks_the_file(rt: HostRuntime) {
 }
 
 /// The disk of a file that has ended a checkpoint of none.
-fn ended(alloc: Global) -> Option<MemoryDisk> {
+fn ended(alloc: Global) -> Option<Kept> {
     let mut file = file_in_memory(alloc)?;
     store_is_recovered::<MemoryDisk, u8, (u8, u8)>(&file);
     if file.places.sizes.body != 2 {
         return None;
     }
     file.end_checkpoint::<u8, (u8, u8)>(&[0, 0]).ok()?;
-    Some(file.into_disk())
+    disk_of(alloc, file)
 }
 
 #[test]
