@@ -1,7 +1,7 @@
 //! The worked bytes of a state, and bytes that are no state.
 
 use crate::check::{check, check_at};
-use crate::thirds::{new_state, thirds};
+use crate::thirds::{Held, new_state, thirds};
 use pfx_checkpoint::{CheckpointFault, freeze, frozen_len, read, state_len};
 use pfx_jobs::job::Job;
 use pfx_kinds::any::AnyJob;
@@ -10,7 +10,7 @@ use pfx_weights::TaskSet;
 use std::alloc::Global;
 
 /// Their state after a job of rule 110 for task 0 and three slots.
-pub fn worked(alloc: Global) -> Option<State<AnyJob>> {
+pub fn worked(alloc: Global) -> Option<Held> {
     let mut state = new_state(alloc)?;
     let job = AnyJob::start("rule", 3, b"110:00000001").ok()?;
     state.apply(Command::Submit { task: 0, job }).ok()?;
@@ -106,9 +106,14 @@ fn reads_what_it_froze(rt: HostRuntime) {
     check(&rt, is_worked_state(alloc, &bytes) == Some(true), "read");
 }
 
+/// A new state of a set.
+pub fn new_of(alloc: Global, set: &TaskSet) -> Option<Held> {
+    Box::new(alloc, State::new(alloc, set, 8192).ok()?).ok()
+}
+
 fn half_is_frozen_and_read(alloc: Global) -> Option<bool> {
     let set = TaskSet::new(alloc, 2, &[(1, 2)]).ok()?;
-    let state = State::new(alloc, &set, 8192).ok()?;
+    let state = new_of(alloc, &set)?;
     let bytes = frozen(alloc, &state)?;
     Some(bytes.len() == 16 + 137 + 3 * 8 && is_thawed(alloc, &set, &bytes, 0, 0))
 }
@@ -119,18 +124,23 @@ fn gives_idle_tasks_no_job(rt: HostRuntime) {
     check(&rt, holds, "one task of 1/2 on two workers");
 }
 
+/// Whether so many bytes as a state of the set has are none.
+fn is_no_state(alloc: Global, set: &TaskSet, bytes: &[u8]) -> bool {
+    if bytes.len() != state_len(set) {
+        return false;
+    }
+    match read::<AnyJob>(alloc, 0, 8192, set, bytes) {
+        Ok(_) => false,
+        Err(fault) => fault == CheckpointFault::Damaged,
+    }
+}
+
 /// Whether the worked bytes with one byte changed are no state.
 fn is_damaged(alloc: Global, at: usize, byte: u8) -> Option<bool> {
-    let set = thirds(alloc)?;
     let mut bytes = worked_bytes(alloc);
     *bytes.get_mut(at)? = byte;
-    if bytes.len() != state_len(&set) {
-        return None;
-    }
-    match read::<AnyJob>(alloc, 0, 8192, &set, &bytes) {
-        Ok(_) => Some(false),
-        Err(fault) => Some(fault == CheckpointFault::Damaged),
-    }
+    let set = thirds(alloc)?;
+    Some(is_no_state(alloc, &set, &bytes))
 }
 
 #[test]

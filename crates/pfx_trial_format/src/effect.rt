@@ -1,12 +1,14 @@
 //! Records of runs, taken over by a second state; records that are wrong.
 
 use crate::check::{check, check_at};
-use crate::thirds::new_state;
+use crate::thirds::{Held, new_state};
 use pfx_jobs::job::Job;
 use pfx_kinds::any::AnyJob;
 use pfx_machine::{Command, MachineFault, Reply, State};
 use pfx_record::{Place, Record};
-use pfx_record_redo::{apply_all, apply_record, apply_reweigh, is_common, laws, run_recorded};
+use pfx_record_redo::{
+    Recorded, apply_all, apply_record, apply_reweigh, is_common, laws, run_recorded,
+};
 use pfx_weights::Weights;
 use std::alloc::Global;
 
@@ -105,17 +107,37 @@ fn records_lead_where_commands_lead(rt: HostRuntime) {
     check(&rt, is_at_number_8(&one), "number and allocations");
 }
 
+/// Whether a command is recorded as a submit for task 0.
+fn is_given(alloc: Global, state: &mut State<AnyJob>, command: Option<Command<AnyJob>>) -> bool {
+    let Some(command) = command else {
+        return false;
+    };
+    match run_recorded(alloc, state, command) {
+        Ok(done) => matches!(done.reply, Reply::Submitted { task: 0 }),
+        Err(_) => false,
+    }
+}
+
+/// The row that a slot is recorded with.
+fn row_of_slot(alloc: Global, state: &mut State<AnyJob>) -> Option<Vec<Place<AnyJob>>> {
+    match run_recorded(alloc, state, Command::Slot) {
+        Ok(
+            Recorded {
+                entry: Record::Slot { row },
+                ..
+            },
+        ) => Some(row),
+        _ => None,
+    }
+}
+
 /// The row that the first slot after a submit is recorded with.
 fn first_row(alloc: Global) -> Option<Vec<Place<AnyJob>>> {
     let mut state = new_state(alloc)?;
-    let given = run_recorded(alloc, &mut state, rule(3)?).ok()?;
-    let Reply::Submitted { task: 0 } = given.reply else {
-        return None;
-    };
-    let done = run_recorded(alloc, &mut state, Command::Slot).ok()?;
-    match done.entry {
-        Record::Slot { row } => Some(row),
-        _ => None,
+    if is_given(alloc, &mut state, rule(3)) {
+        row_of_slot(alloc, &mut state)
+    } else {
+        None
     }
 }
 
@@ -173,10 +195,9 @@ fn stepped() -> Option<AnyJob> {
 }
 
 /// The new state with an unfinished job at the first task.
-fn busy_thirds(alloc: Global) -> Option<State<AnyJob>> {
+fn busy_thirds(alloc: Global) -> Option<Held> {
     let mut state = new_state(alloc)?;
-    let job = count()?;
-    if apply_record(&mut state, &Record::Submit { task: 0, job }) {
+    if is_right(&mut state, submit(0)) {
         Some(state)
     } else {
         None
@@ -269,8 +290,7 @@ fn are_too_early(alloc: Global) -> Option<bool> {
     if !is_right(&mut state, row) {
         return None;
     }
-    let record = new_weights(alloc, 1, &THIRDS)?;
-    let right = apply_reweigh(alloc, &mut state, &record).ok()?;
+    let right = renews(alloc, &mut state, 1, &THIRDS)?;
     let same = state.number() == 2 && state.from() == 0 && state.columns().workers() == 2;
     Some(!right && same && state.columns().slot() == 1)
 }
@@ -282,7 +302,7 @@ fn new_weights_at_another_lag_change_nothing(rt: HostRuntime) {
 }
 
 /// The state with a job in which new weights have come into force.
-fn renewed(alloc: Global) -> Option<State<AnyJob>> {
+fn renewed(alloc: Global) -> Option<Held> {
     let mut state = busy_thirds(alloc)?;
     if renews(alloc, &mut state, 1, &THIRDS)? {
         Some(state)
@@ -303,7 +323,8 @@ fn takes_one_alone(alloc: Global, state: &mut State<AnyJob>) -> bool {
 fn are_rows_of_one(alloc: Global) -> Option<bool> {
     let mut state = renewed(alloc)?;
     let renewed = state.number() == 2 && state.columns().workers() == 1;
-    let stays = have_same_first_job(&state, &busy_thirds(alloc)?);
+    let before = busy_thirds(alloc)?;
+    let stays = have_same_first_job(&state, &before);
     Some(renewed && stays && takes_one_alone(alloc, &mut state))
 }
 
@@ -326,6 +347,16 @@ fn wrong_jobs_change_nothing(rt: HostRuntime) {
     check(&rt, is_wrong(alloc, &mut state, none), "no job to take");
 }
 
+/// Whether a row of these tasks, the first one with this state, is refused so.
+fn is_wrong_row(
+    alloc: Global,
+    state: &mut State<AnyJob>,
+    tasks: &[u16],
+    first: Option<AnyJob>,
+) -> bool {
+    is_wrong(alloc, state, row_of(alloc, tasks, first))
+}
+
 // No state for an unfinished job, a state for none, tasks that fall, too few, too many, out of range.
 #[test]
 fn wrong_rows_change_nothing(rt: HostRuntime) {
@@ -333,18 +364,18 @@ fn wrong_rows_change_nothing(rt: HostRuntime) {
     let Some(mut state) = busy_thirds(alloc) else {
         return check(&rt, false, "a job given");
     };
-    let row = row_of(alloc, &[0, 1], None);
-    check(&rt, is_wrong(alloc, &mut state, row), "no state");
-    let row = row_of(alloc, &[1, 2], count());
-    check(&rt, is_wrong(alloc, &mut state, row), "a state for none");
-    let row = row_of(alloc, &[1, 0], None);
-    check(&rt, is_wrong(alloc, &mut state, row), "falling tasks");
-    let row = row_of(alloc, &[1], None);
-    check(&rt, is_wrong(alloc, &mut state, row), "one task");
-    let row = row_of(alloc, &[0, 1, 2], stepped());
-    check(&rt, is_wrong(alloc, &mut state, row), "three tasks");
-    let row = row_of(alloc, &[1, 3], None);
-    check(&rt, is_wrong(alloc, &mut state, row), "no such task");
+    let holds = is_wrong_row(alloc, &mut state, &[0, 1], None);
+    check(&rt, holds, "no state");
+    let holds = is_wrong_row(alloc, &mut state, &[1, 2], count());
+    check(&rt, holds, "a state for none");
+    let holds = is_wrong_row(alloc, &mut state, &[1, 0], None);
+    check(&rt, holds, "falling tasks");
+    let holds = is_wrong_row(alloc, &mut state, &[1], None);
+    check(&rt, holds, "one task");
+    let holds = is_wrong_row(alloc, &mut state, &[0, 1, 2], stepped());
+    check(&rt, holds, "three tasks");
+    let holds = is_wrong_row(alloc, &mut state, &[1, 3], None);
+    check(&rt, holds, "no such task");
 }
 
 /// Whether the record is taken over by the state.

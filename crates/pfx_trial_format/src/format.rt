@@ -1,7 +1,7 @@
 //! Frames of a store of three tasks of weight 2/3 on two workers.
 
 use crate::check::{check, check_at};
-use crate::thirds::new_state;
+use crate::thirds::{Held, new_state};
 use pfx_kinds::any::AnyJob;
 use pfx_machine::State;
 use pfx_store_format::{apply_frame, laws, number_after, number_of};
@@ -43,7 +43,7 @@ fn heads_of_frames(rt: HostRuntime) {
 }
 
 /// The state after frames that come in turn, from the empty one.
-fn behind(alloc: Global, frames: &[[u8; 22]]) -> Option<State<AnyJob>> {
+fn behind(alloc: Global, frames: &[[u8; 22]]) -> Option<Held> {
     let mut state = new_state(alloc)?;
     for frame in frames {
         if !apply_frame(alloc, &mut state, frame).ok()? {
@@ -63,7 +63,7 @@ fn lead_on(alloc: Global, frames: &[[u8; 22]]) -> bool {
 }
 
 /// Whether memory suffices, and the frame leads nowhere.
-fn leads_nowhere(alloc: Global, state: Option<State<AnyJob>>, frame: &[u8]) -> bool {
+fn leads_nowhere(alloc: Global, state: Option<Held>, frame: &[u8]) -> bool {
     let Some(mut state) = state else {
         return false;
     };
@@ -144,7 +144,7 @@ fn are_taken_over(alloc: Global, state: &mut State<AnyJob>, frames: &[&[u8]]) ->
 }
 
 /// The state after frames of two workers, of one, and of two again: after so many of them, at most nine.
-fn behind_epochs(alloc: Global, many: usize) -> Option<State<AnyJob>> {
+fn behind_epochs(alloc: Global, many: usize) -> Option<Held> {
     let one = new_weights(4, 1, 1);
     let two = new_weights(8, 2, 2);
     let frames: [&[u8]; 9] = [

@@ -1,7 +1,8 @@
 //! The worked bytes of a state with its set, and bytes that are none.
 
 use crate::check::{check, check_at};
-use crate::checkpoint::{has, has_zeros, worked, worked_bytes};
+use crate::checkpoint::{has, has_zeros, new_of, worked, worked_bytes};
+use crate::thirds::Held;
 use pfx_checkpoint::{CheckpointFault, freeze_whole, read_whole, whole_len};
 use pfx_kinds::any::AnyJob;
 use pfx_machine::State;
@@ -24,15 +25,17 @@ fn frozen(alloc: Global, state: &State<AnyJob>) -> Option<Vec<u8>> {
 
 /// The bytes of three tasks of 2/3 after a job of rule 110 for task 0 and three slots.
 fn whole_bytes(alloc: Global) -> Option<Vec<u8>> {
-    frozen(alloc, &worked(alloc)?)
+    let state = worked(alloc)?;
+    frozen(alloc, &state)
 }
 
 /// The state of so many real tasks that the bytes are, or why there is none.
-fn thawed(alloc: Global, real: usize, bytes: &[u8]) -> Result<State<AnyJob>, CheckpointFault> {
+fn thawed(alloc: Global, real: usize, bytes: &[u8]) -> Result<Held, CheckpointFault> {
     if real > 1024 || bytes.len() != whole_len(real) {
         return Err(CheckpointFault::NoMemory);
     }
-    read_whole(alloc, real, 8192, bytes)
+    let state = read_whole(alloc, real, 8192, bytes)?;
+    Box::new(alloc, state).map_err(|_| CheckpointFault::NoMemory)
 }
 
 fn has_worked_head(bytes: &[u8]) -> bool {
@@ -74,10 +77,16 @@ fn reads_what_it_froze_with_its_set(rt: HostRuntime) {
     check(&rt, worked_whole_is_read(alloc) == Some(true), "read");
 }
 
-/// One task of 1/2 on 64 workers has 127 idle tasks beside it, and zeros for one more.
-fn most_idle_tasks_are_read(alloc: Global) -> Option<bool> {
+/// The bytes of one task of 1/2 on 64 workers.
+fn half_of_many(alloc: Global) -> Option<Vec<u8>> {
     let set = TaskSet::new(alloc, 64, &[(1, 2)]).ok()?;
-    let bytes = frozen(alloc, &State::new(alloc, &set, 8192).ok()?)?;
+    let state = new_of(alloc, &set)?;
+    frozen(alloc, &state)
+}
+
+/// Whether that task has 127 idle ones beside it, and zeros for one more.
+fn most_idle_tasks_are_read(alloc: Global) -> Option<bool> {
+    let bytes = half_of_many(alloc)?;
     let state = thawed(alloc, 1, &bytes).ok()?;
     let zeros = bytes.len() == 1194 && has_zeros(&bytes, 1186, 8);
     Some(zeros && state.columns().total() == 128 && state.columns().workers() == 64)
