@@ -10,6 +10,28 @@ use pfx_store_engine::{CallFault, DurableEngine, StoreEngine};
 use pfx_weights::{SetFault, TaskSet, Weights};
 use std::alloc::Global;
 
+/// A store, the engine over one and a disk, each behind a pointer: a proof spells what a function holds itself at each of its steps.
+type Held = Box<Store<MemoryDisk, AnyJob>>;
+
+type Driven = Box<StoreEngine<MemoryDisk, AnyJob>>;
+
+type Left = Box<MemoryDisk>;
+
+/// The engine as it is lent.
+type Engine = StoreEngine<MemoryDisk, AnyJob>;
+
+/// A new store on a disk of so many bytes, with room for so many that are written.
+fn new_store(alloc: Global, set: &TaskSet, segment: u32, len: usize, room: usize) -> Option<Held> {
+    let disk = MemoryDisk::new(alloc, &[], len, 1000, room).ok()?;
+    Box::new(alloc, Store::init(alloc, disk, set, segment).ok()?).ok()
+}
+
+/// The engine over a store.
+fn driven(alloc: Global, store: Held) -> Option<Driven> {
+    let engine = DurableEngine::new(alloc, Box::into_inner(store)).ok()?;
+    Box::new(alloc, engine).ok()
+}
+
 /// The engine over a new store on a disk of so many bytes, with room for so many that are written.
 fn begun(
     alloc: Global,
@@ -18,11 +40,15 @@ fn begun(
     segment: u32,
     len: usize,
     room: usize,
-) -> Option<StoreEngine<MemoryDisk, AnyJob>> {
-    let disk = MemoryDisk::new(alloc, &[], len, 1000, room).ok()?;
+) -> Option<Driven> {
     let set = TaskSet::new(alloc, workers, weights).ok()?;
-    let store = Store::init(alloc, disk, &set, segment).ok()?;
-    DurableEngine::new(alloc, store).ok()
+    let store = new_store(alloc, &set, segment, len, room)?;
+    driven(alloc, store)
+}
+
+/// The disk of an engine's store.
+fn disk_of(alloc: Global, engine: Driven) -> Option<Left> {
+    Box::new(alloc, Box::into_inner(engine).into_keeper().into_disk()).ok()
 }
 
 /// Three tasks of 1/3.
@@ -32,13 +58,23 @@ const SINGLE: [(u32, u32); 3] = [(1, 3), (1, 3), (1, 3)];
 const DOUBLE: [(u32, u32); 3] = [(2, 3), (2, 3), (2, 3)];
 
 /// The engine over the store of three tasks of 2/3 on two workers, with segments of 8,192 bytes.
-fn thirds(alloc: Global) -> Option<StoreEngine<MemoryDisk, AnyJob>> {
+fn thirds(alloc: Global) -> Option<Driven> {
     begun(alloc, 2, &DOUBLE, 8192, 19395, 60_000)
 }
 
-/// The engine over the store that a disk holds.
-fn opened(alloc: Global, disk: MemoryDisk) -> Option<StoreEngine<MemoryDisk, AnyJob>> {
-    DurableEngine::new(alloc, Store::open(alloc, disk).ok()?).ok()
+/// The store that a disk holds.
+fn stored(alloc: Global, disk: Left) -> Option<Held> {
+    Box::new(alloc, Store::open(alloc, Box::into_inner(disk)).ok()?).ok()
+}
+
+/// The engine over it.
+fn opened(alloc: Global, disk: Left) -> Option<Driven> {
+    driven(alloc, stored(alloc, disk)?)
+}
+
+/// The engine over the store that an engine leaves on its disk.
+fn opened_again(alloc: Global, engine: Driven) -> Option<Driven> {
+    opened(alloc, disk_of(alloc, engine)?)
 }
 
 /// A Reweigh.
@@ -51,7 +87,7 @@ fn reweigh(alloc: Global, workers: u32, weights: &[(u32, u32)]) -> Option<Comman
 }
 
 /// Whether so many slots are carried out.
-fn runs(alloc: Global, slots: u32, engine: &mut StoreEngine<MemoryDisk, AnyJob>) -> bool {
+fn runs(alloc: Global, slots: u32, engine: &mut Engine) -> bool {
     for _slot in 0..slots {
         if engine.execute(alloc, Command::Slot).is_err() {
             return false;
@@ -61,12 +97,7 @@ fn runs(alloc: Global, slots: u32, engine: &mut StoreEngine<MemoryDisk, AnyJob>)
 }
 
 /// Whether the next slot is this one, with this row.
-fn ran(
-    alloc: Global,
-    slot: u64,
-    row: &[u16],
-    engine: &mut StoreEngine<MemoryDisk, AnyJob>,
-) -> bool {
+fn ran(alloc: Global, slot: u64, row: &[u16], engine: &mut Engine) -> bool {
     match engine.execute(alloc, Command::Slot) {
         Ok(
             (
@@ -91,7 +122,7 @@ struct Kept {
 }
 
 /// Whether the last command is this one, with the set of so many workers in force from its slot on.
-fn is_in_force(engine: &StoreEngine<MemoryDisk, AnyJob>, workers: u32, kept: &Kept) -> bool {
+fn is_in_force(engine: &Engine, workers: u32, kept: &Kept) -> bool {
     let store = engine.keeper.state();
     store.number() == kept.number
         && store.from() == kept.from
@@ -106,7 +137,7 @@ fn takes(
     workers: u32,
     weights: &[(u32, u32)],
     kept: &Kept,
-    engine: &mut StoreEngine<MemoryDisk, AnyJob>,
+    engine: &mut Engine,
 ) -> bool {
     let wanted = engine.keeper.disk().clock().saturating_add(kept.calls);
     let Some(command) = reweigh(alloc, workers, weights) else {
@@ -129,7 +160,7 @@ fn refuses(
     workers: u32,
     weights: &[(u32, u32)],
     fault: MachineFault,
-    engine: &mut StoreEngine<MemoryDisk, AnyJob>,
+    engine: &mut Engine,
 ) -> bool {
     let clock = engine.keeper.disk().clock();
     let number = engine.state.number();
@@ -166,7 +197,7 @@ fn has_frame(disk: &mut MemoryDisk) -> bool {
 }
 
 /// Whether the first slots are run, and new weights come into force behind the third, and not before.
-fn begins(alloc: Global, engine: &mut StoreEngine<MemoryDisk, AnyJob>) -> bool {
+fn begins(alloc: Global, engine: &mut Engine) -> bool {
     let unlevel = MachineFault::NotLevel { task: 0 };
     let kept = Kept {
         number: 4,
@@ -182,7 +213,7 @@ fn begins(alloc: Global, engine: &mut StoreEngine<MemoryDisk, AnyJob>) -> bool {
 }
 
 /// Whether it goes on so, with the old weights again from the sixth slot on.
-fn goes_on(alloc: Global, engine: &mut StoreEngine<MemoryDisk, AnyJob>) -> bool {
+fn goes_on(alloc: Global, engine: &mut Engine) -> bool {
     let kept = Kept {
         number: 8,
         from: 6,
@@ -203,7 +234,9 @@ fn new_weights_come_into_force(rt: HostRuntime) {
         return check(&rt, false, "an engine");
     };
     check(&rt, begins(alloc, &mut engine), "begins");
-    let mut disk = engine.into_keeper().into_disk();
+    let Some(mut disk) = disk_of(alloc, engine) else {
+        return check(&rt, false, "a disk");
+    };
     check(&rt, has_frame(&mut disk), "frame");
     let Some(mut again) = opened(alloc, disk) else {
         return check(&rt, false, "opened");
@@ -212,7 +245,7 @@ fn new_weights_come_into_force(rt: HostRuntime) {
 }
 
 /// Whether the tests come in their order, each with the disk left alone.
-fn refuses_in_order(alloc: Global, engine: &mut StoreEngine<MemoryDisk, AnyJob>) -> bool {
+fn refuses_in_order(alloc: Global, engine: &mut Engine) -> bool {
     let count = MachineFault::WrongCount;
     let unlevel = MachineFault::NotLevel { task: 0 };
     let workers = MachineFault::NoSet(SetFault::BadWorkers);
@@ -241,7 +274,7 @@ fn left(alloc: Global, disk: &MemoryDisk, after: u64, fate: Fate) -> Option<(u64
         return None;
     }
     let left = disk.stopped(alloc, after as usize, &[fate, fate]).ok()?;
-    let engine = opened(alloc, left)?;
+    let engine = opened(alloc, Box::new(alloc, left).ok()?)?;
     let state = engine.keeper.state();
     Some((state.number(), state.from(), state.columns().workers()))
 }
@@ -262,7 +295,7 @@ fn left_by(number: u64) -> (u64, u64, u32) {
 }
 
 /// Three slots, two Reweighs at one slot, and a slot.
-fn six_commands(alloc: Global) -> Option<StoreEngine<MemoryDisk, AnyJob>> {
+fn six_commands(alloc: Global) -> Option<Driven> {
     let mut engine = thirds(alloc)?;
     let one = Kept {
         number: 4,
@@ -287,7 +320,9 @@ fn stops_after_each_call(rt: HostRuntime) {
     let Some(engine) = six_commands(alloc) else {
         return check(&rt, false, "an engine");
     };
-    let disk = engine.into_keeper().into_disk();
+    let Some(disk) = disk_of(alloc, engine) else {
+        return check(&rt, false, "a disk");
+    };
     let Some(made) = disk.clock().checked_sub(24) else {
         return check(&rt, false, "calls");
     };
@@ -312,7 +347,7 @@ fn count(steps: u64) -> Option<AnyJob> {
 }
 
 /// Whether a job is given to the first task.
-fn submit(alloc: Global, steps: u64, engine: &mut StoreEngine<MemoryDisk, AnyJob>) -> bool {
+fn submit(alloc: Global, steps: u64, engine: &mut Engine) -> bool {
     match count(steps) {
         Some(job) => engine
             .execute(alloc, Command::Submit { task: 0, job })
@@ -322,7 +357,7 @@ fn submit(alloc: Global, steps: u64, engine: &mut StoreEngine<MemoryDisk, AnyJob
 }
 
 /// The engine at a level slot over the least segments, one of which has so few bytes left that the frame of new weights doesn't fit.
-fn nearly_full(alloc: Global) -> Option<StoreEngine<MemoryDisk, AnyJob>> {
+fn nearly_full(alloc: Global) -> Option<Driven> {
     let mut engine = begun(alloc, 2, &DOUBLE, 4233, 11477, 60_000)?;
     let holds = submit(alloc, 1, &mut engine)
         && engine.execute(alloc, Command::Withdraw { task: 0 }).is_ok()
@@ -356,7 +391,9 @@ fn new_weights_turn_a_store(rt: HostRuntime) {
     check(&rt, takes(alloc, 1, &SINGLE, &kept, &mut engine), "turned");
     check(&rt, engine.keeper.places().segment, "the second segment");
     check(&rt, runs(alloc, 1, &mut engine), "a slot, and a step");
-    let disk = engine.into_keeper().into_disk();
+    let Some(disk) = disk_of(alloc, engine) else {
+        return check(&rt, false, "a disk");
+    };
     let fates = [Fate::Kept, Fate::Dropped];
     for calls in 0..17 {
         for (number, fate) in fates.iter().enumerate() {
@@ -377,11 +414,7 @@ fn many(alloc: Global) -> Option<Vec<(u32, u32)>> {
 }
 
 /// The engine over the store of so many tasks on one worker, with segments of 8,218 bytes, or of one more.
-fn over_many(
-    alloc: Global,
-    weights: &[(u32, u32)],
-    is_longer: bool,
-) -> Option<StoreEngine<MemoryDisk, AnyJob>> {
+fn over_many(alloc: Global, weights: &[(u32, u32)], is_longer: bool) -> Option<Driven> {
     if is_longer {
         return begun(alloc, 1, weights, 8219, 323707, 1_500_000);
     }
@@ -405,7 +438,7 @@ fn just_fits(alloc: Global, weights: &[(u32, u32)]) -> bool {
     };
     let holds = takes(alloc, 1, weights, &one, &mut engine)
         && takes(alloc, 1, weights, &two, &mut engine);
-    match opened(alloc, engine.into_keeper().into_disk()) {
+    match opened_again(alloc, engine) {
         Some(again) => holds && again.last_kept() == Ok(2),
         None => false,
     }
@@ -427,7 +460,7 @@ fn many_tasks_of_one_worker(rt: HostRuntime) {
 }
 
 /// How many steps the first task's job has left.
-fn steps_left(engine: &StoreEngine<MemoryDisk, AnyJob>) -> Option<u32> {
+fn steps_left(engine: &Engine) -> Option<u32> {
     let state = engine.keeper.state();
     if state.jobs().is_empty() {
         return None;
@@ -456,7 +489,7 @@ fn jobs_go_on_over_new_weights(rt: HostRuntime) {
         takes(alloc, 1, &SINGLE, &kept, &mut engine),
         "one worker",
     );
-    let Some(mut again) = opened(alloc, engine.into_keeper().into_disk()) else {
+    let Some(mut again) = opened_again(alloc, engine) else {
         return check(&rt, false, "opened");
     };
     check(&rt, steps_left(&again) == Some(3), "three steps left");
