@@ -3,7 +3,7 @@
 
 use crate::check::{check, check_pair};
 use crate::migrating::is_made;
-use crate::old::{new_disk, old_disk};
+use crate::old::{Held, new_disk, old_disk};
 use pfx_disk::{Disk, FaultDisk, MemoryDisk};
 use pfx_kinds::any::AnyJob;
 use pfx_store::InitFault;
@@ -17,7 +17,8 @@ const READS: u64 = 9;
 const WRITES: u64 = 11;
 
 /// A disk whose call of this number fails, doing its work all the same or not.
-fn failing(disk: MemoryDisk, call: u64, works: bool) -> FaultDisk<MemoryDisk> {
+fn failing(disk: Held, call: u64, works: bool) -> FaultDisk<MemoryDisk> {
+    let disk = Box::into_inner(disk);
     if works {
         FaultDisk::with_work_done(disk, call)
     } else {
@@ -27,8 +28,9 @@ fn failing(disk: MemoryDisk, call: u64, works: bool) -> FaultDisk<MemoryDisk> {
 
 /// Whether a call of the new disk that fails is answered, and leaves no store, or all of it.
 fn is_answered(alloc: Global, call: u64, works: bool) -> Option<bool> {
-    let new = failing(new_disk(alloc)?, call, works);
-    match migrate::<MemoryDisk, FaultDisk<MemoryDisk>, AnyJob>(alloc, old_disk(alloc)?, new) {
+    let (old, new) = (old_disk(alloc)?, new_disk(alloc)?);
+    let (old, new) = (Box::into_inner(old), failing(new, call, works));
+    match migrate::<MemoryDisk, FaultDisk<MemoryDisk>, AnyJob>(alloc, old, new) {
         Ok((store, _old)) => {
             let left = is_made(alloc, store.into_disk().into_inner());
             Some(call == WRITES && left == Some(true))
@@ -42,8 +44,9 @@ fn is_answered(alloc: Global, call: u64, works: bool) -> Option<bool> {
 
 /// Whether a call of the old disk that fails is answered, and the new disk isn't asked anything.
 fn is_unread(alloc: Global, call: u64, works: bool) -> Option<bool> {
-    let old = failing(old_disk(alloc)?, call, works);
-    match migrate::<FaultDisk<MemoryDisk>, MemoryDisk, AnyJob>(alloc, old, new_disk(alloc)?) {
+    let (old, new) = (old_disk(alloc)?, new_disk(alloc)?);
+    let (old, new) = (failing(old, call, works), Box::into_inner(new));
+    match migrate::<FaultDisk<MemoryDisk>, MemoryDisk, AnyJob>(alloc, old, new) {
         Ok(_) => Some(call == READS),
         Err((MigrateFault::Old(OpenFault::Device), _old, new)) => {
             Some(call < READS && new.clock() == 0)
@@ -79,6 +82,7 @@ fn refused_memory(alloc: Global) -> bool {
     let (Some(old), Some(new)) = (old_disk(alloc), new_disk(alloc)) else {
         return true;
     };
+    let (old, new) = (Box::into_inner(old), Box::into_inner(new));
     match migrate::<MemoryDisk, MemoryDisk, AnyJob>(alloc, old, new) {
         Ok(_) => true,
         Err((MigrateFault::Old(OpenFault::NoMemory), old, new)) => is_made_now(alloc, old, new),

@@ -2,7 +2,8 @@
 
 use crate::check::{check, check_pair};
 use crate::old::{
-    OLD_END, OLD_FRAME, bytes_of, disk_of, fresh, new_disk, old_disk, old_file, spelled, wanted,
+    Held, OLD_END, OLD_FRAME, bytes_of, disk_of, fresh, new_disk, old_disk, old_file, spelled,
+    wanted,
 };
 use pfx_disk::{Disk, Fate, MemoryDisk};
 use pfx_fault::Part;
@@ -13,25 +14,46 @@ use pfx_store_migrate::{MigrateFault, migrate, migrated_text};
 use pfx_store_recover::{OpenFault, Refusal};
 use std::alloc::Global;
 
-/// The store that is made of the file on a disk in memory, and the file's bytes after it.
-fn migrated(alloc: Global) -> Option<(Store<MemoryDisk, AnyJob>, Vec<u8>)> {
-    let made = migrate::<MemoryDisk, MemoryDisk, AnyJob>(alloc, old_disk(alloc)?, new_disk(alloc)?);
-    let (store, mut old) = made.ok()?;
-    let bytes = bytes_of(alloc, &mut old)?;
+/// A store behind a pointer.
+type Made = Box<Store<MemoryDisk, AnyJob>>;
+
+/// The store that is made of the file on a disk in memory, and that disk.
+fn made(alloc: Global) -> Option<(Made, Held)> {
+    let (old, new) = (old_disk(alloc)?, new_disk(alloc)?);
+    let (old, new) = (Box::into_inner(old), Box::into_inner(new));
+    let (store, old) = migrate::<MemoryDisk, MemoryDisk, AnyJob>(alloc, old, new).ok()?;
+    Some((Box::new(alloc, store).ok()?, Box::new(alloc, old).ok()?))
+}
+
+/// The store, and the file's bytes after it was made.
+fn migrated(alloc: Global) -> Option<(Made, Vec<u8>)> {
+    let (store, mut old) = made(alloc)?;
+    let bytes = bytes_of(alloc, &mut *old)?;
     Some((store, bytes))
+}
+
+/// The disk of the new store.
+fn made_disk(alloc: Global) -> Option<Held> {
+    let (store, _bytes) = migrated(alloc)?;
+    Box::new(alloc, Box::into_inner(store).into_disk()).ok()
+}
+
+/// Whether a store is at the old one's state.
+fn is_there(alloc: Global, store: &Store<MemoryDisk, AnyJob>) -> Option<bool> {
+    Some(spelled(alloc, store.state())? == wanted(alloc)?)
 }
 
 /// Whether the new store is at the old one's state, and the old file stays.
 fn goes_on(alloc: Global) -> Option<bool> {
     let (store, bytes) = migrated(alloc)?;
-    let is_there = spelled(alloc, store.state())? == wanted(alloc)?;
+    let is_there = is_there(alloc, &store)?;
     Some(is_there && store.state().number() == 4 && bytes == old_file(alloc)?)
 }
 
 /// Whether what a disk holds is a store at the old one's state; `None` if it is anything but that or no store.
 pub fn is_made(alloc: Global, left: MemoryDisk) -> Option<bool> {
     match Store::<MemoryDisk, AnyJob>::open(alloc, left) {
-        Ok(store) if spelled(alloc, store.state())? == wanted(alloc)? => Some(true),
+        Ok(store) if is_there(alloc, &store) == Some(true) => Some(true),
         Err((OpenFault::Refused(Refusal::NotAStore), _left)) => Some(false),
         _ => None,
     }
@@ -60,10 +82,9 @@ fn the_new_store_goes_on(rt: HostRuntime) {
 #[test]
 fn a_stop_leaves_no_store_or_all_of_it(rt: HostRuntime) {
     let alloc = rt.alloc();
-    let Some((store, _bytes)) = migrated(alloc) else {
+    let Some(disk) = made_disk(alloc) else {
         return check(&rt, false, "a new store");
     };
-    let disk = store.into_disk();
     let calls = disk.clock();
     check(&rt, calls == 11, "eleven calls");
     let fates = [
@@ -84,13 +105,22 @@ fn a_stop_leaves_no_store_or_all_of_it(rt: HostRuntime) {
     }
 }
 
+/// Whether the old disk holds these bytes yet, and the new one was asked nothing.
+fn are_left(alloc: Global, old: &mut MemoryDisk, new: &MemoryDisk, bytes: &[u8]) -> bool {
+    match bytes_of(alloc, old) {
+        Some(found) => found.as_slice() == bytes && new.clock() == 0,
+        None => false,
+    }
+}
+
 /// Why nothing is made of a file of these bytes, which stays as it is, as the new disk does.
 fn refusal_of(alloc: Global, bytes: Option<Vec<u8>>) -> Option<Refusal> {
     let bytes = bytes?;
-    let old = disk_of(alloc, &bytes)?;
-    match migrate::<MemoryDisk, MemoryDisk, AnyJob>(alloc, old, new_disk(alloc)?) {
+    let (old, new) = (disk_of(alloc, &bytes)?, new_disk(alloc)?);
+    let (old, new) = (Box::into_inner(old), Box::into_inner(new));
+    match migrate::<MemoryDisk, MemoryDisk, AnyJob>(alloc, old, new) {
         Err((MigrateFault::Old(OpenFault::Refused(refusal)), mut old, new)) => {
-            if bytes_of(alloc, &mut old)? == bytes && new.clock() == 0 {
+            if are_left(alloc, &mut old, &new, &bytes) {
                 Some(refusal)
             } else {
                 None
@@ -126,8 +156,7 @@ fn shortened(alloc: Global) -> Option<Vec<u8>> {
 
 /// The file that a new store of this version has after it was made of the old one.
 fn made_file(alloc: Global) -> Option<Vec<u8>> {
-    let (store, _bytes) = migrated(alloc)?;
-    bytes_of(alloc, &mut store.into_disk())
+    bytes_of(alloc, &mut *made_disk(alloc)?)
 }
 
 #[test]
@@ -169,11 +198,11 @@ fn new_weights_are_none_of_its_records(rt: HostRuntime) {
 
 /// Whether a disk that holds a byte is refused, and keeps it.
 fn keeps_a_byte(alloc: Global) -> Option<bool> {
+    let old = old_disk(alloc)?;
     let new = MemoryDisk::new(alloc, &[7], 20_000, 100, 60_000).ok()?;
-    match migrate::<MemoryDisk, MemoryDisk, AnyJob>(alloc, old_disk(alloc)?, new) {
+    match migrate::<MemoryDisk, MemoryDisk, AnyJob>(alloc, Box::into_inner(old), new) {
         Err((MigrateFault::New(InitFault::NotEmpty), _old, mut new)) => {
-            let bytes = bytes_of(alloc, &mut new)?;
-            Some(bytes.len() == 1 && bytes[0] == 7)
+            Some(bytes_of(alloc, &mut new)?.as_slice() == [7].as_slice())
         }
         _ => None,
     }

@@ -65,19 +65,24 @@ pub fn old_file(alloc: Global) -> Option<Vec<u8>> {
     if is_put { Some(bytes) } else { None }
 }
 
+/// A disk behind a pointer: a proof spells what a function holds itself at each of its steps.
+pub type Held = Box<MemoryDisk>;
+
 /// A disk with these bytes, of which reads alone are noted.
-pub fn disk_of(alloc: Global, bytes: &[u8]) -> Option<MemoryDisk> {
-    MemoryDisk::new(alloc, bytes, bytes.len(), 100, 100).ok()
+pub fn disk_of(alloc: Global, bytes: &[u8]) -> Option<Held> {
+    let disk = MemoryDisk::new(alloc, bytes, bytes.len(), 100, 100).ok()?;
+    Box::new(alloc, disk).ok()
 }
 
 /// A disk with the file.
-pub fn old_disk(alloc: Global) -> Option<MemoryDisk> {
+pub fn old_disk(alloc: Global) -> Option<Held> {
     disk_of(alloc, &old_file(alloc)?)
 }
 
 /// An empty disk with room for the new file.
-pub fn new_disk(alloc: Global) -> Option<MemoryDisk> {
-    MemoryDisk::new(alloc, &[], END, 100, 60_000).ok()
+pub fn new_disk(alloc: Global) -> Option<Held> {
+    let disk = MemoryDisk::new(alloc, &[], END, 100, 60_000).ok()?;
+    Box::new(alloc, disk).ok()
 }
 
 /// All bytes of a disk.
@@ -96,10 +101,15 @@ pub fn spelled(alloc: Global, state: &State<AnyJob>) -> Option<Vec<u8>> {
     Some(body)
 }
 
+/// The state before the file's first command, behind a pointer.
+fn begun(alloc: Global) -> Option<Box<State<AnyJob>>> {
+    let set = TaskSet::new(alloc, 2, &[(2, 3), (2, 3), (2, 3)]).ok()?;
+    Box::new(alloc, State::new(alloc, &set, OLD_SEGMENT).ok()?).ok()
+}
+
 /// The state that the file stands for, by its commands, as bytes.
 pub fn wanted(alloc: Global) -> Option<Vec<u8>> {
-    let set = TaskSet::new(alloc, 2, &[(2, 3), (2, 3), (2, 3)]).ok()?;
-    let mut state = State::new(alloc, &set, OLD_SEGMENT).ok()?;
+    let mut state = begun(alloc)?;
     let job = AnyJob::start("rule", 3, b"110:00000001").ok()?;
     state.apply(Command::Submit { task: 0, job }).ok()?;
     for _slot in 0..3 {
