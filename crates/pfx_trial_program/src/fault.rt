@@ -4,7 +4,7 @@ use pfx_fault::{Cause, Fault, Part, Refused, put_fault};
 use std::alloc::Global;
 
 /// A refusal, the exit status and the text, as the table of refusals has them.
-const ROWS: [(Fault, u8, &str); 41] = [
+static ROWS: [(Fault, u8, &str); 47] = [
     (Fault::BadSet, 3, "10 BadSet"),
     (Fault::NoTasks, 3, "11 NoTasks"),
     (Fault::TooManyTasks, 3, "12 TooManyTasks"),
@@ -53,6 +53,30 @@ const ROWS: [(Fault, u8, &str); 41] = [
     (Fault::BadGoal, 4, "42 BadGoal"),
     (Fault::BadData, 4, "43 BadData"),
     (Fault::NotAStore, 4, "51 NotAStore"),
+    (
+        Fault::Damaged {
+            at: 3020,
+            what: Part::Frame,
+        },
+        4,
+        "52 Damaged at=3020 what=Frame",
+    ),
+    (
+        Fault::Damaged {
+            at: 0,
+            what: Part::Header,
+        },
+        4,
+        "52 Damaged at=0 what=Header",
+    ),
+    (
+        Fault::Damaged {
+            at: 19394,
+            what: Part::Length,
+        },
+        4,
+        "52 Damaged at=19394 what=Length",
+    ),
     (Fault::Device, 4, "53 Device"),
     (Fault::Broken, 4, "54 Broken"),
     (
@@ -63,6 +87,30 @@ const ROWS: [(Fault, u8, &str); 41] = [
     (Fault::NotEmpty, 4, "56 NotEmpty"),
     (Fault::NoRoom, 4, "57 NoRoom"),
     (Fault::Busy, 4, "58 Busy"),
+    (
+        Fault::StoreFailed {
+            marked: 4,
+            cause: Cause::Device,
+        },
+        4,
+        "61 StoreFailed marked=4 cause=Device",
+    ),
+    (
+        Fault::StoreFailed {
+            marked: 0,
+            cause: Cause::Memory,
+        },
+        4,
+        "61 StoreFailed marked=0 cause=Memory",
+    ),
+    (
+        Fault::StoreFailed {
+            marked: 9,
+            cause: Cause::Log,
+        },
+        4,
+        "61 StoreFailed marked=9 cause=Log",
+    ),
     (Fault::SessionFull, 4, "64 SessionFull"),
     (Fault::NoThread, 4, "68 NoThread"),
     (
@@ -89,24 +137,10 @@ const ROWS: [(Fault, u8, &str); 41] = [
     (Fault::NoMemory, 5, "90 NoMemory"),
 ];
 
-/// Where a store is damaged, in which part, and the text. The status is 4.
-const DAMAGES: [(u64, Part, &str); 3] = [
-    (3020, Part::Frame, "52 Damaged at=3020 what=Frame"),
-    (0, Part::Header, "52 Damaged at=0 what=Header"),
-    (19394, Part::Length, "52 Damaged at=19394 what=Length"),
-];
-
-/// What a store that fails has marked, why it fails, and the text. The status is 4.
-const FAILURES: [(u64, Cause, &str); 3] = [
-    (4, Cause::Device, "61 StoreFailed marked=4 cause=Device"),
-    (0, Cause::Memory, "61 StoreFailed marked=0 cause=Memory"),
-    (9, Cause::Log, "61 StoreFailed marked=9 cause=Log"),
-];
-
 /// Whether a refusal's line is this text after `pfx: error`.
-fn has_line(alloc: Global, fault: Fault, text: &str) -> bool {
+fn has_line(alloc: Global, fault: &Fault, text: &str) -> bool {
     let mut written = Vec::new(alloc);
-    if put_fault(&mut written, fault).is_err() {
+    if put_fault(&mut written, *fault).is_err() {
         return false;
     }
     match format!(in alloc; "pfx: error {text}\n") {
@@ -116,14 +150,14 @@ fn has_line(alloc: Global, fault: Fault, text: &str) -> bool {
 }
 
 /// Whether a refused command is shown by this text after `refused`.
-fn is_shown(alloc: Global, fault: Fault, text: &str) -> Option<bool> {
-    let shown = format!(in alloc; "{}", Refused(fault)).ok()?;
+fn is_shown(alloc: Global, fault: &Fault, text: &str) -> Option<bool> {
+    let shown = format!(in alloc; "{}", Refused(*fault)).ok()?;
     let refused = format!(in alloc; "refused {text}").ok()?;
     Some(shown.as_str() == refused.as_str())
 }
 
 /// Whether the text begins with the refusal's number and name.
-fn is_front(alloc: Global, fault: Fault, text: &str) -> bool {
+fn is_front(alloc: Global, fault: &Fault, text: &str) -> bool {
     match format!(in alloc; "{} {}", fault.number(), fault.name()) {
         Ok(front) => text.starts_with(front.as_str()),
         Err(_) => false,
@@ -131,7 +165,7 @@ fn is_front(alloc: Global, fault: Fault, text: &str) -> bool {
 }
 
 /// Whether a refusal is shown by this text in each place, and has this exit status.
-fn is_right(alloc: Global, fault: Fault, status: u8, text: &str) -> bool {
+fn is_right(alloc: Global, fault: &Fault, status: u8, text: &str) -> bool {
     has_line(alloc, fault, text)
         && is_shown(alloc, fault, text) == Some(true)
         && is_front(alloc, fault, text)
@@ -140,16 +174,8 @@ fn is_right(alloc: Global, fault: Fault, status: u8, text: &str) -> bool {
 
 #[test]
 fn prints_each_refusal(rt: HostRuntime) {
-    for (fault, status, text) in ROWS.as_slice() {
-        assert!(rt; is_right(rt.alloc(), *fault, *status, text), "{text}");
-    }
-    for (at, what, text) in DAMAGES {
-        let fault = Fault::Damaged { at, what };
-        assert!(rt; is_right(rt.alloc(), fault, 4, text), "{text}");
-    }
-    for (marked, cause, text) in FAILURES {
-        let fault = Fault::StoreFailed { marked, cause };
-        assert!(rt; is_right(rt.alloc(), fault, 4, text), "{text}");
+    for (fault, status, text) in ROWS.iter() {
+        assert!(rt; is_right(rt.alloc(), fault, *status, text), "{text}");
     }
 }
 
@@ -161,17 +187,19 @@ fn is_named(alloc: Global, part: Part, name: &str) -> bool {
     }
 }
 
+/// Parts, and their names.
+static PARTS: [(Part, &str); 6] = [
+    (Part::Header, "Header"),
+    (Part::Length, "Length"),
+    (Part::Checkpoint, "Checkpoint"),
+    (Part::Segment, "Segment"),
+    (Part::Frame, "Frame"),
+    (Part::Record, "Record"),
+];
+
 #[test]
 fn names_each_part(rt: HostRuntime) {
-    let rows = [
-        (Part::Header, "Header"),
-        (Part::Length, "Length"),
-        (Part::Checkpoint, "Checkpoint"),
-        (Part::Segment, "Segment"),
-        (Part::Frame, "Frame"),
-        (Part::Record, "Record"),
-    ];
-    for (part, name) in rows {
-        assert!(rt; is_named(rt.alloc(), part, name), "{name}");
+    for (part, name) in PARTS.iter() {
+        assert!(rt; is_named(rt.alloc(), *part, name), "{name}");
     }
 }

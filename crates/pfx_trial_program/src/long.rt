@@ -2,7 +2,7 @@
 
 use crate::refused_sets::REFUSED_SETS;
 use crate::runs::one_by_one;
-use crate::scripts::thirds;
+use crate::scripts::{prints_as, runs_to_its_end, thirds};
 use crate::torn::Torn;
 use pfx_fault::Fault;
 use pfx_program::{Form, read_task_set, run_plan, run_script};
@@ -27,18 +27,15 @@ fn week_of(alloc: Global, slots: u32) -> Option<Vec<u8>> {
 
 /// Whether the script prints so many slots, all of them taken.
 fn runs_slots(alloc: Global, script: &[u8], slots: u32) -> bool {
-    let (Some(mut state), Some(want)) = (thirds(alloc), week_of(alloc, slots)) else {
+    let Some(want) = week_of(alloc, slots) else {
         return false;
     };
-    let mut written = Vec::new(alloc);
-    let end = run_script(
-        alloc,
-        &mut Script::new(alloc, script),
-        one_by_one(Form::Text),
-        &mut written,
-        &mut state,
-    );
-    end.is_ok() && written.as_slice() == want.as_slice()
+    match thirds(alloc) {
+        Some(mut state) => {
+            runs_to_its_end(alloc, one_by_one(Form::Text), &mut state, script, &want)
+        }
+        None => false,
+    }
 }
 
 /// A script of so many records, each of one slot.
@@ -86,7 +83,10 @@ impl Write for Slow {
 
 /// Whether a slow writer gets more than 2,000 bytes as a quick one does.
 fn is_written_slowly(alloc: Global) -> bool {
-    let (Some(mut state), Some(want)) = (thirds(alloc), week_of(alloc, 150)) else {
+    let Some(want) = week_of(alloc, 150) else {
+        return false;
+    };
+    let Some(mut state) = thirds(alloc) else {
         return false;
     };
     let mut output = Slow {
@@ -98,7 +98,7 @@ fn is_written_slowly(alloc: Global) -> bool {
         &mut Script::new(alloc, script),
         one_by_one(Form::Text),
         &mut output,
-        &mut state,
+        &mut *state,
     );
     end.is_ok() && want.len() > 2000 && output.taken.as_slice() == want.as_slice()
 }
@@ -157,19 +157,10 @@ closed 4
 
 /// Whether the worked script is answered line by line.
 fn answers_worked(alloc: Global) -> bool {
-    let Some(mut state) = thirds(alloc) else {
-        return false;
-    };
-    let mut written = Vec::new(alloc);
-    let mut script = Script::new(alloc, WORKED.as_bytes());
-    let end = run_script(
-        alloc,
-        &mut script,
-        one_by_one(Form::Text),
-        &mut written,
-        &mut state,
-    );
-    end.is_ok() && written.as_slice() == ANSWERS.as_bytes()
+    match thirds(alloc) {
+        Some(mut state) => prints_as(alloc, Form::Text, &mut state, WORKED, ANSWERS, Ok(())),
+        None => false,
+    }
 }
 
 #[test]
@@ -218,7 +209,7 @@ fn reads_a_set(rt: HostRuntime) {
 #[test]
 fn refuses_sets_by_name(rt: HostRuntime) {
     let alloc = rt.alloc();
-    for (text, want) in REFUSED_SETS.as_slice() {
+    for (text, want) in REFUSED_SETS.iter() {
         let got = set_fault_of(alloc, text.as_bytes());
         assert!(rt; got == Some(*want), "{text}");
     }

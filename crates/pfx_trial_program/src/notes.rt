@@ -9,7 +9,7 @@ use pfx_program_notes::{
 use std::alloc::{AllocError, Global};
 
 /// The numbers of the faults, as USAGE has them.
-const NUMBERS: [u8; 37] = [
+static NUMBERS: [u8; 37] = [
     10, 11, 12, 13, 14, 16, 17, 19, 20, 21, 22, 23, 24, 25, 26, 31, 32, 33, 34, 41, 42, 43, 51, 52,
     53, 54, 55, 56, 57, 58, 61, 64, 68, 71, 72, 73, 90,
 ];
@@ -30,8 +30,8 @@ fn is_explained(alloc: Global, number: u8) -> bool {
 
 #[test]
 fn explains_each_fault(rt: HostRuntime) {
-    for number in NUMBERS {
-        assert!(rt; is_explained(rt.alloc(), number), "{number}");
+    for number in NUMBERS.iter() {
+        assert!(rt; is_explained(rt.alloc(), *number), "{number}");
     }
     for word in ["", "9", "014", "badweight", "15", "BadWeight task=2"] {
         assert!(rt; entry_named(word).is_none(), "{word}");

@@ -102,43 +102,45 @@ fn prints_the_rows_as_objects(rt: HostRuntime) {
     assert!(rt; plans_objects(rt.alloc(), THIRDS, 0, ""), "none");
 }
 
+/// Sets, and the rows of their first slots, by a plain program, apart from this one, that follows the definitions.
+static PLANS: [(&str, u64, &str); 7] = [
+    (THIRDS, 4, "0,a,b\n1,a,c\n2,b,c\n3,a,b\n"),
+    (THIRDS, 0, ""),
+    (HALF_AND_THIRD, 6, "0,x\n1,y\n2,x\n3,y\n4,x\n5,*0\n"),
+    (HALF_ON_TWO, 4, "0,x,*0\n1,*1,*2\n2,x,*0\n3,*1,*2\n"),
+    (MOST_ON_TWO, 5, "0,x,*0\n1,x,*0\n2,x,*1\n3,x,*0\n4,*0,*1\n"),
+    (FOUR_ON_THREE, 4, "0,a,c,d\n1,b,c,d\n2,a,b,c\n3,a,b,d\n"),
+    (
+        TWO_PERIODS,
+        15,
+        "0,x,*0\n1,y,*0\n2,x,*0\n3,x,*0\n4,y,*0\n5,x,*0\n6,x,*0\n7,y,*0\n8,x,*0\n9,y,*0\n10,x,*0\n11,x,*0\n12,x,y\n13,x,*0\n14,y,*0\n",
+    ),
+];
+
 #[test]
 fn prints_the_rows(rt: HostRuntime) {
-    // The rows of a plain program, apart from this one, that follows the definitions.
-    let rows = [
-        (THIRDS, 4, "0,a,b\n1,a,c\n2,b,c\n3,a,b\n"),
-        (THIRDS, 0, ""),
-        (HALF_AND_THIRD, 6, "0,x\n1,y\n2,x\n3,y\n4,x\n5,*0\n"),
-        (HALF_ON_TWO, 4, "0,x,*0\n1,*1,*2\n2,x,*0\n3,*1,*2\n"),
-        (MOST_ON_TWO, 5, "0,x,*0\n1,x,*0\n2,x,*1\n3,x,*0\n4,*0,*1\n"),
-        (FOUR_ON_THREE, 4, "0,a,c,d\n1,b,c,d\n2,a,b,c\n3,a,b,d\n"),
-        (
-            TWO_PERIODS,
-            15,
-            "0,x,*0\n1,y,*0\n2,x,*0\n3,x,*0\n4,y,*0\n5,x,*0\n6,x,*0\n7,y,*0\n8,x,*0\n9,y,*0\n10,x,*0\n11,x,*0\n12,x,y\n13,x,*0\n14,y,*0\n",
-        ),
-    ];
-    for (set, slots, want) in rows {
+    for (set, slots, want) in PLANS.iter() {
         assert!(rt;
-            plans(rt.alloc(), set, None, slots, want, Ok(())),
+            plans(rt.alloc(), set, None, *slots, want, Ok(())),
             "{slots} slots of {set}"
         );
     }
 }
 
+/// Sets, ledgers, and the rows of so many slots behind them, by the same program.
+static LATER_PLANS: [(&str, &str, u64, &str); 5] = [
+    (THIRDS, "0:0,0,0", 2, "0,a,b\n1,a,c\n"),
+    (THIRDS, "2:2,1,1", 2, "2,b,c\n3,a,b\n"),
+    (HALF_AND_THIRD, "6:3,2,1", 1, "6,x\n"),
+    (HALF_AND_THIRD, "0000000000006:03,2,1", 2, "6,x\n7,y\n"),
+    (FOUR_ON_THREE, "2:2,2,1,1", 0, ""),
+];
+
 #[test]
 fn goes_on_from_a_ledger(rt: HostRuntime) {
-    // The rows of a plain program, apart from this one, that follows the definitions.
-    let rows = [
-        (THIRDS, "0:0,0,0", 2, "0,a,b\n1,a,c\n"),
-        (THIRDS, "2:2,1,1", 2, "2,b,c\n3,a,b\n"),
-        (HALF_AND_THIRD, "6:3,2,1", 1, "6,x\n"),
-        (HALF_AND_THIRD, "0000000000006:03,2,1", 2, "6,x\n7,y\n"),
-        (FOUR_ON_THREE, "2:2,2,1,1", 0, ""),
-    ];
-    for (set, at, slots, want) in rows {
+    for (set, at, slots, want) in LATER_PLANS.iter() {
         assert!(rt;
-            plans(rt.alloc(), set, Some(at), slots, want, Ok(())),
+            plans(rt.alloc(), set, Some(at), *slots, want, Ok(())),
             "{at}"
         );
     }
@@ -173,29 +175,30 @@ fn leaves(alloc: Global, set: &str, at: Option<&str>, slots: u64, want: &str) ->
     }
 }
 
+/// Sets, ledgers, and what is printed of so many slots and of the ledger behind them.
+static LEFT: [(&str, Option<&str>, u64, &str); 6] = [
+    (THIRDS, None, 2, "0,a,b\n1,a,c\n2:2,1,1\n"),
+    (THIRDS, None, 0, "0:0,0,0\n"),
+    (THIRDS, Some("2:2,1,1"), 0, "2:2,1,1\n"),
+    (
+        HALF_AND_THIRD,
+        Some("0000000000006:03,2,1"),
+        1,
+        "6,x\n7:4,2,1\n",
+    ),
+    (HALF_ON_TWO, None, 1, "0,x,*0\n1:1,1,0,0\n"),
+    (
+        HALF_ON_TWO,
+        Some("1099511627774:549755813887,549755813887,549755813887,549755813887"),
+        1,
+        "1099511627774,x,*0\n1099511627775:549755813888,549755813888,549755813887,549755813887\n",
+    ),
+];
+
 #[test]
 fn says_which_ledger_it_leaves(rt: HostRuntime) {
-    let last = "1099511627774:549755813887,549755813887,549755813887,549755813887";
-    let rows = [
-        (THIRDS, None, 2, "0,a,b\n1,a,c\n2:2,1,1\n"),
-        (THIRDS, None, 0, "0:0,0,0\n"),
-        (THIRDS, Some("2:2,1,1"), 0, "2:2,1,1\n"),
-        (
-            HALF_AND_THIRD,
-            Some("0000000000006:03,2,1"),
-            1,
-            "6,x\n7:4,2,1\n",
-        ),
-        (HALF_ON_TWO, None, 1, "0,x,*0\n1:1,1,0,0\n"),
-        (
-            HALF_ON_TWO,
-            Some(last),
-            1,
-            "1099511627774,x,*0\n1099511627775:549755813888,549755813888,549755813887,549755813887\n",
-        ),
-    ];
-    for (set, at, slots, want) in rows {
-        assert!(rt; leaves(rt.alloc(), set, at, slots, want), "{want}");
+    for (set, at, slots, want) in LEFT.iter() {
+        assert!(rt; leaves(rt.alloc(), set, *at, *slots, want), "{want}");
     }
 }
 
@@ -267,71 +270,77 @@ fn goes_on_in_parts(rt: HostRuntime) {
     }
 }
 
+/// Sets, ledgers, and what is printed up to this fault.
+static ENDS: [(&str, &str, &str, Fault); 4] = [
+    (
+        QUARTERS_AND_EIGHTHS,
+        "2:0,0,0,1,1",
+        "2,a\n",
+        Fault::TooManyUrgent { urgent: 2, m: 1 },
+    ),
+    (
+        FOUR_ON_THREE,
+        "2:2,2,1,1",
+        "",
+        Fault::TooFewEligible { eligible: 2, m: 3 },
+    ),
+    (
+        HALF_ON_TWO,
+        "1099511627775:549755813887,549755813888,549755813887,549755813888",
+        "",
+        Fault::SlotLimit,
+    ),
+    (
+        HALF_ON_TWO,
+        "1099511627774:549755813887,549755813887,549755813887,549755813887",
+        "1099511627774,x,*0\n",
+        Fault::SlotLimit,
+    ),
+];
+
 #[test]
 fn ends_early_from_a_ledger(rt: HostRuntime) {
-    let (urgent, eligible) = (2, 2);
-    let rows = [
-        (
-            QUARTERS_AND_EIGHTHS,
-            "2:0,0,0,1,1",
-            "2,a\n",
-            Fault::TooManyUrgent { urgent, m: 1 },
-        ),
-        (
-            FOUR_ON_THREE,
-            "2:2,2,1,1",
-            "",
-            Fault::TooFewEligible { eligible, m: 3 },
-        ),
-        (
-            HALF_ON_TWO,
-            "1099511627775:549755813887,549755813888,549755813887,549755813888",
-            "",
-            Fault::SlotLimit,
-        ),
-        (
-            HALF_ON_TWO,
-            "1099511627774:549755813887,549755813887,549755813887,549755813887",
-            "1099511627774,x,*0\n",
-            Fault::SlotLimit,
-        ),
-    ];
-    for (set, at, want, fault) in rows {
+    for (set, at, want, fault) in ENDS.iter() {
         assert!(rt;
-            plans(rt.alloc(), set, Some(at), 6, want, Err(fault)),
+            plans(rt.alloc(), set, Some(at), 6, want, Err(*fault)),
             "{at}"
         );
     }
 }
 
+/// Sets and texts that are no ledgers of them.
+static NO_LEDGERS: [(&str, &str, Fault); 20] = [
+    (
+        THIRDS_AND_SIXTHS,
+        "2:0,0,2,0",
+        Fault::OutOfRange { task: 2 },
+    ),
+    (THIRDS_AND_SIXTHS, "2:0,0,1,0", Fault::WrongSum),
+    (HALF_AND_THIRD, "6:3,2", Fault::BadLedger),
+    (HALF_AND_THIRD, "6:3,2,1,0", Fault::BadLedger),
+    (HALF_AND_THIRD, "", Fault::BadLedger),
+    (HALF_AND_THIRD, "6", Fault::BadLedger),
+    (HALF_AND_THIRD, "6:", Fault::BadLedger),
+    (HALF_AND_THIRD, ":3,2,1", Fault::BadLedger),
+    (HALF_AND_THIRD, "6:3,2,1,", Fault::BadLedger),
+    (HALF_AND_THIRD, "6:3,,1", Fault::BadLedger),
+    (HALF_AND_THIRD, "6:3,2,-1", Fault::BadLedger),
+    (HALF_AND_THIRD, "+6:3,2,1", Fault::BadLedger),
+    (HALF_AND_THIRD, "6: 3,2,1", Fault::BadLedger),
+    (HALF_AND_THIRD, "6:3:2,1", Fault::BadLedger),
+    (HALF_AND_THIRD, "6,3,2,1", Fault::BadLedger),
+    (HALF_AND_THIRD, "00000000000006:3,2,1", Fault::BadLedger),
+    (HALF_AND_THIRD, "6:3,2,00000000000001", Fault::BadLedger),
+    (HALF_AND_THIRD, "1099511627776:3,2,1", Fault::BadLedger),
+    ("workers = 1", "6", Fault::NoTasks),
+    ("workers = ", "6", Fault::BadSet),
+];
+
 #[test]
 fn refuses_a_ledger(rt: HostRuntime) {
-    let out_of_range = Fault::OutOfRange { task: 2 };
-    let rows = [
-        (THIRDS_AND_SIXTHS, "2:0,0,2,0", out_of_range),
-        (THIRDS_AND_SIXTHS, "2:0,0,1,0", Fault::WrongSum),
-        (HALF_AND_THIRD, "6:3,2", Fault::BadLedger),
-        (HALF_AND_THIRD, "6:3,2,1,0", Fault::BadLedger),
-        (HALF_AND_THIRD, "", Fault::BadLedger),
-        (HALF_AND_THIRD, "6", Fault::BadLedger),
-        (HALF_AND_THIRD, "6:", Fault::BadLedger),
-        (HALF_AND_THIRD, ":3,2,1", Fault::BadLedger),
-        (HALF_AND_THIRD, "6:3,2,1,", Fault::BadLedger),
-        (HALF_AND_THIRD, "6:3,,1", Fault::BadLedger),
-        (HALF_AND_THIRD, "6:3,2,-1", Fault::BadLedger),
-        (HALF_AND_THIRD, "+6:3,2,1", Fault::BadLedger),
-        (HALF_AND_THIRD, "6: 3,2,1", Fault::BadLedger),
-        (HALF_AND_THIRD, "6:3:2,1", Fault::BadLedger),
-        (HALF_AND_THIRD, "6,3,2,1", Fault::BadLedger),
-        (HALF_AND_THIRD, "00000000000006:3,2,1", Fault::BadLedger),
-        (HALF_AND_THIRD, "6:3,2,00000000000001", Fault::BadLedger),
-        (HALF_AND_THIRD, "1099511627776:3,2,1", Fault::BadLedger),
-        ("workers = 1", "6", Fault::NoTasks),
-        ("workers = ", "6", Fault::BadSet),
-    ];
-    for (set, at, fault) in rows {
+    for (set, at, fault) in NO_LEDGERS.iter() {
         assert!(rt;
-            plans(rt.alloc(), set, Some(at), 1, "", Err(fault)),
+            plans(rt.alloc(), set, Some(at), 1, "", Err(*fault)),
             "{at} of {set}"
         );
     }
@@ -339,7 +348,7 @@ fn refuses_a_ledger(rt: HostRuntime) {
 
 #[test]
 fn refuses_with_no_line(rt: HostRuntime) {
-    for (set, fault) in REFUSED_SETS.as_slice() {
+    for (set, fault) in REFUSED_SETS.iter() {
         assert!(rt; plans(rt.alloc(), set, None, 3, "", Err(*fault)), "{set}");
     }
 }

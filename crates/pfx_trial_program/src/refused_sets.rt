@@ -3,7 +3,7 @@
 use pfx_fault::Fault;
 
 /// A set file that is refused, and the first fault in it.
-pub const REFUSED_SETS: [(&str, Fault); 12] = [
+pub static REFUSED_SETS: [(&str, Fault); 12] = [
     ("workers = ", Fault::BadSet),
     ("workers 2\n", Fault::BadSet),
     ("workers = 1 2", Fault::BadSet),

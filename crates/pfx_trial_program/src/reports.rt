@@ -1,10 +1,9 @@
 //! What a run of a script counts, and where it ends if it ends at a refusal.
 
 use crate::runs::run_of;
-use crate::scripts::thirds;
+use crate::scripts::{thirds, written_by};
 use pfx_fault::Fault;
-use pfx_program::{AtRefusal, Form, RefusedRecord, Report, run_script};
-use pfx_program_script::Script;
+use pfx_program::{AtRefusal, Form, RefusedRecord, Report};
 use std::alloc::Global;
 
 /// Records that are refused behind slots, alone and in a group, and one that shows no job.
@@ -30,15 +29,8 @@ fn runs(
     let Some(mut state) = thirds(alloc) else {
         return false;
     };
-    let mut written = Vec::new(alloc);
-    let mut script = Script::new(alloc, script.as_bytes());
-    let end = run_script(
-        alloc,
-        &mut script,
-        run_of(size, at_refusal, Form::Text),
-        &mut written,
-        &mut state,
-    );
+    let run = run_of(size, at_refusal, Form::Text);
+    let (written, end) = written_by(alloc, run, &mut state, script.as_bytes());
     end == Ok(report) && written.as_slice() == want.as_bytes()
 }
 

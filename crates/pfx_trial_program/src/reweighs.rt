@@ -1,11 +1,8 @@
 //! Scripts that give tasks new weights.
 
-use crate::scripts::{begun, prints_as, thirds};
+use crate::scripts::{begun, begun_with, prints_as, thirds};
 use pfx_fault::Fault;
-use pfx_kinds::any::AnyJob;
-use pfx_machine::State;
 use pfx_program::Form;
-use pfx_weights::TaskSet;
 use std::alloc::Global;
 
 // Refused once, and accepted at the end of a round.
@@ -212,17 +209,11 @@ fn idle_tasks_are_level_too(rt: HostRuntime) {
     assert!(rt; waits_for_the_idle(rt.alloc()));
 }
 
-/// A state whose segment is of so many bytes.
-fn begun_small(alloc: Global, segment: u32) -> Option<State<AnyJob>> {
-    let set = TaskSet::new(alloc, 1, &[(1, 2)]).ok()?;
-    State::new(alloc, &set, segment).ok()
-}
-
 /// Whether more workers are refused where a segment can't hold their greatest batch.
 fn wants_room(alloc: Global) -> bool {
     let script = "reweigh,,,2,1/2\nreweigh,,,1,1/2\n";
     let want = "refused 19 SegmentTooSmall least=4233\n1 reweighed 0\nclosed 1\n";
-    match begun_small(alloc, 4_232) {
+    match begun_with(alloc, 1, &[(1, 2)], 4_232) {
         Some(mut state) => prints_as(alloc, Form::Text, &mut state, script, want, Ok(())),
         None => false,
     }
@@ -252,33 +243,35 @@ fn stops_at(alloc: Global, record: &str) -> bool {
     )
 }
 
+/// Records that are no reweighs.
+static NO_REWEIGHS: [&str; 22] = [
+    "reweigh",
+    "reweigh,,,2",
+    "reweigh,,,2,1/3 1/3 1/3,",
+    "reweigh,0,,2,1/3 1/3 1/3",
+    "reweigh,,count,2,1/3 1/3 1/3",
+    "reweigh,,,,1/3 1/3 1/3",
+    "reweigh,,,x,1/3 1/3 1/3",
+    "reweigh,,,+2,1/3 1/3 1/3",
+    "reweigh,,,00000000002,1/3 1/3 1/3",
+    "reweigh,,,2,",
+    "reweigh,,,2,1",
+    "reweigh,,,2,/",
+    "reweigh,,,2,1/",
+    "reweigh,,,2,/3",
+    "reweigh,,,2,1/3/3",
+    "reweigh,,,2,1/3  1/3 1/3",
+    "reweigh,,,2, 1/3 1/3 1/3",
+    "reweigh,,,2,1/3 1/3 1/3 ",
+    "reweigh,,,2,1/3;1/3;1/3",
+    "reweigh,,,2,1/3 -1/3 1/3",
+    "reweigh,,,2,1/3 1/00000000003 1/3",
+    "Reweigh,,,2,1/3 1/3 1/3",
+];
+
 #[test]
 fn stops_at_a_reweigh_without_form(rt: HostRuntime) {
-    let records = [
-        "reweigh",
-        "reweigh,,,2",
-        "reweigh,,,2,1/3 1/3 1/3,",
-        "reweigh,0,,2,1/3 1/3 1/3",
-        "reweigh,,count,2,1/3 1/3 1/3",
-        "reweigh,,,,1/3 1/3 1/3",
-        "reweigh,,,x,1/3 1/3 1/3",
-        "reweigh,,,+2,1/3 1/3 1/3",
-        "reweigh,,,00000000002,1/3 1/3 1/3",
-        "reweigh,,,2,",
-        "reweigh,,,2,1",
-        "reweigh,,,2,/",
-        "reweigh,,,2,1/",
-        "reweigh,,,2,/3",
-        "reweigh,,,2,1/3/3",
-        "reweigh,,,2,1/3  1/3 1/3",
-        "reweigh,,,2, 1/3 1/3 1/3",
-        "reweigh,,,2,1/3 1/3 1/3 ",
-        "reweigh,,,2,1/3;1/3;1/3",
-        "reweigh,,,2,1/3 -1/3 1/3",
-        "reweigh,,,2,1/3 1/00000000003 1/3",
-        "Reweigh,,,2,1/3 1/3 1/3",
-    ];
-    for record in records {
+    for record in NO_REWEIGHS.iter() {
         assert!(rt; stops_at(rt.alloc(), record), "{record}");
     }
 }

@@ -129,42 +129,44 @@ fn stops_at(alloc: Global, record: &[u8]) -> bool {
     }
 }
 
+/// Records without a form.
+static NO_RECORDS: [&[u8]; 31] = [
+    b"status",
+    b"status,,,",
+    b"status,,,,,",
+    b"\"\"",
+    b",,,,",
+    b"Status,,,,",
+    b" status,,,,",
+    b"status,0,,,",
+    b"settle,,,1,",
+    b"settle,,x,,",
+    b"slot,0,,3,",
+    b"slot,,,3,x",
+    b"slot,,,0,",
+    b"slot,,,1048577,",
+    b"slot,,,-1,",
+    b"slot,,,00000000001,",
+    b"withdraw,,,,",
+    b"withdraw,65536,,,",
+    b"withdraw,000001,,,",
+    b"show",
+    b"show,,,",
+    b"show,a,,,",
+    b"show,65536,,,",
+    b"show,,count,,",
+    b"show,0,,1,",
+    b"show,0,,,x",
+    b"submit,,rule,3,110:000",
+    b"submit,+1,rule,3,110:000",
+    b"submit,1,rule,12345678901,110:000",
+    b"submit,1,rule,x,110:000",
+    b"submit,1,\xff,3,110:000",
+];
+
 #[test]
 fn stops_at_a_record_without_form(rt: HostRuntime) {
-    let records: [&[u8]; 31] = [
-        b"status",
-        b"status,,,",
-        b"status,,,,,",
-        b"\"\"",
-        b",,,,",
-        b"Status,,,,",
-        b" status,,,,",
-        b"status,0,,,",
-        b"settle,,,1,",
-        b"settle,,x,,",
-        b"slot,0,,3,",
-        b"slot,,,3,x",
-        b"slot,,,0,",
-        b"slot,,,1048577,",
-        b"slot,,,-1,",
-        b"slot,,,00000000001,",
-        b"withdraw,,,,",
-        b"withdraw,65536,,,",
-        b"withdraw,000001,,,",
-        b"show",
-        b"show,,,",
-        b"show,a,,,",
-        b"show,65536,,,",
-        b"show,,count,,",
-        b"show,0,,1,",
-        b"show,0,,,x",
-        b"submit,,rule,3,110:000",
-        b"submit,+1,rule,3,110:000",
-        b"submit,1,rule,12345678901,110:000",
-        b"submit,1,rule,x,110:000",
-        b"submit,1,\xff,3,110:000",
-    ];
-    for (at, record) in records.into_iter().enumerate() {
+    for (at, record) in NO_RECORDS.iter().enumerate() {
         assert!(rt; stops_at(rt.alloc(), record), "record {at}");
     }
 }

@@ -8,22 +8,65 @@ use pfx_kinds::any::AnyJob;
 use pfx_kit::states::SEGMENT;
 use pfx_kit::week::{FIRST_WEEK, SECOND_WEEK, WEEK};
 use pfx_machine::State;
-use pfx_program::{AtRefusal, Form, Run, run_record, run_script};
+use pfx_program::{AtRefusal, Form, Report, Run, run_record, run_script};
 use pfx_program_script::Script;
 use pfx_weights::TaskSet;
 use std::alloc::Global;
 use std::io;
 use std::io::Write;
 
-/// The state of a set before its first command.
-pub fn begun(alloc: Global, workers: u32, weights: &[(u32, u32)]) -> Option<State<AnyJob>> {
+/// A state behind a pointer: a proof spells what a function holds itself at each of its steps.
+pub type Held = Box<State<AnyJob>>;
+
+/// The state of a set before its first command, whose segments have so many bytes.
+pub fn begun_with(
+    alloc: Global,
+    workers: u32,
+    weights: &[(u32, u32)],
+    segment: u32,
+) -> Option<Held> {
     let set = TaskSet::new(alloc, workers, weights).ok()?;
-    State::new(alloc, &set, SEGMENT).ok()
+    Box::new(alloc, State::new(alloc, &set, segment).ok()?).ok()
+}
+
+/// The state of a set before its first command.
+pub fn begun(alloc: Global, workers: u32, weights: &[(u32, u32)]) -> Option<Held> {
+    begun_with(alloc, workers, weights, SEGMENT)
 }
 
 /// Three tasks of weight 2/3 on two workers.
-pub fn thirds(alloc: Global) -> Option<State<AnyJob>> {
+pub fn thirds(alloc: Global) -> Option<Held> {
     begun(alloc, 2, &[(2, 3), (2, 3), (2, 3)])
+}
+
+/// What a script prints, and how it ends.
+pub fn written_by(
+    alloc: Global,
+    run: Run,
+    state: &mut State<AnyJob>,
+    script: &[u8],
+) -> (Vec<u8>, Result<Report, Fault>) {
+    let mut written = Vec::new(alloc);
+    let end = run_script(
+        alloc,
+        &mut Script::new(alloc, script),
+        run,
+        &mut written,
+        state,
+    );
+    (written, end)
+}
+
+/// Whether a script is run to its end, and prints just this.
+pub fn runs_to_its_end(
+    alloc: Global,
+    run: Run,
+    state: &mut State<AnyJob>,
+    script: &[u8],
+    want: &[u8],
+) -> bool {
+    let (written, end) = written_by(alloc, run, state, script);
+    end.is_ok() && written.as_slice() == want
 }
 
 /// Whether a script prints just this and ends so.
@@ -35,14 +78,7 @@ pub fn prints_as(
     want: &str,
     end: Result<(), Fault>,
 ) -> bool {
-    let mut written = Vec::new(alloc);
-    let got = run_script(
-        alloc,
-        &mut Script::new(alloc, script.as_bytes()),
-        one_by_one(form),
-        &mut written,
-        state,
-    );
+    let (written, got) = written_by(alloc, one_by_one(form), state, script.as_bytes());
     got.err() == end.err() && written.as_slice() == want.as_bytes()
 }
 
@@ -341,6 +377,9 @@ fn answers_a_group_before_it_asks(alloc: Global, state: &mut State<AnyJob>) -> b
         && written.as_slice() == b"1 submitted 0\n2 submitted 1\n".as_slice()
 }
 
+/// How three records end, of which the second one has no form.
+static ENDED: [Result<bool, Fault>; 3] = [Ok(true), Err(Fault::BadScript { at: 2 }), Ok(false)];
+
 /// Whether a record at a time is answered, up to the end of the script, which prints nothing.
 fn answers_one_by_one(alloc: Global, state: &mut State<AnyJob>) -> bool {
     let mut script = Script::new(alloc, b"settle,,,,\nleap,,,,\n".as_slice());
@@ -363,8 +402,7 @@ fn answers_one_by_one(alloc: Global, state: &mut State<AnyJob>) -> bool {
             return false;
         }
     }
-    let want = [Ok(true), Err(Fault::BadScript { at: 2 }), Ok(false)];
-    ended.as_slice() == want.as_slice() && written.as_slice() == b"settled 0\n".as_slice()
+    ended.as_slice() == ENDED.as_slice() && written.as_slice() == b"settled 0\n".as_slice()
 }
 
 /// Whether all three are so.

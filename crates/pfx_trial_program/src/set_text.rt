@@ -67,26 +67,30 @@ fn reads(alloc: Global, text: &str, workers: u32, segment: u32, tasks: usize) ->
     }
 }
 
+/// Texts, with the workers, the segment size and the number of tasks that are read.
+static FILLED: [(&str, u32, u32, usize); 4] = [
+    ("workers = 70", 70, 1_048_576, 0),
+    ("workers = 0\ntask = []\nsegment = 65536\n", 0, 65_536, 0),
+    ("workers = -3\nsegment = -1\n", 0, 0, 0),
+    (
+        "task = [{name = \"a\", e = 1, p = 2}]\r\nworkers = 1\r\n",
+        1,
+        1_048_576,
+        1,
+    ),
+];
+
 #[test]
 fn fills_in_what_is_missing(rt: HostRuntime) {
-    // The text, the workers, the segment size and the number of tasks.
-    let rows = [
-        ("workers = 70", 70, 1_048_576, 0),
-        ("workers = 0\ntask = []\nsegment = 65536\n", 0, 65_536, 0),
-        ("workers = -3\nsegment = -1\n", 0, 0, 0),
-        (
-            "task = [{name = \"a\", e = 1, p = 2}]\r\nworkers = 1\r\n",
-            1,
-            1_048_576,
-            1,
-        ),
-    ];
-    for (text, workers, segment, tasks) in rows {
-        assert!(rt; reads(rt.alloc(), text, workers, segment, tasks), "{text}");
+    for (text, workers, segment, tasks) in FILLED.iter() {
+        assert!(rt;
+            reads(rt.alloc(), text, *workers, *segment, *tasks),
+            "{text}"
+        );
     }
 }
 
-const NO_SETS: [&str; 21] = [
+static NO_SETS: [&str; 21] = [
     "",
     "workers",
     "workers = ",
@@ -120,24 +124,26 @@ fn is_refused(alloc: Global, bytes: &[u8]) -> bool {
 
 #[test]
 fn refuses_what_is_no_set(rt: HostRuntime) {
-    for text in NO_SETS {
+    for text in NO_SETS.iter() {
         assert!(rt; is_refused(rt.alloc(), text.as_bytes()), "{text}");
     }
     assert!(rt; is_refused(rt.alloc(), b"workers = 1 # caf\xe9"), "no text");
 }
 
+/// Texts, and whether they are names.
+static NAMES: [(&str, bool); 7] = [
+    ("x", true),
+    ("Index_2-b", true),
+    ("abcdefghijklmnopqrstuvwxyz012345", true),
+    ("abcdefghijklmnopqrstuvwxyz0123456", false),
+    ("", false),
+    ("two words", false),
+    ("a:b", false),
+];
+
 #[test]
 fn tells_names_from_other_texts(rt: HostRuntime) {
-    let rows = [
-        ("x", true),
-        ("Index_2-b", true),
-        ("abcdefghijklmnopqrstuvwxyz012345", true),
-        ("abcdefghijklmnopqrstuvwxyz0123456", false),
-        ("", false),
-        ("two words", false),
-        ("a:b", false),
-    ];
-    for (name, right) in rows {
-        assert!(rt; is_name(name) == right, "{name}");
+    for (name, right) in NAMES.iter() {
+        assert!(rt; is_name(name) == *right, "{name}");
     }
 }

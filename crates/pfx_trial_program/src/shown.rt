@@ -1,12 +1,11 @@
 //! What is printed of a new store, a state's board, and what its jobs have computed.
 
 use crate::runs::one_by_one;
-use crate::scripts::thirds;
+use crate::scripts::{thirds, written_by};
 use pfx_fault::Fault;
 use pfx_kinds::any::AnyJob;
 use pfx_machine::{Command, State};
-use pfx_program::{Form, created_line, run_script, run_show, run_status};
-use pfx_program_script::Script;
+use pfx_program::{Form, created_line, run_show, run_status};
 use pfx_weights::TaskSet;
 use std::alloc::Global;
 
@@ -65,7 +64,7 @@ fn shows_first_slot(alloc: Global) -> bool {
         return false;
     }
     let mut written = Vec::new(alloc);
-    run_status(alloc, Form::Text, &mut written, &mut state).is_ok()
+    run_status(alloc, Form::Text, &mut written, &mut *state).is_ok()
         && written.as_slice() == BOARD.as_bytes()
 }
 
@@ -121,25 +120,19 @@ const OBJECTS: &str = "{\"job\":\"count\",\"left\":98,\"task\":0,\"value\":12}
 
 const COUNT_OBJECT: &str = "{\"job\":\"count\",\"left\":98,\"task\":0,\"value\":12}\n";
 
+/// Whether a script is run to its end.
+fn is_run(alloc: Global, state: &mut State<AnyJob>, script: &str) -> bool {
+    let (_lines, end) = written_by(alloc, one_by_one(Form::Text), state, script.as_bytes());
+    end.is_ok()
+}
+
 /// Whether what a job of each kind has computed is shown as an object.
 fn shows_objects(alloc: Global) -> bool {
     let Some(mut state) = thirds(alloc) else {
         return false;
     };
-    let mut script = Script::new(alloc, WHOLE_WEEK.as_bytes());
-    let mut lines = Vec::new(alloc);
-    if run_script(
-        alloc,
-        &mut script,
-        one_by_one(Form::Text),
-        &mut lines,
-        &mut state,
-    )
-    .is_err()
-    {
-        return false;
-    }
-    has_shown(alloc, Form::Json, &state, None, OBJECTS)
+    is_run(alloc, &mut state, WHOLE_WEEK)
+        && has_shown(alloc, Form::Json, &state, None, OBJECTS)
         && has_shown(alloc, Form::Json, &state, Some(0), COUNT_OBJECT)
 }
 
@@ -153,20 +146,8 @@ fn shows_two_jobs(alloc: Global) -> bool {
     let Some(mut state) = thirds(alloc) else {
         return false;
     };
-    let mut script = Script::new(alloc, WEEK.as_bytes());
-    let mut lines = Vec::new(alloc);
-    if run_script(
-        alloc,
-        &mut script,
-        one_by_one(Form::Text),
-        &mut lines,
-        &mut state,
-    )
-    .is_err()
-    {
-        return false;
-    }
-    has_jobs(alloc, &state, None, JOBS)
+    is_run(alloc, &mut state, WEEK)
+        && has_jobs(alloc, &state, None, JOBS)
         && has_jobs(alloc, &state, Some(0), "0 count left=98 value=12\n")
         && has_none(alloc, &state, 2, Fault::NoJob { task: 2 })
         && has_none(alloc, &state, 3, Fault::NoSuchTask { task: 3 })

@@ -2,10 +2,9 @@
 //! within a window or at its border, and up to where a writer fails.
 
 use crate::runs::run_of;
+use crate::scripts::{Held, runs_to_its_end};
 use pfx_fault::Fault;
-use pfx_kinds::any::AnyJob;
 use pfx_kit::states::state_at;
-use pfx_machine::State;
 use pfx_program::{AtRefusal, Form, run_script};
 use pfx_program_script::Script;
 use pfx_weights::TaskSet;
@@ -21,12 +20,16 @@ const END: u64 = 1 << 48;
 
 /// The state of three tasks of weight 2/3 on two workers, before their first slot, that takes so many commands more, 4,096 at
 /// the most.
-fn with_room_for(alloc: Global, room: u64) -> Option<State<AnyJob>> {
+fn with_room_for(alloc: Global, room: u64) -> Option<Held> {
     let set = TaskSet::new(alloc, 2, &[(2, 3), (2, 3), (2, 3)]).ok()?;
     if room > 4096 {
         return None;
     }
-    state_at(alloc, END - 1 - room, &set, 0, &[0, 0, 0], None)
+    Box::new(
+        alloc,
+        state_at(alloc, END - 1 - room, &set, 0, &[0, 0, 0], None)?,
+    )
+    .ok()
 }
 
 /// The rows, which come round every three slots.
@@ -66,18 +69,14 @@ fn lines(alloc: Global, room: u64) -> Option<Vec<u8>> {
 
 /// Whether it prints just that with this window.
 fn prints(alloc: Global, room: u64, window: u32) -> bool {
-    let (Some(mut state), Some(want)) = (with_room_for(alloc, room), lines(alloc, room)) else {
+    let Some(want) = lines(alloc, room) else {
         return false;
     };
-    let mut written = Vec::new(alloc);
-    let end = run_script(
-        alloc,
-        &mut Script::new(alloc, SCRIPT.as_bytes()),
-        run_of(window, AtRefusal::GoOn, Form::Text),
-        &mut written,
-        &mut state,
-    );
-    end.is_ok() && written.as_slice() == want.as_slice()
+    let run = run_of(window, AtRefusal::GoOn, Form::Text);
+    match with_room_for(alloc, room) {
+        Some(mut state) => { runs_to_its_end(alloc, run, &mut state, SCRIPT.as_bytes(), &want) }
+        None => false,
+    }
 }
 
 #[test]
@@ -130,7 +129,7 @@ fn takes_the_first(alloc: Global, all: &[u8], room: usize, window: u32) -> bool 
         &mut Script::new(alloc, SCRIPT.as_bytes()),
         run_of(window, AtRefusal::GoOn, Form::Text),
         &mut output,
-        &mut state,
+        &mut *state,
     );
     end == Err(Fault::OutputFailed) && Some(output.taken.as_slice()) == all.get(..room)
 }

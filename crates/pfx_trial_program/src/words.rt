@@ -17,13 +17,19 @@ fn words_of(alloc: Global, row: &str) -> Option<Vec<&str>> {
     Some(words)
 }
 
+/// What words ask for, as it is shown.
+fn shown(alloc: Global, words: &[&str]) -> Option<String> {
+    match read_words(alloc, words) {
+        Ok(Some(request)) => format!(in alloc; "{request:?}").ok(),
+        _ => None,
+    }
+}
+
 /// Whether a row's words are taken, and ask for what is shown behind them.
 fn asks(alloc: Global, row: &str) -> Option<bool> {
     let (words, want) = row.split_once(" => ")?;
     let words = words_of(alloc, words)?;
-    let request = read_words(alloc, &words).ok()??;
-    let shown = format!(in alloc; "{request:?}").ok()?;
-    Some(shown.as_str() == want)
+    Some(shown(alloc, &words)?.as_str() == want)
 }
 
 /// Tries each row of requests.
