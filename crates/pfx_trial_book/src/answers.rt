@@ -1,7 +1,7 @@
 //! Whether clients are answered as they should be.
 
 use crate::asking::Answer;
-use crate::service::Known;
+use crate::service::{Known, Service};
 use pfx_book::faults::BookFault;
 use pfx_book::note::Loss;
 use pfx_fault::Cause;
@@ -48,6 +48,46 @@ pub fn is_refused(answer: &Option<Answer>, fault: MachineFault) -> bool {
         Some(Err(got)) => *got == BookFault::Machine(fault),
         _ => false,
     }
+}
+
+/// Whether a Submit for a task is accepted with this number. The answer ends here, so that no step of a caller's proof spells its type.
+pub fn submits<S: Service>(book: &mut S, pass: &mut S::Pass, task: u16, number: u64) -> bool {
+    is_submitted(&book.submit(pass, task), number, task)
+}
+
+/// Whether a Withdraw for a task is accepted with this number.
+pub fn withdraws<S: Service>(book: &mut S, pass: &mut S::Pass, task: u16, number: u64) -> bool {
+    is_withdrawn(&book.withdraw(pass, task), number, task)
+}
+
+/// Whether the machine refuses a Submit for a task, for this fault.
+pub fn submits_none<S: Service>(
+    book: &mut S,
+    pass: &mut S::Pass,
+    task: u16,
+    fault: MachineFault,
+) -> bool {
+    is_refused(&book.submit(pass, task), fault)
+}
+
+/// Whether the machine refuses a Withdraw for a task, for this fault.
+pub fn withdraws_none<S: Service>(
+    book: &mut S,
+    pass: &mut S::Pass,
+    task: u16,
+    fault: MachineFault,
+) -> bool {
+    is_refused(&book.withdraw(pass, task), fault)
+}
+
+/// Whether the machine refuses to open a slot, for this fault.
+pub fn opens_none<S: Service>(book: &mut S, pass: &mut S::Pass, fault: MachineFault) -> bool {
+    is_unopened(&book.open(pass), fault)
+}
+
+/// Whether slot 0 with tasks 0 and 1 is sealed with this number.
+pub fn seals<S: Service>(book: &mut S, pass: &mut S::Pass, number: u64) -> bool {
+    is_first_slot(&book.seal(pass), number)
 }
 
 /// Whether the machine refused to open a slot for this fault.

@@ -1,6 +1,6 @@
 //! Each call once, through the life of a book that begins after one command.
 
-use crate::answers::{is_first_slot, is_submitted, is_told, is_withdrawn};
+use crate::answers::{is_told, seals, submits, withdraws};
 use crate::service::Service;
 use crate::sessions::{Session, is_right};
 use crate::states::later;
@@ -24,8 +24,8 @@ fn is_first<S: Service>(book: &S, pass: &S::Pass) -> bool {
 
 /// Whether a Submit and a Withdraw are taken.
 fn asks<S: Service>(book: &mut S, pass: &mut S::Pass) -> bool {
-    let submitted = is_submitted(&book.submit(pass, 0), 2, 0);
-    let withdrawn = is_withdrawn(&book.withdraw(pass, 2), 3, 2);
+    let submitted = submits(book, pass, 0, 2);
+    let withdrawn = withdraws(book, pass, 2, 3);
     let looks = book.looks();
     let waits = looks.has_pending && !looks.is_settled;
     submitted && withdrawn && book.knows(pass).greatest == 3 && waits
@@ -39,7 +39,7 @@ fn runs<S: Service>(book: &mut S, pass: &mut S::Pass) -> Option<bool> {
     let is_dealt = number == 4 && task == 0 && book.missing() == Some(0);
     let opened = book.looks().is_open && quanta.is_empty() && is_dealt;
     let given = book.give(quantum).is_ok() && book.missing().is_none();
-    let sealed = is_first_slot(&book.seal(pass), 4);
+    let sealed = seals(book, pass, 4);
     let ended = !book.looks().is_open && book.knows(pass).greatest == 4;
     Some(opened && given && sealed && ended)
 }

@@ -1,7 +1,7 @@
 //! Calls that are refused memory, and again. Run with each allocation failing in turn, each refusal is an answer, and changes
 //! nothing: what is asked once more is answered as if it had never been refused.
 
-use crate::answers::{is_first_slot, is_refused, is_submitted, is_unopened, is_withdrawn};
+use crate::answers::{is_refused, is_submitted, is_unopened, is_withdrawn, seals};
 use crate::asking::Answer;
 use crate::service::Service;
 use crate::sessions::{Session, at_thirds};
@@ -26,6 +26,16 @@ fn withdraw_again<S: Service>(book: &mut S, pass: &mut S::Pass, task: u16) -> Op
         return book.withdraw(pass, task);
     }
     answer
+}
+
+/// Whether a Submit for a task is accepted so with this number.
+fn submits<S: Service>(book: &mut S, pass: &mut S::Pass, task: u16, number: u64) -> bool {
+    is_submitted(&submit_again(book, pass, task), number, task)
+}
+
+/// Whether a Withdraw for a task is accepted so with this number.
+fn withdraws<S: Service>(book: &mut S, pass: &mut S::Pass, task: u16, number: u64) -> bool {
+    is_withdrawn(&withdraw_again(book, pass, task), number, task)
 }
 
 /// Opens a slot, and once more if an allocation fails.
@@ -60,7 +70,7 @@ fn runs<S: Service>(book: &mut S, pass: &mut S::Pass) -> Option<bool> {
     for quantum in quanta {
         book.give(quantum).ok()?;
     }
-    Some(is_first_slot(&book.seal(pass), 3))
+    Some(seals(book, pass, 3))
 }
 
 /// Whether all is answered as it should be, whatever was refused.
@@ -68,10 +78,10 @@ pub fn visit<S: Service>(book: &mut S) -> bool {
     let (Some(mut one), Some(mut other)) = (book.admit(), book.admit()) else {
         return false;
     };
-    is_submitted(&submit_again(book, &mut one, 0), 1, 0)
-        && is_submitted(&submit_again(book, &mut other, 1), 2, 1)
+    submits(book, &mut one, 0, 1)
+        && submits(book, &mut other, 1, 2)
         && runs(book, &mut one) == Some(true)
-        && is_withdrawn(&withdraw_again(book, &mut other, 1), 4, 1)
+        && withdraws(book, &mut other, 1, 4)
         && book.knows(&one).greatest == 3
         && book.knows(&other).greatest == 4
 }

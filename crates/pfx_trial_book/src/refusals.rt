@@ -1,15 +1,14 @@
 //! Each refusal by its name. Results that are refused stand in `worked`, refused memory in `memory`.
 
-use crate::answers::{is_refused, is_submitted, is_unopened, is_withdrawn};
+use crate::answers::{opens_none, submits, submits_none, withdraws, withdraws_none};
 use crate::calls::takes;
 use crate::flushing::ask_pairs;
 use crate::service::Service;
 use crate::sessions::{Session, at_thirds, is_right};
-use crate::states::{at_the_limits, idle, urgent};
+use crate::states::{Held, at_the_limits, idle, urgent};
 use pfx_choice::ChoiceFault;
 use pfx_crew::gathering::GatherFault;
-use pfx_kinds::any::AnyJob;
-use pfx_machine::{MachineFault, State};
+use pfx_machine::MachineFault;
 use std::alloc::Global;
 
 /// Whether commands for tasks are refused as the machine refuses them, and take no number.
@@ -17,13 +16,13 @@ fn tasks<S: Service>(book: &mut S, pass: &mut S::Pass) -> bool {
     let none = MachineFault::NoSuchTask { task: 3 };
     let busy = MachineFault::TaskBusy { task: 0 };
     let empty = MachineFault::NoJob { task: 1 };
-    is_refused(&book.submit(pass, 3), none)
-        && is_refused(&book.withdraw(pass, 3), none)
-        && is_submitted(&book.submit(pass, 0), 1, 0)
-        && is_refused(&book.submit(pass, 0), busy)
-        && is_refused(&book.withdraw(pass, 1), empty)
+    submits_none(book, pass, 3, none)
+        && withdraws_none(book, pass, 3, none)
+        && submits(book, pass, 0, 1)
+        && submits_none(book, pass, 0, busy)
+        && withdraws_none(book, pass, 1, empty)
         && book.knows(pass).greatest == 1
-        && is_withdrawn(&book.withdraw(pass, 0), 2, 0)
+        && withdraws(book, pass, 0, 2)
 }
 
 /// Whether a result is a stranger's if no slot is open.
@@ -84,25 +83,24 @@ pub fn visit<S: Service>(alloc: Global, book: &mut S) -> Option<bool> {
 pub fn visit_limits<S: Service>(book: &mut S) -> Option<bool> {
     let mut pass = book.admit()?;
     let fault = MachineFault::NoRow(ChoiceFault::SlotLimit);
-    let last = is_unopened(&book.open(&mut pass), fault)
-        && is_withdrawn(&book.withdraw(&mut pass, 0), (1 << 48) - 1, 0);
+    let last = opens_none(book, &mut pass, fault) && withdraws(book, &mut pass, 0, (1 << 48) - 1);
     let fault = MachineFault::NumberLimit;
-    let behind = is_unopened(&book.open(&mut pass), fault)
-        && is_refused(&book.submit(&mut pass, 0), fault)
-        && is_refused(&book.withdraw(&mut pass, 3), fault);
+    let behind = opens_none(book, &mut pass, fault)
+        && submits_none(book, &mut pass, 0, fault)
+        && withdraws_none(book, &mut pass, 3, fault);
     Some(last && behind)
 }
 
 /// Whether a book opens no slot, for this fault.
 pub fn visit_stuck<S: Service>(book: &mut S, fault: MachineFault) -> Option<bool> {
     let mut pass = book.admit()?;
-    let answer = book.open(&mut pass);
+    let refused = opens_none(book, &mut pass, fault);
     let looks = book.looks();
-    Some(is_unopened(&answer, fault) && !looks.is_open && !looks.has_pending)
+    Some(refused && !looks.is_open && !looks.has_pending)
 }
 
 /// Whether a book that begins at this state is as it should be in this session.
-fn is_refused_at(alloc: Global, state: Option<State<AnyJob>>, session: Session) -> bool {
+fn is_refused_at(alloc: Global, state: Option<Held>, session: Session) -> bool {
     match state {
         Some(state) => is_right(alloc, &state, session) == Some(true),
         None => false,

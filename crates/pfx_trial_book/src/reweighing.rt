@@ -1,6 +1,6 @@
 //! New weights among other commands: what they are answered, and the batches that they are taken in.
 
-use crate::answers::{is_refused, is_submitted, is_withdrawn};
+use crate::answers::{is_refused, submits, withdraws};
 use crate::asking::Answer;
 use crate::service::Service;
 use crate::sessions::{Session, at_thirds};
@@ -34,15 +34,24 @@ fn takes<S: Service>(alloc: Global, book: &mut S, shape: Shape) -> bool {
     right
 }
 
+/// Whether too few weights are refused.
+fn refuses_few<S: Service>(alloc: Global, book: &mut S, pass: &mut S::Pass) -> bool {
+    is_refused(&book.reweigh(alloc, pass, 2), MachineFault::WrongCount)
+}
+
+/// Whether new weights are accepted with this number.
+fn reweighs<S: Service>(alloc: Global, book: &mut S, pass: &mut S::Pass, number: u64) -> bool {
+    is_reweighed(&book.reweigh(alloc, pass, 3), number)
+}
+
 /// Whether too few weights are refused, and new weights are accepted between other commands, and again.
 fn asks<S: Service>(alloc: Global, book: &mut S, pass: &mut S::Pass) -> bool {
-    let few = book.reweigh(alloc, pass, 2);
-    is_refused(&few, MachineFault::WrongCount)
-        && is_submitted(&book.submit(pass, 0), 1, 0)
-        && is_withdrawn(&book.withdraw(pass, 0), 2, 0)
-        && is_reweighed(&book.reweigh(alloc, pass, 3), 3)
-        && is_reweighed(&book.reweigh(alloc, pass, 3), 4)
-        && is_submitted(&book.submit(pass, 1), 5, 1)
+    refuses_few(alloc, book, pass)
+        && submits(book, pass, 0, 1)
+        && withdraws(book, pass, 0, 2)
+        && reweighs(alloc, book, pass, 3)
+        && reweighs(alloc, book, pass, 4)
+        && submits(book, pass, 1, 5)
 }
 
 /// Whether new weights between other commands are accepted, and taken alone.

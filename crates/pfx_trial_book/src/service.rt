@@ -146,6 +146,12 @@ fn left<J: Trial>(state: &State<J>, task: usize) -> Option<u32> {
     Some(state.jobs().get(task)?.as_ref()?.left())
 }
 
+/// A state's number, and how many steps the jobs of its first three tasks have left.
+fn shown<J: Trial>(state: &State<J>) -> (u64, [Option<u32>; 3]) {
+    let jobs = [left(state, 0), left(state, 1), left(state, 2)];
+    (state.number(), jobs)
+}
+
 /// A task that took a step, and how many steps its job has left.
 fn stepped<J: Trial>(place: &Place<J>) -> (u16, Option<u32>) {
     match &place.state {
@@ -217,9 +223,7 @@ impl<J: Trial, B: Named<J>> Service for Kept<J, B> {
     }
 
     fn copied(&self) -> Option<(u64, [Option<u32>; 3])> {
-        let copy = self.book.state().ok()?;
-        let jobs = [left(&copy, 0), left(&copy, 1), left(&copy, 2)];
-        Some((copy.number(), jobs))
+        Some(shown(&self.book.state().ok()?))
     }
 
     fn admit(&mut self) -> Option<Pass<J, B>> {

@@ -1,6 +1,6 @@
 //! Two Submits and a slot of two quanta, with results that are refused.
 
-use crate::answers::{is_first_slot, is_submitted};
+use crate::answers::{seals, submits};
 use crate::service::{Service, Taken};
 use crate::sessions::{Session, at_thirds};
 use pfx_crew::gathering::GatherFault;
@@ -51,7 +51,7 @@ fn has_slot(batch: Taken) -> bool {
 
 /// Whether two Submits of two passes are accepted.
 fn are_submitted<S: Service>(book: &mut S, one: &mut S::Pass, other: &mut S::Pass) -> bool {
-    is_submitted(&book.submit(one, 0), 1, 0) && is_submitted(&book.submit(other, 1), 2, 1)
+    submits(book, one, 0, 1) && submits(book, other, 1, 2)
 }
 
 /// Two passes submit, the first one opens a slot, and its results come back, wrong ones too. Whether all is as expected.
@@ -65,7 +65,7 @@ pub fn visit<S: Service>(alloc: Global, book: &mut S) -> Option<bool> {
     if !results(book, &mut one, first, second) || book.seal(&mut other).is_some() {
         return Some(false);
     }
-    if !is_first_slot(&book.seal(&mut one), 3) || book.looks().is_open {
+    if !seals(book, &mut one, 3) || book.looks().is_open {
         return Some(false);
     }
     Some(has_slot(book.take(alloc)?.ok()?))
