@@ -2,11 +2,10 @@
 
 use crate::refused_sets::REFUSED_SETS;
 use crate::runs::one_by_one;
-use crate::scripts::{prints_as, runs_to_its_end, thirds};
+use crate::scripts::{prints_as, run_into, runs_to_its_end, thirds};
 use crate::torn::Torn;
 use pfx_fault::Fault;
-use pfx_program::{Form, read_task_set, run_plan, run_script};
-use pfx_program_script::Script;
+use pfx_program::{Form, read_task_set, run_plan};
 use std::alloc::Global;
 use std::io;
 use std::io::Write;
@@ -93,13 +92,8 @@ fn is_written_slowly(alloc: Global) -> bool {
         taken: Vec::new(alloc),
     };
     let script = b"slot,,,150,\n".as_slice();
-    let end = run_script(
-        alloc,
-        &mut Script::new(alloc, script),
-        one_by_one(Form::Text),
-        &mut output,
-        &mut *state,
-    );
+    let run = one_by_one(Form::Text);
+    let end = run_into(alloc, run, &mut state, script, &mut output);
     end.is_ok() && want.len() > 2000 && output.taken.as_slice() == want.as_slice()
 }
 

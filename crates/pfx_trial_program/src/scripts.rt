@@ -13,7 +13,7 @@ use pfx_program_script::Script;
 use pfx_weights::TaskSet;
 use std::alloc::Global;
 use std::io;
-use std::io::Write;
+use std::io::{Read, Write};
 
 /// A state behind a pointer: a proof spells what a function holds itself at each of its steps.
 pub type Held = Box<State<AnyJob>>;
@@ -39,6 +39,17 @@ pub fn thirds(alloc: Global) -> Option<Held> {
     begun(alloc, 2, &[(2, 3), (2, 3), (2, 3)])
 }
 
+/// Runs a script that is read from an input, and prints on an output: how it ends.
+pub fn run_into<R: Read + Drop, W: Write>(
+    alloc: Global,
+    run: Run,
+    state: &mut State<AnyJob>,
+    input: R,
+    output: &mut W,
+) -> Result<Report, Fault> {
+    run_script(alloc, &mut Script::new(alloc, input), run, output, state)
+}
+
 /// What a script prints, and how it ends.
 pub fn written_by(
     alloc: Global,
@@ -47,13 +58,7 @@ pub fn written_by(
     script: &[u8],
 ) -> (Vec<u8>, Result<Report, Fault>) {
     let mut written = Vec::new(alloc);
-    let end = run_script(
-        alloc,
-        &mut Script::new(alloc, script),
-        run,
-        &mut written,
-        state,
-    );
+    let end = run_into(alloc, run, state, script, &mut written);
     (written, end)
 }
 
@@ -312,13 +317,7 @@ fn runs_up_to_the_tear(alloc: Global, state: &mut State<AnyJob>) -> bool {
         left: b"slot,,,,\nslot,",
     };
     let mut written = Vec::new(alloc);
-    let end = run_script(
-        alloc,
-        &mut Script::new(alloc, input),
-        one_by_one(Form::Text),
-        &mut written,
-        state,
-    );
+    let end = run_into(alloc, one_by_one(Form::Text), state, input, &mut written);
     end == Err(Fault::InputFailed) && written.as_slice() == b"1 ran 0: 0 1\n".as_slice()
 }
 
@@ -327,13 +326,15 @@ fn answers_before_it_asks(alloc: Global, state: &mut State<AnyJob>) -> bool {
     let input = Torn {
         left: b"slot,,,2,\n",
     };
-    let mut script = Script::new(alloc, input);
+    let Ok(mut script) = Box::new(alloc, Script::new(alloc, input)) else {
+        return false;
+    };
     let mut row = StringRecord::new(alloc);
     let mut accepted = 0;
     let mut written = Vec::new(alloc);
     let first = run_record(
         alloc,
-        &mut script,
+        &mut *script,
         &mut row,
         1,
         &mut accepted,
@@ -344,7 +345,7 @@ fn answers_before_it_asks(alloc: Global, state: &mut State<AnyJob>) -> bool {
     let answered = written.as_slice() == b"1 ran 0: 0 1\n2 ran 1: 0 2\n".as_slice();
     let second = run_record(
         alloc,
-        &mut script,
+        &mut *script,
         &mut row,
         1,
         &mut accepted,
@@ -361,18 +362,13 @@ fn answers_a_group_before_it_asks(alloc: Global, state: &mut State<AnyJob>) -> b
         left: b"submit,0,own,0,a\nsubmit,1,own,0,b\n",
     };
     let mut written = Vec::new(alloc);
-    let end = run_script(
-        alloc,
-        &mut Script::new(alloc, input),
-        Run {
-            batch: 1,
-            group: 16,
-            at_refusal: AtRefusal::GoOn,
-            form: Form::Text,
-        },
-        &mut written,
-        state,
-    );
+    let run = Run {
+        batch: 1,
+        group: 16,
+        at_refusal: AtRefusal::GoOn,
+        form: Form::Text,
+    };
+    let end = run_into(alloc, run, state, input, &mut written);
     end == Err(Fault::InputFailed)
         && written.as_slice() == b"1 submitted 0\n2 submitted 1\n".as_slice()
 }
@@ -382,7 +378,10 @@ static ENDED: [Result<bool, Fault>; 3] = [Ok(true), Err(Fault::BadScript { at: 2
 
 /// Whether a record at a time is answered, up to the end of the script, which prints nothing.
 fn answers_one_by_one(alloc: Global, state: &mut State<AnyJob>) -> bool {
-    let mut script = Script::new(alloc, b"settle,,,,\nleap,,,,\n".as_slice());
+    let script = Script::new(alloc, b"settle,,,,\nleap,,,,\n".as_slice());
+    let Ok(mut script) = Box::new(alloc, script) else {
+        return false;
+    };
     let mut row = StringRecord::new(alloc);
     let mut accepted = 0;
     let mut written = Vec::new(alloc);
@@ -390,7 +389,7 @@ fn answers_one_by_one(alloc: Global, state: &mut State<AnyJob>) -> bool {
     for _ in 0..3 {
         let end = run_record(
             alloc,
-            &mut script,
+            &mut *script,
             &mut row,
             16,
             &mut accepted,
@@ -428,13 +427,8 @@ fn writes_the_beginning(alloc: Global, state: &mut State<AnyJob>) -> bool {
         bytes: [0; 64],
         room: 20,
     };
-    let end = run_script(
-        alloc,
-        &mut Script::new(alloc, WEEK.as_bytes()),
-        one_by_one(Form::Text),
-        &mut output,
-        state,
-    );
+    let run = one_by_one(Form::Text);
+    let end = run_into(alloc, run, state, WEEK.as_bytes(), &mut output);
     end == Err(Fault::OutputFailed) && output.bytes.ends_with(b"\x002 submitted 0\n3 ran ")
 }
 

@@ -2,11 +2,10 @@
 //! within a window or at its border, and up to where a writer fails.
 
 use crate::runs::run_of;
-use crate::scripts::{Held, runs_to_its_end};
+use crate::scripts::{Held, run_into, runs_to_its_end};
 use pfx_fault::Fault;
 use pfx_kit::states::state_at;
-use pfx_program::{AtRefusal, Form, run_script};
-use pfx_program_script::Script;
+use pfx_program::{AtRefusal, Form};
 use pfx_weights::TaskSet;
 use std::alloc::Global;
 use std::io;
@@ -124,13 +123,8 @@ fn takes_the_first(alloc: Global, all: &[u8], room: usize, window: u32) -> bool 
         taken: Vec::new(alloc),
         room,
     };
-    let end = run_script(
-        alloc,
-        &mut Script::new(alloc, SCRIPT.as_bytes()),
-        run_of(window, AtRefusal::GoOn, Form::Text),
-        &mut output,
-        &mut *state,
-    );
+    let run = run_of(window, AtRefusal::GoOn, Form::Text);
+    let end = run_into(alloc, run, &mut state, SCRIPT.as_bytes(), &mut output);
     end == Err(Fault::OutputFailed) && Some(output.taken.as_slice()) == all.get(..room)
 }
 
