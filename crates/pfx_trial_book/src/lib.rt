@@ -1,7 +1,14 @@
-//! Tests of the book, in a crate of their own so that it is proved once, without them.
+//! Tests of tokens, growing lists, the crew and the book, in a crate of their own so that the tested crates are proved once, without them.
 //!
 //! | Module | Tests |
 //! |---|---|
+//! | `tokens` | `pfx_token`: tokens that bring lists home |
+//! | `past` | `pfx_token`: beginnings of a list that only grows |
+//! | `quanta` | quanta of jobs that count, and what is done with them at a desk |
+//! | `gathering` | `pfx_crew`: results in every order, and the results that are refused |
+//! | `desk` | `pfx_crew`: a desk of channels, and what a closed one answers |
+//! | `holding` | a watch over a desk that holds a result back |
+//! | `crew` | `pfx_crew`: two workers at a desk that wants both |
 //! | `states` | states that books begin with |
 //! | `asking` | calls of a book whose premises are tested first |
 //! | `flusher` | a share with the number of the last command that it took |
@@ -26,13 +33,25 @@ mod calls;
 #[cfg(test)]
 mod closing;
 #[cfg(test)]
+mod crew;
+#[cfg(test)]
+mod desk;
+#[cfg(test)]
 mod flusher;
 #[cfg(test)]
 mod flushing;
 #[cfg(test)]
 mod full;
 #[cfg(test)]
+mod gathering;
+#[cfg(test)]
+mod holding;
+#[cfg(test)]
 mod memory;
+#[cfg(test)]
+mod past;
+#[cfg(test)]
+mod quanta;
 #[cfg(test)]
 mod refusals;
 #[cfg(test)]
@@ -43,5 +62,7 @@ mod service;
 mod sessions;
 #[cfg(test)]
 mod states;
+#[cfg(test)]
+mod tokens;
 #[cfg(test)]
 mod worked;

@@ -3,6 +3,7 @@
 ghost use Rattle.std.specs.Prelude.{◌≡◌, IfSome};
 
 use crate::check::{check, check_at};
+use crate::engines::{Held, disk_of_store, opened_store};
 use crate::held::held;
 use crate::journal::left;
 use crate::turns::append_slot;
@@ -19,14 +20,20 @@ use std::alloc::Global;
 /// The number of the last command: each byte of the one after it is another.
 const NUMBER: u64 = 0x0605_0403_0201;
 
+/// No jobs, for so many tasks.
+fn no_jobs(alloc: Global, real: usize) -> Option<Vec<Option<AnyJob>>> {
+    let mut jobs = Vec::new(alloc);
+    for _task in 0..real {
+        jobs.push(None).ok()?;
+    }
+    Some(jobs)
+}
+
 fn state_of(alloc: Global, set: &TaskSet, number: u64, segment: u32) -> Option<State<AnyJob>>
     ensures { IfSome result (λ s. s.ledger.set ≡ set.now) }
 {
     let ledger = ledger_at(alloc, set, 2, &[2, 1, 1])?;
-    let mut jobs = Vec::new(alloc);
-    for _task in 0..ledger.real() {
-        jobs.push(None).ok()?;
-    }
+    let jobs = no_jobs(alloc, ledger.real())?;
     if number >= 1 << 48 || jobs.len() != ledger.real() {
         return None;
     }
@@ -41,7 +48,7 @@ fn begun<D: Disk + Drop>(
     disk: D,
     number: u64,
     segment: u32,
-) -> Result<Store<D, AnyJob>, InitFault> {
+) -> Result<Held<D>, InitFault> {
     let Ok(set) = TaskSet::new(alloc, 2, &[(2, 3), (2, 3), (2, 3)]) else {
         return Err(InitFault::NoMemory);
     };
@@ -49,12 +56,12 @@ fn begun<D: Disk + Drop>(
         return Err(InitFault::NoMemory);
     };
     match Store::begin(alloc, disk, &set, state) {
-        Ok(store) => Ok(store),
+        Ok(store) => Box::new(alloc, store).ok().ok_or(InitFault::NoMemory),
         Err((fault, _disk)) => Err(fault),
     }
 }
 
-fn begun_in_memory(alloc: Global, number: u64) -> Option<Store<MemoryDisk, AnyJob>> {
+fn begun_in_memory(alloc: Global, number: u64) -> Option<Held<MemoryDisk>> {
     let disk = MemoryDisk::new(alloc, &[], END, 80, 30_000).ok()?;
     begun(alloc, disk, number, 8192).ok()
 }
@@ -69,7 +76,7 @@ fn is_at(store: &Store<MemoryDisk, AnyJob>, number: u64) -> bool {
 fn begins_with(alloc: Global, number: u64, first: &[u8; 8]) -> Option<bool> {
     let store = begun_in_memory(alloc, number)?;
     let is_begun = is_at(&store, number);
-    let bytes = held(alloc, &mut store.into_disk())?;
+    let bytes = held(alloc, &mut disk_of_store(store))?;
     let mut same = bytes.len() == END;
     for (i, byte) in first.iter().enumerate() {
         if bytes.get(FIRST_SEGMENT + 1 + i) != Some(byte) {
@@ -77,19 +84,21 @@ fn begins_with(alloc: Global, number: u64, first: &[u8; 8]) -> Option<bool> {
         }
     }
     let disk = MemoryDisk::new(alloc, &bytes, bytes.len(), 200, 1000).ok()?;
-    let opened = Store::open(alloc, disk).ok()?;
+    let opened = opened_store(alloc, disk)?;
     Some(is_begun && same && is_at(&opened, number))
 }
+
+/// Numbers, and the bytes of the number behind each.
+static NUMBERS: [(u64, [u8; 8]); 3] = [
+    (0, [1, 0, 0, 0, 0, 0, 0, 0]),
+    (NUMBER, [2, 2, 3, 4, 5, 6, 0, 0]),
+    ((1 << 48) - 1, [0, 0, 0, 0, 0, 0, 1, 0]),
+];
 
 #[test]
 fn a_store_begins_behind_a_number(rt: HostRuntime) {
     let alloc = rt.alloc();
-    let rows = [
-        (0, [1, 0, 0, 0, 0, 0, 0, 0]),
-        (NUMBER, [2, 2, 3, 4, 5, 6, 0, 0]),
-        ((1 << 48) - 1, [0, 0, 0, 0, 0, 0, 1, 0]),
-    ];
-    for (row, (number, first)) in rows.iter().enumerate() {
+    for (row, (number, first)) in NUMBERS.iter().enumerate() {
         let holds = begins_with(alloc, *number, first) == Some(true);
         check_at(&rt, holds, "row", row);
     }
@@ -103,12 +112,21 @@ fn a_begun_store_goes_on(rt: HostRuntime) {
     };
     check(&rt, append_slot(alloc, &mut store), "appended");
     check(&rt, store.state().slot() == 3, "the slot");
-    let disk = store.into_disk();
+    let disk = disk_of_store(store);
     for (calls, number) in [(11, NUMBER), (14, NUMBER), (15, NUMBER + 1)] {
         let holds = left(alloc, &disk, calls, Fate::Filled(0x5a)) == Some(Ok(number));
         check_at(&rt, holds, "calls", calls);
     }
 }
+
+/// Stops after so many calls, and what is left if this becomes of what isn't synced.
+static STOPS: [(usize, Fate, Result<u64, Refusal>); 5] = [
+    (8, Fate::Kept, Err(Refusal::NotAStore)),
+    (9, Fate::Filled(0xc3), Err(Refusal::NotAStore)),
+    (10, Fate::Dropped, Err(Refusal::NotAStore)),
+    (10, Fate::Kept, Ok(NUMBER)),
+    (11, Fate::Dropped, Ok(NUMBER)),
+];
 
 #[test]
 fn a_beginning_is_stopped(rt: HostRuntime) {
@@ -116,16 +134,8 @@ fn a_beginning_is_stopped(rt: HostRuntime) {
     let Some(store) = begun_in_memory(alloc, NUMBER) else {
         return check(&rt, false, "begun");
     };
-    let disk = store.into_disk();
-    let none = Err(Refusal::NotAStore);
-    let rows = [
-        (8, Fate::Kept, none),
-        (9, Fate::Filled(0xc3), none),
-        (10, Fate::Dropped, none),
-        (10, Fate::Kept, Ok(NUMBER)),
-        (11, Fate::Dropped, Ok(NUMBER)),
-    ];
-    for (row, (calls, fate, wanted)) in rows.iter().enumerate() {
+    let disk = disk_of_store(store);
+    for (row, (calls, fate, wanted)) in STOPS.iter().enumerate() {
         let holds = left(alloc, &disk, *calls, *fate) == Some(*wanted);
         check_at(&rt, holds, "row", row);
     }

@@ -1,6 +1,7 @@
 //! Files with frames of new weights, written down: a store of three tasks of weight 2/3 on two workers, and then of 1/3 on one.
 
 use crate::check::{check, check_at, check_pair};
+use crate::engines::{Held, disk_of_store, opened_store};
 use crate::held::held;
 use crate::journal::{damaged, file_of_one_slot, is_refused, is_refused_with, new_file, opened};
 use crate::turns::append_slot;
@@ -63,7 +64,7 @@ fn stand_of(alloc: Global, bytes: Option<Vec<u8>>) -> Option<(u64, u64, u64, u32
 }
 
 /// Where the store stands behind so many of the frames.
-const STANDS: [(u64, u64, u64, u32); 8] = [
+static STANDS: [(u64, u64, u64, u32); 8] = [
     (0, 0, 0, 2),
     (3, 3, 0, 2),
     (4, 3, 3, 1),
@@ -140,9 +141,9 @@ fn disk_of(alloc: Global, bytes: &[u8], calls: usize) -> Option<MemoryDisk> {
 /// The bytes of the file to which a slot is appended behind so many of the frames.
 fn appended(alloc: Global, many: usize) -> Option<Vec<u8>> {
     let disk = disk_of(alloc, &file_of_epochs(alloc, many)?, 40)?;
-    let mut store = Store::open(alloc, disk).ok()?;
+    let mut store = opened_store(alloc, disk)?;
     if append_slot(alloc, &mut store) {
-        held(alloc, &mut store.into_disk())
+        held(alloc, &mut disk_of_store(store))
     } else {
         None
     }
@@ -223,9 +224,9 @@ fn byte_of_checkpoint(i: usize) -> u8 {
 }
 
 /// The store behind new weights and a slot, which is appended, a turn and a whole checkpoint.
-fn checkpointed(alloc: Global) -> Option<Store<MemoryDisk, AnyJob>> {
+fn checkpointed(alloc: Global) -> Option<Held<MemoryDisk>> {
     let disk = disk_of(alloc, &file_of_epochs(alloc, 2)?, 80)?;
-    let mut store = Store::open(alloc, disk).ok()?;
+    let mut store = opened_store(alloc, disk)?;
     if append_slot(alloc, &mut store) && checkpoint(&mut store) {
         Some(store)
     } else {
@@ -235,7 +236,7 @@ fn checkpointed(alloc: Global) -> Option<Store<MemoryDisk, AnyJob>> {
 
 /// The bytes of that store's file.
 fn checkpointed_file(alloc: Global) -> Option<Vec<u8>> {
-    held(alloc, &mut checkpointed(alloc)?.into_disk())
+    held(alloc, &mut disk_of_store(checkpointed(alloc)?))
 }
 
 #[test]
@@ -289,7 +290,7 @@ fn marked(alloc: Global, store: &mut Store<MemoryDisk, AnyJob>) -> Option<u64> {
 /// A disk with new weights in its file, and the calls of a slot, a turn, a whole checkpoint and two slots.
 fn run(alloc: Global) -> Option<(MemoryDisk, Clocks)> {
     let disk = disk_of(alloc, &file_of_epochs(alloc, 2)?, 200)?;
-    let mut store = Store::open(alloc, disk).ok()?;
+    let mut store = opened_store(alloc, disk)?;
     let opened = store.disk().clock();
     let first = marked(alloc, &mut store)?;
     if !checkpoint(&mut store) {
@@ -303,21 +304,16 @@ fn run(alloc: Global) -> Option<(MemoryDisk, Clocks)> {
         second,
         third,
     };
-    Some((store.into_disk(), clocks))
+    Some((disk_of_store(store), clocks))
 }
 
 /// The store that a stop after so many calls leaves, if the set in force is the new one and the slot is that of its number.
-fn left(
-    alloc: Global,
-    disk: &MemoryDisk,
-    calls: u64,
-    fate: Fate,
-) -> Option<Store<MemoryDisk, AnyJob>> {
+fn left(alloc: Global, disk: &MemoryDisk, calls: u64, fate: Fate) -> Option<Held<MemoryDisk>> {
     if disk.clock() < calls {
         return None;
     }
     let left = disk.stopped(alloc, calls as usize, &[fate, fate]).ok()?;
-    let store = Store::open(alloc, left).ok()?;
+    let store = opened_store(alloc, left)?;
     let number = store.state().number();
     if (4..9).contains(&number)
         && stand(store.state()) == (number, number.saturating_sub(1), 3, 1)
@@ -339,7 +335,7 @@ fn is_left(alloc: Global, disk: &MemoryDisk, calls: u64, fate: Fate, done: u64) 
     }
 }
 
-const FATES: [Fate; 5] = [
+static FATES: [Fate; 5] = [
     Fate::Kept,
     Fate::Dropped,
     Fate::Filled(0xc3),
@@ -369,7 +365,7 @@ fn is_stopped_again(alloc: Global, disk: &MemoryDisk, calls: u64, fate: Fate) ->
     if !append_slot(alloc, &mut store) {
         return None;
     }
-    let more = store.into_disk();
+    let more = disk_of_store(store);
     let marked = more.clock();
     for second in begun..=marked {
         let done = if second < marked {

@@ -1,6 +1,7 @@
 //! A store of three tasks of weight 2/3 on two workers, with segments of 8,192 bytes, as its file is written down.
 
 use crate::check::{check, check_at};
+use crate::engines::{Held, disk_of_store, opened_store};
 use crate::held::held;
 use crate::turns::append_slot;
 use pfx_disk::{Disk, Fate, FaultDisk, MemoryDisk};
@@ -16,32 +17,28 @@ use pfx_weights::TaskSet;
 use std::alloc::Global;
 
 /// The header, and where it ends the first checkpoint area's gate.
-const HEAD: [u8; 42] = [
+static HEAD: [u8; 42] = [
     0xc3, 0x50, 0x46, 0x58, 0x53, 0x54, 0x4f, 0x52, 0x45, 2, 2, 3, 0, 0, 0x20, 0, 0, 2, 0, 0, 0, 3,
     0, 0, 0, 2, 0, 0, 0, 3, 0, 0, 0, 2, 0, 0, 0, 3, 0, 0, 0, 0xc3,
 ];
 
 /// The set as it stands in a checkpoint area: two workers, and three weights 2/3.
-const THIRDS: [u8; 25] = [
+static THIRDS: [u8; 25] = [
     2, 2, 0, 0, 0, 3, 0, 0, 0, 2, 0, 0, 0, 3, 0, 0, 0, 2, 0, 0, 0, 3, 0, 0, 0,
 ];
 
 /// The frame of one slot without jobs.
-const FRAME: [u8; 22] = [
+static FRAME: [u8; 22] = [
     0xc3, 7, 0, 0, 0, 1, 0, 0, 0, 0, 0, 0, 0, 1, 0, 2, 0, 0, 0, 1, 0, 0,
 ];
 
 /// The store that is made on a disk, or why none is.
-fn made<D: Disk + Drop>(
-    alloc: Global,
-    disk: D,
-    segment: u32,
-) -> Result<Store<D, AnyJob>, InitFault> {
+fn made<D: Disk + Drop>(alloc: Global, disk: D, segment: u32) -> Result<Held<D>, InitFault> {
     let Ok(set) = TaskSet::new(alloc, 2, &[(2, 3), (2, 3), (2, 3)]) else {
         return Err(InitFault::NoMemory);
     };
     match Store::init(alloc, disk, &set, segment) {
-        Ok(store) => Ok(store),
+        Ok(store) => Box::new(alloc, store).ok().ok_or(InitFault::NoMemory),
         Err((fault, _disk)) => Err(fault),
     }
 }
@@ -50,7 +47,7 @@ fn made<D: Disk + Drop>(
 pub fn new_file(alloc: Global) -> Option<Vec<u8>> {
     let disk = MemoryDisk::new(alloc, &[], END, 40, 20_000).ok()?;
     let store = made(alloc, disk, 8192).ok()?;
-    held(alloc, &mut store.into_disk())
+    held(alloc, &mut disk_of_store(store))
 }
 
 /// The bytes of a new store's file, with its first frame.
@@ -63,9 +60,10 @@ pub fn file_of_one_slot(alloc: Global) -> Option<Vec<u8>> {
     Some(bytes)
 }
 
-pub fn opened(alloc: Global, bytes: &[u8]) -> Option<Store<MemoryDisk, AnyJob>> {
+/// The store that is opened on these bytes.
+pub fn opened(alloc: Global, bytes: &[u8]) -> Option<Held<MemoryDisk>> {
     let disk = MemoryDisk::new(alloc, bytes, bytes.len(), 200, 1000).ok()?;
-    Store::open(alloc, disk).ok()
+    opened_store(alloc, disk)
 }
 
 /// Where the first segment's number stands.
@@ -216,24 +214,25 @@ fn a_closed_area_alone_is_a_damaged_checkpoint(rt: HostRuntime) {
     check(&rt, is_new_refused(rt.alloc(), HEADER, 0, area), "its gate");
 }
 
+/// No workers, 65 of them, and 4, whose longest batch has no room in a segment; weights 0/3 and 3/3; a slot before the one at which the
+/// set came into force; and the first and the last of the zeros for idle tasks.
+static NO_SETS: [(usize, u8); 8] = [
+    (FIRST_SET, 0),
+    (FIRST_SET, 65),
+    (FIRST_SET, 4),
+    (FIRST_SET + 1, 0),
+    (FIRST_SET + 1, 3),
+    (FIRST_SET - 8, 1),
+    (HEADER + TASKS + 3 * TASK, 1),
+    (SECOND_AREA - 1, 1),
+];
+
 #[test]
 fn a_set_that_is_none_is_a_damaged_checkpoint(rt: HostRuntime) {
     let alloc = rt.alloc();
     let area = damaged(HEADER, Part::Checkpoint);
-    // No workers, 65 of them, and 4, whose longest batch has no room in a segment; weights 0/3 and 3/3; a slot before the one at which the
-    // set came into force; and the first and the last of the zeros for idle tasks.
-    let rows = [
-        (FIRST_SET, 0),
-        (FIRST_SET, 65),
-        (FIRST_SET, 4),
-        (FIRST_SET + 1, 0),
-        (FIRST_SET + 1, 3),
-        (FIRST_SET - 8, 1),
-        (HEADER + TASKS + 3 * TASK, 1),
-        (SECOND_AREA - 1, 1),
-    ];
-    for (at, byte) in rows {
-        check_at(&rt, is_new_refused(alloc, at, byte, area), "byte", at);
+    for (at, byte) in NO_SETS.iter() {
+        check_at(&rt, is_new_refused(alloc, *at, *byte, area), "byte", *at);
     }
 }
 
@@ -351,7 +350,7 @@ fn stores_that_cant_be_made(rt: HostRuntime) {
 }
 
 /// The new store on a disk in memory.
-fn store_in_memory(alloc: Global) -> Option<Store<MemoryDisk, AnyJob>> {
+fn store_in_memory(alloc: Global) -> Option<Held<MemoryDisk>> {
     let disk = MemoryDisk::new(alloc, &[], END, 80, 30_000).ok()?;
     made(alloc, disk, 8192).ok()
 }
@@ -360,7 +359,7 @@ fn store_in_memory(alloc: Global) -> Option<Store<MemoryDisk, AnyJob>> {
 fn appended(alloc: Global) -> Option<Vec<u8>> {
     let mut store = store_in_memory(alloc)?;
     if append_slot(alloc, &mut store) {
-        held(alloc, &mut store.into_disk())
+        held(alloc, &mut disk_of_store(store))
     } else {
         None
     }
@@ -400,7 +399,7 @@ fn checkpointed(alloc: Global) -> Option<Vec<u8>> {
         && store.tend() == Ok(Tended::Piece)
         && store.tend() == Ok(Tended::Finished);
     if is_ended {
-        held(alloc, &mut store.into_disk())
+        held(alloc, &mut disk_of_store(store))
     } else {
         None
     }
@@ -438,26 +437,27 @@ pub fn left(
     }
 }
 
+/// Stops after so many calls, and what is left if this becomes of what isn't synced. The ninth of eleven calls syncs all but the first gate,
+/// which the tenth opens.
+static MAKINGS: [(usize, Fate, Result<u64, Refusal>); 8] = [
+    (8, Fate::Kept, Err(Refusal::NotAStore)),
+    (8, Fate::Dropped, Err(Refusal::NotAStore)),
+    (8, Fate::Filled(0xc3), Err(Refusal::NotAStore)),
+    (9, Fate::Kept, Err(Refusal::NotAStore)),
+    (10, Fate::Dropped, Err(Refusal::NotAStore)),
+    (10, Fate::Filled(0x5a), Err(Refusal::NotAStore)),
+    (10, Fate::Kept, Ok(0)),
+    (11, Fate::Dropped, Ok(0)),
+];
+
 #[test]
 fn a_making_is_stopped(rt: HostRuntime) {
-    // The ninth of eleven calls syncs all but the first gate, which the tenth opens.
     let alloc = rt.alloc();
     let Some(store) = store_in_memory(alloc) else {
         return check(&rt, false, "made");
     };
-    let disk = store.into_disk();
-    let none = Err(Refusal::NotAStore);
-    let rows = [
-        (8, Fate::Kept, none),
-        (8, Fate::Dropped, none),
-        (8, Fate::Filled(0xc3), none),
-        (9, Fate::Kept, none),
-        (10, Fate::Dropped, none),
-        (10, Fate::Filled(0x5a), none),
-        (10, Fate::Kept, Ok(0)),
-        (11, Fate::Dropped, Ok(0)),
-    ];
-    for (row, (calls, fate, wanted)) in rows.iter().enumerate() {
+    let disk = disk_of_store(store);
+    for (row, (calls, fate, wanted)) in MAKINGS.iter().enumerate() {
         let holds = left(alloc, &disk, *calls, *fate) == Some(*wanted);
         check_at(&rt, holds, "row", row);
     }
@@ -470,7 +470,7 @@ fn an_append_is_stopped(rt: HostRuntime) {
         return check(&rt, false, "made");
     };
     check(&rt, append_slot(alloc, &mut store), "appended");
-    let disk = store.into_disk();
+    let disk = disk_of_store(store);
     for (calls, number) in [(12, 0), (13, 0), (14, 0), (15, 1)] {
         let holds = left(alloc, &disk, calls, Fate::Filled(0x5a)) == Some(Ok(number));
         check_at(&rt, holds, "calls", calls);

@@ -1,7 +1,7 @@
 //! Stops after each call of the worked client.
 use crate::batches::{append_both, append_slots};
 use crate::check::{check, check_at};
-use crate::engines::{last_of, new_store};
+use crate::engines::{disk_of_store, last_of, new_store};
 use pfx_disk::{Disk, Fate, MemoryDisk};
 use pfx_kinds::any::AnyJob;
 use pfx_kit::places::END;
@@ -41,7 +41,7 @@ fn first_loss(alloc: Global, fate: Fate) -> Option<u64> {
     let mut store = new_store(alloc, disk, 8192)?;
     let made = store.disk().clock();
     let marks = run_ten(alloc, &mut store)?;
-    let disk = store.into_disk();
+    let disk = disk_of_store(store);
     for calls in made..=disk.clock() {
         if !is_left(alloc, &disk, calls, fate, marked_by(calls, marks)) {
             return Some(calls);
@@ -50,7 +50,7 @@ fn first_loss(alloc: Global, fate: Fate) -> Option<u64> {
     Some(0)
 }
 
-const FATES: [Fate; 5] = [
+static FATES: [Fate; 5] = [
     Fate::Kept,
     Fate::Dropped,
     Fate::Filled(0xc3),
@@ -120,7 +120,7 @@ fn first_part(alloc: Global, fate: Fate) -> Option<u64> {
     let mut store = new_store(alloc, disk, 8192)?;
     let made = store.disk().clock();
     let clocks = run_batches(alloc, &mut store)?;
-    let disk = store.into_disk();
+    let disk = disk_of_store(store);
     for calls in made..=disk.clock() {
         if calls > disk.clock() {
             return None;

@@ -1,7 +1,7 @@
 //! Scripts over stores: on disks in memory, in a file, and on disks that fail.
 
 use crate::check::{check, check_pair};
-use crate::engines::{begun, empty, in_memory, opened};
+use crate::engines::{Driven, begun, disk_of_engine, empty, in_memory, opened};
 use pfx_disk::{Disk, FaultDisk, FileDisk, MemoryDisk};
 use pfx_fault::{Cause, Fault};
 use pfx_kinds::any::AnyJob;
@@ -73,7 +73,7 @@ fn a_run_goes_on_after_the_store_is_opened_again(rt: HostRuntime) {
         prints(alloc, WEEK, &mut engine, FIRST_WEEK, None),
         "first",
     );
-    let Some(mut again) = opened(alloc, engine.into_keeper().into_disk()) else {
+    let Some(mut again) = opened(alloc, disk_of_engine(engine)) else {
         return check(&rt, false, "opened again");
     };
     check(
@@ -111,7 +111,7 @@ fn jobs_are_shown_and_again_after_the_store_is_opened(rt: HostRuntime) {
         return check(&rt, false, "an engine");
     };
     check(&rt, prints(alloc, SHOW, &mut engine, SHOWN, None), "first");
-    let Some(mut again) = opened(alloc, engine.into_keeper().into_disk()) else {
+    let Some(mut again) = opened(alloc, disk_of_engine(engine)) else {
         return check(&rt, false, "opened again");
     };
     check(
@@ -188,20 +188,20 @@ fn segments_are_turned(rt: HostRuntime) {
         &mut Script::new(alloc, b"slot,,,800,\n".as_slice()),
         ONE_BY_ONE,
         &mut written,
-        &mut engine,
+        &mut *engine,
     );
     check(&rt, end.is_ok(), "800 slots");
-    let disk = engine.into_keeper().into_disk();
+    let disk = disk_of_engine(engine);
     check(&rt, stands_at(alloc, disk, 800), "opened again");
 }
 
 /// Whether a slot's mark has the number 1 and the disk's clock, and its reply is of slot 0.
-fn slot_is_marked(alloc: Global, mut engine: StoreEngine<MemoryDisk, AnyJob>) -> bool {
+fn slot_is_marked(alloc: Global, mut engine: Driven<MemoryDisk>) -> bool {
     match engine.execute(alloc, Command::Slot) {
         Ok((mark, Reply::Ran { slot: 0, row: _ })) => {
             engine.last_kept() == Ok(1)
                 && mark.number == 1
-                && mark.clock == engine.into_keeper().into_disk().clock()
+                && mark.clock == disk_of_engine(engine).clock()
         }
         _ => false,
     }
@@ -217,7 +217,7 @@ fn a_mark_has_its_number_and_the_clock(rt: HostRuntime) {
 }
 
 /// What is printed before the end, by how many commands were kept.
-const KEPT: [&str; 4] = [
+static KEPT: [&str; 4] = [
     "",
     "1 submitted 0\n",
     "1 submitted 0\n2 ran 0: 0 1\n",
@@ -230,11 +230,7 @@ const MADE: u64 = 11;
 const APPENDED: u64 = 4;
 
 /// The engine on a disk whose call k after the making fails, with its work done or not.
-fn faulty(
-    alloc: Global,
-    k: u64,
-    works: bool,
-) -> Option<StoreEngine<FaultDisk<MemoryDisk>, AnyJob>> {
+fn faulty(alloc: Global, k: u64, works: bool) -> Option<Driven<FaultDisk<MemoryDisk>>> {
     let call = MADE.saturating_add(k);
     let memory = empty(alloc, 200)?;
     let disk = match works {
@@ -260,8 +256,8 @@ fn stays_failed(
 }
 
 /// Whether what was answered survives, and at most the command that failed with it.
-fn keeps(alloc: Global, engine: StoreEngine<FaultDisk<MemoryDisk>, AnyJob>, marked: u64) -> bool {
-    match opened(alloc, engine.into_keeper().into_disk().into_inner()) {
+fn keeps(alloc: Global, engine: Driven<FaultDisk<MemoryDisk>>, marked: u64) -> bool {
+    match opened(alloc, disk_of_engine(engine).into_inner()) {
         Some(again) => match again.last_kept() {
             Ok(kept) => marked <= kept && kept - marked <= 1,
             Err(_) => false,

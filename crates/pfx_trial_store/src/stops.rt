@@ -1,17 +1,16 @@
 //! Stops after each call of a store on a disk in memory, and where its frames go.
 
 use crate::check::{check, check_at, check_pair};
-use crate::engines::{in_memory, last_of, new_store, opened, over};
+use crate::engines::{Driven, Engine, disk_of_engine, in_memory, last_of, new_store, opened, over};
 use pfx_disk::{Disk, Fate, MemoryDisk};
 use pfx_jobs::job::Job;
 use pfx_kinds::any::AnyJob;
 use pfx_kit::places::FIRST_SEGMENT;
 use pfx_machine::Command;
-use pfx_store_engine::StoreEngine;
 use std::alloc::Global;
 
 /// Whether so many slots are carried out.
-fn run_slots(alloc: Global, count: u32, engine: &mut StoreEngine<MemoryDisk, AnyJob>) -> bool {
+fn run_slots(alloc: Global, count: u32, engine: &mut Engine) -> bool {
     for _ in 0..count {
         if engine.execute(alloc, Command::Slot).is_err() {
             return false;
@@ -21,12 +20,7 @@ fn run_slots(alloc: Global, count: u32, engine: &mut StoreEngine<MemoryDisk, Any
 }
 
 /// Whether a job is given to a task.
-fn submit(
-    alloc: Global,
-    task: u16,
-    job: Option<AnyJob>,
-    engine: &mut StoreEngine<MemoryDisk, AnyJob>,
-) -> bool {
+fn submit(alloc: Global, task: u16, job: Option<AnyJob>, engine: &mut Engine) -> bool {
     match job {
         Some(job) => engine.execute(alloc, Command::Submit { task, job }).is_ok(),
         None => false,
@@ -34,7 +28,7 @@ fn submit(
 }
 
 /// Whether the first task's job has these first cells, and so many steps left.
-fn has_first_job(engine: &StoreEngine<MemoryDisk, AnyJob>, cells: u8, left: u32) -> bool {
+fn has_first_job(engine: &Engine, cells: u8, left: u32) -> bool {
     let state = engine.keeper.state();
     if state.jobs().is_empty() {
         return false;
@@ -78,7 +72,7 @@ fn three_slots_are_twelve_calls(rt: HostRuntime) {
     };
     let made = engine.keeper.disk().clock();
     check(&rt, run_slots(alloc, 3, &mut engine), "three slots");
-    let disk = engine.into_keeper().into_disk();
+    let disk = disk_of_engine(engine);
     check(&rt, disk.clock() == made.saturating_add(12), "twelve calls");
     let fates = [
         Fate::Kept,
@@ -96,16 +90,16 @@ fn three_slots_are_twelve_calls(rt: HostRuntime) {
 }
 
 /// How many slots are carried out, what the cells of the first job are then, and how many steps it has left.
-const ROWS: [(u32, u8, u32); 4] = [(1, 0b11, 2), (1, 0b111, 1), (2, 0b1101, 0), (1, 0b1101, 0)];
+static ROWS: [(u32, u8, u32); 4] = [(1, 0b11, 2), (1, 0b111, 1), (2, 0b1101, 0), (1, 0b1101, 0)];
 
 /// How many rows hold, with the store opened again after each, up to the first that doesn't.
-fn rows_that_hold(alloc: Global, engine: StoreEngine<MemoryDisk, AnyJob>) -> usize {
+fn rows_that_hold(alloc: Global, engine: Driven<MemoryDisk>) -> usize {
     let mut engine = engine;
     for (number, row) in ROWS.iter().enumerate() {
         if !run_slots(alloc, row.0, &mut engine) {
             return number;
         }
-        let Some(again) = opened(alloc, engine.into_keeper().into_disk()) else {
+        let Some(again) = opened(alloc, disk_of_engine(engine)) else {
             return number;
         };
         if !has_first_job(&again, row.1, row.2) {
@@ -129,13 +123,13 @@ fn the_file_holds_the_states_of_jobs(rt: HostRuntime) {
 }
 
 /// The engine over a store with the least segments of two workers.
-fn over_least_segments(alloc: Global) -> Option<StoreEngine<MemoryDisk, AnyJob>> {
+fn over_least_segments(alloc: Global) -> Option<Driven<MemoryDisk>> {
     let disk = MemoryDisk::new(alloc, &[], SECOND + 4233, 1000, 60_000).ok()?;
     over(alloc, new_store(alloc, disk, 4233)?)
 }
 
 /// Whether the second segment is in use or the first, and its frames end at this gate.
-fn is_at(engine: &StoreEngine<MemoryDisk, AnyJob>, segment: bool, gate: usize) -> bool {
+fn is_at(engine: &Engine, segment: bool, gate: usize) -> bool {
     let places = engine.keeper.places();
     places.segment == segment && places.gate == gate
 }
@@ -168,6 +162,6 @@ fn a_full_segment_is_left(rt: HostRuntime) {
     check(&rt, run_slots(alloc, 1, &mut engine), "43 slots");
     check(&rt, !engine.keeper.places().segment, "the first again");
     check(&rt, run_slots(alloc, 17, &mut engine), "60 slots");
-    let last = last_of(alloc, engine.into_keeper().into_disk());
+    let last = last_of(alloc, disk_of_engine(engine));
     check(&rt, last == Some(62), "opened again");
 }

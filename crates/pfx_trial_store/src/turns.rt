@@ -1,7 +1,10 @@
 //! Turns and checkpoints of stores on a disk in memory.
 
 use crate::check::{check, check_at};
-use crate::engines::{empty, new_store, opened, over};
+use crate::engines::{
+    Driven, Engine, Held, disk_of_engine, disk_of_store, empty, new_store, opened, over,
+    store_of_engine,
+};
 use crate::held::held;
 use pfx_disk::{Disk, Fate, MemoryDisk};
 use pfx_jobs::job::Job;
@@ -11,7 +14,6 @@ use pfx_machine::{Command, State};
 use pfx_record::{Batch, Record, fits};
 use pfx_record_redo::{apply_all, run_recorded};
 use pfx_store::Store;
-use pfx_store_engine::StoreEngine;
 use pfx_store_file::Tended;
 use std::alloc::Global;
 
@@ -95,7 +97,7 @@ fn byte_at(bytes: &[u8], at: usize) -> u8 {
 }
 
 /// Whether the last command has this number, and each task of three has got so many slots.
-fn stands_at(engine: &StoreEngine<MemoryDisk, AnyJob>, number: u64, got: u64) -> bool {
+fn stands_at(engine: &Engine, number: u64, got: u64) -> bool {
     let ledger = engine.state.columns();
     engine.last_kept() == Ok(number)
         && ledger.total() == 3
@@ -103,7 +105,7 @@ fn stands_at(engine: &StoreEngine<MemoryDisk, AnyJob>, number: u64, got: u64) ->
 }
 
 /// The steps of a checkpoint of one piece, and what comes after them.
-const STEPS: [Tended; 4] = [
+static STEPS: [Tended; 4] = [
     Tended::Closed,
     Tended::Piece,
     Tended::Finished,
@@ -116,12 +118,12 @@ fn turns(store: &mut Store<MemoryDisk, AnyJob>) -> bool {
 }
 
 /// The new store with segments of 8,192 bytes, on a disk with room for so many calls.
-fn thirds(alloc: Global, calls: usize) -> Option<Store<MemoryDisk, AnyJob>> {
+fn thirds(alloc: Global, calls: usize) -> Option<Held<MemoryDisk>> {
     new_store(alloc, empty(alloc, calls)?, 8192)
 }
 
 /// The store after ten slots, a turn, the checkpoint's steps, a slot, a turn and a slot.
-fn turned_twice(alloc: Global) -> Option<Store<MemoryDisk, AnyJob>> {
+fn turned_twice(alloc: Global) -> Option<Held<MemoryDisk>> {
     let mut store = thirds(alloc, 200)?;
     let is_turned = append_slots(alloc, 10, &mut store)
         && turns(&mut store)
@@ -148,10 +150,7 @@ fn a_second_turn_leads_back(rt: HostRuntime) {
 }
 
 /// The engine over the store as a stop now leaves it.
-fn reopened(
-    alloc: Global,
-    store: &Store<MemoryDisk, AnyJob>,
-) -> Option<StoreEngine<MemoryDisk, AnyJob>> {
+fn reopened(alloc: Global, store: &Store<MemoryDisk, AnyJob>) -> Option<Driven<MemoryDisk>> {
     opened(alloc, left(alloc, store)?)
 }
 
@@ -162,22 +161,23 @@ fn file_turned_twice(alloc: Global) -> Option<Vec<u8>> {
     held(alloc, &mut disk)
 }
 
+/// Frame 12 stands where frame 1 stood, and has closed frame 2's gate; those behind it are as they were.
+static BYTES: [(usize, u8); 6] = [
+    (SECOND_AREA, 0xc3),
+    (SECOND_AREA + 1, 10),
+    (FIRST_SEGMENT, 0xc3),
+    (FIRST_SEGMENT + 1, 12),
+    (FIRST_FRAME, 0xc3),
+    (FIRST_FRAME + 22, 0),
+];
+
 #[test]
 fn old_frames_stand_behind_a_closed_gate(rt: HostRuntime) {
-    // Frame 12 stands where frame 1 stood, and has closed frame 2's gate; those behind it are as they were.
     let alloc = rt.alloc();
     let bytes = file_turned_twice(alloc).unwrap_or(Vec::new(alloc));
-    let held = [
-        (SECOND_AREA, 0xc3),
-        (SECOND_AREA + 1, 10),
-        (FIRST_SEGMENT, 0xc3),
-        (FIRST_SEGMENT + 1, 12),
-        (FIRST_FRAME, 0xc3),
-        (FIRST_FRAME + 22, 0),
-    ];
     check(&rt, bytes.len() == END, "two turns");
-    for (at, byte) in held {
-        check_at(&rt, byte_at(&bytes, at) == byte, "byte", at);
+    for (at, byte) in BYTES.iter() {
+        check_at(&rt, byte_at(&bytes, *at) == *byte, "byte", *at);
     }
     for frame in 2..10 {
         let holds = byte_at(&bytes, FIRST_FRAME + 22 * frame) == 0xc3;
@@ -186,7 +186,7 @@ fn old_frames_stand_behind_a_closed_gate(rt: HostRuntime) {
 }
 
 /// The store after forty slots, a turn, and five slots between the checkpoint's first two steps and after them.
-fn turned_once(alloc: Global) -> Option<Store<MemoryDisk, AnyJob>> {
+fn turned_once(alloc: Global) -> Option<Held<MemoryDisk>> {
     let mut store = thirds(alloc, 400)?;
     let is_turned = append_slots(alloc, 40, &mut store)
         && turns(&mut store)
@@ -198,12 +198,14 @@ fn turned_once(alloc: Global) -> Option<Store<MemoryDisk, AnyJob>> {
 }
 
 /// Whether the store takes the steps of a checkpoint, and stands as before when it is opened then.
-fn begins_anew(alloc: Global, engine: StoreEngine<MemoryDisk, AnyJob>) -> bool {
-    let mut store = engine.into_keeper();
+fn begins_anew(alloc: Global, engine: Driven<MemoryDisk>) -> bool {
+    let Some(mut store) = store_of_engine(alloc, engine) else {
+        return false;
+    };
     if !are_steps(&mut store, &STEPS) {
         return false;
     }
-    match opened(alloc, store.into_disk()) {
+    match opened(alloc, disk_of_store(store)) {
         Some(after) => stands_at(&after, 45, 30),
         None => false,
     }
@@ -242,7 +244,7 @@ fn a_checkpoint_ends_between_slots(rt: HostRuntime) {
 }
 
 /// The engine after five slots and a turn.
-fn with_a_checkpoint(alloc: Global) -> Option<StoreEngine<MemoryDisk, AnyJob>> {
+fn with_a_checkpoint(alloc: Global) -> Option<Driven<MemoryDisk>> {
     let mut store = thirds(alloc, 200)?;
     if append_slots(alloc, 5, &mut store) && store.turn() == Ok(true) {
         over(alloc, store)
@@ -252,7 +254,7 @@ fn with_a_checkpoint(alloc: Global) -> Option<StoreEngine<MemoryDisk, AnyJob>> {
 }
 
 /// Whether a slot takes so many calls, up to its mark.
-fn takes_calls(alloc: Global, engine: &mut StoreEngine<MemoryDisk, AnyJob>, calls: u64) -> bool {
+fn takes_calls(alloc: Global, engine: &mut Engine, calls: u64) -> bool {
     let before = engine.keeper.disk().clock();
     match engine.execute(alloc, Command::Slot) {
         Ok((mark, _reply)) => mark.clock >= before && mark.clock - before == calls,
@@ -278,7 +280,7 @@ fn marked(
     alloc: Global,
     command: Command<AnyJob>,
     marks: &mut Vec<u64>,
-    engine: &mut StoreEngine<MemoryDisk, AnyJob>,
+    engine: &mut Engine,
 ) -> bool {
     match engine.execute(alloc, command) {
         Ok((mark, _reply)) => marks.push(mark.clock).is_ok(),
@@ -287,7 +289,7 @@ fn marked(
 }
 
 /// Whether the task's job of 1,000 steps, if there is one, has stepped as often as its task was chosen.
-fn has_stepped(engine: &StoreEngine<MemoryDisk, AnyJob>, task: u16) -> bool {
+fn has_stepped(engine: &Engine, task: u16) -> bool {
     if engine.state.columns().total() != 3 || engine.state.jobs().len() != 3 || task >= 3 {
         return false;
     }
@@ -299,7 +301,7 @@ fn has_stepped(engine: &StoreEngine<MemoryDisk, AnyJob>, task: u16) -> bool {
 }
 
 /// The number of the last command, if each job has stepped as often as its task was chosen.
-fn kept_whole(engine: &StoreEngine<MemoryDisk, AnyJob>) -> Option<u64> {
+fn kept_whole(engine: &Engine) -> Option<u64> {
     let number = engine.last_kept().ok()?;
     let is_whole = engine.state.columns().slot() == number.saturating_sub(2)
         && has_stepped(engine, 0)
@@ -308,18 +310,13 @@ fn kept_whole(engine: &StoreEngine<MemoryDisk, AnyJob>) -> Option<u64> {
 }
 
 /// The engine over a new store with segments of the least length.
-fn over_least_segments(alloc: Global) -> Option<StoreEngine<MemoryDisk, AnyJob>> {
+fn over_least_segments(alloc: Global) -> Option<Driven<MemoryDisk>> {
     let disk = MemoryDisk::new(alloc, &[], FIRST_SEGMENT + 2 * 4233, 1000, 60_000).ok()?;
     over(alloc, new_store(alloc, disk, 4233)?)
 }
 
 /// Gives a job of 1,000 steps to a task.
-fn marked_job(
-    alloc: Global,
-    task: u16,
-    marks: &mut Vec<u64>,
-    engine: &mut StoreEngine<MemoryDisk, AnyJob>,
-) -> bool {
+fn marked_job(alloc: Global, task: u16, marks: &mut Vec<u64>, engine: &mut Engine) -> bool {
     match AnyJob::start("count", 1000, b"") {
         Ok(job) => marked(alloc, Command::Submit { task, job }, marks, engine),
         Err(_) => false,
@@ -327,11 +324,7 @@ fn marked_job(
 }
 
 /// Whether two jobs are given and sixty slots run, the clocks of whose marks are noted.
-fn run_62(
-    alloc: Global,
-    marks: &mut Vec<u64>,
-    engine: &mut StoreEngine<MemoryDisk, AnyJob>,
-) -> bool {
+fn run_62(alloc: Global, marks: &mut Vec<u64>, engine: &mut Engine) -> bool {
     if !marked_job(alloc, 0, marks, engine) || !marked_job(alloc, 1, marks, engine) {
         return false;
     }
@@ -391,7 +384,7 @@ fn marks_survive(alloc: Global, fate: Fate) -> Option<bool> {
     let made = engine.keeper.disk().clock();
     let mut marks = Vec::new(alloc);
     let is_run = run_62(alloc, &mut marks, &mut engine);
-    let disk = engine.into_keeper().into_disk();
+    let disk = disk_of_engine(engine);
     let is_marked = marked_by(&marks, disk.clock()) == 62;
     Some(is_run && is_marked && first_loss(alloc, &disk, made, &marks, fate).is_none())
 }

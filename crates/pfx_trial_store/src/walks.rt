@@ -1,6 +1,7 @@
 //! A store whose jobs are walks, a kind that only its user knows: stored, stopped and recovered.
 
 use crate::check::{check, check_at, check_pair};
+use crate::engines::disk_of_store;
 use crate::turns::append_command;
 use pfx_disk::{Disk, Fate, MemoryDisk};
 use pfx_kinds_walk::walk::Walk;
@@ -11,11 +12,19 @@ use pfx_store_file::Tended;
 use pfx_weights::TaskSet;
 use std::alloc::Global;
 
+/// A store of walks, behind a pointer.
+type Held = Box<Store<MemoryDisk, Walk>>;
+
 /// The new store of three tasks of weight 2/3 on two workers.
-fn begun(alloc: Global) -> Option<Store<MemoryDisk, Walk>> {
+fn begun(alloc: Global) -> Option<Held> {
     let disk = MemoryDisk::new(alloc, &[], END, 200, 60_000).ok()?;
     let set = TaskSet::new(alloc, 2, &[(2, 3), (2, 3), (2, 3)]).ok()?;
-    Store::init(alloc, disk, &set, 8192).ok()
+    Box::new(alloc, Store::init(alloc, disk, &set, 8192).ok()?).ok()
+}
+
+/// The store that a disk holds.
+fn opened(alloc: Global, disk: MemoryDisk) -> Option<Held> {
+    Box::new(alloc, Store::open(alloc, disk).ok()?).ok()
 }
 
 /// Submits a walk of three steps as the first task's job and runs three slots, two of which have it; answers how many calls of the
@@ -65,7 +74,7 @@ fn recovered(alloc: Global, disk: &MemoryDisk, calls: u64, fate: Fate) -> Option
         return None;
     }
     let left = disk.stopped(alloc, calls as usize, &[fate, fate]).ok()?;
-    let store = Store::<MemoryDisk, Walk>::open(alloc, left).ok()?;
+    let store = opened(alloc, left)?;
     if has_walk(store.state()) {
         Some(store.state().number())
     } else {
@@ -91,7 +100,7 @@ fn a_walk_is_recovered_after_each_call(rt: HostRuntime) {
     let Some(clocks) = walked(alloc, &mut store) else {
         return check(&rt, false, "walked");
     };
-    let disk = store.into_disk();
+    let disk = disk_of_store(store);
     let fates = [Fate::Kept, Fate::Dropped, Fate::Filled(0x5a)];
     for (row, fate) in fates.iter().enumerate() {
         for calls in clocks[0]..=disk.clock() {
@@ -114,7 +123,7 @@ fn a_walk_is_recovered_from_a_checkpoint(rt: HostRuntime) {
     for (at, step) in steps.iter().enumerate() {
         check_at(&rt, store.tend() == Ok(*step), "step", at);
     }
-    let disk = store.into_disk();
+    let disk = disk_of_store(store);
     let number = recovered(alloc, &disk, disk.clock(), Fate::Dropped);
     check(&rt, number == Some(4), "recovered");
 }

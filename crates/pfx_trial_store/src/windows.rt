@@ -1,7 +1,7 @@
 //! Scripts whose slots or records share frames: what they print, what survives if the disk fails, and stops after each call.
 
 use crate::check::{check, check_at, check_pair};
-use crate::engines::{begun, empty, in_memory, last_of, opened};
+use crate::engines::{Driven, begun, disk_of_engine, empty, in_memory, last_of, opened};
 use crate::stops::{kept_by, survivors};
 use pfx_disk::{Disk, Fate, FaultDisk, MemoryDisk};
 use pfx_fault::{Cause, Fault};
@@ -59,7 +59,7 @@ fn prints(alloc: Global, window: u32, wanted: &[u8], last: u64) -> bool {
     };
     let (written, end) = run(alloc, MIXED, window, &mut engine);
     let is_printed = end.is_ok() && written.as_slice() == wanted;
-    let kept = last_of(alloc, engine.into_keeper().into_disk());
+    let kept = last_of(alloc, disk_of_engine(engine));
     is_printed && kept == Some(last)
 }
 
@@ -138,7 +138,7 @@ fn records_that_stand_ready_share_frames(rt: HostRuntime) {
 const FORTY: &str = "slot,,,40,\n";
 
 /// The rows of three tasks of weight 2/3 on two workers, which come round every three slots.
-const ROWS: [&str; 3] = ["0 1", "0 2", "1 2"];
+static ROWS: [&str; 3] = ["0 1", "0 2", "1 2"];
 
 /// The lines of so many slots.
 fn lines(alloc: Global, slots: u64) -> Option<Vec<u8>> {
@@ -156,11 +156,7 @@ const MADE: u64 = 11;
 const APPENDED: u64 = 4;
 
 /// The engine on a disk whose call k after the making fails, with its work done or not.
-fn faulty(
-    alloc: Global,
-    k: u64,
-    works: bool,
-) -> Option<StoreEngine<FaultDisk<MemoryDisk>, AnyJob>> {
+fn faulty(alloc: Global, k: u64, works: bool) -> Option<Driven<FaultDisk<MemoryDisk>>> {
     let call = MADE.saturating_add(k);
     let memory = empty(alloc, 300)?;
     let disk = match works {
@@ -180,7 +176,7 @@ fn is_ended(alloc: Global, window: u32, k: u64, works: bool) -> Option<bool> {
     let cause = Cause::Device;
     let is_told = end == Err(Fault::StoreFailed { marked, cause });
     let is_printed = written.as_slice() == wanted.as_slice();
-    let disk = engine.into_keeper().into_disk().into_inner();
+    let disk = disk_of_engine(engine).into_inner();
     let again = opened(alloc, disk)?;
     let kept = again.last_kept().ok()?;
     let next = marked.saturating_add(u64::from(window)).min(40);
@@ -215,7 +211,7 @@ fn a_frame_survives_whole_or_not_at_all(rt: HostRuntime) {
     let made = engine.keeper.disk().clock();
     let (_written, end) = run(alloc, "slot,,,48,\n", 16, &mut engine);
     check(&rt, end.is_ok(), "48 slots");
-    let disk = engine.into_keeper().into_disk();
+    let disk = disk_of_engine(engine);
     let fates = [
         Fate::Kept,
         Fate::Dropped,
@@ -237,7 +233,7 @@ fn turns(alloc: Global, window: u32, slots: u64) -> Option<bool> {
     let script = format!(in alloc; "slot,,,{slots},\n").ok()?;
     let (_written, end) = run(alloc, script.as_str(), window, &mut engine);
     end.ok()?;
-    let kept = last_of(alloc, engine.into_keeper().into_disk());
+    let kept = last_of(alloc, disk_of_engine(engine));
     Some(kept == Some(slots))
 }
 

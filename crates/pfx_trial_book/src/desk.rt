@@ -36,6 +36,28 @@ where
         && is_collected(rt, desk, &mut mine, 1)
 }
 
+/// The quantum of task 7, if it is brought and given back.
+fn given_back<K: Desk<Quantum<AnyJob>, Done<AnyJob>>, R: Wait>(
+    rt: &R,
+    desk: &K,
+    seat: &mut K::Seat,
+) -> Option<Quantum<AnyJob>> {
+    desk.deal(rt, seat, quantum(1, 0, 7, b"20")?).err()
+}
+
+/// Whether its result is brought and given back.
+fn is_given_back<K: Desk<Quantum<AnyJob>, Done<AnyJob>>, R: Wait>(
+    rt: &R,
+    desk: &K,
+    seat: &mut K::Seat,
+    one: Quantum<AnyJob>,
+) -> bool {
+    match desk.hand_back(rt, seat, one.run()) {
+        Ok(()) => false,
+        Err(done) => done.task == 7,
+    }
+}
+
 /// Whether the desk, once it is closed, gives back what is brought and has nothing to give.
 fn gives_nothing<K: Desk<Quantum<AnyJob>, Done<AnyJob>>, R: Wait>(
     rt: &R,
@@ -43,19 +65,13 @@ fn gives_nothing<K: Desk<Quantum<AnyJob>, Done<AnyJob>>, R: Wait>(
     seat: &mut K::Seat,
 ) -> bool {
     desk.close(rt, seat);
-    let Some(one) = quantum(1, 0, 7, b"20") else {
+    let Some(back) = given_back(rt, desk, seat) else {
         return false;
     };
-    let Err(back) = desk.deal(rt, seat, one) else {
-        return false;
-    };
-    if back.task != 7 || desk.next(rt, seat).is_some() {
-        return false;
-    }
-    match desk.hand_back(rt, seat, back.run()) {
-        Ok(()) => false,
-        Err(done) => done.task == 7 && desk.collect(rt, seat).is_none(),
-    }
+    back.task == 7
+        && desk.next(rt, seat).is_none()
+        && is_given_back(rt, desk, seat, back)
+        && desk.collect(rt, seat).is_none()
 }
 
 /// A closed desk gives nothing, though a quantum lies on it; and again when it is closed once more.

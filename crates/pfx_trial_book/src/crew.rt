@@ -80,8 +80,23 @@ enum Serves {
     Alone,
 }
 
-/// Whether both results came: of two workers task 1's first, before the limit, and of the caller alone at the limit. A worker's count
-/// may come after the caller's last look, so it is read once all threads have ended.
+/// Whether both results came: of two workers task 1's first, and of the caller alone.
+fn are_both_served<K: Desk<Quantum<AnyJob>, Done<AnyJob>> + Sync, R: Threads + Wait + Sync>(
+    rt: &R,
+    desk: &K,
+    serves: Serves,
+) -> bool
+where
+    K::Seat: Drop + Send,
+{
+    match serves {
+        Serves::Workers => with_two_workers(rt, desk) == Some([Some(1), Some(0)]),
+        Serves::Alone => serves_alone(rt, desk),
+    }
+}
+
+/// Whether both results came, of two workers before the limit, and of the caller alone at the limit. A worker's count may come after the
+/// caller's last look, so it is read once all threads have ended.
 fn is_served<K: Desk<Quantum<AnyJob>, Done<AnyJob>> + Drop + Sync, R: Threads + Wait + Sync>(
     rt: &R,
     desk: K,
@@ -91,13 +106,8 @@ where
     K::Seat: Drop + Send,
 {
     let desk = WatchedDesk::new(desk, Holding::new());
-    let (served, late) = match serves {
-        Serves::Workers => {
-            let tasks = with_two_workers(rt, &desk);
-            (tasks == Some([Some(1), Some(0)]), false)
-        }
-        Serves::Alone => (serves_alone(rt, &desk), true),
-    };
+    let served = are_both_served(rt, &desk, serves);
+    let late = matches!(serves, Serves::Alone);
     served && desk.watch().is_late() == late && desk.watch().backs() == 2
 }
 

@@ -86,28 +86,38 @@ fn all_orders(alloc: Global) -> bool {
     true
 }
 
-/// Whether a result is refused: of another number, slot, task or state before as a stranger, and a second time as a double.
+/// A result: of which command, slot, task and state before.
+type Given<'a> = (u64, u64, u16, &'a [u8]);
+
+/// Whether each result is answered so, one after the other.
+fn are_answered(
+    quanta: &[Quantum<AnyJob>],
+    places: &mut [Option<Done<AnyJob>>],
+    rows: &[(Given<'_>, Result<(), GatherFault>)],
+) -> bool {
+    for ((number, slot, task, start), wanted) in rows {
+        let one = quantum(*number, *slot, *task, *start);
+        if answer(quanta, places, one) != Some(*wanted) {
+            return false;
+        }
+    }
+    true
+}
+
+/// Whether a result is refused: of another number, slot, state before or task as a stranger, and a second time as a double.
 fn refusals(alloc: Global) -> Option<bool> {
     let quanta = slot(alloc)?;
     let mut places = places(alloc)?;
-    let strangers = [
-        quantum(8, 4, 1, b"20"),
-        quantum(9, 3, 1, b"20"),
-        quantum(9, 4, 1, b"19"),
+    let stranger = Err(GatherFault::Stranger { task: 1 });
+    let rows: [(Given<'_>, Result<(), GatherFault>); 6] = [
+        ((8, 4, 1, b"20"), stranger),
+        ((9, 3, 1, b"20"), stranger),
+        ((9, 4, 1, b"19"), stranger),
+        ((9, 4, 3, b"20"), Err(GatherFault::Stranger { task: 3 })),
+        ((9, 4, 1, b"20"), Ok(())),
+        ((9, 4, 1, b"20"), Err(GatherFault::Double { task: 1 })),
     ];
-    for one in strangers {
-        if answer(&quanta, &mut places, one) != Some(Err(GatherFault::Stranger { task: 1 })) {
-            return Some(false);
-        }
-    }
-    let other = answer(&quanta, &mut places, quantum(9, 4, 3, b"20"));
-    let first = answer(&quanta, &mut places, quantum(9, 4, 1, b"20"));
-    let second = answer(&quanta, &mut places, quantum(9, 4, 1, b"20"));
-    Some(
-        other == Some(Err(GatherFault::Stranger { task: 3 }))
-            && first == Some(Ok(()))
-            && second == Some(Err(GatherFault::Double { task: 1 })),
-    )
+    Some(are_answered(&quanta, &mut places, &rows))
 }
 
 #[test]
