@@ -45,6 +45,29 @@ impl Marks {
         self.collected.load(Ordering::SeqCst)
     }
 
+    /// Lets the result go on if the caller was told that there is none.
+    fn release(&self) {
+        if self.missed.load(Ordering::SeqCst) {
+            self.released.store(true, Ordering::SeqCst);
+        }
+    }
+
+    /// Holds a result if it is the first one.
+    fn hold_first(&self) {
+        if !self.held.swap(true, Ordering::SeqCst) {
+            self.hold();
+        }
+    }
+
+    /// Whether the caller is to be told that there is no result: the second time that it asks.
+    fn misses(&self) -> bool {
+        let missed = self.collected.fetch_add(1, Ordering::SeqCst) == 1;
+        if missed {
+            self.missed.store(true, Ordering::SeqCst);
+        }
+        missed
+    }
+
     /// Waits until the result may go on.
     fn hold(&self) {
         for _turn in 0..LIMIT {
@@ -101,9 +124,7 @@ impl<K: Desk<Quantum<AnyJob>, Done<AnyJob>> + Drop> Desk<Quantum<AnyJob>, Done<A
         seat: &mut K::Seat,
         quantum: Quantum<AnyJob>,
     ) -> Result<(), Quantum<AnyJob>> {
-        if self.marks.missed.load(Ordering::SeqCst) {
-            self.marks.released.store(true, Ordering::SeqCst);
-        }
+        self.marks.release();
         self.desk.deal(rt, seat, quantum)
     }
 
@@ -117,15 +138,12 @@ impl<K: Desk<Quantum<AnyJob>, Done<AnyJob>> + Drop> Desk<Quantum<AnyJob>, Done<A
         seat: &mut K::Seat,
         done: Done<AnyJob>,
     ) -> Result<(), Done<AnyJob>> {
-        if !self.marks.held.swap(true, Ordering::SeqCst) {
-            self.marks.hold();
-        }
+        self.marks.hold_first();
         self.desk.hand_back(rt, seat, done)
     }
 
     fn collect<R: Wait>(&self, rt: &R, seat: &mut K::Seat) -> Option<Done<AnyJob>> {
-        if self.marks.collected.fetch_add(1, Ordering::SeqCst) == 1 {
-            self.marks.missed.store(true, Ordering::SeqCst);
+        if self.marks.misses() {
             return None;
         }
         self.desk.collect(rt, seat)
