@@ -1,15 +1,17 @@
 //! A publisher with the state that its batches lead to.
-ghost use Rattle.std.specs.Prelude.{◌≡◌, []};
+ghost use Rattle.std.specs.Prelude.{◌≡◌, ◌<◌, ◌^◌, []};
 
 use pfx_disk_chronicle::list::{Moment, Opened};
 use pfx_disk_chronicle::name::Charted;
 use pfx_front_board::name::Begun;
 use pfx_front_board::publisher::Publisher;
+use pfx_front_board::reader::Reader;
 use pfx_jobs::job::Job;
 use pfx_kinds::any::AnyJob;
 use pfx_machine::State;
 use pfx_record::{Batch, Place, Record, fits};
 use pfx_record_redo::{apply_record, is_common};
+use pfx_token::past;
 use pfx_weights::TaskSet;
 use std::alloc::Global;
 use std::marker::{Brand, Model};
@@ -85,10 +87,38 @@ impl<J: Job, B: Listed<J>, R: Wait + Drop> Line<J, B, R> {
     }
 }
 
+/// A state behind a pointer: a proof spells what a function holds itself at each of its steps.
+pub type Held = Box<State<AnyJob>>;
+
+/// A line behind a pointer, and the readers of what is published there.
+pub type Lined<B, R> = (Box<Line<AnyJob, B, R>>, Vec<Reader<AnyJob, B>>);
+
 /// Three tasks of 2/3 on two workers, before the first command.
-pub fn thirds(alloc: Global) -> Option<State<AnyJob>> {
+pub fn thirds(alloc: Global) -> Option<Held> {
     let set = TaskSet::new(alloc, 2, &[(2, 3), (2, 3), (2, 3)]).ok()?;
-    State::new(alloc, &set, 1 << 24).ok()
+    Box::new(alloc, State::new(alloc, &set, 1 << 24).ok()?).ok()
+}
+
+/// A line with nothing durable yet, and so many readers.
+pub fn begin<B: Listed<AnyJob>, R: Wait + Drop>(
+    rt: R,
+    alloc: Global,
+    opened: past::Opened<Batch<AnyJob>>,
+    calls: Opened,
+    state: Held,
+    readers: usize,
+) -> Option<Lined<B, R>>
+    requires book { opened.seen.book ≡ B.book }
+    requires origin { state.value ≡ B.origin }
+    requires readers { (0 < readers) × (readers < 2 ^ 32) }
+    requires calls { (calls.seen.book ≡ B.calls) × (B.clock ≡ 0) }
+    requires no_disk { B.held → ⊥ }
+{
+    let (publisher, readers) = Publisher::<AnyJob, B, R>::new(
+        alloc, rt, opened, &state, readers,
+    ).ok()?;
+    let line = Line::new(publisher, Box::into_inner(state), calls);
+    Some((Box::new(alloc, line).ok()?, readers))
 }
 
 /// The record of a slot in which these two tasks ran, neither of which has a job.

@@ -1,14 +1,13 @@
 ghost use Rattle.std.specs.Prelude.{◌≡◌};
 
-use crate::line::{Line, Listed, keep_row, thirds};
+use crate::line::{Held, Line, Listed, begin, keep_row, thirds};
 use pfx_disk_chronicle::list;
 use pfx_front_board::name::Begun;
-use pfx_front_board::publisher::Publisher;
 use pfx_front_board::reader::Reader;
 use pfx_front_board::receipt::Receipt;
 use pfx_front_board::word::Word;
 use pfx_kinds::any::AnyJob;
-use pfx_machine::{Board, State};
+use pfx_machine::Board;
 use pfx_record::Batch;
 use pfx_token::past::Opened;
 use std::alloc::Global;
@@ -39,13 +38,13 @@ fn write_one<B: Listed<AnyJob>, R: Wait + Drop>(
     kept
 }
 
-/// Publishes slots one by one. Whether it did.
+/// Publishes slots one by one. The line, if it did.
 fn write<B: Listed<AnyJob>, R: Wait + Copy + Drop>(
     rt: R,
     alloc: Global,
-    line: Line<AnyJob, B, R>,
+    line: Box<Line<AnyJob, B, R>>,
     words: &Words<B>,
-) -> (Line<AnyJob, B, R>, bool) {
+) -> Option<Box<Line<AnyJob, B, R>>> {
     let mut line = line;
     let mut written = true;
     for _round in 0..ROUNDS {
@@ -53,7 +52,7 @@ fn write<B: Listed<AnyJob>, R: Wait + Copy + Drop>(
             written = write_one(&rt, alloc, &mut line, words, row) && written;
         }
     }
-    (line, written)
+    if written { Some(line) } else { None }
 }
 
 /// Whether a board of slots alone is that of one moment: each slot has a number, and gave two allocations.
@@ -99,58 +98,83 @@ fn look<B: Begun<AnyJob>>(
     }
 }
 
-/// Looks until all is seen. Whether each look saw what it had to.
+/// Looks until all is seen. The reader, if each look saw what it had to.
 fn read<B: Begun<AnyJob>, R: Wait + Drop>(
     rt: R,
     alloc: Global,
-    reader: Reader<AnyJob, B>,
+    reader: Box<Reader<AnyJob, B>>,
     words: &Words<B>,
-) -> (Reader<AnyJob, B>, bool) {
+) -> Option<Box<Reader<AnyJob, B>>> {
     let mut reader = reader;
     let mut seen = 0;
     for _look in 0..LOOKS {
         let least = hear(&rt, &mut reader, words, seen);
-        let Some(number) = look(alloc, &mut reader, least) else {
-            return (reader, false);
-        };
-        seen = number;
+        seen = look(alloc, &mut reader, least)?;
         if seen == 3 * ROUNDS {
-            return (reader, true);
+            return Some(reader);
         }
         thread::yield_now();
     }
-    (reader, false)
+    None
+}
+
+/// Whether all was written and seen, and the reader looks at what was published last.
+fn have_met<B: Listed<AnyJob>, R: Wait + Drop>(
+    line: Option<Box<Line<AnyJob, B, R>>>,
+    reader: Option<Box<Reader<AnyJob, B>>>,
+) -> bool {
+    match (line, reader) {
+        (Some(line), Some(mut reader)) => reader.looks(line.publisher.published()),
+        _ => false,
+    }
 }
 
 /// One thread publishes and another reads.
+fn compete<B: Listed<AnyJob> + Send + Sync, R: Threads + Wait + Copy + Drop + Send + Sync>(
+    rt: R,
+    alloc: Global,
+    line: Box<Line<AnyJob, B, R>>,
+    reader: Box<Reader<AnyJob, B>>,
+) -> bool {
+    let words: Words<B> = Mutex::new(None);
+    let shared = &words;
+    let (line, reader) = thread::join(
+        &rt,
+        move || write(rt, alloc, line, shared),
+        move || read(rt, alloc, reader, shared),
+    );
+    have_met(line, reader)
+}
+
+/// The only one of these readers, behind a pointer.
+fn only<B: Begun<AnyJob>>(
+    alloc: Global,
+    readers: Vec<Reader<AnyJob, B>>,
+) -> Option<Box<Reader<AnyJob, B>>> {
+    let mut readers = readers;
+    Box::new(alloc, readers.pop()?).ok()
+}
+
+/// One thread publishes and another reads, from the beginning on.
 fn race<B: Listed<AnyJob> + Send + Sync, R: Threads + Wait + Copy + Drop + Send + Sync>(
     rt: R,
     alloc: Global,
     opened: Opened<Batch<AnyJob>>,
     calls: list::Opened,
-    state: State<AnyJob>,
+    state: Held,
 ) -> bool
     requires book { opened.seen.book ≡ B.book }
-    requires origin { state ≡ B.origin }
+    requires origin { state.value ≡ B.origin }
     requires calls { (calls.seen.book ≡ B.calls) × (B.clock ≡ 0) }
     requires no_disk { B.held → ⊥ }
 {
-    let Ok((publisher, mut readers)) = Publisher::<AnyJob, B, R>::new(alloc, rt, opened, &state, 1)
-    else {
+    let Some((line, readers)) = begin::<B, R>(rt, alloc, opened, calls, state, 1) else {
         return false;
     };
-    let line = Line::new(publisher, state, calls);
-    let Some(reader) = readers.pop() else {
-        return false;
-    };
-    let words: Words<B> = Mutex::new(None);
-    let shared = &words;
-    let ((line, written), (mut reader, read)) = thread::join(
-        &rt,
-        move || write(rt, alloc, line, shared),
-        move || read(rt, alloc, reader, shared),
-    );
-    written && read && reader.looks(line.publisher.published())
+    match only(alloc, readers) {
+        Some(reader) => compete(rt, alloc, line, reader),
+        None => false,
+    }
 }
 
 /// Whether a reader sees all that it is told of, beside a thread that publishes.

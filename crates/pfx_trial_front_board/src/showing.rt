@@ -1,14 +1,13 @@
 ghost use Rattle.std.specs.Prelude.{◌≡◌};
 
-use crate::line::{Line, Listed, keep_count, keep_row, thirds};
+use crate::line::{Held, Line, Listed, begin, keep_count, keep_row, thirds};
 use pfx_disk_chronicle::list;
 use pfx_front_board::name::Begun;
-use pfx_front_board::publisher::Publisher;
 use pfx_front_board::reader::{Reader, StatusFault};
 use pfx_front_board::receipt::Receipt;
 use pfx_front_board::word::Word;
 use pfx_kinds::any::AnyJob;
-use pfx_machine::{Board, JobStatus, State};
+use pfx_machine::{Board, JobStatus};
 use pfx_record::Batch;
 use pfx_token::past::Opened;
 use std::alloc::Global;
@@ -117,7 +116,7 @@ fn show<B: Listed<AnyJob>, R: Wait + Drop>(
 /// Once the writer is gone, no reader sees or looks at anything.
 fn leave<B: Listed<AnyJob>, R: Wait + Drop>(
     alloc: Global,
-    line: Line<AnyJob, B, R>,
+    line: Box<Line<AnyJob, B, R>>,
     readers: &mut Vec<Reader<AnyJob, B>>,
 ) -> bool {
     let last = line.publisher.published().again();
@@ -131,18 +130,16 @@ fn serve<B: Listed<AnyJob>, R: Wait + Copy + Drop>(
     alloc: Global,
     opened: Opened<Batch<AnyJob>>,
     calls: list::Opened,
-    state: State<AnyJob>,
+    state: Held,
 ) -> bool
     requires book { opened.seen.book ≡ B.book }
-    requires origin { state ≡ B.origin }
+    requires origin { state.value ≡ B.origin }
     requires calls { (calls.seen.book ≡ B.calls) × (B.clock ≡ 0) }
     requires no_disk { B.held → ⊥ }
 {
-    let Ok((publisher, mut readers)) = Publisher::<AnyJob, B, R>::new(alloc, rt, opened, &state, 2)
-    else {
+    let Some((mut line, mut readers)) = begin::<B, R>(rt, alloc, opened, calls, state, 2) else {
         return false;
     };
-    let mut line = Line::new(publisher, state, calls);
     show(&rt, alloc, &mut line, &mut readers) && leave(alloc, line, &mut readers)
 }
 

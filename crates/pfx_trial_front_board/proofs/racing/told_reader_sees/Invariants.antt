@@ -5,7 +5,7 @@ abbrev pub ghosts-race-B-Naming : goal.ghosts-race-B-Naming
 ghosts-race-B-Naming g a = record { book = a.opened.seen.book }
 
 abbrev pub ghosts-race-B-Begun : goal.ghosts-race-B-Begun
-ghosts-race-B-Begun g a = record { origin = a.state }
+ghosts-race-B-Begun g a = record { origin = a.state.value }
 
 abbrev pub ghosts-race-B-Charted : goal.ghosts-race-B-Charted
 ghosts-race-B-Charted g a = record { calls = a.calls.seen.book; clock = 0; failures = 0; image = []; held = ⊥ }
