@@ -32,6 +32,13 @@ pub fn slots<J: Job>(alloc: Global, count: u32, state: &mut State<J>) -> Option<
     Some(records)
 }
 
+/// A copy of a state, behind a pointer: a proof spells what a function holds itself at each of its steps.
+fn copied<J: Job>(alloc: Global, state: &State<J>) -> Option<Box<State<J>>>
+    ensures { IfSome result (λ copy. copy.value ≡ state.now) }
+{
+    Box::new(alloc, state.copy_of(alloc).ok()?).ok()
+}
+
 /// Appends a batch of so many slots.
 pub fn append_slots<D: Disk, J: Job>(
     alloc: Global,
@@ -40,7 +47,7 @@ pub fn append_slots<D: Disk, J: Job>(
 ) -> Option<Mark>
     requires { (0 < count) × (count ≤ 16) }
 {
-    let mut ahead = store.state().copy_of(alloc).ok()?;
+    let mut ahead = copied(alloc, store.state())?;
     let records = slots(alloc, count, &mut ahead)?;
     let batch = batch_of(store.state(), records);
     store.append(&batch).ok()
@@ -56,13 +63,9 @@ pub fn append_both<D: Disk, J: Job>(
     requires first { (0 < first) × (first ≤ 16) }
     requires second { (0 < second) × (second ≤ 16) }
 {
-    let Ok(mut ahead) = store.state().copy_of(alloc) else {
-        return None;
-    };
+    let mut ahead = copied(alloc, store.state())?;
     let one = batch_of(store.state(), slots(alloc, first, &mut ahead)?);
-    let Ok(middle) = ahead.copy_of(alloc) else {
-        return None;
-    };
+    let middle = copied(alloc, &ahead)?;
     let two = batch_of(&middle, slots(alloc, second, &mut ahead)?);
     ten_calls(store, &one, &two).ok()
 }
