@@ -85,6 +85,11 @@ pub fn opens_none<S: Service>(book: &mut S, pass: &mut S::Pass, fault: MachineFa
     is_unopened(&book.open(pass), fault)
 }
 
+/// Whether no slot of this pass is sealed.
+pub fn seals_none<S: Service>(book: &mut S, pass: &mut S::Pass) -> bool {
+    book.seal(pass).is_none()
+}
+
 /// Whether slot 0 with tasks 0 and 1 is sealed with this number.
 pub fn seals<S: Service>(book: &mut S, pass: &mut S::Pass, number: u64) -> bool {
     is_first_slot(&book.seal(pass), number)

@@ -31,13 +31,23 @@ fn asks<S: Service>(book: &mut S, pass: &mut S::Pass) -> bool {
     submitted && withdrawn && book.knows(pass).greatest == 3 && waits
 }
 
-/// Whether a slot of one quantum is opened, run and sealed.
-fn runs<S: Service>(book: &mut S, pass: &mut S::Pass) -> Option<bool> {
+/// The only quantum of the slot that this pass opens.
+fn dealt<S: Service>(book: &mut S, pass: &mut S::Pass) -> Option<S::Quantum> {
     let mut quanta = book.open(pass)?.ok()?;
     let quantum = quanta.pop()?;
+    if quanta.is_empty() {
+        Some(quantum)
+    } else {
+        None
+    }
+}
+
+/// Whether a slot of one quantum is opened, run and sealed.
+fn runs<S: Service>(book: &mut S, pass: &mut S::Pass) -> Option<bool> {
+    let quantum = dealt(book, pass)?;
     let (number, _slot, task, _left) = book.deals(&quantum);
     let is_dealt = number == 4 && task == 0 && book.missing() == Some(0);
-    let opened = book.looks().is_open && quanta.is_empty() && is_dealt;
+    let opened = book.looks().is_open && is_dealt;
     let given = book.give(quantum).is_ok() && book.missing().is_none();
     let sealed = seals(book, pass, 4);
     let ended = !book.looks().is_open && book.knows(pass).greatest == 4;
@@ -78,20 +88,25 @@ fn ends<S: Service>(book: &mut S, pass: &mut S::Pass) -> bool {
     looks.is_closed && looks.failure == Some(Cause::Device) && told
 }
 
-/// Whether each part of a book's life is as it should be.
+/// Whether each part of a book's life is as it should be, with its first pass.
+fn lives<S: Service>(alloc: Global, book: &mut S, pass: &mut S::Pass) -> bool {
+    let first = is_first(book, pass);
+    let asked = asks(book, pass);
+    let ran = runs(book, pass) == Some(true);
+    let marked = marks(alloc, book, pass) == Some(true);
+    let copied = is_copied(book);
+    let ended = ends(book, pass);
+    first && asked && ran && marked && copied && ended
+}
+
+/// Whether a new book lives so, and its pass is all passes.
 pub fn visit<S: Service>(alloc: Global, book: &mut S) -> Option<bool> {
     let new = is_new(book);
     let mut pass = book.admit()?;
-    let first = is_first(book, &pass);
-    let asked = asks(book, &mut pass);
-    let ran = runs(book, &mut pass) == Some(true);
-    let marked = marks(alloc, book, &mut pass) == Some(true);
-    let copied = is_copied(book);
-    let ended = ends(book, &mut pass);
+    let lived = lives(alloc, book, &mut pass);
     let mut passes = Vec::new(alloc);
     passes.push(pass).ok()?;
-    let gathered = book.gathered(&mut passes);
-    Some(new && first && asked && ran && marked && copied && ended && gathered)
+    Some(new && lived && book.gathered(&mut passes))
 }
 
 /// Whether a book's life is as it should be.

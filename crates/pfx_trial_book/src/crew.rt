@@ -1,12 +1,11 @@
+use crate::channels::{Deed, in_channels};
 use crate::holding::Holding;
 use crate::quanta::{collected, is_dealt, is_run};
-use pfx_crew::channel::ChannelDesk;
 use pfx_crew::desk::Desk;
 use pfx_crew::work::worker;
 use pfx_jobs::quantum::{Done, Quantum};
 use pfx_kinds::any::AnyJob;
 use pfx_kit::watched::WatchedDesk;
-use std::alloc::Global;
 use std::sync::Wait;
 use std::thread;
 use std::thread::Threads;
@@ -73,7 +72,7 @@ where
 
 /// What is done at a desk that holds back the result of task 0.
 #[derive(Clone, Copy)]
-enum Serves {
+pub enum Serves {
     /// One caller and two workers.
     Workers,
     /// The caller alone.
@@ -97,7 +96,7 @@ where
 
 /// Whether both results came, of two workers before the limit, and of the caller alone at the limit. A worker's count may come after the
 /// caller's last look, so it is read once all threads have ended.
-fn is_served<K: Desk<Quantum<AnyJob>, Done<AnyJob>> + Drop + Sync, R: Threads + Wait + Sync>(
+pub fn is_served<K: Desk<Quantum<AnyJob>, Done<AnyJob>> + Drop + Sync, R: Threads + Wait + Sync>(
     rt: &R,
     desk: K,
     serves: Serves,
@@ -111,20 +110,12 @@ where
     served && desk.watch().is_late() == late && desk.watch().backs() == 2
 }
 
-/// The same at a desk of channels.
-fn in_channels<R: Threads + Wait + Sync>(rt: &R, alloc: Global, serves: Serves) -> bool {
-    match ChannelDesk::<Quantum<AnyJob>, Done<AnyJob>>::new(alloc) {
-        Ok(desk) => is_served(rt, desk, serves),
-        Err(_) => false,
-    }
-}
-
 #[test]
 fn two_workers_end_within_the_limit(rt: HostRuntime) {
-    assert!(rt; in_channels(&rt, rt.alloc(), Serves::Workers));
+    assert!(rt; in_channels(&rt, rt.alloc(), Deed::Hold(Serves::Workers)));
 }
 
 #[test]
 fn one_thread_reaches_the_limit(rt: HostRuntime) {
-    assert!(rt; in_channels(&rt, rt.alloc(), Serves::Alone));
+    assert!(rt; in_channels(&rt, rt.alloc(), Deed::Hold(Serves::Alone)));
 }

@@ -1,3 +1,4 @@
+use crate::channels::{Deed, in_channels};
 use crate::quanta::{is_dealt, is_result, is_run, quantum};
 use pfx_crew::channel::ChannelDesk;
 use pfx_crew::desk::Desk;
@@ -21,7 +22,7 @@ fn is_collected<K: Desk<Quantum<AnyJob>, Done<AnyJob>>, R: Wait>(
 }
 
 /// Two seats at one desk: one deals two quanta, the other takes them, runs them and hands them back, in order.
-fn exchange<K: Desk<Quantum<AnyJob>, Done<AnyJob>>, R: Wait>(rt: &R, desk: &K) -> bool
+pub fn exchange<K: Desk<Quantum<AnyJob>, Done<AnyJob>>, R: Wait>(rt: &R, desk: &K) -> bool
 where
     K::Seat: Drop,
 {
@@ -75,7 +76,7 @@ fn gives_nothing<K: Desk<Quantum<AnyJob>, Done<AnyJob>>, R: Wait>(
 }
 
 /// A closed desk gives nothing, though a quantum lies on it; and again when it is closed once more.
-fn closed<K: Desk<Quantum<AnyJob>, Done<AnyJob>>, R: Wait>(rt: &R, desk: &K) -> bool
+pub fn closed<K: Desk<Quantum<AnyJob>, Done<AnyJob>>, R: Wait>(rt: &R, desk: &K) -> bool
 where
     K::Seat: Drop,
 {
@@ -85,30 +86,6 @@ where
     is_dealt(rt, desk, &mut seat, 5)
         && gives_nothing(rt, desk, &mut seat)
         && gives_nothing(rt, desk, &mut seat)
-}
-
-/// Whether a desk lets two seats exchange quanta and results, and gives nothing once it is closed.
-fn is_right<K: Desk<Quantum<AnyJob>, Done<AnyJob>> + Drop, R: Wait>(
-    rt: &R,
-    desk: K,
-    closes: bool,
-) -> bool
-where
-    K::Seat: Drop,
-{
-    if closes {
-        closed(rt, &desk)
-    } else {
-        exchange(rt, &desk)
-    }
-}
-
-/// The same of a desk of channels.
-fn in_channels<R: Wait>(rt: &R, alloc: Global, closes: bool) -> bool {
-    match ChannelDesk::<Quantum<AnyJob>, Done<AnyJob>>::new(alloc) {
-        Ok(desk) => is_right(rt, desk, closes),
-        Err(_) => false,
-    }
 }
 
 /// Whether a desk of channels tells that it is closed just behind a close.
@@ -162,12 +139,12 @@ fn berth_leads_on<R: Wait>(rt: &R, alloc: Global) -> bool {
 
 #[test]
 fn quanta_go_out_and_results_come_back(rt: HostRuntime) {
-    assert!(rt; in_channels(&rt, rt.alloc(), false));
+    assert!(rt; in_channels(&rt, rt.alloc(), Deed::Exchange));
 }
 
 #[test]
 fn a_closed_desk_gives_nothing(rt: HostRuntime) {
-    assert!(rt; in_channels(&rt, rt.alloc(), true));
+    assert!(rt; in_channels(&rt, rt.alloc(), Deed::Close));
     assert!(rt; is_told(&rt, rt.alloc()));
 }
 

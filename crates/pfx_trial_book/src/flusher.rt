@@ -27,19 +27,19 @@ pub struct Kept<J: Trial, B: Named<J>> {
     pub flusher: Flusher<J, B>,
 }
 
-/// A book that begins at this state, marked at clock 7, and its flusher.
+/// A book that begins at this state, marked at clock 7, and its flusher, behind a pointer.
 pub fn begin<J: Trial, B: Named<J>>(
     alloc: Global,
     tokens: Opened<Note<J>>,
     state: &State<J>,
-) -> Option<Kept<J, B>>
+) -> Option<Box<Kept<J, B>>>
     requires table { tokens.table.shared.table_id ≡ B.table }
     requires start { state.now ≡ B.start }
 {
     let (book, share) = Book::<J, B>::new(alloc, tokens, state, 7).ok()?;
     let last = book.marked();
     let flusher = Flusher { share, last };
-    Some(Kept { book, flusher })
+    Box::new(alloc, Kept { book, flusher }).ok()
 }
 
 /// A vector with room for a batch.

@@ -7,6 +7,7 @@
 //! | `quanta` | quanta of jobs that count, and what is done with them at a desk |
 //! | `gathering` | `pfx_crew`: results in every order, and the results that are refused |
 //! | `desk` | `pfx_crew`: a desk of channels, and what a closed one answers |
+//! | `channels` | what is done at a desk of channels |
 //! | `holding` | a watch over a desk that holds a result back |
 //! | `crew` | `pfx_crew`: two workers at a desk that wants both |
 //! | `states` | states that books begin with |
@@ -30,6 +31,8 @@ mod answers;
 mod asking;
 #[cfg(test)]
 mod calls;
+#[cfg(test)]
+mod channels;
 #[cfg(test)]
 mod closing;
 #[cfg(test)]

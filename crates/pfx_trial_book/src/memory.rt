@@ -59,13 +59,22 @@ fn receipt_again<S: Service>(book: &mut S, pass: &mut S::Pass) -> Option<Receipt
     }
 }
 
+/// Whether nine receipts are given, each of the start.
+fn is_receipted<S: Service>(book: &mut S, pass: &mut S::Pass) -> bool {
+    for _time in 0..9 {
+        match receipt_again(book, pass) {
+            Some(given) if given.clock == 7 => {}
+            _ => return false,
+        }
+    }
+    true
+}
+
 /// Whether a slot is opened, run and sealed, with nine receipts in its midst.
 fn runs<S: Service>(book: &mut S, pass: &mut S::Pass) -> Option<bool> {
     let quanta = open_again(book, pass)?.ok()?;
-    for _time in 0..9 {
-        if receipt_again(book, pass)?.clock != 7 {
-            return None;
-        }
+    if !is_receipted(book, pass) {
+        return None;
     }
     for quantum in quanta {
         book.give(quantum).ok()?;

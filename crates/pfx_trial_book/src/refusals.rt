@@ -1,6 +1,6 @@
 //! Each refusal by its name. Results that are refused stand in `worked`, refused memory in `memory`.
 
-use crate::answers::{opens_none, submits, submits_none, withdraws, withdraws_none};
+use crate::answers::{opens_none, seals_none, submits, submits_none, withdraws, withdraws_none};
 use crate::calls::takes;
 use crate::flushing::ask_pairs;
 use crate::service::Service;
@@ -33,7 +33,7 @@ fn strange<S: Service>(book: &mut S) -> Option<bool> {
 
 /// Whether no slot is sealed that isn't open.
 fn unopened<S: Service>(book: &mut S, pass: &mut S::Pass) -> bool {
-    !book.looks().is_open && book.seal(pass).is_none()
+    !book.looks().is_open && seals_none(book, pass)
 }
 
 /// Whether 63 passes more are given out, and then none.

@@ -65,7 +65,7 @@ fn serve<J: Trial, B: Named<J>>(
     requires start { state.now ≡ B.start }
 {
     let mut kept = begin::<J, B>(alloc, tokens, state)?;
-    visit(alloc, &mut kept, session)
+    visit(alloc, &mut *kept, session)
 }
 
 /// The same by a name of its own. `None` too if there is no such book.

@@ -1,6 +1,6 @@
 //! Two Submits and a slot of two quanta, with results that are refused.
 
-use crate::answers::{seals, submits};
+use crate::answers::{seals, seals_none, submits};
 use crate::service::{Service, Taken};
 use crate::sessions::{Session, at_thirds};
 use pfx_crew::gathering::GatherFault;
@@ -22,6 +22,11 @@ fn dealt<S: Service>(book: &mut S, pass: &mut S::Pass) -> Option<(S::Quantum, S:
     Some((first, second))
 }
 
+/// Whether the result of a quantum is refused for this fault, and task 0's isn't back.
+fn refuses<S: Service>(book: &mut S, quantum: S::Quantum, fault: GatherFault) -> bool {
+    book.give(quantum) == Err(fault) && book.missing() == Some(0)
+}
+
 /// Whether the results of these two quanta, doubles and strangers among them, are answered as expected.
 fn results<S: Service>(
     book: &mut S,
@@ -33,11 +38,9 @@ fn results<S: Service>(
     let stranger = book.again(&first, 2);
     book.missing() == Some(0)
         && book.give(second).is_ok()
-        && book.give(double) == Err(GatherFault::Double { task: 1 })
-        && book.missing() == Some(0)
-        && book.give(stranger) == Err(GatherFault::Stranger { task: 0 })
-        && book.missing() == Some(0)
-        && book.seal(pass).is_none()
+        && refuses(book, double, GatherFault::Double { task: 1 })
+        && refuses(book, stranger, GatherFault::Stranger { task: 0 })
+        && seals_none(book, pass)
         && book.looks().is_open
         && book.give(first).is_ok()
         && book.missing().is_none()
@@ -54,6 +57,21 @@ fn are_submitted<S: Service>(book: &mut S, one: &mut S::Pass, other: &mut S::Pas
     submits(book, one, 0, 1) && submits(book, other, 1, 2)
 }
 
+/// Whether the first pass opens a slot, its results come back, wrong ones too, and it alone seals the slot.
+fn is_run<S: Service>(book: &mut S, one: &mut S::Pass, other: &mut S::Pass) -> Option<bool> {
+    let (first, second) = dealt(book, one)?;
+    let given = results(book, one, first, second) && seals_none(book, other);
+    Some(given && seals(book, one, 3) && !book.looks().is_open)
+}
+
+/// Whether the next batch has that slot.
+fn is_taken<S: Service>(alloc: Global, book: &mut S) -> bool {
+    match book.take(alloc) {
+        Some(Ok(batch)) => has_slot(batch),
+        _ => false,
+    }
+}
+
 /// Two passes submit, the first one opens a slot, and its results come back, wrong ones too. Whether all is as expected.
 pub fn visit<S: Service>(alloc: Global, book: &mut S) -> Option<bool> {
     let mut one = book.admit()?;
@@ -61,14 +79,8 @@ pub fn visit<S: Service>(alloc: Global, book: &mut S) -> Option<bool> {
     if !are_submitted(book, &mut one, &mut other) {
         return None;
     }
-    let (first, second) = dealt(book, &mut one)?;
-    if !results(book, &mut one, first, second) || book.seal(&mut other).is_some() {
-        return Some(false);
-    }
-    if !seals(book, &mut one, 3) || book.looks().is_open {
-        return Some(false);
-    }
-    Some(has_slot(book.take(alloc)?.ok()?))
+    let run = is_run(book, &mut one, &mut other)?;
+    Some(run && is_taken(alloc, book))
 }
 
 #[test]

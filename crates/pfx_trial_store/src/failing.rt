@@ -2,7 +2,7 @@
 //! is asked once more is answered as if it had never been refused.
 
 use crate::check::{check, check_pair};
-use crate::migrating::is_made;
+use crate::migrating::{Outcome, is_made, tried};
 use crate::old::{Held, new_disk, old_disk};
 use pfx_disk::{Disk, FaultDisk, MemoryDisk};
 use pfx_kinds::any::AnyJob;
@@ -26,19 +26,23 @@ fn failing(disk: Held, call: u64, works: bool) -> FaultDisk<MemoryDisk> {
     }
 }
 
+/// The disk in memory under the new one.
+fn memory_under(tried: Box<Outcome<MemoryDisk, FaultDisk<MemoryDisk>>>) -> MemoryDisk {
+    let Outcome { new, .. } = Box::into_inner(tried);
+    new.into_inner()
+}
+
 /// Whether a call of the new disk that fails is answered, and leaves no store, or all of it.
 fn is_answered(alloc: Global, call: u64, works: bool) -> Option<bool> {
     let (old, new) = (old_disk(alloc)?, new_disk(alloc)?);
     let (old, new) = (Box::into_inner(old), failing(new, call, works));
-    match migrate::<MemoryDisk, FaultDisk<MemoryDisk>, AnyJob>(alloc, old, new) {
-        Ok((store, _old)) => {
-            let left = is_made(alloc, store.into_disk().into_inner());
-            Some(call == WRITES && left == Some(true))
-        }
-        Err((MigrateFault::New(InitFault::Device), _old, left)) => {
-            Some(call < WRITES && is_made(alloc, left.into_inner()).is_some())
-        }
-        Err(_) => None,
+    let tried = tried(alloc, old, new)?;
+    let fault = tried.fault;
+    let left = is_made(alloc, memory_under(tried));
+    match fault {
+        None => Some(call == WRITES && left == Some(true)),
+        Some(MigrateFault::New(InitFault::Device)) => Some(call < WRITES && left.is_some()),
+        Some(_) => None,
     }
 }
 
@@ -46,12 +50,12 @@ fn is_answered(alloc: Global, call: u64, works: bool) -> Option<bool> {
 fn is_unread(alloc: Global, call: u64, works: bool) -> Option<bool> {
     let (old, new) = (old_disk(alloc)?, new_disk(alloc)?);
     let (old, new) = (failing(old, call, works), Box::into_inner(new));
-    match migrate::<FaultDisk<MemoryDisk>, MemoryDisk, AnyJob>(alloc, old, new) {
-        Ok(_) => Some(call == READS),
-        Err((MigrateFault::Old(OpenFault::Device), _old, new)) => {
-            Some(call < READS && new.clock() == 0)
-        }
-        Err(_) => None,
+    let tried = tried(alloc, old, new)?;
+    let is_unasked = tried.new.clock() == 0;
+    match tried.fault {
+        None => Some(call == READS),
+        Some(MigrateFault::Old(OpenFault::Device)) => Some(call < READS && is_unasked),
+        Some(_) => None,
     }
 }
 
@@ -73,7 +77,8 @@ fn each_call_fails_in_turn(rt: HostRuntime) {
 }
 
 /// Whether a store is made of these disks, if no memory is refused again.
-fn is_made_now(alloc: Global, old: MemoryDisk, new: MemoryDisk) -> bool {
+fn is_made_now(alloc: Global, before: Box<Outcome<MemoryDisk, MemoryDisk>>) -> bool {
+    let Outcome { old, new, .. } = Box::into_inner(before);
     new.clock() == 0 && migrate::<MemoryDisk, MemoryDisk, AnyJob>(alloc, old, new).is_ok()
 }
 
@@ -82,12 +87,14 @@ fn refused_memory(alloc: Global) -> bool {
     let (Some(old), Some(new)) = (old_disk(alloc), new_disk(alloc)) else {
         return true;
     };
-    let (old, new) = (Box::into_inner(old), Box::into_inner(new));
-    match migrate::<MemoryDisk, MemoryDisk, AnyJob>(alloc, old, new) {
-        Ok(_) => true,
-        Err((MigrateFault::Old(OpenFault::NoMemory), old, new)) => is_made_now(alloc, old, new),
-        Err((MigrateFault::New(InitFault::NoMemory), old, new)) => is_made_now(alloc, old, new),
-        Err(_) => false,
+    let Some(tried) = tried(alloc, Box::into_inner(old), Box::into_inner(new)) else {
+        return true;
+    };
+    match tried.fault {
+        None => true,
+        Some(MigrateFault::Old(OpenFault::NoMemory)) => is_made_now(alloc, tried),
+        Some(MigrateFault::New(InitFault::NoMemory)) => is_made_now(alloc, tried),
+        Some(_) => false,
     }
 }
 

@@ -50,13 +50,53 @@ fn goes_on(alloc: Global) -> Option<bool> {
     Some(is_there && store.state().number() == 4 && bytes == old_file(alloc)?)
 }
 
+/// The store that a disk holds, or why it holds none.
+fn opened(alloc: Global, left: MemoryDisk) -> Result<Made, OpenFault> {
+    match Store::<MemoryDisk, AnyJob>::open(alloc, left) {
+        Ok(store) => Box::new(alloc, store).map_err(|_| OpenFault::NoMemory),
+        Err((fault, _left)) => Err(fault),
+    }
+}
+
 /// Whether what a disk holds is a store at the old one's state; `None` if it is anything but that or no store.
 pub fn is_made(alloc: Global, left: MemoryDisk) -> Option<bool> {
-    match Store::<MemoryDisk, AnyJob>::open(alloc, left) {
+    match opened(alloc, left) {
         Ok(store) if is_there(alloc, &store) == Some(true) => Some(true),
-        Err((OpenFault::Refused(Refusal::NotAStore), _left)) => Some(false),
+        Err(OpenFault::Refused(Refusal::NotAStore)) => Some(false),
         _ => None,
     }
+}
+
+/// What came of two disks.
+#[derive(Drop)]
+pub struct Outcome<O: Drop, N: Drop> {
+    /// Why no store was made.
+    pub fault: Option<MigrateFault>,
+    /// The old disk.
+    pub old: O,
+    /// The new disk, with the store if one was made.
+    pub new: N,
+}
+
+/// The same, behind a pointer, of a try to make a store on the new disk. `None` if there is no memory for the pointer.
+pub fn tried<O: Disk + Drop, N: Disk + Drop>(
+    alloc: Global,
+    old: O,
+    new: N,
+) -> Option<Box<Outcome<O, N>>> {
+    let tried = match migrate::<O, N, AnyJob>(alloc, old, new) {
+        Ok((store, old)) => Outcome {
+            fault: None,
+            old,
+            new: store.into_disk(),
+        },
+        Err((fault, old, new)) => Outcome {
+            fault: Some(fault),
+            old,
+            new,
+        },
+    };
+    Box::new(alloc, tried).ok()
 }
 
 /// What a stop after so many calls leaves of the new disk, all of whose pending writes have this fate.
@@ -106,10 +146,18 @@ fn a_stop_leaves_no_store_or_all_of_it(rt: HostRuntime) {
 }
 
 /// Whether the old disk holds these bytes yet, and the new one was asked nothing.
-fn are_left(alloc: Global, old: &mut MemoryDisk, new: &MemoryDisk, bytes: &[u8]) -> bool {
-    match bytes_of(alloc, old) {
-        Some(found) => found.as_slice() == bytes && new.clock() == 0,
+fn are_left(alloc: Global, tried: &mut Outcome<MemoryDisk, MemoryDisk>, bytes: &[u8]) -> bool {
+    match bytes_of(alloc, &mut tried.old) {
+        Some(found) => found.as_slice() == bytes && tried.new.clock() == 0,
         None => false,
+    }
+}
+
+/// The refusal of an old file.
+fn refusal(fault: Option<MigrateFault>) -> Option<Refusal> {
+    match fault {
+        Some(MigrateFault::Old(OpenFault::Refused(refusal))) => Some(refusal),
+        _ => None,
     }
 }
 
@@ -117,16 +165,11 @@ fn are_left(alloc: Global, old: &mut MemoryDisk, new: &MemoryDisk, bytes: &[u8])
 fn refusal_of(alloc: Global, bytes: Option<Vec<u8>>) -> Option<Refusal> {
     let bytes = bytes?;
     let (old, new) = (disk_of(alloc, &bytes)?, new_disk(alloc)?);
-    let (old, new) = (Box::into_inner(old), Box::into_inner(new));
-    match migrate::<MemoryDisk, MemoryDisk, AnyJob>(alloc, old, new) {
-        Err((MigrateFault::Old(OpenFault::Refused(refusal)), mut old, new)) => {
-            if are_left(alloc, &mut old, &new, &bytes) {
-                Some(refusal)
-            } else {
-                None
-            }
-        }
-        _ => None,
+    let mut tried = tried(alloc, Box::into_inner(old), Box::into_inner(new))?;
+    if are_left(alloc, &mut tried, &bytes) {
+        refusal(tried.fault)
+    } else {
+        None
     }
 }
 
@@ -200,12 +243,10 @@ fn new_weights_are_none_of_its_records(rt: HostRuntime) {
 fn keeps_a_byte(alloc: Global) -> Option<bool> {
     let old = old_disk(alloc)?;
     let new = MemoryDisk::new(alloc, &[7], 20_000, 100, 60_000).ok()?;
-    match migrate::<MemoryDisk, MemoryDisk, AnyJob>(alloc, Box::into_inner(old), new) {
-        Err((MigrateFault::New(InitFault::NotEmpty), _old, mut new)) => {
-            Some(bytes_of(alloc, &mut new)?.as_slice() == [7].as_slice())
-        }
-        _ => None,
-    }
+    let mut tried = tried(alloc, Box::into_inner(old), new)?;
+    let is_refused = tried.fault == Some(MigrateFault::New(InitFault::NotEmpty));
+    let bytes = bytes_of(alloc, &mut tried.new)?;
+    Some(is_refused && bytes.as_slice() == [7].as_slice())
 }
 
 #[test]

@@ -3,9 +3,10 @@
 use pfx_disk::{Disk, FaultDisk, MemoryDisk};
 use std::alloc::Global;
 
-/// A disk in memory, and one that fails over it, each behind a pointer: a proof spells what a function holds itself at each of its steps.
+/// A disk in memory behind a pointer: a proof spells what a function holds itself at each of its steps.
 pub type Kept = Box<MemoryDisk>;
 
+/// A disk that fails over one in memory, behind a pointer too.
 pub type Failing = Box<FaultDisk<MemoryDisk>>;
 
 /// Such a disk over one in memory, whose call of number k, counted from 0, fails, with its work done or not.
