@@ -1,18 +1,18 @@
 //! Whether clients are answered, and shown, what they should be.
 
-use crate::service::{Answer, Ask, Service};
+use crate::service::{Answer, Service};
 use pfx_front::faults::CallFault;
 use pfx_machine::Reply;
 use std::alloc::Global;
 use std::sync::Wait;
 
 /// Whether the command was accepted.
-fn is_accepted(answer: &Answer) -> bool {
+pub fn is_accepted(answer: &Answer) -> bool {
     matches!(answer, Some(Ok(_)))
 }
 
 /// Whether the command was accepted with this number.
-fn is_number(answer: &Answer, number: u64) -> bool {
+pub fn is_number(answer: &Answer, number: u64) -> bool {
     match answer {
         Some(Ok(reply)) => reply.0 == number,
         _ => false,
@@ -20,68 +20,21 @@ fn is_number(answer: &Answer, number: u64) -> bool {
 }
 
 /// Whether the command was refused so.
-fn is_refused(answer: &Answer, fault: &CallFault) -> bool {
+pub fn is_refused(answer: &Answer, fault: CallFault) -> bool {
     match answer {
-        Some(Err(told)) => *told == *fault,
+        Some(Err(told)) => *told == fault,
         _ => false,
     }
 }
 
 /// Whether the command was this slot, and tasks 0 and 1 alone have its row.
-fn is_first_slot(answer: &Answer) -> bool {
+pub fn is_first_slot(answer: &Answer) -> bool {
     match answer {
         Some(Ok((_, Reply::Ran { slot, row }))) => {
             *slot == 0 && row.len() == 2 && row.holds(0) && row.holds(1)
         }
         _ => false,
     }
-}
-
-/// Whether what is asked is accepted.
-pub fn accepts<F: Service, R: Wait>(
-    rt: &R,
-    alloc: Global,
-    front: &F,
-    pass: &mut F::Pass,
-    ask: Ask,
-) -> bool {
-    is_accepted(&front.ask(rt, alloc, pass, ask))
-}
-
-/// Whether what is asked is accepted with this number.
-pub fn accepts_as<F: Service, R: Wait>(
-    rt: &R,
-    alloc: Global,
-    front: &F,
-    pass: &mut F::Pass,
-    ask: Ask,
-    number: u64,
-) -> bool {
-    is_number(&front.ask(rt, alloc, pass, ask), number)
-}
-
-/// Whether what is asked is refused so.
-pub fn refuses<F: Service, R: Wait>(
-    rt: &R,
-    alloc: Global,
-    front: &F,
-    pass: &mut F::Pass,
-    ask: Ask,
-    fault: &CallFault,
-) -> bool {
-    is_refused(&front.ask(rt, alloc, pass, ask), fault)
-}
-
-/// Whether a slot is the first one, accepted with this number, and tasks 0 and 1 alone have its row.
-pub fn runs_first<F: Service, R: Wait>(
-    rt: &R,
-    alloc: Global,
-    front: &F,
-    pass: &mut F::Pass,
-    number: u64,
-) -> bool {
-    let slot = front.ask(rt, alloc, pass, Ask::Slot);
-    is_number(&slot, number) && is_first_slot(&slot)
 }
 
 /// Whether what was accepted last gets its receipt.

@@ -1,11 +1,11 @@
 //! A flusher that is held in its first sync. Calls are answered meanwhile, and receipts come once it goes on.
 
-use crate::answers::{accepts_as, is_shown, is_told_and_shown};
+use crate::answers::{is_number, is_shown, is_told_and_shown};
 use crate::fronts::{Ended, have_looked};
 use crate::service::{Ask, Service};
 use crate::sessions::{Session, Visit, alone, on_disk};
-use crate::stores::{SEGMENT, latched};
-use pfx_disk::Latch;
+use crate::stores::{SEGMENT, memory};
+use pfx_disk::{Latch, LatchDisk};
 use std::alloc::Global;
 use std::sync::Wait;
 use std::thread::Threads;
@@ -23,7 +23,8 @@ fn slots_are_answered<F: Service, R: Wait>(
 ) -> bool {
     let mut answered = true;
     for number in 1..17 {
-        answered = accepts_as(rt, alloc, front, pass, Ask::Slot, number) && answered;
+        let slot = front.ask(rt, alloc, pass, Ask::Slot);
+        answered = is_number(&slot, number) && answered;
     }
     answered
 }
@@ -46,7 +47,7 @@ pub fn visit<F: Service, R: Wait>(
 
 /// Whether all is in the store, and the reader saw it.
 pub fn has_ended(ended: &Ended) -> bool {
-    have_looked(ended, 1) && ended.number == 16
+    have_looked(&ended.looked, 1) && ended.number == 16
 }
 
 /// Whether calls are answered while the flusher is held.
@@ -54,9 +55,8 @@ fn is_held<R: Threads + Wait + Clock + Copy + Drop + Send + Sync + 'static>(
     rt: R,
     alloc: Global,
 ) -> Option<bool> {
-    let (disk, latch) = latched(rt, alloc, FIRST_SYNC)?;
-    let session = Session::Held { latch };
-    on_disk(rt, alloc, Some(disk), SEGMENT, &session)
+    let (disk, latch) = LatchDisk::new(rt, alloc, memory(alloc)?, FIRST_SYNC).ok()?;
+    on_disk(rt, alloc, disk, SEGMENT, Session::Held { latch })
 }
 
 #[test]

@@ -45,29 +45,6 @@ impl Marks {
         self.collected.load(Ordering::SeqCst)
     }
 
-    /// Lets the result go on if the caller was told that there is none.
-    fn release(&self) {
-        if self.missed.load(Ordering::SeqCst) {
-            self.released.store(true, Ordering::SeqCst);
-        }
-    }
-
-    /// Holds a result if it is the first one.
-    fn hold_first(&self) {
-        if !self.held.swap(true, Ordering::SeqCst) {
-            self.hold();
-        }
-    }
-
-    /// Whether the caller is to be told that there is no result: the second time that it asks.
-    fn misses(&self) -> bool {
-        let missed = self.collected.fetch_add(1, Ordering::SeqCst) == 1;
-        if missed {
-            self.missed.store(true, Ordering::SeqCst);
-        }
-        missed
-    }
-
     /// Waits until the result may go on.
     fn hold(&self) {
         for _turn in 0..LIMIT {
@@ -124,7 +101,9 @@ impl<K: Desk<Quantum<AnyJob>, Done<AnyJob>> + Drop> Desk<Quantum<AnyJob>, Done<A
         seat: &mut K::Seat,
         quantum: Quantum<AnyJob>,
     ) -> Result<(), Quantum<AnyJob>> {
-        self.marks.release();
+        if self.marks.missed.load(Ordering::SeqCst) {
+            self.marks.released.store(true, Ordering::SeqCst);
+        }
         self.desk.deal(rt, seat, quantum)
     }
 
@@ -138,12 +117,15 @@ impl<K: Desk<Quantum<AnyJob>, Done<AnyJob>> + Drop> Desk<Quantum<AnyJob>, Done<A
         seat: &mut K::Seat,
         done: Done<AnyJob>,
     ) -> Result<(), Done<AnyJob>> {
-        self.marks.hold_first();
+        if !self.marks.held.swap(true, Ordering::SeqCst) {
+            self.marks.hold();
+        }
         self.desk.hand_back(rt, seat, done)
     }
 
     fn collect<R: Wait>(&self, rt: &R, seat: &mut K::Seat) -> Option<Done<AnyJob>> {
-        if self.marks.misses() {
+        if self.marks.collected.fetch_add(1, Ordering::SeqCst) == 1 {
+            self.marks.missed.store(true, Ordering::SeqCst);
             return None;
         }
         self.desk.collect(rt, seat)

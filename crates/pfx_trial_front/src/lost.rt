@@ -1,11 +1,12 @@
 //! A device that fails in the first append: clients are told, and the store has what it had.
 
-use crate::answers::{accepts_as, refuses};
+use crate::answers::{is_number, is_refused};
 use crate::fronts::{Ended, have_looked};
 use crate::service::{Ask, Service};
 use crate::sessions::{Session, Visit, alone, on_disk};
-use crate::stores::{SEGMENT, failing};
+use crate::stores::{SEGMENT, memory};
 use pfx_book::note::Loss;
+use pfx_disk::FaultDisk;
 use pfx_fault::Cause;
 use pfx_front::faults::CallFault;
 use std::alloc::Global;
@@ -16,27 +17,20 @@ use std::time::Clock;
 /// The first sync of the first append, after the calls that make the file.
 const FIRST_SYNC: u64 = 12;
 
-/// What a client is told.
-const FAILED: CallFault = CallFault::StoreFailed {
-    marked: 0,
-    cause: Cause::Device,
-};
-
-/// Whether what was accepted last has no receipt, for the device.
-fn is_unsettled<F: Service, R: Wait>(rt: &R, front: &F, pass: &mut F::Pass) -> bool {
-    front.settle(rt, pass) == Some(Err(FAILED))
-}
-
 /// Whether a slot is answered, its receipt refused for the device, and the next slot too.
 fn is_told<F: Service, R: Wait>(rt: &R, alloc: Global, front: &F, pass: &mut F::Pass) -> bool {
+    let failed = CallFault::StoreFailed {
+        marked: 0,
+        cause: Cause::Device,
+    };
     let told = Loss {
         marked: 0,
         cause: Cause::Device,
     };
-    let slot = accepts_as(rt, alloc, front, pass, Ask::Slot, 1);
-    let lost = is_unsettled(rt, front, pass);
-    let next = refuses(rt, alloc, front, pass, Ask::Slot, &FAILED);
-    slot && lost && next && front.lost(pass) == Some(told)
+    let slot = front.ask(rt, alloc, pass, Ask::Slot);
+    let lost = front.settle(rt, pass) == Some(Err(failed));
+    let next = front.ask(rt, alloc, pass, Ask::Slot);
+    is_number(&slot, 1) && lost && is_refused(&next, failed) && front.lost(pass) == Some(told)
 }
 
 /// Whether the client is told.
@@ -49,7 +43,7 @@ pub fn visit<F: Service, R: Wait>(rt: &R, alloc: Global, front: &F) -> Option<Vi
 /// Whether the store has nothing but what it began with, and the reader saw that.
 pub fn has_ended(ended: &Ended) -> bool {
     let failed = ended.failure == Some(Cause::Device) && ended.broken;
-    have_looked(ended, 1) && failed && ended.number == 0 && ended.marked == 0
+    have_looked(&ended.looked, 1) && failed && ended.number == 0 && ended.marked == 0
 }
 
 /// Whether a client of a store whose device fails is told.
@@ -57,13 +51,8 @@ fn is_failed<R: Threads + Wait + Clock + Copy + Drop + Send + Sync + 'static>(
     rt: R,
     alloc: Global,
 ) -> Option<bool> {
-    on_disk(
-        rt,
-        alloc,
-        failing(alloc, FIRST_SYNC),
-        SEGMENT,
-        &Session::Lost,
-    )
+    let disk = FaultDisk::new(memory(alloc)?, FIRST_SYNC);
+    on_disk(rt, alloc, disk, SEGMENT, Session::Lost)
 }
 
 #[test]

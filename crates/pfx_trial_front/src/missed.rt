@@ -1,13 +1,13 @@
 //! Two workers, one of whom is late: the front makes what is missing by itself, and drops the result that comes after it.
 
-use crate::answers::{accepts, accepts_as, is_settled, runs_first};
+use crate::answers::{is_accepted, is_first_slot, is_number, is_settled};
 use crate::fronts::{Ended, is_kept};
-use crate::late::{LateDesk, Marks};
+use crate::late::LateDesk;
 use crate::service::{Ask, Service};
 use crate::sessions::{Session, Visit, alone, is_right};
-use crate::stores::{JobDesk, SEGMENT, desk, memory};
+use crate::stores::{SEGMENT, desk, memory};
 use std::alloc::Global;
-use std::sync::{Arc, Wait};
+use std::sync::Wait;
 use std::thread::Threads;
 use std::time::Clock;
 
@@ -21,13 +21,13 @@ fn slots_are_answered<F: Service, R: Wait>(
     front: &F,
     pass: &mut F::Pass,
 ) -> bool {
-    let given = accepts(rt, alloc, front, pass, Ask::Submit { task: 0 });
-    let both = accepts(rt, alloc, front, pass, Ask::Submit { task: 1 });
-    let first = runs_first(rt, alloc, front, pass, 3);
-    let mut answered = given && both && first && is_settled(rt, front, pass);
+    let given = is_accepted(&front.ask(rt, alloc, pass, Ask::Submit { task: 0 }));
+    let both = is_accepted(&front.ask(rt, alloc, pass, Ask::Submit { task: 1 }));
+    let slot = front.ask(rt, alloc, pass, Ask::Slot);
+    let mut answered = given && both && is_first_slot(&slot) && is_settled(rt, front, pass);
     for number in 4..LAST + 1 {
-        let called = accepts_as(rt, alloc, front, pass, Ask::Slot, number);
-        answered = called && is_settled(rt, front, pass) && answered;
+        let slot = front.ask(rt, alloc, pass, Ask::Slot);
+        answered = is_number(&slot, number) && is_settled(rt, front, pass) && answered;
     }
     answered
 }
@@ -44,25 +44,13 @@ pub fn has_ended(ended: &Ended) -> bool {
     is_kept(ended, LAST)
 }
 
-/// A desk at which a result is late, and what happens there.
-fn late_desk(alloc: Global) -> Option<(LateDesk<JobDesk>, Arc<Marks, Global>)> {
-    LateDesk::new(alloc, desk(alloc)?).ok()
-}
-
 /// Whether slots are answered though a result is late, and the desk had held it until the next slot.
 fn is_made_again<R: Threads + Wait + Clock + Copy + Drop + Send + Sync + 'static>(
     rt: R,
     alloc: Global,
 ) -> Option<bool> {
-    let (desk, marks) = late_desk(alloc)?;
-    let served = is_right(
-        rt,
-        alloc,
-        memory(alloc),
-        SEGMENT,
-        Some(desk),
-        &Session::Missed,
-    )?;
+    let (desk, marks) = LateDesk::new(alloc, desk(alloc)?).ok()?;
+    let served = is_right(rt, alloc, memory(alloc)?, SEGMENT, desk, Session::Missed)?;
     Some(served && marks.is_made_again() && marks.collected() > 2)
 }
 

@@ -1,6 +1,6 @@
 //! All passes that there are.
 
-use crate::answers::{accepts, admit, is_settled};
+use crate::answers::{admit, is_accepted, is_settled};
 use crate::fronts::{Ended, is_kept};
 use crate::service::{Ask, Service};
 use crate::sessions::{Session, Visit, in_memory};
@@ -12,7 +12,7 @@ const MOST: usize = 64;
 
 /// Whether a slot is run, with a receipt.
 fn is_called<F: Service, R: Wait>(rt: &R, alloc: Global, front: &F, pass: &mut F::Pass) -> bool {
-    let called = accepts(rt, alloc, front, pass, Ask::Slot);
+    let called = is_accepted(&front.ask(rt, alloc, pass, Ask::Slot));
     let settled = is_settled(rt, front, pass);
     called && settled
 }
@@ -35,5 +35,5 @@ pub fn has_ended(ended: &Ended) -> bool {
 
 #[test]
 fn there_are_64_passes(rt: HostRuntime) {
-    assert!(rt; in_memory(rt, rt.alloc(), &Session::Passes) == Some(true));
+    assert!(rt; in_memory(rt, rt.alloc(), Session::Passes) == Some(true));
 }

@@ -1,11 +1,11 @@
 //! A checkpoint whose first piece is held, or fails: calls are answered meanwhile, and what was marked before stays so.
 
-use crate::answers::{accepts, accepts_as, is_settled};
+use crate::answers::{is_accepted, is_number, is_settled};
 use crate::fronts::{Ended, is_kept};
 use crate::service::{Ask, Service};
 use crate::sessions::{Session, Visit, alone, on_disk};
-use crate::stores::{failing, latched};
-use pfx_disk::Latch;
+use crate::stores::memory;
+use pfx_disk::{FaultDisk, Latch, LatchDisk};
 use pfx_fault::Cause;
 use std::alloc::Global;
 use std::sync::Wait;
@@ -25,7 +25,7 @@ const FIRST_PIECE: u64 = 9 + 4 * TURNING + 6;
 fn is_turned<F: Service, R: Wait>(rt: &R, alloc: Global, front: &F, pass: &mut F::Pass) -> bool {
     let mut settled = true;
     for _slot in 0..TURNING {
-        settled = accepts(rt, alloc, front, pass, Ask::Slot) && settled;
+        settled = is_accepted(&front.ask(rt, alloc, pass, Ask::Slot)) && settled;
         settled = is_settled(rt, front, pass) && settled;
     }
     settled
@@ -39,9 +39,9 @@ fn is_answered<F: Service, R: Wait>(
     pass: &mut F::Pass,
     latch: &Latch,
 ) -> bool {
-    let called = accepts_as(rt, alloc, front, pass, Ask::Slot, TURNING + 1);
+    let slot = front.ask(rt, alloc, pass, Ask::Slot);
     latch.release();
-    called && is_settled(rt, front, pass)
+    is_number(&slot, TURNING + 1) && is_settled(rt, front, pass)
 }
 
 /// Whether a slot more is answered while the first piece of a checkpoint is held.
@@ -80,9 +80,9 @@ fn holds_a_piece<R: Threads + Wait + Clock + Copy + Drop + Send + Sync + 'static
     rt: R,
     alloc: Global,
 ) -> Option<bool> {
-    let (disk, latch) = latched(rt, alloc, FIRST_PIECE)?;
+    let (disk, latch) = LatchDisk::new(rt, alloc, memory(alloc)?, FIRST_PIECE).ok()?;
     let session = Session::HeldPiece { latch };
-    on_disk(rt, alloc, Some(disk), SEGMENT, &session)
+    on_disk(rt, alloc, disk, SEGMENT, session)
 }
 
 /// Whether a piece that fails leaves all that was marked, so that the call held above is a checkpoint's and no append's.
@@ -90,8 +90,8 @@ fn fails_at_a_piece<R: Threads + Wait + Clock + Copy + Drop + Send + Sync + 'sta
     rt: R,
     alloc: Global,
 ) -> Option<bool> {
-    let disk = failing(alloc, FIRST_PIECE);
-    on_disk(rt, alloc, disk, SEGMENT, &Session::LostPiece)
+    let disk = FaultDisk::new(memory(alloc)?, FIRST_PIECE);
+    on_disk(rt, alloc, disk, SEGMENT, Session::LostPiece)
 }
 
 #[test]

@@ -1,22 +1,21 @@
 //! One client of a front, with no worker, one and two.
 
-use crate::answers::{accepts_as, is_told_and_shown, refuses, runs_first};
-use crate::fronts::{Ended, Open, Shut, disk_of, have_looked, left_by};
+use crate::answers::{is_first_slot, is_number, is_refused, is_told_and_shown};
+use crate::fronts::{Ended, Served, have_looked, left_by};
 use crate::service::{Answer, Ask, Service};
 use crate::sessions::{Session, Visit, both, in_memory};
-use crate::stores::boxed;
 use pfx_book::book::Pass;
 use pfx_book::faults::BookFault;
 use pfx_crew::desk::Desk;
 use pfx_disk::Disk;
 use pfx_front::calls::Front;
-use pfx_front::closing::Given;
+use pfx_front::closing::{Closed, Given};
 use pfx_front::faults::{CallFault, CloseFault};
 use pfx_front::name::Since;
 use pfx_front::start::Crew;
 use pfx_jobs::quantum::{Done, Quantum};
 use pfx_kinds::any::AnyJob;
-use pfx_machine::{MachineFault, Reply, State};
+use pfx_machine::{MachineFault, Reply};
 use pfx_store::Store;
 use std::alloc::Global;
 use std::sync::Wait;
@@ -29,17 +28,9 @@ type Reopened<B, D, K, R> = (
     Given<AnyJob, B>,
 );
 
-/// Whether what is asked is refused by the machine for this fault.
-fn is_faulty<F: Service, R: Wait>(
-    rt: &R,
-    alloc: Global,
-    front: &F,
-    pass: &mut F::Pass,
-    ask: Ask,
-    fault: MachineFault,
-) -> bool {
-    let told = CallFault::Refused(BookFault::Machine(fault));
-    refuses(rt, alloc, front, pass, ask, &told)
+/// Whether a command was refused by the machine for this fault.
+fn is_faulty(answer: &Answer, fault: MachineFault) -> bool {
+    is_refused(answer, CallFault::Refused(BookFault::Machine(fault)))
 }
 
 /// Whether two Submits are accepted, and one at each of two other tasks refused.
@@ -49,47 +40,37 @@ fn are_submitted<F: Service, R: Wait>(
     front: &F,
     pass: &mut F::Pass,
 ) -> bool {
-    let zero = Ask::Submit { task: 0 };
-    let first = accepts_as(rt, alloc, front, pass, zero, 1);
-    let is_busy = MachineFault::TaskBusy { task: 0 };
-    let busy = is_faulty(rt, alloc, front, pass, zero, is_busy);
-    let second = accepts_as(rt, alloc, front, pass, Ask::Submit { task: 1 }, 2);
-    let is_none = MachineFault::NoSuchTask { task: 3 };
-    let none = is_faulty(rt, alloc, front, pass, Ask::Submit { task: 3 }, is_none);
-    first && busy && second && none
+    let first = front.ask(rt, alloc, pass, Ask::Submit { task: 0 });
+    let busy = front.ask(rt, alloc, pass, Ask::Submit { task: 0 });
+    let second = front.ask(rt, alloc, pass, Ask::Submit { task: 1 });
+    let none = front.ask(rt, alloc, pass, Ask::Submit { task: 3 });
+    is_number(&first, 1)
+        && is_faulty(&busy, MachineFault::TaskBusy { task: 0 })
+        && is_number(&second, 2)
+        && is_faulty(&none, MachineFault::NoSuchTask { task: 3 })
 }
 
 /// Whether a job that isn't there is refused to be taken back, and a slot of two tasks is answered.
 fn is_run<F: Service, R: Wait>(rt: &R, alloc: Global, front: &F, pass: &mut F::Pass) -> bool {
-    let withdraw = Ask::Withdraw { task: 2 };
-    let gone = is_faulty(
-        rt,
-        alloc,
-        front,
-        pass,
-        withdraw,
-        MachineFault::NoJob { task: 2 },
-    );
-    let slot = runs_first(rt, alloc, front, pass, 3);
-    gone && slot
-}
-
-/// Whether command 6 is answered by new weights from slot 3 on.
-fn is_third(answer: &Answer) -> bool {
-    match answer {
-        Some(Ok((6, Reply::Reweighed { slot }))) => *slot == 3,
-        _ => false,
-    }
+    let gone = front.ask(rt, alloc, pass, Ask::Withdraw { task: 2 });
+    let slot = front.ask(rt, alloc, pass, Ask::Slot);
+    is_faulty(&gone, MachineFault::NoJob { task: 2 }) && is_number(&slot, 3) && is_first_slot(&slot)
 }
 
 /// Whether new weights are refused where a task is ahead, and come into force two slots later, where none is.
 fn is_reweighed<F: Service, R: Wait>(rt: &R, alloc: Global, front: &F, pass: &mut F::Pass) -> bool {
-    let is_ahead = MachineFault::NotLevel { task: 0 };
-    let early = is_faulty(rt, alloc, front, pass, Ask::Thirds, is_ahead);
-    let second = accepts_as(rt, alloc, front, pass, Ask::Slot, 4);
-    let third = accepts_as(rt, alloc, front, pass, Ask::Slot, 5);
-    let renewed = is_third(&front.ask(rt, alloc, pass, Ask::Thirds));
-    early && second && third && renewed
+    let early = front.ask(rt, alloc, pass, Ask::Thirds);
+    let second = front.ask(rt, alloc, pass, Ask::Slot);
+    let third = front.ask(rt, alloc, pass, Ask::Slot);
+    let level = front.ask(rt, alloc, pass, Ask::Thirds);
+    let renewed = match &level {
+        Some(Ok((6, Reply::Reweighed { slot }))) => *slot == 3,
+        _ => false,
+    };
+    is_faulty(&early, MachineFault::NotLevel { task: 0 })
+        && is_number(&second, 4)
+        && is_number(&third, 5)
+        && renewed
 }
 
 /// Whether all that one client asks is answered as it should be.
@@ -122,71 +103,7 @@ pub fn visit<F: Service, R: Wait>(
 
 /// Whether the reader saw the last publication, and all commands are kept.
 pub fn has_ended(ended: &Ended) -> bool {
-    have_looked(ended, 1) && ended.marked == 7 && ended.number == 7
-}
-
-/// What was given back by a close, behind a pointer.
-fn reopened<
-    B: Since<AnyJob>,
-    K: Desk<Quantum<AnyJob>, Done<AnyJob>> + Drop,
-    D: Disk + Drop,
-    R: Threads + Wait + Drop,
->(
-    alloc: Global,
-    front: Front<AnyJob, B, K>,
-    crew: Crew<AnyJob, B, D, K, R>,
-    given: Given<AnyJob, B>,
-) -> Option<Box<Reopened<B, D, K, R>>>
-where
-    K::Seat: Drop,
-{
-    Box::new(alloc, (front, crew, given)).ok()
-}
-
-/// A front that was to be closed with these passes, which said that one is out.
-fn kept_open<
-    B: Since<AnyJob>,
-    K: Desk<Quantum<AnyJob>, Done<AnyJob>> + Drop,
-    D: Disk + Drop,
-    R: Threads + Wait + Drop,
->(
-    rt: &R,
-    alloc: Global,
-    open: Open<B, D, K, R>,
-    passes: Vec<Pass<AnyJob, B>>,
-) -> Option<Box<Reopened<B, D, K, R>>>
-where
-    K::Seat: Drop,
-{
-    let (front, crew, readers) = Box::into_inner(open);
-    match front.close(rt, crew, Given { passes, readers }) {
-        Err((CloseFault::PassOut { count: 1 }, front, crew, given)) => {
-            reopened(alloc, front, crew, given)
-        }
-        _ => None,
-    }
-}
-
-/// Gives one pass more.
-fn give<B: Since<AnyJob>>(given: &mut Given<AnyJob, B>, pass: Pass<AnyJob, B>) -> Option<()> {
-    given.passes.push(pass).ok()
-}
-
-/// Closes a front that was kept open.
-fn close_again<
-    B: Since<AnyJob>,
-    K: Desk<Quantum<AnyJob>, Done<AnyJob>> + Drop,
-    D: Disk + Drop,
-    R: Threads + Wait + Drop,
->(rt: &R, alloc: Global, open: Box<Reopened<B, D, K, R>>) -> Option<Shut<B, D>>
-where
-    K::Seat: Drop,
-{
-    let (front, crew, given) = Box::into_inner(open);
-    match front.close(rt, crew, given) {
-        Ok(closed) => Box::new(alloc, closed).ok(),
-        Err(_) => None,
-    }
+    have_looked(&ended.looked, 1) && ended.marked == 7 && ended.number == 7
 }
 
 /// The end of a front that goes on behind a close with a pass out, and gets that pass.
@@ -198,46 +115,56 @@ fn closed_with<
 >(
     rt: &R,
     alloc: Global,
-    open: Box<Reopened<B, D, K, R>>,
+    open: Reopened<B, D, K, R>,
     pass: Pass<AnyJob, B>,
-) -> Option<Shut<B, D>>
+) -> Option<Closed<AnyJob, B, D>>
 where
     K::Seat: Drop,
 {
-    let (mut open, mut pass) = (open, pass);
-    if !accepts_as(rt, alloc, &open.0, &mut pass, Ask::Slot, 7) {
+    let (front, crew, given) = open;
+    let (mut given, mut pass) = (given, pass);
+    let slot = front.ask(rt, alloc, &mut pass, Ask::Slot);
+    if !is_number(&slot, 7) {
         return None;
     }
-    give(&mut open.2, pass)?;
-    close_again(rt, alloc, open)
+    given.passes.push(pass).ok()?;
+    front.close(rt, crew, given).ok()
 }
 
 /// The end of a front that was to be closed without the last of these passes, which said so, and that goes on.
-fn closed_late<
+fn kept_open<
     B: Since<AnyJob>,
     K: Desk<Quantum<AnyJob>, Done<AnyJob>> + Drop,
     D: Disk + Drop,
     R: Threads + Wait + Drop,
->(rt: &R, alloc: Global, open: Open<B, D, K, R>, passes: Vec<Pass<AnyJob, B>>) -> Option<Shut<B, D>>
+>(
+    rt: &R,
+    alloc: Global,
+    served: Served<B, D, K, R>,
+    passes: Vec<Pass<AnyJob, B>>,
+) -> Option<Closed<AnyJob, B, D>>
 where
     K::Seat: Drop,
 {
+    let (front, crew, readers) = served;
     let mut passes = passes;
     let last = passes.pop()?;
-    let again = kept_open(rt, alloc, open, passes)?;
-    closed_with(rt, alloc, again, last)
-}
-
-/// Whether a state has these many commands and the new set.
-fn is_renewed(state: &State<AnyJob>, number: u64) -> bool {
-    state.number() == number && state.columns().workers() == 1 && state.from() == 3
+    match front.close(rt, crew, Given { passes, readers }) {
+        Err((CloseFault::PassOut { count: 1 }, front, crew, given)) => {
+            closed_with(rt, alloc, (front, crew, given), last)
+        }
+        _ => None,
+    }
 }
 
 /// Whether the store has these many commands and its new set once it is opened again.
 fn is_opened<D: Disk + Drop>(alloc: Global, disk: D, number: u64) -> bool {
-    match boxed(alloc, Store::<D, AnyJob>::open(alloc, disk)) {
-        Some(again) => is_renewed(again.state(), number),
-        None => false,
+    match Store::<D, AnyJob>::open(alloc, disk) {
+        Ok(again) => {
+            let state = again.state();
+            state.number() == number && state.columns().workers() == 1 && state.from() == 3
+        }
+        Err(_) => false,
     }
 }
 
@@ -248,26 +175,25 @@ pub fn is_ended<
     K: Desk<Quantum<AnyJob>, Done<AnyJob>> + Drop,
     D: Disk + Drop,
     R: Threads + Wait + Drop,
->(rt: &R, alloc: Global, open: Open<B, D, K, R>, passes: Vec<Pass<AnyJob, B>>) -> Option<bool>
+>(rt: &R, alloc: Global, served: Served<B, D, K, R>, passes: Vec<Pass<AnyJob, B>>) -> Option<bool>
 where
     K::Seat: Drop,
 {
-    let closed = closed_late(rt, alloc, open, passes)?;
-    let ended = has_ended(&left_by(&closed));
-    Some(ended && is_opened(alloc, disk_of(closed), 7))
+    let (ended, disk) = left_by(kept_open(rt, alloc, served, passes)?);
+    Some(has_ended(&ended) && is_opened(alloc, disk, 7))
 }
 
 #[test]
 fn a_client_is_served_by_its_own_thread(rt: HostRuntime) {
-    assert!(rt; in_memory(rt, rt.alloc(), &Session::Served { workers: 0 }) == Some(true));
+    assert!(rt; in_memory(rt, rt.alloc(), Session::Served { workers: 0 }) == Some(true));
 }
 
 #[test]
 fn a_client_is_served_by_one_worker(rt: HostRuntime) {
-    assert!(rt; in_memory(rt, rt.alloc(), &Session::Served { workers: 1 }) == Some(true));
+    assert!(rt; in_memory(rt, rt.alloc(), Session::Served { workers: 1 }) == Some(true));
 }
 
 #[test]
 fn a_client_is_served_by_two_workers(rt: HostRuntime) {
-    assert!(rt; in_memory(rt, rt.alloc(), &Session::Served { workers: 2 }) == Some(true));
+    assert!(rt; in_memory(rt, rt.alloc(), Session::Served { workers: 2 }) == Some(true));
 }

@@ -1,6 +1,6 @@
 //! A front as the sessions of clients see it. They know no more of it, so that each is proved over any front.
 
-use crate::stores::{boxed, submit};
+use crate::stores::submit;
 use pfx_book::book::Pass;
 use pfx_book::note::Loss;
 use pfx_crew::desk::Desk;
@@ -14,7 +14,7 @@ use pfx_jobs::quantum::{Done, Quantum};
 use pfx_kinds::any::AnyJob;
 use pfx_machine::{Board, Command, JobStatus, Reply, State};
 use pfx_weights::Weights;
-use std::alloc::{AllocError, Global};
+use std::alloc::Global;
 use std::sync::Wait;
 
 /// What a client asks.
@@ -98,18 +98,13 @@ fn thirds(alloc: Global) -> Option<Command<AnyJob>> {
 }
 
 /// The command that is asked.
-fn plain_command_of(alloc: Global, ask: Ask) -> Option<Command<AnyJob>> {
+fn command_of(alloc: Global, ask: Ask) -> Option<Command<AnyJob>> {
     match ask {
         Ask::Submit { task } => submit(task),
         Ask::Withdraw { task } => Some(Command::Withdraw { task }),
         Ask::Slot => Some(Command::Slot),
         Ask::Thirds => thirds(alloc),
     }
-}
-
-/// The same behind a pointer.
-fn command_of(alloc: Global, ask: Ask) -> Option<Box<Command<AnyJob>>> {
-    boxed(alloc, plain_command_of(alloc, ask).ok_or(()))
 }
 
 /// At how many tasks of a board a job is open.
@@ -128,24 +123,6 @@ fn left(state: &State<AnyJob>, task: usize) -> Option<u32> {
     Some(state.jobs().get(task)?.as_ref()?.left())
 }
 
-/// What a client knows of its state, if that is given.
-fn known_by(answer: &Result<Option<State<AnyJob>>, AllocError>) -> Option<Option<Copied>> {
-    match answer {
-        Ok(Some(copy)) => Some(Some(known_of(copy))),
-        Ok(None) => Some(None),
-        Err(_) => None,
-    }
-}
-
-/// The number of a board, if that is given, and at how many tasks a job is open there.
-fn shown_by(answer: &Result<Option<Board>, AllocError>) -> Option<Option<(u64, u32)>> {
-    match answer {
-        Ok(Some(board)) => Some(Some(shown_on(board))),
-        Ok(None) => Some(None),
-        Err(_) => None,
-    }
-}
-
 /// What a client knows of a state.
 fn known_of(state: &State<AnyJob>) -> Copied {
     let jobs = [left(state, 0), left(state, 1), left(state, 2)];
@@ -157,15 +134,12 @@ fn shown_on(board: &Board) -> (u64, u32) {
     (board.number, open_jobs(board))
 }
 
-/// What the client waited for.
-type Receipted<B> = Option<Result<Acknowledged<AnyJob, B>, CallFault>>;
-
 /// Waits for the receipt of what was accepted last. `None` if nothing was.
 fn settle_last<B: Since<AnyJob>, K: Desk<Quantum<AnyJob>, Done<AnyJob>> + Drop, R: Wait>(
     rt: &R,
     front: &Front<AnyJob, B, K>,
     pass: &mut Pass<AnyJob, B>,
-) -> Receipted<B>
+) -> Option<Result<Acknowledged<AnyJob, B>, CallFault>>
 where
     K::Seat: Drop,
 {
@@ -180,29 +154,6 @@ where
 fn is_reached<B: Since<AnyJob>>(acknowledged: &Acknowledged<AnyJob, B>, number: u64) -> bool {
     let receipt = &acknowledged.receipt;
     receipt.number == number && receipt.clock > 0 && acknowledged.moment.reaches(receipt.clock)
-}
-
-/// Whether the receipt has this number, and came at a moment that its clock had reached.
-fn reached_by<B: Since<AnyJob>>(
-    answer: &Receipted<B>,
-    number: u64,
-) -> Option<Result<bool, CallFault>> {
-    match answer {
-        None => None,
-        Some(Ok(acknowledged)) => Some(Ok(is_reached(acknowledged, number))),
-        Some(Err(fault)) => Some(Err(*fault)),
-    }
-}
-
-/// Tells a reader of the receipt, if there is one, and gives its number.
-fn tell_of<B: Since<AnyJob>>(answer: &Receipted<B>, reader: &mut Reader<AnyJob, B>) -> Option<u64> {
-    match answer {
-        Some(Ok(acknowledged)) => {
-            reader.told(&acknowledged.receipt);
-            Some(acknowledged.receipt.number)
-        }
-        _ => None,
-    }
 }
 
 impl<B: Since<AnyJob>, K: Desk<Quantum<AnyJob>, Done<AnyJob>> + Drop> Service
@@ -220,7 +171,7 @@ where
 
     fn ask<R: Wait>(&self, rt: &R, alloc: Global, pass: &mut Pass<AnyJob, B>, ask: Ask) -> Answer {
         let command = command_of(alloc, ask)?;
-        Some(self.call(rt, pass, Box::into_inner(command)))
+        Some(self.call(rt, pass, command))
     }
 
     fn hears<R: Wait>(
@@ -231,7 +182,7 @@ where
         ask: Ask,
     ) -> Option<(bool, bool)> {
         let command = command_of(alloc, ask)?;
-        let heard = self.hear(rt, pass, Box::into_inner(command));
+        let heard = self.hear(rt, pass, command);
         Some((heard.said.is_ok(), heard.sole))
     }
 
@@ -240,8 +191,10 @@ where
         rt: &R,
         pass: &mut Pass<AnyJob, B>,
     ) -> Option<Result<bool, CallFault>> {
-        let answer = settle_last(rt, self, pass);
-        reached_by(&answer, pass.greatest())
+        match settle_last(rt, self, pass)? {
+            Ok(acknowledged) => Some(Ok(is_reached(&acknowledged, pass.greatest()))),
+            Err(fault) => Some(Err(fault)),
+        }
     }
 
     fn tell<R: Wait>(
@@ -250,7 +203,13 @@ where
         pass: &mut Pass<AnyJob, B>,
         reader: &mut Reader<AnyJob, B>,
     ) -> Option<u64> {
-        tell_of(&settle_last(rt, self, pass), reader)
+        match settle_last(rt, self, pass)? {
+            Ok(acknowledged) => {
+                reader.told(&acknowledged.receipt);
+                Some(acknowledged.receipt.number)
+            }
+            Err(_) => None,
+        }
     }
 
     fn shown(&self, alloc: Global, reader: &mut Reader<AnyJob, B>) -> Option<(u64, u32)> {
@@ -269,10 +228,18 @@ where
     }
 
     fn copied<R: Wait>(&self, rt: &R, pass: &mut Pass<AnyJob, B>) -> Option<Option<Copied>> {
-        known_by(&self.state(rt, pass))
+        match self.state(rt, pass) {
+            Ok(Some(copy)) => Some(Some(known_of(&copy))),
+            Ok(None) => Some(None),
+            Err(_) => None,
+        }
     }
 
     fn boarded<R: Wait>(&self, rt: &R, pass: &mut Pass<AnyJob, B>) -> Option<Option<(u64, u32)>> {
-        shown_by(&self.board(rt, pass))
+        match self.board(rt, pass) {
+            Ok(Some(board)) => Some(Some(shown_on(&board))),
+            Ok(None) => Some(None),
+            Err(_) => None,
+        }
     }
 }

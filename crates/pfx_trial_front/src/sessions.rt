@@ -3,9 +3,9 @@ ghost use Rattle.std.specs.Prelude.{◌≡◌};
 ghost use Rattle.pfx_kinds.specs.AnyKind.{any_kind};
 ghost use Rattle.pfx_front.specs.Starting.{Begins, BeginsHonest};
 
-use crate::fronts::{Ended, Open, Served, begin, end};
+use crate::fronts::{Ended, Served, begin, end};
 use crate::service::Service;
-use crate::stores::{Held, SEGMENT, boxed, desk, memory, thirds_on};
+use crate::stores::{SEGMENT, desk, memory, thirds_by};
 use crate::{clients, held, lost, many, missed, passes, pieces, served, sole};
 use pfx_book::book::Pass;
 use pfx_crew::desk::Desk;
@@ -15,6 +15,7 @@ use pfx_front::name::{Names, Since};
 use pfx_front_board::reader::Reader;
 use pfx_jobs::quantum::{Done, Quantum};
 use pfx_kinds::any::AnyJob;
+use pfx_store::Store;
 use std::alloc::Global;
 use std::marker::Brand;
 use std::sync::Wait;
@@ -161,7 +162,7 @@ fn ends<
 >(
     rt: &R,
     alloc: Global,
-    open: Open<B, D, K, R>,
+    served: Served<B, D, K, R>,
     passes: Vec<Pass<AnyJob, B>>,
     session: &Session,
 ) -> Option<bool>
@@ -169,17 +170,12 @@ where
     K::Seat: Drop,
 {
     if matches!(session, Session::Served { .. }) {
-        return served::is_ended(rt, alloc, open, passes);
+        return served::is_ended(rt, alloc, served, passes);
     }
-    match end(rt, alloc, open, passes) {
+    match end(rt, served, passes) {
         Some(ended) => Some(has_ended(session, &ended)),
         None => None,
     }
-}
-
-/// Lists that have no name yet, behind a pointer.
-fn names_of(alloc: Global) -> Option<Box<Names<AnyJob>>> {
-    boxed(alloc, Names::new(alloc))
 }
 
 /// Whether all is as it should be in a session at a front of this store.
@@ -191,21 +187,21 @@ fn serve<
 >(
     rt: R,
     alloc: Global,
-    names: Box<Names<AnyJob>>,
-    store: Held<D>,
+    names: Names<AnyJob>,
+    store: Store<D, AnyJob>,
     desk: K,
-    session: &Session,
+    session: Session,
 ) -> Option<bool>
 where
     K::Seat: Drop + Send + 'static,
-    requires named { (names.value.tokens.table.shared.table_id ≡ B.table) × (names.value.list.seen.book ≡ B.book) × (B.origin ≡ B.start) }
-    requires calls { (names.value.calls.seen.book ≡ B.calls) × (names.value.marks.seen.book ≡ B.marks) }
-    requires begins { Begins any_kind B.start B.failures B.clock B.held B.image store.value (D.view store.value.file.disk) }
+    requires named { (names.tokens.table.shared.table_id ≡ B.table) × (names.list.seen.book ≡ B.book) × (B.origin ≡ B.start) }
+    requires calls { (names.calls.seen.book ≡ B.calls) × (names.marks.seen.book ≡ B.marks) }
+    requires begins { Begins any_kind B.start B.failures B.clock B.held B.image store (D.view store.file.disk) }
 {
-    let workers = workers_of(session);
-    let mut open = begin::<B, K, D, R>(rt, alloc, names, store, desk, workers)?;
-    let (answered, passes) = visit_served(&rt, alloc, &mut open, session)?;
-    let ended = ends(&rt, alloc, open, passes, session)?;
+    let workers = workers_of(&session);
+    let mut served = begin::<B, K, D, R>(rt, alloc, names, store, desk, workers)?;
+    let (answered, passes) = visit_served(&rt, alloc, &mut served, &session)?;
+    let ended = ends(&rt, alloc, served, passes, &session)?;
     Some(answered && ended)
 }
 
@@ -217,53 +213,45 @@ fn serve_named<
 >(
     rt: R,
     alloc: Global,
-    names: Box<Names<AnyJob>>,
-    store: Held<D>,
+    names: Names<AnyJob>,
+    store: Store<D, AnyJob>,
     desk: K,
-    session: &Session,
+    session: Session,
 ) -> Option<bool>
 where
     K::Seat: Drop + Send + 'static,
-    requires { BeginsHonest any_kind store.value (D.view store.value.file.disk) }
+    requires { BeginsHonest any_kind store (D.view store.file.disk) }
 {
     serve::<Brand, K, D, R>(rt, alloc, names, store, desk, session)
 }
 
-/// Whether all is as it should be in a session at a front of a new store on this disk, with segments of this length in bytes, and at
-/// this desk.
+/// Whether all is as it should be in a session at a front of a new store on this disk, with segments of this length in bytes.
 pub fn is_right<
     K: Desk<Quantum<AnyJob>, Done<AnyJob>> + Drop + Send + Sync + 'static,
     D: Disk + Drop + Send + 'static,
     R: Threads + Wait + Clock + Copy + Drop + Send + Sync + 'static,
->(
-    rt: R,
-    alloc: Global,
-    disk: Option<D>,
-    segment: u32,
-    desk: Option<K>,
-    session: &Session,
-) -> Option<bool>
+>(rt: R, alloc: Global, disk: D, segment: u32, desk: K, session: Session) -> Option<bool>
 where
     K::Seat: Drop + Send + 'static,
 {
-    let store = thirds_on(alloc, disk, segment)?;
-    let names = names_of(alloc)?;
-    serve_named(rt, alloc, names, store, desk?, session)
+    let store = thirds_by(alloc, disk, segment)?;
+    serve_named(rt, alloc, Names::new(alloc).ok()?, store, desk, session)
 }
 
 /// The same at a desk of channels.
 pub fn on_disk<
     D: Disk + Drop + Send + 'static,
     R: Threads + Wait + Clock + Copy + Drop + Send + Sync + 'static,
->(rt: R, alloc: Global, disk: Option<D>, segment: u32, session: &Session) -> Option<bool> {
-    is_right(rt, alloc, disk, segment, desk(alloc), session)
+>(rt: R, alloc: Global, disk: D, segment: u32, session: Session) -> Option<bool> {
+    let desk = desk(alloc)?;
+    is_right(rt, alloc, disk, segment, desk, session)
 }
 
 /// The same of a store in memory, with segments that hold what the tests do.
 pub fn in_memory<R: Threads + Wait + Clock + Copy + Drop + Send + Sync + 'static>(
     rt: R,
     alloc: Global,
-    session: &Session,
+    session: Session,
 ) -> Option<bool> {
-    on_disk(rt, alloc, memory(alloc), SEGMENT, session)
+    on_disk(rt, alloc, memory(alloc)?, SEGMENT, session)
 }

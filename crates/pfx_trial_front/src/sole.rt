@@ -1,6 +1,6 @@
 //! A client that is the only one: the board and a copy of the state after its commands.
 
-use crate::answers::accepts;
+use crate::answers::is_accepted;
 use crate::fronts::{Ended, is_kept};
 use crate::service::{Ask, Service};
 use crate::sessions::{Session, Visit, both, in_memory};
@@ -9,8 +9,8 @@ use std::sync::Wait;
 
 /// Whether two Submits and a slot are accepted, the slot of the only client. None of them is waited for.
 fn are_accepted<F: Service, R: Wait>(rt: &R, alloc: Global, front: &F, pass: &mut F::Pass) -> bool {
-    let first = accepts(rt, alloc, front, pass, Ask::Submit { task: 0 });
-    let second = accepts(rt, alloc, front, pass, Ask::Submit { task: 2 });
+    let first = is_accepted(&front.ask(rt, alloc, pass, Ask::Submit { task: 0 }));
+    let second = is_accepted(&front.ask(rt, alloc, pass, Ask::Submit { task: 2 }));
     let slot = front.hears(rt, alloc, pass, Ask::Slot) == Some((true, true));
     first && second && slot
 }
@@ -66,5 +66,5 @@ pub fn has_ended(ended: &Ended) -> bool {
 
 #[test]
 fn the_only_client_has_a_copy_of_its_state(rt: HostRuntime) {
-    assert!(rt; in_memory(rt, rt.alloc(), &Session::Sole) == Some(true));
+    assert!(rt; in_memory(rt, rt.alloc(), Session::Sole) == Some(true));
 }
