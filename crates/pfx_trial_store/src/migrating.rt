@@ -1,9 +1,9 @@
 //! What is made of a file, which files are refused, and a stop after each call.
 
 use crate::check::{check, check_pair};
+use crate::held::held;
 use crate::old::{
-    Held, OLD_END, OLD_FRAME, bytes_of, disk_of, fresh, new_disk, old_disk, old_file, spelled,
-    wanted,
+    Held, OLD_END, OLD_FRAME, disk_of, fresh, new_disk, old_disk, old_file, spelled, wanted,
 };
 use pfx_disk::{Disk, Fate, MemoryDisk};
 use pfx_fault::Part;
@@ -28,7 +28,7 @@ fn made(alloc: Global) -> Option<(Made, Held)> {
 /// The store, and the file's bytes after it was made.
 fn migrated(alloc: Global) -> Option<(Made, Vec<u8>)> {
     let (store, mut old) = made(alloc)?;
-    let bytes = bytes_of(alloc, &mut *old)?;
+    let bytes = held(alloc, &mut *old)?;
     Some((store, bytes))
 }
 
@@ -147,7 +147,7 @@ fn a_stop_leaves_no_store_or_all_of_it(rt: HostRuntime) {
 
 /// Whether the old disk holds these bytes yet, and the new one was asked nothing.
 fn are_left(alloc: Global, tried: &mut Outcome<MemoryDisk, MemoryDisk>, bytes: &[u8]) -> bool {
-    match bytes_of(alloc, &mut tried.old) {
+    match held(alloc, &mut tried.old) {
         Some(found) => found.as_slice() == bytes && tried.new.clock() == 0,
         None => false,
     }
@@ -199,7 +199,7 @@ fn shortened(alloc: Global) -> Option<Vec<u8>> {
 
 /// The file that a new store of this version has after it was made of the old one.
 fn made_file(alloc: Global) -> Option<Vec<u8>> {
-    bytes_of(alloc, &mut *made_disk(alloc)?)
+    held(alloc, &mut *made_disk(alloc)?)
 }
 
 #[test]
@@ -245,7 +245,7 @@ fn keeps_a_byte(alloc: Global) -> Option<bool> {
     let new = MemoryDisk::new(alloc, &[7], 20_000, 100, 60_000).ok()?;
     let mut tried = tried(alloc, Box::into_inner(old), new)?;
     let is_refused = tried.fault == Some(MigrateFault::New(InitFault::NotEmpty));
-    let bytes = bytes_of(alloc, &mut tried.new)?;
+    let bytes = held(alloc, &mut tried.new)?;
     Some(is_refused && bytes.as_slice() == [7].as_slice())
 }
 

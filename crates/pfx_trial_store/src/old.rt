@@ -2,7 +2,7 @@
 //! slots ran.
 
 use pfx_checkpoint::{freeze_whole, whole_len};
-use pfx_disk::{Disk, MemoryDisk};
+use pfx_disk::MemoryDisk;
 use pfx_kinds::any::AnyJob;
 use pfx_kit::frames::put;
 use pfx_kit::places::END;
@@ -83,14 +83,6 @@ pub fn old_disk(alloc: Global) -> Option<Held> {
 pub fn new_disk(alloc: Global) -> Option<Held> {
     let disk = MemoryDisk::new(alloc, &[], END, 100, 60_000).ok()?;
     Box::new(alloc, disk).ok()
-}
-
-/// All bytes of a disk.
-pub fn bytes_of<D: Disk>(alloc: Global, disk: &mut D) -> Option<Vec<u8>> {
-    let len = disk.len().ok()?;
-    let mut bytes = vec![in alloc; 0; len].ok()?;
-    disk.read(0, &mut bytes).ok()?;
-    Some(bytes)
 }
 
 /// The bytes of a state with its set.

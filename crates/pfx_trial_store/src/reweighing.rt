@@ -1,35 +1,30 @@
 //! New weights in stores on disks in memory.
 
 use crate::check::{check, check_at, check_pair};
+use crate::engines;
+use crate::engines::{Driven, Engine, Held, disk_of_engine, over};
 use pfx_disk::{Disk, Fate, MemoryDisk};
 use pfx_jobs::job::Job;
 use pfx_kinds::any::AnyJob;
 use pfx_machine::{Command, MachineFault, Reply};
 use pfx_store::Store;
-use pfx_store_engine::{CallFault, DurableEngine, StoreEngine};
+use pfx_store_engine::CallFault;
 use pfx_weights::{SetFault, TaskSet, Weights};
 use std::alloc::Global;
 
-/// A store, the engine over one and a disk, each behind a pointer: a proof spells what a function holds itself at each of its steps.
-type Held = Box<Store<MemoryDisk, AnyJob>>;
-
-type Driven = Box<StoreEngine<MemoryDisk, AnyJob>>;
-
+/// A disk behind a pointer: a proof spells what a function holds itself at each of its steps.
 type Left = Box<MemoryDisk>;
 
-/// The engine as it is lent.
-type Engine = StoreEngine<MemoryDisk, AnyJob>;
-
 /// A new store on a disk of so many bytes, with room for so many that are written.
-fn new_store(alloc: Global, set: &TaskSet, segment: u32, len: usize, room: usize) -> Option<Held> {
+fn new_store(
+    alloc: Global,
+    set: &TaskSet,
+    segment: u32,
+    len: usize,
+    room: usize,
+) -> Option<Held<MemoryDisk>> {
     let disk = MemoryDisk::new(alloc, &[], len, 1000, room).ok()?;
     Box::new(alloc, Store::init(alloc, disk, set, segment).ok()?).ok()
-}
-
-/// The engine over a store.
-fn driven(alloc: Global, store: Held) -> Option<Driven> {
-    let engine = DurableEngine::new(alloc, Box::into_inner(store)).ok()?;
-    Box::new(alloc, engine).ok()
 }
 
 /// The engine over a new store on a disk of so many bytes, with room for so many that are written.
@@ -40,15 +35,15 @@ fn begun(
     segment: u32,
     len: usize,
     room: usize,
-) -> Option<Driven> {
+) -> Option<Driven<MemoryDisk>> {
     let set = TaskSet::new(alloc, workers, weights).ok()?;
     let store = new_store(alloc, &set, segment, len, room)?;
-    driven(alloc, store)
+    over(alloc, store)
 }
 
 /// The disk of an engine's store.
-fn disk_of(alloc: Global, engine: Driven) -> Option<Left> {
-    Box::new(alloc, Box::into_inner(engine).into_keeper().into_disk()).ok()
+fn disk_of(alloc: Global, engine: Driven<MemoryDisk>) -> Option<Left> {
+    Box::new(alloc, disk_of_engine(engine)).ok()
 }
 
 /// Three tasks of 1/3.
@@ -58,22 +53,17 @@ const SINGLE: [(u32, u32); 3] = [(1, 3), (1, 3), (1, 3)];
 const DOUBLE: [(u32, u32); 3] = [(2, 3), (2, 3), (2, 3)];
 
 /// The engine over the store of three tasks of 2/3 on two workers, with segments of 8,192 bytes.
-fn thirds(alloc: Global) -> Option<Driven> {
+fn thirds(alloc: Global) -> Option<Driven<MemoryDisk>> {
     begun(alloc, 2, &DOUBLE, 8192, 19395, 60_000)
 }
 
-/// The store that a disk holds.
-fn stored(alloc: Global, disk: Left) -> Option<Held> {
-    Box::new(alloc, Store::open(alloc, Box::into_inner(disk)).ok()?).ok()
-}
-
-/// The engine over it.
-fn opened(alloc: Global, disk: Left) -> Option<Driven> {
-    driven(alloc, stored(alloc, disk)?)
+/// The engine over the store that a disk holds.
+fn opened(alloc: Global, disk: Left) -> Option<Driven<MemoryDisk>> {
+    engines::opened(alloc, Box::into_inner(disk))
 }
 
 /// The engine over the store that an engine leaves on its disk.
-fn opened_again(alloc: Global, engine: Driven) -> Option<Driven> {
+fn opened_again(alloc: Global, engine: Driven<MemoryDisk>) -> Option<Driven<MemoryDisk>> {
     opened(alloc, disk_of(alloc, engine)?)
 }
 
@@ -295,7 +285,7 @@ fn left_by(number: u64) -> (u64, u64, u32) {
 }
 
 /// Three slots, two Reweighs at one slot, and a slot.
-fn six_commands(alloc: Global) -> Option<Driven> {
+fn six_commands(alloc: Global) -> Option<Driven<MemoryDisk>> {
     let mut engine = thirds(alloc)?;
     let one = Kept {
         number: 4,
@@ -357,7 +347,7 @@ fn submit(alloc: Global, steps: u64, engine: &mut Engine) -> bool {
 }
 
 /// The engine at a level slot over the least segments, one of which has so few bytes left that the frame of new weights doesn't fit.
-fn nearly_full(alloc: Global) -> Option<Driven> {
+fn nearly_full(alloc: Global) -> Option<Driven<MemoryDisk>> {
     let mut engine = begun(alloc, 2, &DOUBLE, 4233, 11477, 60_000)?;
     let holds = submit(alloc, 1, &mut engine)
         && engine.execute(alloc, Command::Withdraw { task: 0 }).is_ok()
@@ -414,7 +404,7 @@ fn many(alloc: Global) -> Option<Vec<(u32, u32)>> {
 }
 
 /// The engine over the store of so many tasks on one worker, with segments of 8,218 bytes, or of one more.
-fn over_many(alloc: Global, weights: &[(u32, u32)], is_longer: bool) -> Option<Driven> {
+fn over_many(alloc: Global, weights: &[(u32, u32)], is_longer: bool) -> Option<Driven<MemoryDisk>> {
     if is_longer {
         return begun(alloc, 1, weights, 8219, 323707, 1_500_000);
     }
