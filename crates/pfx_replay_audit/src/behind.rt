@@ -1,19 +1,36 @@
 // The records that a store's file has behind a log's end.
-ghost use Rattle.std.specs.Prelude.{◌≡◌, ◌≤◌, ◌<◌, ◌^◌, ◌+◌, length, map};
+ghost use Rattle.std.specs.Prelude.{◌≡◌, ◌≤◌, ◌<◌, ◌^◌, ◌+◌, length, map, IfOk, IsFalse, IsTrue, None, Some};
+ghost use Rattle.pfx_machine.specs.Plain.{Plain};
 ghost use Rattle.pfx_record.specs.Records.{plain};
+ghost use Rattle.pfx_record_redo.specs.Applying.{applied};
 ghost use Rattle.pfx_replay.specs.Stated.{plain_of};
 ghost use Rattle.pfx_replay_audit.specs.Behind.{BehindAnswer, JudgedBehind};
 ghost use Rattle.pfx_replay_audit.specs.Watches.{Told};
 
 use crate::file_fault::FileFault;
-use crate::marks::judge_marked;
+use crate::marks::judge_from;
 use crate::watch::Watch;
 use pfx_jobs::job::Job;
 use pfx_kinds::units::Units;
 use pfx_machine::State;
 use pfx_record::Record;
 use pfx_replay::{Judged, PlainState, Verdict, apply_all};
-use std::alloc::Global;
+use std::alloc::{AllocError, Global};
+
+// Whether records are right behind a state.
+fn are_right<J: Job>(
+    alloc: Global,
+    from: &State<J>,
+    records: &[Record<J>],
+) -> Result<bool, AllocError>
+    ensures taken { IfOk result (λ right. IsTrue right
+        → (t : Plain J) × (applied J.kind from.now (map plain records.now) ≡ Some t)) }
+    ensures wrong { IfOk result (λ right. IsFalse right → applied J.kind from.now (map plain records.now) ≡ None) }
+{
+    let mut led = from.copy_of(alloc)?;
+    let right = apply_all(alloc, &mut led, records)?;
+    Ok(right)
+}
 
 // Records behind a state, which they may not be right behind.
 fn judge_behind<J: Job + Units, W: Watch<J>>(
@@ -26,17 +43,14 @@ fn judge_behind<J: Job + Units, W: Watch<J>>(
     ensures { JudgedBehind J.kind J.unit (map plain_of marks.now) (Told J.kind W.sees watch.old watch.new)
         from.now (map plain records.now) result }
 {
-    let mut led = from.copy_of(alloc)?;
-    if !apply_all(alloc, &mut led, records)? {
+    if !are_right(alloc, from, records)? {
         return Err(FileFault::Apart);
     }
-    let plain = PlainState::of(alloc, from)?;
-    match judge_marked(alloc, plain, records, marks)? {
+    match judge_from(alloc, from, records, marks)? {
         Judged::Agrees(last) => {
+            let number = last.number;
             watch.see(alloc, from, records)?;
-            Ok(Verdict::Agrees {
-                number: last.number,
-            })
+            Ok(Verdict::Agrees { number })
         }
         Judged::Differs { number, what } => Ok(Verdict::Differs { number, what }),
     }

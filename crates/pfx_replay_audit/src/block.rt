@@ -15,7 +15,7 @@ ghost use Rattle.pfx_replay_audit.specs.Watches.{IfAgrees};
 
 use crate::folded::Folded;
 use crate::framing::frames_of;
-use crate::marks::judge_marked;
+use crate::marks::judge_from;
 use crate::watch::Watch;
 use pfx_jobs::job::Job;
 use pfx_kinds::units::Units;
@@ -41,8 +41,7 @@ fn judge_frames<J: Job + Units, W: Watch<J>>(
         (W.sees watch.old state.now (records_behind J.kind state.now (views frames.now)) watch.new)) }
 {
     let records = records_behind(alloc, state, frames)?;
-    let plain = PlainState::of(alloc, state)?;
-    match judge_marked(alloc, plain, &records, marks)? {
+    match judge_from(alloc, state, &records, marks)? {
         Judged::Differs { number, what } => Ok(Judged::Differs { number, what }),
         Judged::Agrees(last) => {
             watch.see(alloc, state, &records)?;

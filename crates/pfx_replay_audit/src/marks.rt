@@ -1,6 +1,6 @@
 // Records against what their commands do, and against states that are recorded elsewhere.
 ghost use Rattle.std.specs.Prelude.{◌≡◌, ◌↔◌, ℕ, List, map, IfOk, IsTrue, Some};
-ghost use Rattle.pfx_machine.specs.Plain.{Plain};
+ghost use Rattle.pfx_machine.specs.Plain.{IsState, Plain};
 ghost use Rattle.pfx_record.specs.Records.{plain};
 ghost use Rattle.pfx_record_redo.specs.Applying.{applied, is_right};
 ghost use Rattle.pfx_replay.specs.Stated.{plain_of};
@@ -8,6 +8,7 @@ ghost use Rattle.pfx_replay_audit.specs.Marks.{Gives, GivesMet, IsMet, Meets};
 
 use pfx_jobs::job::Job;
 use pfx_kinds::units::Units;
+use pfx_machine::State;
 use pfx_record::Record;
 use pfx_replay::{Difference, Judged, PlainState, are_states, judge_one};
 use std::alloc::{AllocError, Global};
@@ -74,4 +75,19 @@ pub(crate) fn judge_marked<J: Job + Units>(
         });
     }
     Ok(Judged::Agrees(reached))
+}
+
+/// The same of records that are right behind a state of the machine.
+pub(crate) fn judge_from<J: Job + Units>(
+    alloc: Global,
+    from: &State<J>,
+    records: &[Record<J>],
+    marks: &[PlainState<J>],
+) -> Result<Judged<J>, AllocError>
+    requires { (t : Plain J) × (applied J.kind from.now (map plain records.now) ≡ Some t) }
+    ensures gives { IfOk result (Gives J.kind J.unit (map plain_of marks.now) from.now (map plain records.now)) }
+    ensures state { IfOk result (λ judged. IsState from.now) }
+{
+    let plain = PlainState::of(alloc, from)?;
+    judge_marked(alloc, plain, records, marks)
 }

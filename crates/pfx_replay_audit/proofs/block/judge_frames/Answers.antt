@@ -1,49 +1,40 @@
-use Rattle.std.proofs.Common.{◌≡◌, ◌∙◌, Some, map, ap, sym, subst}
-use Rattle.pfx_machine.specs.Plain.{IsState}
+use Rattle.std.proofs.Common.{◌∙◌, map, ap, subst}
 use Rattle.pfx_record.specs.Records.{plain}
 use Rattle.pfx_record_redo.specs.Applying.{applied}
 use Rattle.pfx_replay.specs.Stated.{plain_of}
 use Rattle.pfx_replay.specs.declared.judged.Judged.TheVariants.{Agrees, Differs}
-use Rattle.pfx_replay.specs.Trails.{records_behind}
 use Rattle.pfx_replay.proofs.FrameRuns.{frames_applied}
 use Rattle.pfx_segment.specs.Reading.{views}
 use Rattle.pfx_replay_audit.specs.Marks.{Gives}
 use Rattle.pfx_replay_audit.proofs.block.judge_frames.Goals as goal
 
-pub judge_marked-requires : goal.judge_marked-requires
-judge_marked-requires g c =
+pub judge_from-requires : goal.judge_from-requires
+judge_from-requires g c =
     let K = g.J.Job.kind in
     let s = c.args.state.now in
-    let frames = views c.args.frames.now in
-    let run = frames_applied K g.met.J.Job.laws s c.requires.0 frames c.requires.1 in
+    let run = frames_applied K g.met.J.Job.laws s c.requires.0 (views c.args.frames.now) c.requires.1 in
     let read = ap (map plain) c.deref.ensures.value ∙ c.in_ok-records.ensures in
-    (c.requires.0, subst (λ t. applied K t (map plain c.deref.result.now) ≡ Some c.requires.0) (sym c.in_ok-plain.ensures) (ap (applied K s) read ∙ run))
+    (c.requires.0, ap (applied K s) read ∙ run)
 
 pub returns-in-Differs-clause-gives : goal.returns-in-Differs-clause-gives
 returns-in-Differs-clause-gives g c =
-    let K = g.J.Job.kind in
-    let s = c.args.state.now in
     let marks = map plain_of c.args.marks.now in
     let v = Differs c.in-Differs.number c.in-Differs.what in
     let read = ap (map plain) c.deref.ensures.value ∙ c.in_ok-records.ensures in
-    let h = rw c.in-Differs.is at c.in_ok-number.ensures in
-    subst (λ t. Gives K g.J.Units.unit marks t (records_behind K s (views c.args.frames.now)) v) c.in_ok-plain.ensures (subst (λ l. Gives K g.J.Units.unit marks (plain_of c.in_ok-plain.plain) l v) read h)
+    subst (λ l. Gives g.J.Job.kind g.J.Units.unit marks c.args.state.now l v) read (rw c.in-Differs.is at c.in_ok-number.ensures.gives)
 
 pub returns-in-Differs-clause-state : goal.returns-in-Differs-clause-state
-returns-in-Differs-clause-state g c = subst (λ t. IsState t) c.in_ok-plain.ensures c.in_ok-plain.plain.kept
+returns-in-Differs-clause-state g c = c.in_ok-number.ensures.state
 
 pub returns-clause-gives : goal.returns-clause-gives
 returns-clause-gives g c =
-    let K = g.J.Job.kind in
-    let s = c.args.state.now in
     let marks = map plain_of c.args.marks.now in
     let v = Agrees c.in-Agrees.last in
     let read = ap (map plain) c.deref.ensures.value ∙ c.in_ok-records.ensures in
-    let h = rw c.in-Agrees.is at c.in_ok-number.ensures in
-    subst (λ t. Gives K g.J.Units.unit marks t (records_behind K s (views c.args.frames.now)) v) c.in_ok-plain.ensures (subst (λ l. Gives K g.J.Units.unit marks (plain_of c.in_ok-plain.plain) l v) read h)
+    subst (λ l. Gives g.J.Job.kind g.J.Units.unit marks c.args.state.now l v) read (rw c.in-Agrees.is at c.in_ok-number.ensures.gives)
 
 pub returns-clause-state : goal.returns-clause-state
-returns-clause-state g c = subst (λ t. IsState t) c.in_ok-plain.ensures c.in_ok-plain.plain.kept
+returns-clause-state g c = c.in_ok-number.ensures.state
 
 pub returns-clause-told : goal.returns-clause-told
 returns-clause-told g c =
