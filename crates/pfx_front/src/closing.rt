@@ -159,7 +159,44 @@ fn look_all<J: Job, B: Since<J>>(
     true
 }
 
-/// Looks at the book, all passes and the share together: what session, store and board have come to.
+/// Looks at the book, all passes and the share together: whether session, store and board have come to what a front leaves.
+fn is_ended<J: Job, B: Since<J>, D: Disk, S: Keeper<D, J> + Drop, R: Wait + Drop>(
+    book: &mut Book<J, B>,
+    share: &mut Share<J, B>,
+    _keeper: &S,
+    publisher: &Publisher<J, B, R>,
+    passes: &mut Vec<Pass<J, B>>,
+    readers: &mut Vec<Reader<J, B>>,
+    looked: &mut Vec<bool>,
+) -> bool
+    requires behind { Behind J.kind B.start B.failures B.clock share.old (S.failed _keeper.now) (S.kept _keeper.now).file.broken
+        (S.kept _keeper.now).state (D.view (S.kept _keeper.now).file.disk) }
+    requires shown { IsShown J.kind B.start share.old publisher.now.batches (S.kept _keeper.now).state }
+    ensures passes { IsTrue result → passes.new.items ≡ passes.old.items }
+    ensures session { IsTrue result → IsSession J.kind B.start book.new passes.new.items }
+    ensures told { IsTrue result → AreTold book.new.failure (B.start.number + book.new.session.marked) passes.new.items }
+    ensures store { IsTrue result → IsStored J.kind B.start B.failures book.new (S.kept _keeper.now).state (D.view (S.kept _keeper.now).file.disk) }
+    ensures images { IsTrue result → IsHonest (D.view (S.kept _keeper.now).file.disk)
+        → IsHeld J.kind B.start B.clock book.new (D.view (S.kept _keeper.now).file.disk) }
+    ensures readers { IsTrue result → AreSeen J.kind B.start book.new (S.kept _keeper.now).state readers.old.items readers.new.items looked.new.items }
+    ensures whole { IsTrue result → StaysWhole book.new.failure (S.failed _keeper.now) (S.kept _keeper.now).file.broken }
+{
+    looked.clear();
+    if !book.gathered(passes) {
+        return false;
+    }
+    if book.failure().is_none() && !book.is_settled() {
+        return false;
+    }
+    if !are_told(book.failure(), book.marked(), passes) {
+        return false;
+    }
+    book.settled(share);
+    book.legal();
+    look_all(publisher.published(), readers, looked)
+}
+
+/// What a front leaves, if all of it has come to that.
 fn ended<J: Job, B: Since<J>, D: Disk, S: Keeper<D, J> + Drop, R: Wait + Drop>(
     book: Book<J, B>,
     flushed: Flushed<J, B, D, S, Shown<J, B>, R>,
@@ -188,19 +225,15 @@ fn ended<J: Job, B: Since<J>, D: Disk, S: Keeper<D, J> + Drop, R: Wait + Drop>(
         mut readers,
     } = given;
     let mut looked = looked;
-    looked.clear();
-    if !book.gathered(&mut passes) {
-        return None;
-    }
-    if book.failure().is_none() && !book.is_settled() {
-        return None;
-    }
-    if !are_told(book.failure(), book.marked(), &passes) {
-        return None;
-    }
-    book.settled(&mut share);
-    book.legal();
-    if !look_all(publisher.published(), &mut readers, &mut looked) {
+    if !is_ended::<J, B, D, S, R>(
+        &mut book,
+        &mut share,
+        &keeper,
+        &publisher,
+        &mut passes,
+        &mut readers,
+        &mut looked,
+    ) {
         return None;
     }
     Some(Left {

@@ -199,10 +199,10 @@ where
     ensures share { IfOk result (λ r. r.1 ≡ Marked B.start.number (D.view store.now.file.disk).clock ∷ []) }
     ensures room { IfOk result (λ r. (r.2.items ≡ []) × (16 ≤ vec_capacity r.2)) }
 {
-    let (book, share) = Book::new(alloc, tokens, store.state(), store.disk().clock())?;
-    let durable = Durable::new(word, moment_of(store), marking.marked(), None);
     let room = Vec::with_capacity(alloc, 16)?;
     let seat = desk.seat(rt)?;
+    let (book, share) = Book::new(alloc, tokens, store.state(), store.disk().clock())?;
+    let durable = Durable::new(word, moment_of(store), marking.marked(), None);
     let shared = Arc::new(
         alloc,
         Shared {

@@ -64,6 +64,41 @@ impl<J: Job, B: Begun<J>, T: Absorb<T, State = [Batch<J>; 0]> + Drop, R: Wait + 
     ghost invariant = { λ p. (pending p.writer ≡ []) × IsPrefix (T.state (published p.writer)) p.word };
 }
 
+// The writer of a board for so many readers, whose two copies show a state.
+fn writer_of<J: Job, B: Begun<J>, R: Wait + Drop>(
+    alloc: Global,
+    rt: R,
+    state: &State<J>,
+    word: &Word<J, B>,
+    readers: usize,
+) -> Result<WriteHandle<Shown<J, B>, Shown<J, B>, R>, AllocError>
+    requires leads { applied J.kind B.origin (records_of word.now) ≡ Some state.now }
+    requires readers { (0 < readers) × (readers < 2 ^ 32) }
+    ensures { IfOk result (λ w. (published w ≡ word.now) × (pending w ≡ [])) }
+{
+    let first = Shown::of(alloc, state, word)?;
+    let second = Shown::of(alloc, state, word)?;
+    WriteHandle::new(alloc, rt, first, second, readers)
+}
+
+// So many readers of a board, who know as much as this word.
+fn readers_of<J: Job, B: Begun<J>, R: Wait + Drop>(
+    alloc: Global,
+    writer: &WriteHandle<Shown<J, B>, Shown<J, B>, R>,
+    word: &Word<J, B>,
+    readers: usize,
+) -> Result<Vec<Reader<J, B>>, AllocError>
+    ensures { IfOk result (λ given. given.items ≡ replicate readers word.now) }
+{
+    let factory = writer.factory()?;
+    let mut given = Vec::with_capacity(alloc, readers)?;
+    for _reader in 0..readers {
+        let handle = factory.handle()?;
+        given.push(Reader::new(handle, word.again(), MOST_LINES))?;
+    }
+    Ok(given)
+}
+
 impl<J: Job, B: Begun<J> + Charted, R: Wait + Drop> BoardWriter<J, B, Shown<J, B>, R> {
     /// A board of this state, with no batch after it, and so many readers. `AllocError` if an allocation fails.
     pub fn new(
@@ -81,16 +116,8 @@ impl<J: Job, B: Begun<J> + Charted, R: Wait + Drop> BoardWriter<J, B, Shown<J, B
     {
         let (end, past) = opened.named::<B>();
         let word = Word::new(state.number(), past);
-        let first = Shown::of(alloc, state, &word)?;
-        let second = Shown::of(alloc, state, &word)?;
-        let writer = WriteHandle::new(alloc, rt, first, second, readers)?;
-        let factory = writer.factory()?;
-        let tasks = MOST_LINES;
-        let mut given = Vec::with_capacity(alloc, readers)?;
-        for _reader in 0..readers {
-            let handle = factory.handle()?;
-            given.push(Reader::new(handle, word.again(), tasks))?;
-        }
+        let writer = writer_of(alloc, rt, state, &word, readers)?;
+        let given = readers_of(alloc, &writer, &word, readers)?;
         Ok((BoardWriter { end, word, writer }, given))
     }
 
