@@ -5,6 +5,7 @@ ghost use Rattle.pfx_disk.specs.File.{file_view};
 ghost use Rattle.pfx_front.specs.Starting.{Begins};
 ghost use Rattle.pfx_kinds.specs.AnyKind.{any_kind};
 ghost use Rattle.pfx_store.specs.Noting.{IsHeldBy};
+ghost use Rattle.pfx_log_store.specs.Fitting.{FitsIn};
 ghost use Rattle.pfx_log_store.specs.Working.{failure_beside};
 
 use crate::files::{disk, new_disk, sync_directory};
@@ -167,6 +168,63 @@ fn joined(
     }
 }
 
+// The empty file of a new log, and the log that it goes on from.
+fn both_logs(
+    rt: &HostRuntime,
+    alloc: Global,
+    path: &str,
+    older: &str,
+    traces: &Traces,
+) -> Result<(FileDisk, LogFile<FileDisk>), Fault> {
+    let mut fresh = log_disk(rt, path, traces)?;
+    if !is_empty(&mut fresh, traces)? {
+        return Err(Fault::NotEmpty);
+    }
+    let old = opened(alloc, disk(rt, older)?, traces)?;
+    Ok((fresh, old))
+}
+
+// A store whose log was brought up to it, and the log's head.
+fn brought_up(
+    alloc: Global,
+    store: Store<FileDisk, AnyJob>,
+    log: LogFile<FileDisk>,
+    traces: &Traces,
+) -> Result<(Store<FileDisk, AnyJob>, [u8; 32]), Fault>
+    ensures { IfOk result (λ brought. FitsIn 0 brought.0.file.places) }
+{
+    let mut beside = joined(alloc, store, log, traces)?;
+    if beside.keep_up().is_err() {
+        traces.keep_said(&beside.log.disk);
+        return Err(Fault::Device);
+    }
+    let (store, log, _) = beside.into_parts();
+    if store.is_broken() {
+        return Err(Fault::Device);
+    }
+    let head = log.place.head;
+    Ok((store, head))
+}
+
+// A store beside a new log that begins at its state, behind the log with this head.
+fn followed(
+    rt: &HostRuntime,
+    alloc: Global,
+    store: Store<FileDisk, AnyJob>,
+    fresh: FileDisk,
+    path: &str,
+    head: [u8; 32],
+    traces: &Traces,
+) -> Result<LoggedStore<FileDisk, FileDisk, AnyJob>, Fault>
+    requires { FitsIn 0 store.file.places }
+{
+    let log = begun(rt, alloc, fresh, path, store.state(), head, traces)?;
+    match LoggedStore::new(alloc, store, log, &[]) {
+        Ok(beside) => Ok(beside),
+        Err(_) => Err(Fault::NoMemory),
+    }
+}
+
 // A store beside a new log of this path, which goes on from an older one: that is brought up to the store first, so that the new one begins
 // where it ends.
 fn gone_on(
@@ -177,26 +235,9 @@ fn gone_on(
     older: &str,
     traces: &Traces,
 ) -> Result<LoggedStore<FileDisk, FileDisk, AnyJob>, Fault> {
-    let mut fresh = log_disk(rt, path, traces)?;
-    if !is_empty(&mut fresh, traces)? {
-        return Err(Fault::NotEmpty);
-    }
-    let old = opened(alloc, disk(rt, older)?, traces)?;
-    let mut beside = joined(alloc, store, old, traces)?;
-    if beside.keep_up().is_err() {
-        traces.keep_said(&beside.log.disk);
-        return Err(Fault::Device);
-    }
-    let (store, old, _) = beside.into_parts();
-    if store.is_broken() {
-        return Err(Fault::Device);
-    }
-    let head = old.place.head;
-    let log = begun(rt, alloc, fresh, path, store.state(), head, traces)?;
-    match LoggedStore::new(alloc, store, log, &[]) {
-        Ok(beside) => Ok(beside),
-        Err(_) => Err(Fault::NoMemory),
-    }
+    let (fresh, old) = both_logs(rt, alloc, path, older, traces)?;
+    let (store, head) = brought_up(alloc, store, old, traces)?;
+    followed(rt, alloc, store, fresh, path, head, traces)
 }
 
 /// A store beside the log of this path, which is made at the store's state where it is missing; with an older log the new one goes on from

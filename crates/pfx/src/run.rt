@@ -1,10 +1,11 @@
 //! `pfx run FILE SCRIPT`.
 
-ghost use Rattle.std.specs.Prelude.{◌≡◌, unwrap_or, None};
+ghost use Rattle.std.specs.Prelude.{◌≡◌, ℕ, List, unwrap_or, None};
 ghost use Rattle.pfx_disk.specs.File.{file_view};
 ghost use Rattle.pfx_front.specs.Starting.{Begins};
 ghost use Rattle.pfx_kinds.specs.AnyKind.{any_kind};
 ghost use Rattle.pfx_log_store.specs.Working.{failure_beside};
+ghost use Rattle.pfx_store.specs.Noting.{IsHeldBy};
 
 use crate::files::{Source, disk, input};
 use crate::log::beside;
@@ -35,21 +36,6 @@ type JobDesk = ChannelDesk<Quantum<AnyJob>, Done<AnyJob>>;
 
 /// The most records of a script that share a commit.
 const GROUP: u32 = 16;
-
-// A run with so many slots at once, or this many where none are said.
-fn run_of(batch: Option<u32>, other: u32, strict: bool, form: Form) -> Run {
-    let at_refusal = if strict {
-        AtRefusal::End
-    } else {
-        AtRefusal::GoOn
-    };
-    Run {
-        batch: batch.unwrap_or(other).max(1),
-        group: GROUP,
-        at_refusal,
-        form,
-    }
-}
 
 // Runs a script on a store by one thread. The name says which bytes the file held when it was opened: that they stand for the store is
 // the premise of each printed line.
@@ -218,6 +204,69 @@ pub(crate) struct Asked<'a> {
     pub(crate) form: Form,
 }
 
+// A run as it is asked for, with so many slots at once where none are said.
+fn run_of(asked: Asked<'_>, batch: u32) -> Run {
+    let at_refusal = if asked.strict {
+        AtRefusal::End
+    } else {
+        AtRefusal::GoOn
+    };
+    Run {
+        batch: asked.batch.unwrap_or(batch).max(1),
+        group: GROUP,
+        at_refusal,
+        form: asked.form,
+    }
+}
+
+// Runs a script on a store by so many workers, or for 0 by one thread. Whatever bytes its file is said to hold, that they stand for the
+// store is the premise.
+fn run_on<R: Threads + Wait + Clock + Copy + Drop + Send + Sync + 'static>(
+    rt: &HostRuntime,
+    threads: R,
+    alloc: Global,
+    store: Store<FileDisk, AnyJob>,
+    workers: u32,
+    script: &mut Script<Whole<Source>>,
+    asked: Asked<'_>,
+    traces: &Traces,
+) -> Result<(), Fault>
+    requires begins { (image : List ℕ) → Begins any_kind store.state (file_view store.file.disk).failures (file_view store.file.disk).clock
+        (IsHeldBy any_kind store image) image store (file_view store.file.disk) }
+{
+    if workers == 0 {
+        let list = Opened::new();
+        let run = run_of(asked, 1);
+        return run_alone::<Brand>(rt, alloc, list, store, script, run, traces);
+    }
+    let run = run_of(asked, WINDOW);
+    run_by::<Brand, R>(rt, threads, alloc, store, workers, script, run, traces)
+}
+
+// The same beside its log.
+fn run_at_log<R: Threads + Wait + Clock + Copy + Drop + Send + Sync + 'static>(
+    rt: &HostRuntime,
+    threads: R,
+    alloc: Global,
+    beside: LoggedStore<FileDisk, FileDisk, AnyJob>,
+    workers: u32,
+    script: &mut Script<Whole<Source>>,
+    asked: Asked<'_>,
+    traces: &Traces,
+) -> Result<(), Fault>
+    requires whole { failure_beside beside ≡ None }
+    requires begins { (image : List ℕ) → Begins any_kind beside.store.state (file_view beside.store.file.disk).failures
+        (file_view beside.store.file.disk).clock (IsHeldBy any_kind beside.store image) image beside.store (file_view beside.store.file.disk) }
+{
+    if workers == 0 {
+        let list = Opened::new();
+        let run = run_of(asked, 1);
+        return run_beside::<Brand>(rt, alloc, list, beside, script, run, traces);
+    }
+    let run = run_of(asked, WINDOW);
+    run_beside_by::<Brand, R>(rt, threads, alloc, beside, workers, script, run, traces)
+}
+
 /// Runs a script on the store of a file by so many workers, as many as its weights have if none are said, or for 0 by one thread. Up
 /// to `batch` slots of a record are kept at once; if that isn't said, it is 1, or 64 with workers. Records that stand ready together
 /// are kept at once too, up to 16. Lines are printed as they come. Behind a refused record the script goes on, or ends if it is strict.
@@ -233,38 +282,30 @@ pub(crate) fn run<R: Threads + Wait + Clock + Copy + Drop + Send + Sync + 'stati
 ) -> Result<(), Fault> {
     let mut script = Script::new(alloc, Whole::new(input(rt, script)?));
     let store = opened(alloc, disk(rt, file)?, traces)?;
-    let alone = run_of(asked.batch, 1, asked.strict, asked.form);
-    let many = run_of(asked.batch, WINDOW, asked.strict, asked.form);
     let workers = workers_of(asked.workers, &store);
-    if let Some(log) = asked.log {
-        let beside = beside(rt, alloc, store, log, asked.after, traces)?;
-        if workers == 0 {
-            let list = Opened::new();
-            return run_beside::<Brand>(rt, alloc, list, beside, &mut script, alone, traces);
+    match asked.log {
+        Some(log) => {
+            let beside = beside(rt, alloc, store, log, asked.after, traces)?;
+            run_at_log::<R>(
+                rt,
+                threads,
+                alloc,
+                beside,
+                workers,
+                &mut script,
+                asked,
+                traces,
+            )
         }
-        return run_beside_by::<Brand, R>(
+        None => run_on::<R>(
             rt,
             threads,
             alloc,
-            beside,
+            store,
             workers,
             &mut script,
-            many,
+            asked,
             traces,
-        );
+        ),
     }
-    if workers == 0 {
-        let list = Opened::new();
-        return run_alone::<Brand>(rt, alloc, list, store, &mut script, alone, traces);
-    }
-    run_by::<Brand, R>(
-        rt,
-        threads,
-        alloc,
-        store,
-        workers,
-        &mut script,
-        many,
-        traces,
-    )
 }

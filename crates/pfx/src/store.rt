@@ -58,6 +58,49 @@ fn begun(
     Ok((set, state))
 }
 
+// Makes a store on a disk, and syncs its file's directory. The answer is how many bytes the file has.
+fn made(
+    rt: &HostRuntime,
+    alloc: Global,
+    disk: FileDisk,
+    file: &str,
+    set: &TaskSet,
+    state: State<AnyJob>,
+    traces: &Traces,
+) -> Result<usize, Fault>
+    requires set { state.ledger.set ≡ set.now }
+    requires size { IsSegmentSize set.now.workers state.segment }
+{
+    match Store::<FileDisk, AnyJob>::begin(alloc, disk, set, state) {
+        Ok(store) => {
+            sync_directory(rt, file, &traces.device)?;
+            Ok(store.places().sizes.file_len())
+        }
+        Err((fault, disk)) => {
+            traces.device.set(disk.said());
+            Err(init_fault(fault))
+        }
+    }
+}
+
+// Prints the line of a store that was made.
+fn print_created(
+    rt: &HostRuntime,
+    alloc: Global,
+    form: Form,
+    set: &TaskSet,
+    len: usize,
+    traces: &Traces,
+) -> Result<(), Fault> {
+    let Ok(line) = created_line(alloc, form, set, len) else {
+        return Err(Fault::NoMemory);
+    };
+    match output_of(rt, &traces.failed).write_all(line.as_bytes()) {
+        Ok(()) => Ok(()),
+        Err(error) => Err(fault_of(&error, Fault::OutputFailed)),
+    }
+}
+
 /// Makes a store of a set in a file, which is made if it is missing, and prints its line. The store begins at slot 0, or with the
 /// ledger that is given. The refusals of the set, of its segments and of the ledger come before the file is touched. The file's directory is
 /// synced before the line is printed. A new file is taken away if no store is made in it.
@@ -73,24 +116,12 @@ pub(crate) fn init(
     let (set, state) = begun(rt, alloc, set, at, &mut traces.set)?;
     let needed = store_len(&set, state.segment());
     let (disk, is_new) = new_disk(rt, file, &mut traces.unopened)?;
-    let store = match Store::<FileDisk, AnyJob>::begin(alloc, disk, &set, state) {
-        Ok(store) => store,
-        Err((fault, disk)) => {
-            traces.device.set(disk.said());
+    match made(rt, alloc, disk, file, &set, state, traces) {
+        Ok(len) => print_created(rt, alloc, form, &set, len, traces),
+        Err(fault) => {
             traces.unmade = taken_away(rt, file, is_new, needed);
-            return Err(init_fault(fault));
+            Err(fault)
         }
-    };
-    if let Err(fault) = sync_directory(rt, file, &traces.device) {
-        traces.unmade = taken_away(rt, file, is_new, needed);
-        return Err(fault);
-    }
-    let Ok(line) = created_line(alloc, form, &set, store.places().sizes.file_len()) else {
-        return Err(Fault::NoMemory);
-    };
-    match output_of(rt, &traces.failed).write_all(line.as_bytes()) {
-        Ok(()) => Ok(()),
-        Err(error) => Err(fault_of(&error, Fault::OutputFailed)),
     }
 }
 
@@ -125,6 +156,26 @@ fn engine(
     }
 }
 
+// Prints an engine's board.
+fn print_board(
+    rt: &HostRuntime,
+    alloc: Global,
+    form: Form,
+    engine: &mut StoreEngine<FileDisk, AnyJob>,
+    traces: &Traces,
+) -> Result<(), Fault> {
+    let Ok(mut output) = BufWriter::new(alloc, output_of(rt, &traces.failed)) else {
+        return Err(Fault::NoMemory);
+    };
+    let shown = run_status(alloc, form, &mut output, engine);
+    let flushed = output.flush();
+    shown?;
+    match flushed {
+        Ok(()) => Ok(()),
+        Err(error) => Err(fault_of(&error, Fault::OutputFailed)),
+    }
+}
+
 /// Prints the board of the store of a file.
 pub(crate) fn status(
     rt: &HostRuntime,
@@ -133,17 +184,8 @@ pub(crate) fn status(
     form: Form,
     traces: &Traces,
 ) -> Result<(), Fault> {
-    let mut engine = engine(alloc, opened(alloc, shared_disk(rt, file)?, traces)?)?;
-    let Ok(mut output) = BufWriter::new(alloc, output_of(rt, &traces.failed)) else {
-        return Err(Fault::NoMemory);
-    };
-    let shown = run_status(alloc, form, &mut output, &mut engine);
-    let flushed = output.flush();
-    shown?;
-    match flushed {
-        Ok(()) => Ok(()),
-        Err(error) => Err(fault_of(&error, Fault::OutputFailed)),
-    }
+    let store = opened(alloc, shared_disk(rt, file)?, traces)?;
+    print_board(rt, alloc, form, &mut engine(alloc, store)?, traces)
 }
 
 // The number of a task; one that is greater than any is no task's.

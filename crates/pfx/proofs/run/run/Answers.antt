@@ -1,8 +1,0 @@
-use Rattle.std.specs.Prelude.{[]}
-use Rattle.pfx.proofs.run.run.Goals as goal
-
-pub run_beside-requires-clause-begins : goal.run_beside-requires-clause-begins
-run_beside-requires-clause-begins g c = c.in_ok-beside.ensures.begins []
-
-pub run_beside_by-requires-clause-begins : goal.run_beside_by-requires-clause-begins
-run_beside_by-requires-clause-begins g c = λ lifetimes outlive. c.in_ok-beside.ensures.begins []
