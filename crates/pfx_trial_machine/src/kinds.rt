@@ -1,5 +1,7 @@
 //! Worked jobs of the four kinds, and their encodings.
 
+ghost use Rattle.std.specs.Prelude.{◌≤◌};
+
 use pfx_jobs::job::{Job, JobFault, are_same};
 use pfx_jobs::quantum::{Done, Quantum};
 use pfx_kinds::any::AnyJob;
@@ -320,56 +322,77 @@ fn is_visible(byte: u8) -> bool {
     33 <= byte && byte <= 126 && byte != b'"' && byte != b',' && byte != b'\\'
 }
 
+/// The eight bytes behind the count of steps, as a number.
+fn number_in(bytes: &[u8; 128]) -> u64 {
+    u64::from_le_bytes([
+        bytes[5], bytes[6], bytes[7], bytes[8], bytes[9], bytes[10], bytes[11], bytes[12],
+    ])
+}
+
+/// Whether the format names the bytes the encoding of a count with so many steps left.
+fn is_count(bytes: &[u8; 128], left: u32) -> bool {
+    let value = number_in(bytes);
+    value < 1 << 63
+        && value + u64::from(left) < 1 << 63
+        && bytes[13..].iter().all(|byte| *byte == 0)
+}
+
+/// Whether the format names the bytes the encoding of a ring of cells.
+fn is_ring(bytes: &[u8; 128]) -> bool {
+    let width = bytes[6] as usize + 256 * (bytes[7] as usize);
+    if width < 3 || width > 512 {
+        return false;
+    }
+    for i in width..512 {
+        if bytes[8 + i / 8] & (1 << (7 - i % 8)) != 0 {
+            return false;
+        }
+    }
+    bytes[72..].iter().all(|byte| *byte == 0)
+}
+
+/// Whether a text of so many bytes and a needle of so many stand in an encoding, and nothing else.
+fn has_text(bytes: &[u8; 128], text: usize, needle: usize) -> bool
+    requires { (text ≤ 64) × (needle ≤ 16) }
+{
+    bytes[8..8 + text].iter().all(|byte| is_printable(*byte))
+        && bytes[72..72 + needle]
+            .iter()
+            .all(|byte| is_printable(*byte) && *byte != b':')
+        && bytes[8 + text..72].iter().all(|byte| *byte == 0)
+        && bytes[72 + needle..].iter().all(|byte| *byte == 0)
+}
+
+/// Whether the format names the bytes the encoding of a search with so many steps left.
+fn is_search(bytes: &[u8; 128], left: u32) -> bool {
+    let (a, b) = (bytes[5] as usize, bytes[6] as usize);
+    if a < 1 || a > 64 || b < 1 || b > 16 || b > a {
+        return false;
+    }
+    let (left, places) = (u64::from(left), (a - b + 1) as u64);
+    left <= places && bytes[7] as u64 <= places - left && has_text(bytes, a, b)
+}
+
+/// Whether the format names the bytes the encoding of a job that other programs do.
+fn is_own(bytes: &[u8; 128], left: u32) -> bool {
+    let length = bytes[13] as usize;
+    left == 0
+        && number_in(bytes) < 1 << 40
+        && length <= 106
+        && bytes[14..14 + length].iter().all(|byte| is_visible(*byte))
+        && bytes[14 + length..120].iter().all(|byte| *byte == 0)
+        && bytes[125..127].iter().all(|byte| *byte == 0)
+        && bytes[127] == 4
+}
+
 /// Whether the format names the bytes an encoding.
 fn is_encoding(bytes: &[u8; 128]) -> bool {
-    let left = u32::from_le_bytes([bytes[1], bytes[2], bytes[3], bytes[4]]) as u64;
+    let left = u32::from_le_bytes([bytes[1], bytes[2], bytes[3], bytes[4]]);
     match bytes[0] {
-        1 => {
-            let value = u64::from_le_bytes([
-                bytes[5], bytes[6], bytes[7], bytes[8], bytes[9], bytes[10], bytes[11], bytes[12],
-            ]);
-            value < 1 << 63 && value + left < 1 << 63 && bytes[13..].iter().all(|byte| *byte == 0)
-        }
-        2 => {
-            let width = bytes[6] as usize + 256 * (bytes[7] as usize);
-            if width < 3 || width > 512 {
-                return false;
-            }
-            for i in width..512 {
-                if bytes[8 + i / 8] & (1 << (7 - i % 8)) != 0 {
-                    return false;
-                }
-            }
-            bytes[72..].iter().all(|byte| *byte == 0)
-        }
-        3 => {
-            let (a, b) = (bytes[5] as usize, bytes[6] as usize);
-            if a < 1 || a > 64 || b < 1 || b > 16 || b > a {
-                return false;
-            }
-            let places = (a - b + 1) as u64;
-            left <= places
-                && bytes[7] as u64 <= places - left
-                && bytes[8..8 + a].iter().all(|byte| is_printable(*byte))
-                && bytes[72..72 + b]
-                    .iter()
-                    .all(|byte| is_printable(*byte) && *byte != b':')
-                && bytes[8 + a..72].iter().all(|byte| *byte == 0)
-                && bytes[72 + b..].iter().all(|byte| *byte == 0)
-        }
-        4 => {
-            let answered = u64::from_le_bytes([
-                bytes[5], bytes[6], bytes[7], bytes[8], bytes[9], bytes[10], bytes[11], bytes[12],
-            ]);
-            let length = bytes[13] as usize;
-            left == 0
-                && answered < 1 << 40
-                && length <= 106
-                && bytes[14..14 + length].iter().all(|byte| is_visible(*byte))
-                && bytes[14 + length..120].iter().all(|byte| *byte == 0)
-                && bytes[125..127].iter().all(|byte| *byte == 0)
-                && bytes[127] == 4
-        }
+        1 => is_count(bytes, left),
+        2 => is_ring(bytes),
+        3 => is_search(bytes, left),
+        4 => is_own(bytes, left),
         _ => false,
     }
 }

@@ -360,13 +360,19 @@ fn slots_are_same(
     )
 }
 
+/// Three tasks that count.
+fn counting_thirds(alloc: Global) -> Option<Held> {
+    let mut state = thirds(alloc)?;
+    for task in 0..3 {
+        state.apply(count(task, 2 + u64::from(task))?).ok()?;
+    }
+    Some(state)
+}
+
 /// How many of nine slots are the same as a whole and in parts, up to the first that isn't.
 fn same_slots(alloc: Global) -> Option<u32> {
-    let mut whole = thirds(alloc)?;
-    for task in 0..3 {
-        whole.apply(count(task, 2 + u64::from(task))?).ok()?;
-    }
-    let mut parts = whole.copy_of(alloc).ok()?;
+    let mut whole = counting_thirds(alloc)?;
+    let mut parts = Box::new(alloc, whole.copy_of(alloc).ok()?).ok()?;
     for slot in 0..9 {
         if slots_are_same(alloc, &mut whole, &mut parts) != Some(true) {
             return Some(slot);
