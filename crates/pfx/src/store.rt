@@ -58,26 +58,33 @@ fn begun(
     Ok((set, state))
 }
 
-// Makes a store on a disk, and syncs its file's directory. The answer is how many bytes the file has.
+// Makes a store on a disk, and syncs its file's directory. The answer is how many bytes the file has. Where none is made a new file is
+// taken away while its disk is still held, so that it isn't another's by then.
 fn made(
     rt: &HostRuntime,
     alloc: Global,
     disk: FileDisk,
     file: &str,
+    is_new: bool,
     set: &TaskSet,
     state: State<AnyJob>,
-    traces: &Traces,
+    traces: &mut Traces,
 ) -> Result<usize, Fault>
     requires set { state.ledger.set ≡ set.now }
     requires size { IsSegmentSize set.now.workers state.segment }
 {
+    let needed = store_len(set, state.segment());
     match Store::<FileDisk, AnyJob>::begin(alloc, disk, set, state) {
         Ok(store) => {
-            sync_directory(rt, file, &traces.device)?;
+            if let Err(fault) = sync_directory(rt, file, &traces.device) {
+                traces.unmade = taken_away(rt, file, is_new, needed);
+                return Err(fault);
+            }
             Ok(store.places().sizes.file_len())
         }
         Err((fault, disk)) => {
             traces.device.set(disk.said());
+            traces.unmade = taken_away(rt, file, is_new, needed);
             Err(init_fault(fault))
         }
     }
@@ -114,15 +121,9 @@ pub(crate) fn init(
     traces: &mut Traces,
 ) -> Result<(), Fault> {
     let (set, state) = begun(rt, alloc, set, at, &mut traces.set)?;
-    let needed = store_len(&set, state.segment());
     let (disk, is_new) = new_disk(rt, file, &mut traces.unopened)?;
-    match made(rt, alloc, disk, file, &set, state, traces) {
-        Ok(len) => print_created(rt, alloc, form, &set, len, traces),
-        Err(fault) => {
-            traces.unmade = taken_away(rt, file, is_new, needed);
-            Err(fault)
-        }
-    }
+    let len = made(rt, alloc, disk, file, is_new, &set, state, traces)?;
+    print_created(rt, alloc, form, &set, len, traces)
 }
 
 /// The store on a disk. Whatever bytes the file is said to hold, that they stand for the store is the premise. If the disk fails, what the
