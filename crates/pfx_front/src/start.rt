@@ -237,6 +237,70 @@ fn show_first<J: Job, B: Since<J>, D: Disk, R: Wait + Drop>(
     Ok((publisher, given, looked))
 }
 
+/// What a front has before its threads: what they share, what the flusher owns but for what keeps the store, the readers, and room for an
+/// answer of each at the end.
+#[derive(Drop)]
+struct Outfit<J: Job, B: Since<J>, K: Desk<Quantum<J>, Done<J>>, R: Wait + Drop> {
+    shared: Arc<Shared<J, B, K>, Global>,
+    share: Share<J, B>,
+    room: Vec<Record<J>>,
+    publisher: Publisher<J, B, R>,
+    marking: Marking<J, B>,
+    given: Vec<Reader<J, B>>,
+    looked: Vec<bool>,
+}
+
+/// The outfit of a front at this store.
+fn outfit_of<
+    J: Job,
+    B: Since<J>,
+    D: Disk + Logged<B>,
+    K: Desk<Quantum<J>, Done<J>> + Drop,
+    R: Wait + Copy + Drop,
+>(
+    rt: R,
+    alloc: Global,
+    lists: Lists<J>,
+    store: &Store<D, J>,
+    desk: K,
+    workers: u32,
+    readers: u8,
+) -> Result<Outfit<J, B, K, R>, AllocError>
+where
+    K::Seat: Drop,
+    requires named { (lists.tokens.table.shared.table_id ≡ B.table) × (lists.list.seen.book ≡ B.book) × (B.origin ≡ B.start) }
+    requires marks { lists.marks.seen.book ≡ B.marks }
+    requires readers { 0 < readers }
+    requires start { store.now.state ≡ B.start }
+    requires whole { store.now.file.broken ≡ false }
+    ensures share { IfOk result (λ r. r.share ≡ Marked B.start.number (D.view store.now.file.disk).clock ∷ []) }
+    ensures room { IfOk result (λ r. (r.room.items ≡ []) × (16 ≤ vec_capacity r.room)) }
+    ensures publisher { IfOk result (λ r. r.publisher ≡ record { batches = []; shown = [] }) }
+    ensures marking { IfOk result (λ r. r.marking ≡ []) }
+    ensures given { IfOk result (λ r. r.given.items ≡ replicate readers []) }
+{
+    let Lists {
+        tokens,
+        list,
+        marks,
+    } = lists;
+    let (publisher, given, looked) = show_first::<J, B, D, R>(rt, alloc, list, store, readers)?;
+    let word = publisher.published().again();
+    let marking = Marking::new(marks);
+    let (shared, share, room) = furnish::<J, B, D, K, R>(
+        &rt, alloc, tokens, store, word, &marking, desk, workers,
+    )?;
+    Ok(Outfit {
+        shared,
+        share,
+        room,
+        publisher,
+        marking,
+        given,
+        looked,
+    })
+}
+
 /// Makes room for one thing more.
 pub(crate) fn make_room<T: Drop>(list: &mut Vec<T>) -> bool
     ensures { IsTrue result → vec_len list.new < vec_capacity list.new }
@@ -356,39 +420,36 @@ where
     ensures readers { IfOk result (λ r. r.2.items ≡ replicate readers []) }
     ensures given_back { IfErr result (λ e. e.1 ≡ keeper) }
 {
-    let Lists {
-        tokens,
-        list,
-        marks,
-    } = lists;
     let before = Before::of(keeper.stored().disk());
-    let Ok((publisher, given, looked)) = show_first::<J, B, D, R>(
+    let Ok(outfit) = outfit_of::<J, B, D, K, R>(
         rt,
         alloc,
-        list,
+        lists,
         keeper.stored(),
+        desk,
+        workers,
         readers,
     ) else {
         return Err((StartFault::NoMemory, keeper));
     };
-    let word = publisher.published().again();
-    let marking = Marking::new(marks);
-    let Ok((shared, share, room)) = furnish::<J, B, D, K, R>(
-        &rt,
+    let (mailbox, flusher, workers) = match man::<J, B, D, S, K, R>(
+        rt,
         alloc,
-        tokens,
-        keeper.stored(),
-        word,
-        &marking,
-        desk,
+        &outfit.shared,
         workers,
-    ) else {
-        return Err((StartFault::NoMemory, keeper));
-    };
-    let (mailbox, flusher, workers) = match man::<J, B, D, S, K, R>(rt, alloc, &shared, workers) {
+    ) {
         Ok(manned) => manned,
         Err(fault) => return Err((fault, keeper)),
     };
+    let Outfit {
+        shared,
+        share,
+        room,
+        publisher,
+        marking,
+        given,
+        looked,
+    } = outfit;
     let owned = Flusher {
         share,
         keeper,
