@@ -4,5 +4,3 @@ pub mod Finding
 pub mod Formats
 pub mod Looking
 pub mod Walking
-pub mod ToyCodec
-pub mod ToyLaws

@@ -8,7 +8,7 @@ use Rattle.pfx_store_image.proofs.Answers.{some, not_none, some_same, if_some}
 use Rattle.pfx_store_image.proofs.Runs.{same_true}
 use Rattle.pfx_store_image.proofs.ToyLaws.{front, toy_meets}
 use Rattle.pfx_store_recover.specs.Formats.{Bounds}
-use Rattle.pfx_store_recover.specs.ToyCodec.{small_codec, small, small_after, small_apply, is_small}
+use Rattle.pfx_trial_store_file.specs.SmallCodec.{small_codec, small, small_after, small_apply, is_small}
 
 -- a small state is this one
 small_is : (number sum : ℕ) (s : ℕ × ℕ) → small number sum ≡ Some s → ((number, sum) ≡ s) × (number < 200) × (sum < 100)

@@ -1,6 +1,6 @@
 //! The format of small files.
 ghost use Rattle.std.specs.Prelude.{◌≡◌, ◌<◌, ℕ, slice_index};
-ghost use Rattle.pfx_store_recover.specs.ToyCodec.{small_codec, is_small, small};
+ghost use Rattle.pfx_trial_store_file.specs.SmallCodec.{small_codec, is_small, small};
 
 use pfx_store_file::Sizes;
 use pfx_store_recover::{Format, HeadFault, Refusal};
@@ -60,7 +60,7 @@ fn state_of(number: u64, sum: u64) -> Option<Tally>
 }
 
 impl Format for Toy {
-    ghost use Rattle.pfx_store_recover.specs.ToyLaws.{laws_hold, bounds_hold};
+    ghost use Rattle.pfx_trial_store_file.specs.SmallLaws.{laws_hold, bounds_hold};
 
     type Header = u8;
 

@@ -1,0 +1,2 @@
+pub mod SmallCodec
+pub mod SmallLaws
