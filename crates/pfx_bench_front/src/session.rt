@@ -10,8 +10,6 @@ ghost use Rattle.pfx_front.specs.Starting.{Begins, BeginsHonest};
 
 use crate::stores::{JobDesk, SEGMENT, TASKS, submit, thirds};
 use pfx_book::book::Pass;
-use pfx_book::faults::BookFault;
-use pfx_choice::ChoiceFault;
 use pfx_crew::channel::ChannelDesk;
 use pfx_crew::desk::Desk;
 use pfx_disk::{Disk, FileDisk};
@@ -23,7 +21,7 @@ use pfx_front::name::{Names, Since};
 use pfx_front_board::reader::{Reader, StatusFault};
 use pfx_jobs::quantum::{Done, Quantum};
 use pfx_kinds::any::AnyJob;
-use pfx_machine::{Board, Command, JobStatus, MachineFault, Reply};
+use pfx_machine::{Board, Command, JobStatus, Reply};
 use pfx_store::{InitFault, Store};
 use pfx_store_recover::OpenFault;
 use pfx_weights::{TaskSet, Weights};
@@ -84,7 +82,7 @@ fn say_board<R: Print>(rt: &R, board: &Board) {
 /// Says why a call is refused: whether the store has failed.
 fn refuse<R: Print>(rt: &R, call: &str, fault: CallFault) -> bool {
     match fault {
-        CallFault::Refused(BookFault::Machine(MachineFault::NoRow(ChoiceFault::NoMemory))) => {
+        CallFault::NoMemory => {
             say(rt, call, "90");
             false
         }

@@ -15,7 +15,6 @@ use Rattle.pfx_machine.specs.Steps.{state_step, happening_in, jobs_step}
 use Rattle.pfx_machine.specs.Slots.{Deal, deals_in, written_back}
 use Rattle.pfx_machine.specs.declared.command.Command.{Command}
 use Rattle.pfx_machine.specs.declared.command.Command.TheVariants.{Slot}
-use Rattle.pfx_machine.specs.Faults.{no_memory}
 use Rattle.pfx_machine.specs.declared.plain.Happening.TheVariants.{Ran as ran}
 use Rattle.pfx_machine.proofs.Dealt.{written-dealt}
 use Rattle.pfx_machine.proofs.Keeping.{chosen_rises}
@@ -27,7 +26,7 @@ use Rattle.pfx_book_slot.specs.Dealt.{Dealt, Answers, AllBack, IsMissing, Stands
 use Rattle.pfx_book_slot.proofs.Placed.{get_map, get_empty, map_set, answers_set}
 use Rattle.pfx_events_world.specs.Session.{Opened, AllBack as AllShown, opening_of, given_back, given_in, back_in, sealed_in}
 use Rattle.pfx_book.specs.declared.faults.BookFault.{BookFault}
-use Rattle.pfx_book.specs.declared.faults.BookFault.TheVariants.{SessionFull, Machine}
+use Rattle.pfx_book.specs.declared.faults.BookFault.TheVariants.{SessionFull, Machine, NoMemory}
 use Rattle.pfx_fault.specs.declared.fields.Cause.{Cause}
 use Rattle.pfx_book.specs.declared.note.Note.{Note}
 use Rattle.pfx_book.specs.Notes.{refused_at}
@@ -39,7 +38,7 @@ use Rattle.pfx_book.proofs.Merges.{some_is}
 
 module _ {J : Type 0} where
   -- what isn't for want of memory is the session's refusal
-  pub other_of : (K : Kind J) (full : Bool) (s : Plain J) (why : BookFault) → StaysUnopened K full s why → why ≢ Machine no_memory → refused_at full K s Slot ≡ Some why
+  pub other_of : (K : Kind J) (full : Bool) (s : Plain J) (why : BookFault) → StaysUnopened K full s why → why ≢ NoMemory → refused_at full K s Slot ≡ Some why
   other_of K full s why (inl same) other = absurd (other same.0)
   other_of K full s why (inr refused) other = refused
 

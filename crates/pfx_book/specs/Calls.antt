@@ -7,7 +7,6 @@ use Rattle.pfx_crew.specs.declared.gathering.GatherFault.TheVariants.{Stranger}
 use Rattle.pfx_jobs.specs.Kind.{Kind}
 use Rattle.pfx_machine.specs.declared.command.Command.{Command}
 use Rattle.pfx_machine.specs.Batches.{IsBatchable}
-use Rattle.pfx_machine.specs.Faults.{no_memory}
 use Rattle.pfx_machine.specs.Plain.{Plain}
 use Rattle.pfx_machine.specs.Outcome.{outcome}
 use Rattle.pfx_machine.specs.Refusals.{reply}
@@ -18,7 +17,7 @@ use Rattle.pfx_record.specs.Records.{plain, Recorded}
 use Rattle.pfx_record_redo.specs.Recording.{records_of}
 use Rattle.pfx_events_world.specs.Session.{Session, Opened, AllBack, MayGive, begun, gave, receipted, took}
 use Rattle.pfx_book.specs.declared.faults.BookFault.{BookFault}
-use Rattle.pfx_book.specs.declared.faults.BookFault.TheVariants.{Machine}
+use Rattle.pfx_book.specs.declared.faults.BookFault.TheVariants.{NoMemory}
 use Rattle.pfx_book.specs.declared.note.Loss.{Loss}
 use Rattle.pfx_book.specs.declared.note.Note.{Note}
 use Rattle.pfx_book.specs.declared.note.Note.TheVariants.{Accepted, Refused, Receipt, Lost, Took}
@@ -42,7 +41,7 @@ module _ {J : Type 0} where
   -- pass have it as an entry
   abbrev pub Refuses : Kind J → Command J → Register J → Register J → ℕ × List (Note J) → ℕ × List (Note J) → BookFault → Type 0
   Refuses K c old new pass later fault =
-      ((fault ≡ Machine no_memory) × (new ≡ old) × (later ≡ pass))
+      ((fault ≡ NoMemory) × (new ≡ old) × (later ≡ pass))
       ⊎ ((refused_by K old.session c ≡ Some fault)
       × (new ≡ entered pass.0 (Refused old.session.state.number c fault) old.session old) × (later ≡ noted (Refused old.session.state.number c fault) pass))
 

@@ -8,11 +8,10 @@ use Rattle.pfx_machine.specs.declared.command.Command.{Command}
 use Rattle.pfx_machine.specs.declared.command.Command.TheVariants.{Slot}
 use Rattle.pfx_record.specs.Records.{plain}
 use Rattle.pfx_record_redo.specs.Recording.{record_of}
-use Rattle.pfx_machine.specs.Faults.{no_memory}
 use Rattle.pfx_book_slot.specs.Dealt.{Dealt, AllBack}
 use Rattle.pfx_book.specs.Notes.{refused_at}
 use Rattle.pfx_book.specs.declared.faults.BookFault.{BookFault}
-use Rattle.pfx_book.specs.declared.faults.BookFault.TheVariants.{Machine}
+use Rattle.pfx_book.specs.declared.faults.BookFault.TheVariants as bookfault
 use Rattle.pfx_book.specs.declared.trying.Tried.{Tried}
 use Rattle.pfx_book.specs.declared.trying.Tried.TheVariants.{Done, Refused, NoMemory}
 
@@ -24,7 +23,7 @@ Tries K full s c t NoMemory = (t ≡ s) × (full ≡ false) × TakesMemory c
 
 -- why no slot was opened: an allocation failed, for a session that isn't full, or the session refuses one
 abbrev pub StaysUnopened : {J : Type 0} → Kind J → Bool → Plain J → BookFault → Type 0
-StaysUnopened K full s why = ((why ≡ Machine no_memory) × (full ≡ false)) ⊎ (refused_at full K s Slot ≡ Some why)
+StaysUnopened K full s why = ((why ≡ bookfault.NoMemory) × (full ≡ false)) ⊎ (refused_at full K s Slot ≡ Some why)
 
 -- a slot is open, and all its results are back
 abbrev pub IsReady : {J : Type 0} → Option (Dealt J) → Type 0

@@ -17,10 +17,9 @@ use crate::note::{Loss, Note};
 use crate::room::make_room;
 use crate::trying::{Tried, try_command};
 use pfx_book_slot::slot::OpenSlot;
-use pfx_choice::ChoiceFault;
 use pfx_fault::Cause;
 use pfx_jobs::job::Job;
-use pfx_machine::{Board, Command, MachineFault, Reply, State};
+use pfx_machine::{Board, Command, Reply, State};
 use pfx_record::Record;
 use pfx_token::tokens::{Keeper, Opened, Token};
 use std::alloc::{AllocError, Global};
@@ -259,7 +258,7 @@ impl<J: Job, B: Named<J>> Book<J, B> {
 
     /// Accepts a Submit, a Withdraw or a Reweigh, if the book takes commands and it may be asked, and carries it out; or refuses it,
     /// with an entry for the pass in both cases: `SessionFull` if 1,048,576 commands were accepted, else as the machine refuses it.
-    /// `Machine(NoRow(NoMemory))` has no entry.
+    /// `NoMemory` has no entry.
     pub fn ask(
         &mut self,
         pass: &mut Pass<J, B>,
@@ -281,16 +280,14 @@ impl<J: Job, B: Named<J>> Book<J, B> {
             ..
         } = self;
         if !make_room(history, 1) {
-            return Err(BookFault::Machine(MachineFault::NoRow(ChoiceFault::NoMemory)));
+            return Err(BookFault::NoMemory);
         }
         let Some(line) = line_of(*alloc, pass.number, &command) else {
-            return Err(BookFault::Machine(MachineFault::NoRow(ChoiceFault::NoMemory)));
+            return Err(BookFault::NoMemory);
         };
         let is_full = state.number() - *began >= 1 << 20;
         match try_command(*alloc, state, command, is_full) {
-            Tried::NoMemory => return Err(BookFault::Machine(MachineFault::NoRow(
-                ChoiceFault::NoMemory,
-            ))),
+            Tried::NoMemory => return Err(BookFault::NoMemory),
             Tried::Refused(copy, fault) => {
                 history.push_reserved(refused_line(line, &copy, pass.number));
                 keeper.note(&mut pass.token, &Note::Refused(state.number(), copy, fault));

@@ -8,7 +8,10 @@ pub enum BookFault {
     /// The session has accepted as many commands as it may. This is tested before all else.
     #[error("the session is full")]
     SessionFull,
-    /// The machine refuses it. `NoRow(NoMemory)` says that an allocation failed; then nothing was noted.
+    /// The machine refuses it.
     #[error("{0}")]
     Machine(MachineFault),
+    /// An allocation failed. Nothing was noted then, and nothing has changed.
+    #[error("out of memory")]
+    NoMemory,
 }

@@ -13,11 +13,10 @@ use crate::note::Note;
 use crate::room::make_room;
 use crate::trying::{is_all_back, is_no_memory, try_open};
 use pfx_book_slot::sealing::seal_on;
-use pfx_choice::ChoiceFault;
 use pfx_crew::gathering::GatherFault;
 use pfx_jobs::job::Job;
 use pfx_jobs::quantum::{Done, Quantum};
-use pfx_machine::{Command, MachineFault, Reply};
+use pfx_machine::{Command, Reply};
 use pfx_record_redo::Recorded;
 
 impl<J: Job, B: Named<J>> Book<J, B> {
@@ -43,7 +42,7 @@ impl<J: Job, B: Named<J>> Book<J, B> {
             ..
         } = self;
         if !make_room(history, 1) {
-            return Err(BookFault::Machine(MachineFault::NoRow(ChoiceFault::NoMemory)));
+            return Err(BookFault::NoMemory);
         }
         let is_full = state.number() - *began >= 1 << 20;
         match try_open(*alloc, state, is_full) {

@@ -1,6 +1,5 @@
 //! Commands tried on the state.
 ghost use Rattle.std.specs.Prelude.{◌≡◌, ◌≢◌, ◌↔◌, map, IfOk, IfErr, OnOk, None, IsTrue, IsFalse};
-ghost use Rattle.pfx_machine.specs.Faults.{no_memory};
 ghost use Rattle.pfx_machine.specs.Slots.{deal};
 ghost use Rattle.pfx_book_slot.specs.Dealt.{StandsAt};
 ghost use Rattle.pfx_book.specs.Notes.{refused_at};
@@ -10,10 +9,9 @@ use crate::copies::copy_command;
 use crate::faults::BookFault;
 use pfx_book_slot::sealing::open_on;
 use pfx_book_slot::slot::OpenSlot;
-use pfx_choice::ChoiceFault;
 use pfx_jobs::job::Job;
 use pfx_jobs::quantum::Quantum;
-use pfx_machine::{Command, MachineFault, Reply, State};
+use pfx_machine::{Command, Reply, State};
 use pfx_record::Record;
 use pfx_record_redo::{Recorded, run_recorded};
 use std::alloc::Global;
@@ -28,13 +26,10 @@ pub enum Tried<J> {
 
 /// Whether this is the refusal of a growth of memory.
 pub fn is_no_memory(fault: BookFault) -> bool
-    ensures yes { IsTrue result → fault ≡ BookFault.Machine no_memory }
-    ensures no { IsFalse result → fault ≢ BookFault.Machine no_memory }
+    ensures yes { IsTrue result → fault ≡ BookFault.NoMemory }
+    ensures no { IsFalse result → fault ≢ BookFault.NoMemory }
 {
-    matches!(
-        fault,
-        BookFault::Machine(MachineFault::NoRow(ChoiceFault::NoMemory))
-    )
+    matches!(fault, BookFault::NoMemory)
 }
 
 /// Tries a command on the state of a session that is full or not. `NoMemory` isn't said of a full one, nor of a Submit or a Withdraw.
@@ -81,6 +76,7 @@ pub fn try_open<J: Job>(
     }
     match open_on(alloc, state) {
         Ok(opened) => Ok(opened),
+        Err(fault) if fault.is_memory() => Err(BookFault::NoMemory),
         Err(fault) => Err(BookFault::Machine(fault)),
     }
 }

@@ -15,7 +15,7 @@ ghost use Rattle.pfx_book.specs.Calls.{IsAccepted, noted};
 ghost use Rattle.pfx_book.specs.Notes.{greatest};
 ghost use Rattle.pfx_book.specs.Register.{HasRoom};
 ghost use Rattle.pfx_book.specs.declared.note.Note.TheVariants.{Accepted, Receipt as Receipted};
-ghost use Rattle.pfx_front.specs.Calling.{IsLost, IsRefusedBy, HasNoReply, HasNoReceipt};
+ghost use Rattle.pfx_front.specs.Calling.{IsLost, IsRefusedBy, HasNoReply, HasNoReceipt, told_of};
 ghost use Rattle.pfx_front.specs.Lasting.{IsAcknowledged};
 ghost use Rattle.pfx_front.specs.Sole.{IsAlone};
 ghost use Rattle.pfx_front.specs.declared.faults.CallFault.TheVariants.{StoreFailed};
@@ -29,11 +29,10 @@ use crate::start::make_room;
 use pfx_book::book::{Book, Pass};
 use pfx_book::closing;
 use pfx_book::faults::BookFault;
-use pfx_choice::ChoiceFault;
 use pfx_crew::desk::Desk;
 use pfx_jobs::job::Job;
 use pfx_jobs::quantum::{Done, Quantum};
-use pfx_machine::{Command, MachineFault, Reply};
+use pfx_machine::{Command, Reply};
 use std::alloc::Global;
 use std::sync::{Arc, Mutex, Wait};
 
@@ -99,9 +98,7 @@ fn receipt_of<J: Job, B: Since<J>>(
 {
     match book.receipt(pass, number) {
         Ok(receipt) => Ok(receipt),
-        Err(_) => Err(CallFault::Refused(BookFault::Machine(MachineFault::NoRow(
-            ChoiceFault::NoMemory,
-        )))),
+        Err(_) => Err(CallFault::NoMemory),
     }
 }
 
@@ -179,6 +176,16 @@ fn end_slot<J: Job, B: Since<J>, R: Wait>(
     unreachable!()
 }
 
+/// What a client is told of the book's refusal.
+fn told_of(fault: BookFault) -> CallFault
+    ensures { result ≡ told_of fault }
+{
+    match fault {
+        BookFault::NoMemory => CallFault::NoMemory,
+        fault => CallFault::Refused(fault),
+    }
+}
+
 /// Opens a slot of the book, or says why there is none, and whether this is the only pass that is out.
 fn open_of<J: Job, B: Since<J>>(
     book: &mut Book<J, B>,
@@ -198,7 +205,7 @@ fn open_of<J: Job, B: Since<J>>(
             let sole = is_sole_in(book, pass);
             Err(Heard {
                 sole,
-                said: CallFault::Refused(fault),
+                said: told_of(fault),
             })
         }
     }
@@ -254,7 +261,7 @@ fn ask_of<J: Job, B: Since<J>>(
 {
     match book.ask(pass, command) {
         Ok(reply) => Ok(reply),
-        Err(fault) => Err(CallFault::Refused(fault)),
+        Err(fault) => Err(told_of(fault)),
     }
 }
 
@@ -441,8 +448,8 @@ where
     ///
     /// It waits for the lock, while a slot is open, and while 64 accepted commands aren't durable. A Slot's quanta are run
     /// meanwhile, by the workers or, if there are none or their desk is closed, by this thread. `Refused` says why there is no
-    /// such command now, and is noted, but for `Machine(NoRow(NoMemory))`: then nothing has changed. `StoreFailed` says that nothing is
-    /// accepted any more; the first time, the pass notes why.
+    /// such command now, and is noted. `NoMemory` says that an allocation failed: then nothing has changed. `StoreFailed` says that nothing
+    /// is accepted any more; the first time, the pass notes why.
     pub fn call<R: Wait>(
         &self,
         rt: &R,
@@ -498,7 +505,7 @@ where
     /// have left then is recovered to a state that has the command.
     ///
     /// `StoreFailed` says that it isn't known to be durable, and won't become so; a number up to the last mark has its receipt
-    /// also then. `Refused(Machine(NoRow(NoMemory)))` changes nothing, and the call may be made again.
+    /// also then. `NoMemory` changes nothing, and the call may be made again.
     pub fn settled<R: Wait>(
         &self,
         rt: &R,

@@ -6,9 +6,12 @@ use thiserror::Error;
 /// Why a command has no reply, or a number no receipt.
 #[derive(Clone, Copy, Debug, PartialEq, Eq, Error)]
 pub enum CallFault {
-    /// The command is refused. Of a receipt it is `Machine(NoRow(NoMemory))`.
+    /// The command is refused. It isn't `NoMemory`.
     #[error("{0}")]
     Refused(BookFault),
+    /// An allocation failed: the command has no number, or the number no receipt, and nothing has changed.
+    #[error("out of memory")]
+    NoMemory,
     /// The flusher has given up, so nothing more is accepted, and nothing becomes durable.
     #[error("the store has failed: {cause}, behind command {marked}")]
     StoreFailed {

@@ -58,12 +58,13 @@ module _ {J : Type 0} (K : Kind J) (B : Plain J) (c : Command J) (was is : ℕ �
       l' = subst (λ (p : ℕ × List (Note J)). IsAlone K B p.1) same l
 
       by : (d : BookFault) → IsAlone K B (was.1 ++ note.Refused n c d ∷ []) → IsReason K B was.1 c is.1 (why_of (frontfault.Refused d))
+      by book.NoMemory k = tt
       by book.SessionFull k = (let full = session_full K B was.1 n c k in let long = ap length still in omega (arith, full, long))
       by (book.Machine f) k = machine_reason K B was.1 c is.1 f (refused K B was.1 n c f k)
 
   pub unanswered : (why : front.CallFault) → HasNoReply c was is why → IsAlone K B is.1 → IsUnanswered K B was.1 c is.1 (why_of why)
-  unanswered (frontfault.Refused b) (inl h) l = rw h.0 (record { reason = tt; stays = stays_as B.number was.1 is.1 (ap (λ p. alone p.1) h.1); known = (let top = ap (λ p. greatest p.1) h.1 in omega (arith, top)) })
-  unanswered (frontfault.Refused b) (inr h) l = noted_why b h.0 h.1 l
+  unanswered frontfault.NoMemory h l = record { reason = tt; stays = stays_as B.number was.1 is.1 (ap (λ p. alone p.1) h); known = (let top = ap (λ p. greatest p.1) h in omega (arith, top)) }
+  unanswered (frontfault.Refused b) h l = noted_why b h.0 h.1 l
   unanswered (frontfault.StoreFailed marked cause) h l = record { reason = inl h.2; stays = stays_as B.number was.1 is.1 (ap tagged h.1); known = (let top = greatest_same_answers was.1 is.1 h.1 in omega (arith, top)) }
 
   pub answered_as : (n : ℕ) (said : Reply) → is ≡ noted (note.Accepted n c said) was → IsAlone K B is.1 → IsAnswered K B was.1 c n said is.1

@@ -32,6 +32,8 @@ why_machine other = callfault.Refused other
 
 -- what a front's refusal is to a run
 abbrev pub why_of : front.CallFault → CallFault
+why_of frontfault.NoMemory = callfault.Failed fault.NoMemory
+why_of (frontfault.Refused book.NoMemory) = callfault.Failed fault.NoMemory
 why_of (frontfault.Refused book.SessionFull) = callfault.Failed fault.SessionFull
 why_of (frontfault.Refused (book.Machine f)) = why_machine f
 why_of (frontfault.StoreFailed marked cause) = callfault.Failed (fault.StoreFailed marked cause)

@@ -41,6 +41,9 @@ fn why(fault: FrontFault) -> CallFault
     ensures { result ≡ why_of fault }
 {
     match fault {
+        FrontFault::Refused(BookFault::NoMemory) | FrontFault::NoMemory => {
+            CallFault::Failed(Fault::NoMemory)
+        }
         FrontFault::Refused(BookFault::SessionFull) => CallFault::Failed(Fault::SessionFull),
         FrontFault::Refused(BookFault::Machine(fault)) => why_machine(fault),
         FrontFault::StoreFailed { marked, cause } => {
@@ -178,10 +181,11 @@ where
         Err(FrontFault::StoreFailed { marked, cause }) => {
             Err(Fault::StoreFailed { marked, cause })
         }
-        Err(FrontFault::Refused(_)) => Err(Fault::StoreFailed {
+        Err(FrontFault::NoMemory) => Err(Fault::StoreFailed {
             marked: client.kept,
             cause: Cause::Memory,
         }),
+        Err(FrontFault::Refused(_)) => unreachable!(),
     }
 }
 

@@ -50,6 +50,11 @@ pub fn is_refused(answer: &Option<Answer>, fault: MachineFault) -> bool {
     }
 }
 
+/// Whether a command wasn't accepted since an allocation failed.
+pub fn is_without_memory(answer: &Option<Answer>) -> bool {
+    matches!(answer, Some(Err(BookFault::NoMemory)))
+}
+
 /// Whether a Submit for a task is accepted with this number. The answer ends here, so that no step of a caller's proof spells its type.
 pub fn submits<S: Service>(book: &mut S, pass: &mut S::Pass, task: u16, number: u64) -> bool {
     is_submitted(&book.submit(pass, task), number, task)

@@ -1,19 +1,17 @@
 //! Calls that are refused memory, and again. Run with each allocation failing in turn, each refusal is an answer, and changes
 //! nothing: what is asked once more is answered as if it had never been refused.
 
-use crate::answers::{is_refused, is_submitted, is_unopened, is_withdrawn, seals};
+use crate::answers::{is_submitted, is_withdrawn, is_without_memory, seals};
 use crate::asking::Answer;
 use crate::service::Service;
 use crate::sessions::{Session, at_thirds};
 use pfx_book::closing::Receipt;
 use pfx_book::faults::BookFault;
-use pfx_choice::ChoiceFault;
-use pfx_machine::MachineFault;
 
 /// Submits, and once more if an allocation fails.
 fn submit_again<S: Service>(book: &mut S, pass: &mut S::Pass, task: u16) -> Option<Answer> {
     let answer = book.submit(pass, task);
-    if is_refused(&answer, MachineFault::NoRow(ChoiceFault::NoMemory)) {
+    if is_without_memory(&answer) {
         return book.submit(pass, task);
     }
     answer
@@ -22,7 +20,7 @@ fn submit_again<S: Service>(book: &mut S, pass: &mut S::Pass, task: u16) -> Opti
 /// Withdraws, and once more if an allocation fails.
 fn withdraw_again<S: Service>(book: &mut S, pass: &mut S::Pass, task: u16) -> Option<Answer> {
     let answer = book.withdraw(pass, task);
-    if is_refused(&answer, MachineFault::NoRow(ChoiceFault::NoMemory)) {
+    if is_without_memory(&answer) {
         return book.withdraw(pass, task);
     }
     answer
@@ -44,8 +42,7 @@ fn open_again<S: Service>(
     pass: &mut S::Pass,
 ) -> Option<Result<Vec<S::Quantum>, BookFault>> {
     let answer = book.open(pass);
-    let fault = MachineFault::NoRow(ChoiceFault::NoMemory);
-    if is_unopened(&answer, fault) && !book.looks().is_open {
+    if matches!(answer, Some(Err(BookFault::NoMemory))) && !book.looks().is_open {
         return book.open(pass);
     }
     answer
