@@ -4,9 +4,9 @@ use crate::files::{fault_of, input};
 use crate::tell::{form_of, is_closed, tell, tell_all};
 use crate::traces::{Traces, output_of, set_source};
 use pfx_fault::Fault;
-use pfx_program::Form;
+use pfx_program::OutputForm;
 use pfx_program_args::Request;
-use pfx_program_check::{Refusal, run_check};
+use pfx_program_check::{SetRefusals, run_check};
 use std::alloc::Global;
 use std::io::Write;
 
@@ -15,17 +15,17 @@ pub(crate) fn check(
     rt: &HostRuntime,
     alloc: Global,
     set: &str,
-    form: Form,
+    form: OutputForm,
     traces: &mut Traces,
-) -> Result<(), Refusal> {
+) -> Result<(), SetRefusals> {
     let mut input = match input(rt, set) {
         Ok(input) => set_source(input, &mut traces.set),
-        Err(fault) => return Err(Refusal::alone(alloc, fault)),
+        Err(fault) => return Err(SetRefusals::alone(alloc, fault)),
     };
     let text = run_check(alloc, form, &mut input)?;
     match output_of(rt, &traces.failed).write_all(text.as_slice()) {
         Ok(()) => Ok(()),
-        Err(error) => Err(Refusal::alone(alloc, fault_of(&error, Fault::OutputFailed))),
+        Err(error) => Err(SetRefusals::alone(alloc, fault_of(&error, Fault::OutputFailed))),
     }
 }
 
@@ -36,7 +36,7 @@ pub(crate) fn refused_by_all(
     alloc: Global,
     request: &Request<'_>,
     traces: &Traces,
-    refusal: &Refusal,
+    refusal: &SetRefusals,
 ) -> u8 {
     if is_closed(traces, refusal.first) {
         return refusal.first.status();

@@ -3,7 +3,7 @@
 use crate::files::fault_of;
 use crate::traces::{Traces, output_of};
 use pfx_fault::Fault;
-use pfx_program::Form;
+use pfx_program::OutputForm;
 use pfx_program_explain::{entry_named, put_entry};
 use pfx_program_objects::entry_line;
 use std::alloc::Global;
@@ -14,7 +14,7 @@ pub(crate) fn explain(
     rt: &HostRuntime,
     alloc: Global,
     word: &str,
-    form: Form,
+    form: OutputForm,
     traces: &Traces,
 ) -> Result<bool, Fault> {
     let Some(entry) = entry_named(word) else {
@@ -22,8 +22,8 @@ pub(crate) fn explain(
     };
     let mut output = output_of(rt, &traces.failed);
     let put = match form {
-        Form::Text => put_entry(&mut output, entry),
-        Form::Json => match entry_line(alloc, entry) {
+        OutputForm::Text => put_entry(&mut output, entry),
+        OutputForm::Json => match entry_line(alloc, entry) {
             Ok(line) => output.write_all(line.as_bytes()),
             Err(_) => return Err(Fault::NoMemory),
         },

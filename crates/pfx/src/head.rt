@@ -6,7 +6,7 @@ use crate::traces::{Traces, output_of};
 use pfx_disk::FileDisk;
 use pfx_fault::Fault;
 use pfx_log::{LogFault, LogFile, LogPlace};
-use pfx_program::{Form, object_line};
+use pfx_program::{OutputForm, object_line};
 use pfx_replay_audit::{head_object, head_text};
 use std::alloc::{AllocError, Global};
 use std::io::Write;
@@ -51,10 +51,10 @@ fn end_of(rt: &HostRuntime, alloc: Global, path: &str, traces: &Traces) -> Resul
 }
 
 // The line of a log's last head.
-fn line_of(alloc: Global, form: Form, place: LogPlace) -> Result<String, AllocError> {
+fn line_of(alloc: Global, form: OutputForm, place: LogPlace) -> Result<String, AllocError> {
     match form {
-        Form::Text => head_text(alloc, place.last, &place.head),
-        Form::Json => {
+        OutputForm::Text => head_text(alloc, place.last, &place.head),
+        OutputForm::Json => {
             let object = head_object(alloc, place.last, &place.head)?;
             object_line(alloc, &object)
         }
@@ -66,7 +66,7 @@ pub(crate) fn head(
     rt: &HostRuntime,
     alloc: Global,
     log: &str,
-    form: Form,
+    form: OutputForm,
     traces: &Traces,
 ) -> Result<(), Fault> {
     let place = end_of(rt, alloc, log, traces)?;

@@ -14,10 +14,10 @@ use pfx_checkpoint::{freeze_whole, whole_len};
 use pfx_disk::{Disk, FileDisk};
 use pfx_fault::Fault;
 use pfx_kinds::any::AnyJob;
-use pfx_log::{AppendFault, CreateFault, LogFault, LogFile};
+use pfx_log::{AppendFault, CreateLogFault, LogFault, LogFile};
 use pfx_log_store::{JoinFault, LoggedStore};
 use pfx_machine::State;
-use pfx_store::{Keeper, Store};
+use pfx_store::{BatchKeeper, Store};
 use pfx_store_engine::faults::open_fault;
 use std::alloc::{AllocError, Global};
 
@@ -37,11 +37,11 @@ pub(crate) fn log_fault(fault: LogFault) -> Fault {
     }
 }
 
-fn create_fault(fault: CreateFault) -> Fault {
+fn create_fault(fault: CreateLogFault) -> Fault {
     match fault {
-        CreateFault::NoMemory => Fault::NoMemory,
-        CreateFault::Device => Fault::Device,
-        CreateFault::NotEmpty => Fault::NotEmpty,
+        CreateLogFault::NoMemory => Fault::NoMemory,
+        CreateLogFault::Device => Fault::Device,
+        CreateLogFault::NotEmpty => Fault::NotEmpty,
     }
 }
 

@@ -6,17 +6,17 @@ use crate::traces::{Traces, output_of};
 use pfx_disk::FileDisk;
 use pfx_fault::Fault;
 use pfx_kinds::any::AnyJob;
-use pfx_program::{Form, object_line};
+use pfx_program::{OutputForm, object_line};
 use pfx_store_engine::faults::{init_fault, open_fault};
 use pfx_store_migrate::{MigrateFault, migrate, migrated_object, migrated_text};
 use std::alloc::{AllocError, Global};
 use std::io::Write;
 
 // The line of a store that begins at the state of this number.
-fn line_of(alloc: Global, form: Form, number: u64) -> Result<String, AllocError> {
+fn line_of(alloc: Global, form: OutputForm, number: u64) -> Result<String, AllocError> {
     match form {
-        Form::Text => migrated_text(alloc, number),
-        Form::Json => {
+        OutputForm::Text => migrated_text(alloc, number),
+        OutputForm::Json => {
             let object = migrated_object(alloc, number)?;
             object_line(alloc, &object)
         }
@@ -61,7 +61,7 @@ pub(crate) fn migrate_store(
     alloc: Global,
     old: &str,
     new: &str,
-    form: Form,
+    form: OutputForm,
     traces: &mut Traces,
 ) -> Result<(), Fault> {
     let number = made(rt, alloc, shared_disk(rt, old)?, new, traces)?;

@@ -4,9 +4,9 @@ use crate::files::begins_as_store;
 use crate::traces::{Traces, Unmade};
 use pfx_fault::{Cause, Fault};
 use pfx_program_args::Request;
-use pfx_program_explain::Note;
+use pfx_program_explain::NoteLines;
 use pfx_program_notes::{
-    Named, Stands, Trouble, history_note, input_note, log_note, output_note, record_note,
+    NamedFile, Stands, Trouble, history_note, input_note, log_note, output_note, record_note,
     script_note, set_note, store_note, trouble_note,
 };
 use std::alloc::{AllocError, Global};
@@ -85,13 +85,13 @@ fn trouble(rt: &HostRuntime, path: &str, writes: bool) -> Option<ErrorKind> {
 fn word_note(
     rt: &HostRuntime,
     alloc: Global,
-    named: Named,
+    named: NamedFile,
     path: &str,
-) -> Result<Option<Note>, AllocError> {
+) -> Result<Option<NoteLines>, AllocError> {
     if path.is_empty() {
         return trouble_note(alloc, path, Trouble::NoName(named));
     }
-    match trouble(rt, path, named == Named::Store) {
+    match trouble(rt, path, named == NamedFile::Store) {
         Some(kind) => input_note(alloc, named, path, why(kind), kind == ErrorKind::NotFound),
         None => Ok(None),
     }
@@ -102,15 +102,19 @@ fn store_word_note(
     rt: &HostRuntime,
     alloc: Global,
     path: &str,
-) -> Result<Option<Note>, AllocError> {
+) -> Result<Option<NoteLines>, AllocError> {
     if path == "-" {
         return trouble_note(alloc, path, Trouble::Dash);
     }
-    word_note(rt, alloc, Named::ReadStore, path)
+    word_note(rt, alloc, NamedFile::ReadStore, path)
 }
 
 // The note of a word of which nothing else is known: it is standard input, or the file can be opened now.
-fn unread_note(alloc: Global, named: Named, path: &str) -> Result<Option<Note>, AllocError> {
+fn unread_note(
+    alloc: Global,
+    named: NamedFile,
+    path: &str,
+) -> Result<Option<NoteLines>, AllocError> {
     if path == "-" {
         input_note(alloc, named, path, "it can't be read", false)
     } else {
@@ -120,9 +124,9 @@ fn unread_note(alloc: Global, named: Named, path: &str) -> Result<Option<Note>, 
 
 // The first of two notes, if there is one.
 fn first_of(
-    note: Option<Note>,
-    other: Result<Option<Note>, AllocError>,
-) -> Result<Option<Note>, AllocError> {
+    note: Option<NoteLines>,
+    other: Result<Option<NoteLines>, AllocError>,
+) -> Result<Option<NoteLines>, AllocError> {
     match note {
         Some(note) => Ok(Some(note)),
         None => other,
@@ -147,14 +151,14 @@ fn new_note(
     alloc: Global,
     path: &str,
     kind: ErrorKind,
-) -> Result<Option<Note>, AllocError> {
+) -> Result<Option<NoteLines>, AllocError> {
     if let Some(directory) = lost_directory(rt, path) {
         return trouble_note(alloc, path, Trouble::NoDirectory(directory));
     }
     match kind {
         ErrorKind::PermissionDenied => trouble_note(alloc, path, Trouble::NoPermission),
         ErrorKind::ReadOnlyFilesystem => trouble_note(alloc, path, Trouble::ReadOnly),
-        _ => input_note(alloc, Named::NewStore, path, why(kind), false),
+        _ => input_note(alloc, NamedFile::NewStore, path, why(kind), false),
     }
 }
 
@@ -172,13 +176,13 @@ fn made_note(
     alloc: Global,
     path: &str,
     unopened: Option<ErrorKind>,
-) -> Result<Option<Note>, AllocError> {
+) -> Result<Option<NoteLines>, AllocError> {
     if path.is_empty() {
-        return trouble_note(alloc, path, Trouble::NoName(Named::NewStore));
+        return trouble_note(alloc, path, Trouble::NoName(NamedFile::NewStore));
     }
     match unopened {
         Some(kind) if is_missing(rt, path) => new_note(rt, alloc, path, kind),
-        Some(kind) => input_note(alloc, Named::NewStore, path, why(kind), false),
+        Some(kind) => input_note(alloc, NamedFile::NewStore, path, why(kind), false),
         None => Ok(None),
     }
 }
@@ -189,7 +193,7 @@ fn unmade_note(
     path: &str,
     unmade: Unmade,
     said: Option<Error>,
-) -> Result<Option<Note>, AllocError> {
+) -> Result<Option<NoteLines>, AllocError> {
     let Some(error) = said else {
         let why = "a write or a sync has failed";
         return trouble_note(alloc, path, Trouble::Unmade(why, unmade.is_left));
@@ -221,7 +225,7 @@ fn device_note(
     path: &str,
     call: &str,
     said: Option<Error>,
-) -> Result<Option<Note>, AllocError> {
+) -> Result<Option<NoteLines>, AllocError> {
     if let Some(why) = plain_why(rt, path) {
         return trouble_note(alloc, path, Trouble::Device(why));
     }
@@ -243,7 +247,7 @@ fn log_device_note(
     alloc: Global,
     path: &str,
     said: Option<Error>,
-) -> Result<Option<Note>, AllocError> {
+) -> Result<Option<NoteLines>, AllocError> {
     if let Some(why) = plain_why(rt, path) {
         return trouble_note(alloc, path, Trouble::LogDevice(why));
     }
@@ -262,7 +266,7 @@ fn beside_note(
     log: &str,
     traces: &Traces,
     fault: Fault,
-) -> Result<Option<Note>, AllocError> {
+) -> Result<Option<NoteLines>, AllocError> {
     match fault {
         Fault::StoreFailed {
             cause: Cause::Log,
@@ -276,7 +280,7 @@ fn beside_note(
         ),
         Fault::Busy if traces.at_log.get() => log_note(alloc, log, fault),
         Fault::InputFailed if traces.at_log.get() => match traces.unopened_log.get() {
-            Some(kind) => input_note(alloc, Named::Log, log, why(kind), false),
+            Some(kind) => input_note(alloc, NamedFile::Log, log, why(kind), false),
             None => Ok(None),
         },
         Fault::Busy | Fault::NotEmpty if !traces.at_log.get() => Ok(None),
@@ -291,14 +295,14 @@ fn history_part_note(
     parts: &[&str],
     traces: &Traces,
     fault: Fault,
-) -> Result<Option<Note>, AllocError> {
+) -> Result<Option<NoteLines>, AllocError> {
     let Some(path) = parts.get(traces.at_part.get()) else {
         return Ok(None);
     };
     match fault {
         Fault::Device => device_note(rt, alloc, path, ANY_CALL, traces.device.get()),
         Fault::InputFailed => match unread(rt, path) {
-            Some(kind) => input_note(alloc, Named::Log, path, why(kind), false),
+            Some(kind) => input_note(alloc, NamedFile::Log, path, why(kind), false),
             None => Ok(None),
         },
         Fault::LogGap { .. }
@@ -332,7 +336,7 @@ fn input_failed(
     alloc: Global,
     request: &Request<'_>,
     traces: &Traces,
-) -> Result<Option<Note>, AllocError> {
+) -> Result<Option<NoteLines>, AllocError> {
     match request {
         Request::Plan { set, .. }
         | Request::Draw { set, .. }
@@ -340,18 +344,18 @@ fn input_failed(
         | Request::Init { set, .. }
             if traces.set.is_long => { trouble_note(alloc, set, Trouble::Long) }
         Request::Plan { set, .. } | Request::Draw { set, .. } | Request::Check { set, .. } => {
-            let note = word_note(rt, alloc, Named::Set, set)?;
-            first_of(note, unread_note(alloc, Named::Set, set))
+            let note = word_note(rt, alloc, NamedFile::Set, set)?;
+            first_of(note, unread_note(alloc, NamedFile::Set, set))
         }
         Request::Init { set, file, .. } => {
-            let note = word_note(rt, alloc, Named::Set, set)?;
+            let note = word_note(rt, alloc, NamedFile::Set, set)?;
             let note = first_of(note, made_note(rt, alloc, file, traces.unopened))?;
-            first_of(note, unread_note(alloc, Named::Set, set))
+            first_of(note, unread_note(alloc, NamedFile::Set, set))
         }
         Request::Run { file, script, .. } => {
-            let note = word_note(rt, alloc, Named::Script, script)?;
-            let note = first_of(note, word_note(rt, alloc, Named::Store, file))?;
-            first_of(note, unread_note(alloc, Named::Script, script))
+            let note = word_note(rt, alloc, NamedFile::Script, script)?;
+            let note = first_of(note, word_note(rt, alloc, NamedFile::Store, file))?;
+            first_of(note, unread_note(alloc, NamedFile::Script, script))
         }
         Request::Status { file, .. } | Request::Replay { file, .. } | Request::Show { file, .. } =>
             { store_word_note(rt, alloc, file) }
@@ -387,7 +391,7 @@ fn run_note(
     script: &str,
     fault: Fault,
     said: Option<Error>,
-) -> Result<Option<Note>, AllocError> {
+) -> Result<Option<NoteLines>, AllocError> {
     match fault {
         Fault::BadScript { at } => match text_of(rt, script) {
             Some(text) => script_note(alloc, script, text.as_slice(), at),
@@ -418,7 +422,7 @@ fn request_note(
     request: &Request<'_>,
     traces: &Traces,
     fault: Fault,
-) -> Result<Option<Note>, AllocError> {
+) -> Result<Option<NoteLines>, AllocError> {
     let text = traces.set.text.as_slice();
     let said = traces.device.get();
     match request {
@@ -462,7 +466,7 @@ pub(crate) fn note_of(
     request: &Request<'_>,
     traces: &Traces,
     fault: Fault,
-) -> Result<Option<Note>, AllocError> {
+) -> Result<Option<NoteLines>, AllocError> {
     match request {
         Request::Run { log: Some(log), .. } | Request::Head { log, .. } => {
             let note = beside_note(rt, alloc, log, traces, fault)?;

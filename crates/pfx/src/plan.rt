@@ -4,7 +4,7 @@ use crate::files::{fault_of, input};
 use crate::progress::Told;
 use crate::traces::{Traces, output_of, set_source};
 use pfx_fault::Fault;
-use pfx_program::{Form, run_plan};
+use pfx_program::{OutputForm, run_plan};
 use std::alloc::Global;
 use std::io::{BufWriter, Write};
 
@@ -16,7 +16,7 @@ pub(crate) fn plan(
     at: Option<&str>,
     slots: u32,
     leaving: bool,
-    form: Form,
+    form: OutputForm,
     traces: &mut Traces,
 ) -> Result<(), Fault> {
     let mut input = set_source(input(rt, set)?, &mut traces.set);

@@ -5,7 +5,7 @@ use crate::traces::{Traces, output_of};
 use pfx_disk::FileDisk;
 use pfx_fault::Fault;
 use pfx_kinds::any::AnyJob;
-use pfx_program::{Form, object_line};
+use pfx_program::{OutputForm, object_line};
 use pfx_replay::{Verdict, put_verdict, verdict_object};
 use pfx_store_engine::faults::open_fault;
 use std::alloc::{AllocError, Global};
@@ -29,14 +29,14 @@ fn verdict_of(
 }
 
 // The verdict's line.
-fn line_of(alloc: Global, form: Form, verdict: Verdict) -> Result<Vec<u8>, AllocError> {
+fn line_of(alloc: Global, form: OutputForm, verdict: Verdict) -> Result<Vec<u8>, AllocError> {
     let mut line = Vec::new(alloc);
     match form {
-        Form::Text => match put_verdict(&mut line, verdict) {
+        OutputForm::Text => match put_verdict(&mut line, verdict) {
             Ok(()) => Ok(line),
             Err(_) => Err(AllocError),
         },
-        Form::Json => {
+        OutputForm::Json => {
             let object = verdict_object(alloc, verdict)?;
             let text = object_line(alloc, &object)?;
             line.extend_from_slice(text.as_bytes())?;
@@ -50,7 +50,7 @@ pub(crate) fn replay(
     rt: &HostRuntime,
     alloc: Global,
     file: &str,
-    form: Form,
+    form: OutputForm,
     traces: &Traces,
 ) -> Result<bool, Fault> {
     let verdict = verdict_of(rt, alloc, file, traces)?;

@@ -14,14 +14,14 @@ use crate::store::opened;
 use crate::traces::{Traces, output_of};
 use pfx_crew::channel::ChannelDesk;
 use pfx_disk::FileDisk;
-use pfx_disk_chronicle::list::Opened;
+use pfx_disk_chronicle::list::UnnamedCalls;
 use pfx_disk_chronicle::name::Charted;
 use pfx_fault::{Cause, Fault};
 use pfx_front_engine::engine::WINDOW;
 use pfx_jobs::quantum::{Done, Quantum};
 use pfx_kinds::any::AnyJob;
 use pfx_log_store::LoggedStore;
-use pfx_program::{AtRefusal, Form, Report, Run, level_slot};
+use pfx_program::{AtRefusal, OutputForm, Report, Run, level_slot};
 use pfx_program_script::{Script, Whole};
 use pfx_program_store::{run_logged, run_logged_served, run_noted, run_served};
 use pfx_store::Store;
@@ -42,7 +42,7 @@ const GROUP: u32 = 16;
 fn run_alone<N: Charted>(
     rt: &HostRuntime,
     alloc: Global,
-    list: Opened,
+    list: UnnamedCalls,
     store: Store<FileDisk, AnyJob>,
     script: &mut Script<Whole<Source>>,
     run: Run,
@@ -88,7 +88,7 @@ fn leave_beside(
 fn run_beside<N: Charted>(
     rt: &HostRuntime,
     alloc: Global,
-    list: Opened,
+    list: UnnamedCalls,
     beside: LoggedStore<FileDisk, FileDisk, AnyJob>,
     script: &mut Script<Whole<Source>>,
     run: Run,
@@ -201,7 +201,7 @@ pub(crate) struct Asked<'a> {
     /// Whether the script ends behind its first refused record.
     pub(crate) strict: bool,
     /// Whether lines are text or objects.
-    pub(crate) form: Form,
+    pub(crate) form: OutputForm,
 }
 
 // A run as it is asked for, with so many slots at once where none are said.
@@ -235,7 +235,7 @@ fn run_on<R: Threads + Wait + Clock + Copy + Drop + Send + Sync + 'static>(
         (IsHeldBy any_kind store image) image store (file_view store.file.disk) }
 {
     if workers == 0 {
-        let list = Opened::new();
+        let list = UnnamedCalls::new();
         let run = run_of(asked, 1);
         return run_alone::<Brand>(rt, alloc, list, store, script, run, traces);
     }
@@ -259,7 +259,7 @@ fn run_at_log<R: Threads + Wait + Clock + Copy + Drop + Send + Sync + 'static>(
         (file_view beside.store.file.disk).clock (IsHeldBy any_kind beside.store image) image beside.store (file_view beside.store.file.disk) }
 {
     if workers == 0 {
-        let list = Opened::new();
+        let list = UnnamedCalls::new();
         let run = run_of(asked, 1);
         return run_beside::<Brand>(rt, alloc, list, beside, script, run, traces);
     }

@@ -13,7 +13,7 @@ use pfx_disk::FileDisk;
 use pfx_fault::Fault;
 use pfx_kinds::any::AnyJob;
 use pfx_machine::State;
-use pfx_program::{Form, created_line, first_state, read_task_set, run_show, run_status};
+use pfx_program::{OutputForm, created_line, first_state, read_task_set, run_show, run_status};
 use pfx_program_check::store_len;
 use pfx_store::Store;
 use pfx_store_engine::faults::{init_fault, open_fault, size_fault};
@@ -94,7 +94,7 @@ fn made(
 fn print_created(
     rt: &HostRuntime,
     alloc: Global,
-    form: Form,
+    form: OutputForm,
     set: &TaskSet,
     len: usize,
     traces: &Traces,
@@ -117,7 +117,7 @@ pub(crate) fn init(
     set: &str,
     file: &str,
     at: Option<&str>,
-    form: Form,
+    form: OutputForm,
     traces: &mut Traces,
 ) -> Result<(), Fault> {
     let (set, state) = begun(rt, alloc, set, at, &mut traces.set)?;
@@ -161,7 +161,7 @@ fn engine(
 fn print_board(
     rt: &HostRuntime,
     alloc: Global,
-    form: Form,
+    form: OutputForm,
     engine: &mut StoreEngine<FileDisk, AnyJob>,
     traces: &Traces,
 ) -> Result<(), Fault> {
@@ -182,7 +182,7 @@ pub(crate) fn status(
     rt: &HostRuntime,
     alloc: Global,
     file: &str,
-    form: Form,
+    form: OutputForm,
     traces: &Traces,
 ) -> Result<(), Fault> {
     let store = opened(alloc, shared_disk(rt, file)?, traces)?;
@@ -200,7 +200,7 @@ pub(crate) fn show(
     alloc: Global,
     file: &str,
     task: Option<u32>,
-    form: Form,
+    form: OutputForm,
     traces: &Traces,
 ) -> Result<(), Fault> {
     let store = opened(alloc, shared_disk(rt, file)?, traces)?;

@@ -3,11 +3,11 @@
 use crate::notes::{note_of, text_of};
 use crate::traces::Traces;
 use pfx_fault::{Fault, put_fault};
-use pfx_program::{Form, RefusedRecord, Report};
+use pfx_program::{OutputForm, RefusedRecord, Report};
 use pfx_program_args::{AuditForm, Request};
 use pfx_program_check::put_also;
-use pfx_program_explain::Note;
-use pfx_program_notes::{First, further_note, passed_over_note, refused_note, set_note};
+use pfx_program_explain::NoteLines;
+use pfx_program_notes::{FirstRefusal, further_note, passed_over_note, refused_note, set_note};
 use pfx_program_objects::{also_line, error_line, warning_line};
 use std::alloc::{AllocError, Global};
 use std::io::{ErrorKind, Write};
@@ -21,7 +21,7 @@ const NO_MEMORY_OBJECT: &[u8] =
     b"{\"error\":{\"fields\":{},\"name\":\"NoMemory\",\"number\":90},\"note\":{\"change\":\"What was printed stands. Give it more, as by ulimit -v, or run less beside it.\",\"more\":null,\"what\":\"the system gives no more memory to this process\"}}\n";
 
 /// How what a request prints and what is said of it are written.
-pub(crate) fn form_of(request: &Request<'_>) -> Form {
+pub(crate) fn form_of(request: &Request<'_>) -> OutputForm {
     let json = match request {
         Request::Plan { json, .. }
         | Request::Init { json, .. }
@@ -36,7 +36,11 @@ pub(crate) fn form_of(request: &Request<'_>) -> Form {
         Request::Audit { form, .. } => *form == AuditForm::Json,
         Request::Draw { .. } => false,
     };
-    if json { Form::Json } else { Form::Text }
+    if json {
+        OutputForm::Json
+    } else {
+        OutputForm::Text
+    }
 }
 
 /// What a line says.
@@ -63,7 +67,7 @@ fn put_line(alloc: Global, text: &mut Vec<u8>, line: Line) -> bool {
 }
 
 // The line and the lines of its note.
-fn put_lines(alloc: Global, text: &mut Vec<u8>, line: Line, note: Option<&Note>) -> bool {
+fn put_lines(alloc: Global, text: &mut Vec<u8>, line: Line, note: Option<&NoteLines>) -> bool {
     if !put_line(alloc, text, line) {
         return false;
     }
@@ -76,7 +80,7 @@ fn put_lines(alloc: Global, text: &mut Vec<u8>, line: Line, note: Option<&Note>)
 }
 
 // The same as an object.
-fn put_object(alloc: Global, text: &mut Vec<u8>, line: Line, note: Option<&Note>) -> bool {
+fn put_object(alloc: Global, text: &mut Vec<u8>, line: Line, note: Option<&NoteLines>) -> bool {
     let object = match line {
         Line::Error(fault) => error_line(alloc, fault, note),
         Line::Also(fault) => also_line(alloc, fault, note),
@@ -91,15 +95,15 @@ fn put_object(alloc: Global, text: &mut Vec<u8>, line: Line, note: Option<&Note>
 // Puts a line and its note behind a text, in this form; `false` if there was no memory for the line.
 fn put(
     alloc: Global,
-    form: Form,
+    form: OutputForm,
     text: &mut Vec<u8>,
     line: Line,
-    note: Result<Option<Note>, AllocError>,
+    note: Result<Option<NoteLines>, AllocError>,
 ) -> bool {
     let note = note.ok().flatten();
     match form {
-        Form::Text => put_lines(alloc, text, line, note.as_ref()),
-        Form::Json => put_object(alloc, text, line, note.as_ref()),
+        OutputForm::Text => put_lines(alloc, text, line, note.as_ref()),
+        OutputForm::Json => put_object(alloc, text, line, note.as_ref()),
     }
 }
 
@@ -120,8 +124,8 @@ pub(crate) fn tell(
     let form = form_of(request);
     if fault == Fault::NoMemory {
         let _ = rt.stderr().write_all(match form {
-            Form::Text => NO_MEMORY,
-            Form::Json => NO_MEMORY_OBJECT,
+            OutputForm::Text => NO_MEMORY,
+            OutputForm::Json => NO_MEMORY_OBJECT,
         });
         return;
     }
@@ -146,7 +150,7 @@ fn task_in(fault: Fault) -> Option<u16> {
 pub(crate) fn tell_all(
     rt: &HostRuntime,
     alloc: Global,
-    form: Form,
+    form: OutputForm,
     set: &str,
     traces: &Traces,
     first: Fault,
@@ -176,7 +180,13 @@ pub(crate) fn is_closed(traces: &Traces, fault: Fault) -> bool {
 }
 
 // Prints a warning and its note.
-fn warn_of(rt: &HostRuntime, alloc: Global, form: Form, words: &'static str, note: Note) {
+fn warn_of(
+    rt: &HostRuntime,
+    alloc: Global,
+    form: OutputForm,
+    words: &'static str,
+    note: NoteLines,
+) {
     let mut text = Vec::new(alloc);
     if put(alloc, form, &mut text, Line::Warning(words), Ok(Some(note))) {
         print(rt, &text);
@@ -184,7 +194,7 @@ fn warn_of(rt: &HostRuntime, alloc: Global, form: Form, words: &'static str, not
 }
 
 // The note of a refusal for a lag, with the next slot at which no task is ahead or behind.
-fn with_level(alloc: Global, note: Note, slot: u64) -> Note {
+fn with_level(alloc: Global, note: NoteLines, slot: u64) -> NoteLines {
     let mut note = note;
     let more = match &note.more {
         Some(more) => format!(in alloc; "The next of these is slot {slot}. {more}"),
@@ -201,9 +211,9 @@ fn with_level(alloc: Global, note: Note, slot: u64) -> Note {
 fn warn_refused(
     rt: &HostRuntime,
     alloc: Global,
-    form: Form,
+    form: OutputForm,
     script: &str,
-    first: First,
+    first: FirstRefusal,
     level: Option<u64>,
 ) {
     let text = text_of(rt, script);
@@ -243,7 +253,7 @@ pub(crate) fn warn(rt: &HostRuntime, alloc: Global, request: &Request<'_>, trace
                 },
             ) = traces.report.get()
             {
-                let first = First { at, fault, refused };
+                let first = FirstRefusal { at, fault, refused };
                 warn_refused(rt, alloc, form, script, first, traces.level.get());
             }
         }

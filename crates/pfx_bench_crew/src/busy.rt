@@ -1,5 +1,5 @@
 //! Workers that have more to do than the step of a quantum.
-use pfx_kit::watched::Watch;
+use pfx_kit::watched::DeskWatch;
 use std::sync::atomic::{AtomicU64, Ordering};
 
 /// So many turns of plain arithmetic, each of which needs the one before.
@@ -30,7 +30,7 @@ impl Busy {
     }
 }
 
-impl<D> Watch<D> for Busy {
+impl<D> DeskWatch<D> for Busy {
     fn hands_back(&self, _done: &D) {
         if self.turns > 0 {
             self.kept.store(turned(self.turns), Ordering::SeqCst);

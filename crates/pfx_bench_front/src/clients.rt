@@ -1,5 +1,5 @@
 //! What a client does.
-use crate::failures::Failure;
+use crate::failures::RunFailure;
 use crate::stores::{TASKS, submit};
 use crate::words::Plan;
 use pfx_book::book::Pass;
@@ -24,7 +24,7 @@ pub struct Visit<B: Since<AnyJob>> {
     /// How many slots were answered and have their receipts.
     pub receipts: u64,
     /// Why it ended.
-    pub failure: Option<Failure>,
+    pub failure: Option<RunFailure>,
 }
 
 /// Waits for the receipt of the last command, whose number this is.
@@ -33,18 +33,18 @@ fn settle<B: Since<AnyJob>, K: Desk<Quantum<AnyJob>, Done<AnyJob>> + Drop, R: Wa
     front: &Front<AnyJob, B, K>,
     pass: &mut Pass<AnyJob, B>,
     number: u64,
-) -> Result<u64, Failure>
+) -> Result<u64, RunFailure>
 where
     K::Seat: Drop,
 {
     let last = pass.greatest();
     if last == 0 || last != number {
-        return Err(Failure::NoReceipt(number));
+        return Err(RunFailure::NoReceipt(number));
     }
     match front.settled(rt, pass, last) {
         Ok(acknowledged) if acknowledged.receipt.number == number => Ok(number),
-        Ok(_) => Err(Failure::NoReceipt(number)),
-        Err(fault) => Err(Failure::Call(fault)),
+        Ok(_) => Err(RunFailure::NoReceipt(number)),
+        Err(fault) => Err(RunFailure::Call(fault)),
     }
 }
 
@@ -53,24 +53,24 @@ fn slot<B: Since<AnyJob>, K: Desk<Quantum<AnyJob>, Done<AnyJob>> + Drop, R: Wait
     rt: &R,
     front: &Front<AnyJob, B, K>,
     pass: &mut Pass<AnyJob, B>,
-) -> Result<u64, Failure>
+) -> Result<u64, RunFailure>
 where
     K::Seat: Drop,
 {
-    match front.call(rt, pass, Command::Slot) {
+    match front.ask(rt, pass, Command::Slot) {
         Ok((number, _reply)) => settle(rt, front, pass, number),
-        Err(fault) => Err(Failure::Call(fault)),
+        Err(fault) => Err(RunFailure::Call(fault)),
     }
 }
 
 /// Writes a number as a line of its own, by one call of the system.
-fn show<R: Print>(rt: &R, alloc: Global, number: u64) -> Result<(), Failure> {
+fn show<R: Print>(rt: &R, alloc: Global, number: u64) -> Result<(), RunFailure> {
     let Ok(line) = format!(in alloc; "{number}\n") else {
-        return Err(Failure::NoMemory);
+        return Err(RunFailure::NoMemory);
     };
     match io::writer(rt).write_all(line.as_bytes()) {
         Ok(()) => Ok(()),
-        Err(_) => Err(Failure::Output),
+        Err(_) => Err(RunFailure::Output),
     }
 }
 
@@ -81,7 +81,7 @@ fn step<B: Since<AnyJob>, K: Desk<Quantum<AnyJob>, Done<AnyJob>> + Drop, R: Wait
     front: &Front<AnyJob, B, K>,
     pass: &mut Pass<AnyJob, B>,
     print: bool,
-) -> Option<Failure>
+) -> Option<RunFailure>
 where
     K::Seat: Drop,
 {
@@ -129,20 +129,20 @@ fn give<B: Since<AnyJob>, K: Desk<Quantum<AnyJob>, Done<AnyJob>> + Drop, R: Wait
     front: &Front<AnyJob, B, K>,
     pass: &mut Pass<AnyJob, B>,
     task: u16,
-) -> Result<bool, Failure>
+) -> Result<bool, RunFailure>
 where
     K::Seat: Drop,
 {
     let Some(command) = submit(task) else {
-        return Err(Failure::NoMemory);
+        return Err(RunFailure::NoMemory);
     };
-    match front.call(rt, pass, command) {
+    match front.ask(rt, pass, command) {
         Ok((number, _reply)) => {
             settle(rt, front, pass, number)?;
             Ok(true)
         }
         Err(CallFault::Refused(BookFault::Machine(MachineFault::TaskBusy { .. }))) => Ok(false),
-        Err(fault) => Err(Failure::Call(fault)),
+        Err(fault) => Err(RunFailure::Call(fault)),
     }
 }
 
@@ -151,7 +151,7 @@ pub fn furnish<B: Since<AnyJob>, K: Desk<Quantum<AnyJob>, Done<AnyJob>> + Drop, 
     rt: &R,
     front: &Front<AnyJob, B, K>,
     pass: &mut Pass<AnyJob, B>,
-) -> Result<u64, Failure>
+) -> Result<u64, RunFailure>
 where
     K::Seat: Drop,
 {

@@ -4,7 +4,7 @@ use thiserror::Error;
 
 /// Why a run isn't what it should be.
 #[derive(Clone, Copy, Debug, PartialEq, Eq, Error)]
-pub enum Failure {
+pub enum RunFailure {
     /// The file isn't to be opened, or another process has it open.
     #[error("the file can't be opened and locked")]
     File,

@@ -5,7 +5,7 @@ ghost use Rattle.pfx_kinds.specs.AnyKind.{any_kind};
 ghost use Rattle.pfx_front.specs.Starting.{Begins, BeginsHonest};
 
 use crate::clients::{Visit, client, furnish};
-use crate::failures::Failure;
+use crate::failures::RunFailure;
 use crate::stores::JobDesk;
 use crate::words::Plan;
 use pfx_book::book::Pass;
@@ -58,7 +58,7 @@ fn begin<
     store: Store<D, AnyJob>,
     desk: K,
     workers: u16,
-) -> Result<Served<B, D, K, R>, Failure>
+) -> Result<Served<B, D, K, R>, RunFailure>
 where
     K::Seat: Drop + Send + 'static,
     requires named { (names.tokens.table.shared.table_id ≡ B.table) × (names.list.seen.book ≡ B.book) × (B.origin ≡ B.start) }
@@ -75,7 +75,7 @@ where
         1,
     ) {
         Ok(served) => Ok(served),
-        Err((fault, _store)) => Err(Failure::NotStarted(fault)),
+        Err((fault, _store)) => Err(RunFailure::NotStarted(fault)),
     }
 }
 
@@ -89,14 +89,14 @@ fn end<
     rt: &R,
     served: Served<B, D, K, R>,
     passes: Vec<Pass<AnyJob, B>>,
-) -> Result<Closed<AnyJob, B, D>, Failure>
+) -> Result<Closed<AnyJob, B, D>, RunFailure>
 where
     K::Seat: Drop,
 {
     let (front, crew, readers) = served;
     match front.close(rt, crew, Given { passes, readers }) {
         Ok(closed) => Ok(closed),
-        Err(_) => Err(Failure::NotClosed),
+        Err(_) => Err(RunFailure::NotClosed),
     }
 }
 
@@ -106,17 +106,17 @@ fn admit<B: Since<AnyJob>, K: Desk<Quantum<AnyJob>, Done<AnyJob>> + Drop, R: Wai
     alloc: Global,
     front: &Front<AnyJob, B, K>,
     clients: u16,
-) -> Result<Vec<Pass<AnyJob, B>>, Failure>
+) -> Result<Vec<Pass<AnyJob, B>>, RunFailure>
 where
     K::Seat: Drop,
 {
     let mut passes = Vec::new(alloc);
     for _client in 0..clients {
         let Some(pass) = front.pass(rt) else {
-            return Err(Failure::NoPass);
+            return Err(RunFailure::NoPass);
         };
         if passes.push(pass).is_err() {
-            return Err(Failure::NoMemory);
+            return Err(RunFailure::NoMemory);
         }
     }
     Ok(passes)
@@ -127,10 +127,10 @@ fn gathered<B: Since<AnyJob>>(
     alloc: Global,
     first: Pass<AnyJob, B>,
     visits: Vec<Visit<B>>,
-) -> Result<(Vec<Pass<AnyJob, B>>, u64), Failure> {
+) -> Result<(Vec<Pass<AnyJob, B>>, u64), RunFailure> {
     let mut passes = Vec::new(alloc);
     if passes.push(first).is_err() {
-        return Err(Failure::NoMemory);
+        return Err(RunFailure::NoMemory);
     }
     let mut receipts = 0u64;
     for visit in visits {
@@ -139,7 +139,7 @@ fn gathered<B: Since<AnyJob>>(
         }
         receipts = receipts.saturating_add(visit.receipts);
         if passes.push(visit.pass).is_err() {
-            return Err(Failure::NoMemory);
+            return Err(RunFailure::NoMemory);
         }
     }
     Ok((passes, receipts))
@@ -150,17 +150,17 @@ fn examined<B: Since<AnyJob>, D: Disk + Drop>(
     closed: Closed<AnyJob, B, D>,
     outcome: Outcome,
     wanted: u64,
-) -> Result<Outcome, Failure> {
+) -> Result<Outcome, RunFailure> {
     let Closed { store, book, .. } = closed;
     let number = store.state().number();
     if number != outcome.number {
-        return Err(Failure::WrongLength(number, outcome.number));
+        return Err(RunFailure::WrongLength(number, outcome.number));
     }
     if book.failure().is_some() || book.marked() != number {
-        return Err(Failure::NotSettled(book.marked()));
+        return Err(RunFailure::NotSettled(book.marked()));
     }
     if outcome.receipts != wanted {
-        return Err(Failure::NoReceipt(outcome.receipts));
+        return Err(RunFailure::NoReceipt(outcome.receipts));
     }
     Ok(outcome)
 }
@@ -178,7 +178,7 @@ fn serve<
     store: Store<D, AnyJob>,
     desk: K,
     plan: Plan,
-) -> Result<Outcome, Failure>
+) -> Result<Outcome, RunFailure>
 where
     K::Seat: Drop + Send + 'static,
     requires named { (names.tokens.table.shared.table_id ≡ B.table) × (names.list.seen.book ≡ B.book) × (B.origin ≡ B.start) }
@@ -189,7 +189,7 @@ where
     let served = begin::<B, K, D, R>(rt, alloc, names, store, desk, plan.workers)?;
     let front = &served.0;
     let Some(mut first) = front.pass(&rt) else {
-        return Err(Failure::NoPass);
+        return Err(RunFailure::NoPass);
     };
     let given = furnish(&rt, front, &mut first)?;
     let passes = admit(&rt, alloc, front, plan.clients)?;
@@ -216,12 +216,12 @@ fn visited<
     front: &Front<AnyJob, B, K>,
     passes: Vec<Pass<AnyJob, B>>,
     plan: Plan,
-) -> Result<(Vec<Visit<B>>, u128), Failure>
+) -> Result<(Vec<Visit<B>>, u128), RunFailure>
 where
     K::Seat: Drop + Send,
 {
     let Ok(start) = Instant::now(rt) else {
-        return Err(Failure::NoClock);
+        return Err(RunFailure::NoClock);
     };
     let visits = thread::map_vec(
         rt,
@@ -229,11 +229,11 @@ where
         &|pass: Pass<AnyJob, B>| { client(rt, alloc, front, pass, plan) },
     );
     let Ok(took) = start.elapsed(rt) else {
-        return Err(Failure::NoClock);
+        return Err(RunFailure::NoClock);
     };
     match visits {
         Ok(visits) => Ok((visits, took.as_nanos())),
-        Err(_) => Err(Failure::NoMemory),
+        Err(_) => Err(RunFailure::NoMemory),
     }
 }
 
@@ -245,7 +245,7 @@ pub fn serve_file<R: Threads + Wait + Clock + Print + Copy + Drop + Send + Sync 
     store: Store<FileDisk, AnyJob>,
     desk: JobDesk,
     plan: Plan,
-) -> Result<Outcome, Failure>
+) -> Result<Outcome, RunFailure>
     requires { BeginsHonest any_kind store (file_view store.file.disk) }
 {
     serve::<Brand, JobDesk, FileDisk, R>(rt, alloc, names, store, desk, plan)

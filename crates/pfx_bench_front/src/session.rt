@@ -196,7 +196,7 @@ where
             say(rt, "call", "90");
             continue;
         };
-        match front.call(rt, pass, command) {
+        match front.ask(rt, pass, command) {
             Ok((number, reply)) => {
                 say_reply(rt, number, &reply);
                 return true;

@@ -3,7 +3,7 @@ ghost use Rattle.std.specs.Prelude.{IfOk};
 ghost use Rattle.pfx_kinds.specs.AnyKind.{any_kind};
 ghost use Rattle.pfx_front.specs.Starting.{BeginsHonest};
 
-use crate::failures::Failure;
+use crate::failures::RunFailure;
 use pfx_crew::channel::ChannelDesk;
 use pfx_disk::Disk;
 use pfx_jobs::quantum::{Done, Quantum};
@@ -29,23 +29,23 @@ pub fn thirds(alloc: Global) -> Option<TaskSet> {
 }
 
 /// A new store of these.
-pub fn made<D: Disk + Drop>(alloc: Global, disk: D) -> Result<Store<D, AnyJob>, Failure>
+pub fn made<D: Disk + Drop>(alloc: Global, disk: D) -> Result<Store<D, AnyJob>, RunFailure>
     ensures { IfOk result (λ s. BeginsHonest any_kind s (D.view s.file.disk)) }
 {
     let Some(set) = thirds(alloc) else {
-        return Err(Failure::NoStore);
+        return Err(RunFailure::NoStore);
     };
     match Store::init(alloc, disk, &set, SEGMENT) {
         Ok(store) => {
             honest_disks_hold(&store);
             Ok(store)
         }
-        Err(_) => Err(Failure::NoStore),
+        Err(_) => Err(RunFailure::NoStore),
     }
 }
 
 /// The store that is on a disk.
-pub fn opened<D: Disk + Drop>(alloc: Global, disk: D) -> Result<Store<D, AnyJob>, Failure>
+pub fn opened<D: Disk + Drop>(alloc: Global, disk: D) -> Result<Store<D, AnyJob>, RunFailure>
     ensures { IfOk result (λ s. BeginsHonest any_kind s (D.view s.file.disk)) }
 {
     match Store::open(alloc, disk) {
@@ -53,7 +53,7 @@ pub fn opened<D: Disk + Drop>(alloc: Global, disk: D) -> Result<Store<D, AnyJob>
             honest_disks_hold(&store);
             Ok(store)
         }
-        Err(_) => Err(Failure::NoStore),
+        Err(_) => Err(RunFailure::NoStore),
     }
 }
 

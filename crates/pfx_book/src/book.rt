@@ -21,7 +21,7 @@ use pfx_fault::Cause;
 use pfx_jobs::job::Job;
 use pfx_machine::{Board, Command, Reply, State};
 use pfx_record::Record;
-use pfx_token::tokens::{Keeper, Opened, Token};
+use pfx_token::tokens::{Keeper, Token, UnnamedKeeper};
 use std::alloc::{AllocError, Global};
 use std::collections::VecDeque;
 use std::marker::Model;
@@ -134,7 +134,7 @@ impl<J: Job, B: Named<J>> Book<J, B> {
     /// notes that mark. `AllocError` if an allocation fails.
     pub fn new(
         alloc: Global,
-        tokens: Opened<Note<J>>,
+        tokens: UnnamedKeeper<Note<J>>,
         state: &State<J>,
         clock: u64,
     ) -> Result<(Book<J, B>, Share<J, B>), AllocError>

@@ -21,7 +21,7 @@ use std::alloc::AllocError;
 
 /// An acknowledgement: the command of this number, and those before it, are durable since this clock of the disk.
 #[derive(Clone, Copy, Debug, PartialEq, Eq)]
-pub struct Receipt {
+pub struct PlainReceipt {
     /// The number.
     pub number: u64,
     /// The clock of the mark that covers it.
@@ -31,7 +31,11 @@ pub struct Receipt {
 impl<J: Job, B: Named<J>> Book<J, B> {
     /// A receipt for a number up to the mark, with the mark's clock and an entry for the pass. `AllocError` if an allocation fails;
     /// then nothing changes.
-    pub fn receipt(&mut self, pass: &mut Pass<J, B>, number: u64) -> Result<Receipt, AllocError>
+    pub fn receipt(
+        &mut self,
+        pass: &mut Pass<J, B>,
+        number: u64,
+    ) -> Result<PlainReceipt, AllocError>
         requires { number ≤ B.start.number + self.old.session.marked }
         ensures receipt { IfOk result (λ r. (r.number ≡ number) × (r.clock ≡ self.old.session.marked_at)) }
         ensures receipted { OnOk result (IsReceipted number self.old self.new pass.old pass.new) }
@@ -52,7 +56,7 @@ impl<J: Job, B: Named<J>> Book<J, B> {
             number,
             clock: *clock,
         });
-        Ok(Receipt {
+        Ok(PlainReceipt {
             number,
             clock: *clock,
         })

@@ -13,7 +13,7 @@ use pfx_jobs::job::Job;
 use pfx_jobs::quantum::Quantum;
 use pfx_machine::{Command, Reply, State};
 use pfx_record::Record;
-use pfx_record_redo::{Recorded, run_recorded};
+use pfx_record_redo::{Recorded, apply_recorded};
 use std::alloc::Global;
 
 /// What came of a command, with a copy of it.
@@ -47,7 +47,7 @@ pub fn try_command<J: Job>(
     let Some(copy) = copy_command(alloc, &command) else {
         return Tried::NoMemory;
     };
-    match run_recorded(alloc, state, command) {
+    match apply_recorded(alloc, state, command) {
         Ok(Recorded { reply, entry }) => Tried::Done(copy, reply, entry),
         Err(fault) => {
             if fault.is_memory() {

@@ -44,16 +44,16 @@ impl<T> Lesson<T, Hand<T>> for Puts {
 }
 
 /// A hand takes one thing out.
-pub struct Takes;
+pub struct TakesOut;
 
-impl<T> Outcome<T, Hand<T>> for Takes {
+impl<T> Outcome<T, Hand<T>> for TakesOut {
     ghost use Rattle.std.specs.Prelude.{◌≡◌, ◌++◌, ◌∷◌, []};
     ghost use Rattle.pfx_crew.specs.Balance.{hand};
 
     ghost then = { λ v x w. w ≡ hand v.put (v.taken ++ x ∷ []) };
 }
 
-impl<T> Lesson<T, Hand<T>> for Takes {
+impl<T> Lesson<T, Hand<T>> for TakesOut {
     ghost use Rattle.std.specs.Prelude.{⊤};
 
     ghost fact = { λ v items. ⊤ };

@@ -20,7 +20,7 @@ ghost use Rattle.crossbeam_channel.specs.Claims.{view as ticket_view, IsSeatAt};
 ghost use Rattle.crossbeam_channel.specs.Ends.{sends_on, receives_on};
 ghost use Rattle.pfx_crew.specs.Lane.{Hands, items_of, ends_of};
 
-use crate::balance::{Fair, Fresh, Hand, Puts, Takes};
+use crate::balance::{Fair, Fresh, Hand, Puts, TakesOut};
 use crossbeam_channel::{Pass, RuledReceiver, RuledSender, SendError, bounded_with};
 use std::alloc::{AllocError, Global};
 use std::marker::Model;
@@ -139,7 +139,10 @@ impl<T: Drop> Berth<T> {
         ensures none { IfNone result ((self.new.taken ≡ self.old.taken) × (self.new.ends_taken ≡ self.old.ends_taken)) }
         ensures put { (self.new.put ≡ self.old.put) × (self.new.ends_put ≡ self.old.ends_put) }
     {
-        match self.receiver.try_recv_as::<Takes, R>(rt, &mut self.ticket) {
+        match self
+            .receiver
+            .try_recv_as::<TakesOut, R>(rt, &mut self.ticket)
+        {
             Ok(message) => Some(message),
             Err(_) => None,
         }
@@ -172,7 +175,7 @@ impl<T: Drop> Berth<T> {
         if let Some(message) = self.linger(rt) {
             return message;
         }
-        match self.receiver.recv_as::<Takes, R>(rt, &mut self.ticket) {
+        match self.receiver.recv_as::<TakesOut, R>(rt, &mut self.ticket) {
             Ok(message) => message,
             Err(_) => {
                 // It has a sender of its own, so its receiver is never left without one.

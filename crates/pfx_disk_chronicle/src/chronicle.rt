@@ -4,7 +4,7 @@ ghost use Rattle.pfx_disk.specs.Disk.{IsHonest, IsLive, IsSpent, Leaves, Same, O
 ghost use Rattle.pfx_disk.specs.Stop.{Left};
 ghost use Rattle.pfx_disk_chronicle.specs.Chart.{acts_of, noted_view, GoesAlong};
 
-use crate::list::{End, Moment, Opened};
+use crate::list::{CallsEnd, Moment, UnnamedCalls};
 use crate::made::{NotesLook, NotesSync, NotesWrite};
 use crate::name::Charted;
 use pfx_disk::{DeviceFailed, Disk};
@@ -34,7 +34,7 @@ pub trait Logged<B: Charted>: Disk {
 #[derive(Drop)]
 pub struct Chronicle<D: Disk, B: Charted> {
     disk: D,
-    end: End<B>,
+    end: CallsEnd<B>,
     past: Moment<B>,
     // How far writes may go: no further than the bytes that were there.
     extent: usize,
@@ -57,7 +57,7 @@ impl<D: Disk, B: Charted> Model for Chronicle<D, B> {
 
 impl<D: Disk, B: Charted> Chronicle<D, B> {
     /// A disk on which no call is noted yet, and whose writes may go as far as this: one that goes further fails.
-    pub fn new(disk: D, list: Opened, extent: usize) -> Chronicle<D, B>
+    pub fn new(disk: D, list: UnnamedCalls, extent: usize) -> Chronicle<D, B>
         requires list { list.seen.book ≡ B.calls }
         requires clock { (D.view disk).clock ≡ B.clock }
         requires failures { (D.view disk).failures ≡ B.failures }

@@ -6,37 +6,37 @@ ghost use Rattle.pfx_token.specs.Growing.{head_of, IsLonger};
 use crate::made::Made;
 use crate::name::Charted;
 use logbook::{Offer, Plain, Seen, Start, Word};
-use pfx_token::growing::{Add, Law, Nothing};
+use pfx_token::growing::{Add, LengthLaw, Nothing};
 use std::marker::{Model, PhantomData};
 
 /// An empty list, which has no name yet.
 #[derive(Drop)]
-pub struct Opened {
-    head: Word<Made, u64, Law>,
-    seen: Seen<Made, u64, Law>,
+pub struct UnnamedCalls {
+    head: Word<Made, u64, LengthLaw>,
+    seen: Seen<Made, u64, LengthLaw>,
     ghost empty: { seen.log ≡ [] },
     ghost head_is: { head ≡ head_of seen.book },
 }
 
-impl Opened {
+impl UnnamedCalls {
     /// A list of its own. It takes no memory.
-    pub fn new() -> Opened {
+    pub fn new() -> UnnamedCalls {
         let (seen, mut first, _second) = Seen::open(Start::alone(), 0, 0);
-        Opened {
+        UnnamedCalls {
             head: Word::tracked(0, &mut first),
             seen,
         }
     }
 
     /// The list's end under a name, and the beginning that knows nothing of it. `first` is the disk's clock.
-    pub fn named<B: Charted>(self, first: u64) -> (End<B>, Moment<B>)
+    pub fn named<B: Charted>(self, first: u64) -> (CallsEnd<B>, Moment<B>)
         requires list { self.seen.book ≡ B.calls }
         requires first { first ≡ B.clock }
         ensures { result.1 ≡ [] }
     {
-        let Opened { head, seen } = self;
+        let UnnamedCalls { head, seen } = self;
         (
-            End {
+            CallsEnd {
                 head,
                 of: PhantomData,
             },
@@ -52,8 +52,8 @@ impl Opened {
 
 /// Where the list grows. There is one for a list.
 #[derive(Drop)]
-pub struct End<B: Charted> {
-    head: Word<Made, u64, Law>,
+pub struct CallsEnd<B: Charted> {
+    head: Word<Made, u64, LengthLaw>,
     of: PhantomData<B>,
     ghost head_is: { head ≡ head_of B.calls },
 }
@@ -63,7 +63,7 @@ pub struct End<B: Charted> {
 pub struct Moment<B: Charted> {
     first: u64,
     count: u64,
-    seen: Seen<Made, u64, Law>,
+    seen: Seen<Made, u64, LengthLaw>,
     of: PhantomData<B>,
 }
 
@@ -109,7 +109,7 @@ impl<B: Charted> Moment<B> {
     }
 }
 
-impl<B: Charted> End<B> {
+impl<B: Charted> CallsEnd<B> {
     /// Adds the call that this value tells of after all that is known, and says whether it did. If it did not, the list is longer
     /// than was known.
     pub(crate) fn extend<X, M: Plain<X, Made, u64>>(&self, past: &mut Moment<B>, about: &X) -> bool
@@ -117,7 +117,9 @@ impl<B: Charted> End<B> {
         requires free { M.state about.now ≡ None }
         ensures { MatchBool result (past.new ≡ past.old ++ M.ask about.now ∷ []) (IsLonger past.old past.new) }
     {
-        let mut offer: Offer<Made, u64, Law, Nothing> = past.seen.plain::<Nothing, X, M>(about);
+        let mut offer: Offer<Made, u64, LengthLaw, Nothing> = past
+            .seen
+            .plain::<Nothing, X, M>(about);
         let mut pen = past.seen.no_pen();
         let count = past.count;
         let found = self

@@ -18,7 +18,7 @@ use pfx_disk::Disk;
 use pfx_fault::Cause;
 use pfx_jobs::job::Job;
 use pfx_record::{Batch, Record};
-use pfx_store::{Keeper, Mark};
+use pfx_store::{BatchKeeper, Mark};
 use pfx_weights::Weights;
 use std::alloc::Global;
 
@@ -37,7 +37,7 @@ fn new_weights<J: Job>(batch: &Batch<J>) -> Option<(u32, &Weights)>
 }
 
 /// Keeps a batch that comes next; what new weights take of memory is taken before. `Memory` and `Log` leave the store as it was, and `Device` breaks it.
-pub(crate) fn append_taken<J: Job, D: Disk, S: Keeper<D, J>>(
+pub(crate) fn append_taken<J: Job, D: Disk, S: BatchKeeper<D, J>>(
     alloc: Global,
     keeper: &mut S,
     batch: &Batch<J>,

@@ -91,7 +91,7 @@ fn receipt_of<J: Job, B: Since<J>>(
     book: &mut Book<J, B>,
     pass: &mut Pass<J, B>,
     number: u64,
-) -> Result<closing::Receipt, CallFault>
+) -> Result<closing::PlainReceipt, CallFault>
     requires { number ≤ B.start.number + book.old.session.marked }
     ensures ok { IfOk result (λ r. (r.number ≡ number) × (pass.new ≡ noted (Receipted number r.clock) pass.old)) }
     ensures err { IfErr result (HasNoReceipt number pass.old pass.new) }
@@ -338,7 +338,7 @@ fn settle_in<J: Job, B: Since<J>, R: Wait>(
     monitor: &Monitor<J, B>,
     pass: &mut Pass<J, B>,
     number: u64,
-) -> Result<closing::Receipt, CallFault>
+) -> Result<closing::PlainReceipt, CallFault>
     requires some { 0 < number }
     requires known { number ≤ greatest pass.old.1 }
     ensures ok { IfOk result (λ r. (r.number ≡ number) × (pass.new ≡ noted (Receipted number r.clock) pass.old)) }
@@ -369,7 +369,7 @@ fn settle_in<J: Job, B: Since<J>, R: Wait>(
 fn worded<J: Job, B: Since<J>, R: Wait>(
     rt: &R,
     monitor: &Monitor<J, B>,
-    receipt: closing::Receipt,
+    receipt: closing::PlainReceipt,
 ) -> Acknowledged<J, B>
     ensures { (result.receipt.number ≡ receipt.number) × (result.receipt.clock ≡ receipt.clock) }
 {
@@ -450,7 +450,7 @@ where
     /// meanwhile, by the workers or, if there are none or their desk is closed, by this thread. `Refused` says why there is no
     /// such command now, and is noted. `NoMemory` says that an allocation failed: then nothing has changed. `StoreFailed` says that nothing
     /// is accepted any more; the first time, the pass notes why.
-    pub fn call<R: Wait>(
+    pub fn ask<R: Wait>(
         &self,
         rt: &R,
         pass: &mut Pass<J, B>,

@@ -36,7 +36,7 @@ use pfx_front_board::shown::Shown;
 use pfx_front_board::word::Word;
 use pfx_jobs::job::Job;
 use pfx_jobs::quantum::{Done, Quantum};
-use pfx_store::{Keeper, Store};
+use pfx_store::{BatchKeeper, Store};
 use std::marker::PhantomData;
 use std::sync::Wait;
 use std::thread::Threads;
@@ -65,7 +65,7 @@ pub struct Closed<J: Job, B: Since<J>, D: Disk> {
 
 /// What a front at a keeper leaves.
 #[derive(Drop)]
-pub struct Left<J: Job, B: Since<J>, D: Disk, S: Keeper<D, J> + Drop> {
+pub struct Left<J: Job, B: Since<J>, D: Disk, S: BatchKeeper<D, J> + Drop> {
     /// What keeps the store, with what became durable.
     pub keeper: S,
     /// The session.
@@ -160,7 +160,7 @@ fn look_all<J: Job, B: Since<J>>(
 }
 
 /// Looks at the book, all passes and the share together: whether session, store and board have come to what a front leaves.
-fn is_ended<J: Job, B: Since<J>, D: Disk, S: Keeper<D, J> + Drop, R: Wait + Drop>(
+fn is_ended<J: Job, B: Since<J>, D: Disk, S: BatchKeeper<D, J> + Drop, R: Wait + Drop>(
     book: &mut Book<J, B>,
     share: &mut Share<J, B>,
     _keeper: &S,
@@ -197,7 +197,7 @@ fn is_ended<J: Job, B: Since<J>, D: Disk, S: Keeper<D, J> + Drop, R: Wait + Drop
 }
 
 /// What a front leaves, if all of it has come to that.
-fn ended<J: Job, B: Since<J>, D: Disk, S: Keeper<D, J> + Drop, R: Wait + Drop>(
+fn ended<J: Job, B: Since<J>, D: Disk, S: BatchKeeper<D, J> + Drop, R: Wait + Drop>(
     book: Book<J, B>,
     flushed: Flushed<J, B, D, S, Shown<J, B>, R>,
     given: Given<J, B>,
@@ -346,7 +346,7 @@ where
     ///
     /// What keeps the store comes back as it is. Of it and of what comes back with it the same is said; and where the flusher gave up
     /// for the log, the log has failed, and the store is whole.
-    pub fn close_kept<D: Disk, S: Keeper<D, J> + Drop, R: Threads + Wait + Drop>(
+    pub fn close_kept<D: Disk, S: BatchKeeper<D, J> + Drop, R: Threads + Wait + Drop>(
         self,
         rt: &R,
         crew: KeptCrew<J, B, D, S, K, R>,

@@ -36,7 +36,7 @@ use pfx_front_board::shown::Shown;
 use pfx_front_board::word::Word;
 use pfx_jobs::job::Job;
 use pfx_record::{Batch, Record};
-use pfx_store::{Keeper, Mark, Store};
+use pfx_store::{BatchKeeper, Mark, Store};
 use std::alloc::Global;
 use std::marker::{Model, PhantomData};
 use std::sync::Wait;
@@ -49,7 +49,7 @@ pub struct Flusher<
     J: Job,
     B: Since<J>,
     D: Disk,
-    S: Keeper<D, J> + Drop,
+    S: BatchKeeper<D, J> + Drop,
     T: Absorb<T, State = [Batch<J>; 0]> + Drop,
     R: Wait + Drop,
 > {
@@ -65,7 +65,7 @@ impl<
     J: Job,
     B: Since<J>,
     D: Disk,
-    S: Keeper<D, J> + Drop,
+    S: BatchKeeper<D, J> + Drop,
     T: Absorb<T, State = [Batch<J>; 0]> + Drop,
     R: Wait + Drop,
 > Model for Flusher<J, B, D, S, T, R> {
@@ -93,7 +93,7 @@ pub struct Flushed<
     J: Job,
     B: Since<J>,
     D: Disk,
-    S: Keeper<D, J> + Drop,
+    S: BatchKeeper<D, J> + Drop,
     T: Absorb<T, State = [Batch<J>; 0]> + Drop,
     R: Wait + Drop,
 > {
@@ -107,7 +107,7 @@ impl<
     J: Job,
     B: Since<J>,
     D: Disk,
-    S: Keeper<D, J> + Drop,
+    S: BatchKeeper<D, J> + Drop,
     T: Absorb<T, State = [Batch<J>; 0]> + Drop,
     R: Wait + Drop,
 > Model for Flushed<J, B, D, S, T, R> {
@@ -299,7 +299,7 @@ fn show<J: Job, B: Since<J>, D: Disk + Logged<B>, R: Wait + Drop, W: Wait>(
 
 /// Keeps a batch, publishes and marks it: the room for the next one. `None` if the keeper has failed, or an allocation fails
 /// for new weights or for the board; then the book knows.
-fn commit<J: Job, B: Since<J>, D: Disk + Logged<B>, S: Keeper<D, J>, R: Wait + Drop, W: Wait>(
+fn commit<J: Job, B: Since<J>, D: Disk + Logged<B>, S: BatchKeeper<D, J>, R: Wait + Drop, W: Wait>(
     rt: &W,
     alloc: Global,
     monitor: &Monitor<J, B>,
@@ -350,7 +350,7 @@ fn commit<J: Job, B: Since<J>, D: Disk + Logged<B>, S: Keeper<D, J>, R: Wait + D
 }
 
 /// Takes a step of the checkpoint in progress, if there is one. `false` if the keeper has failed; then the book knows.
-fn tend<J: Job, B: Since<J>, D: Disk, S: Keeper<D, J>, R: Wait>(
+fn tend<J: Job, B: Since<J>, D: Disk, S: BatchKeeper<D, J>, R: Wait>(
     rt: &R,
     monitor: &Monitor<J, B>,
     share: &mut Share<J, B>,
@@ -380,7 +380,7 @@ fn tend<J: Job, B: Since<J>, D: Disk, S: Keeper<D, J>, R: Wait>(
 }
 
 /// What the thread gives back.
-fn home<J: Job, B: Since<J>, D: Disk, S: Keeper<D, J> + Drop, R: Wait + Drop>(
+fn home<J: Job, B: Since<J>, D: Disk, S: BatchKeeper<D, J> + Drop, R: Wait + Drop>(
     share: Share<J, B>,
     keeper: S,
     publisher: BoardWriter<J, B, Shown<J, B>, R>,
@@ -403,7 +403,7 @@ pub(crate) fn flush<
     J: Job,
     B: Since<J>,
     D: Disk + Logged<B>,
-    S: Keeper<D, J> + Drop,
+    S: BatchKeeper<D, J> + Drop,
     R: Wait + Drop,
     W: Wait + Clock,
 >(

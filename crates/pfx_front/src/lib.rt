@@ -6,7 +6,7 @@
 //! acknowledgement: a reader of the board that is told of it shows that command at least. A Slot's quanta
 //! are run between two lockings, by the workers or by the thread that called.
 //!
-//! What keeps the store is a `Keeper`: the store itself, at which `start` begins a front and `close` ends one, or one beside a log, for
+//! What keeps the store is a `BatchKeeper`: the store itself, at which `start` begins a front and `close` ends one, or one beside a log, for
 //! which there are `start_kept` and `close_kept`.
 //!
 //! - `name`: whose front it is, its lists, and what it began with.
@@ -29,7 +29,7 @@
 //! lock is held during a call of the disk or a step of a job.
 //!
 //! Why it is so:
-//! - **A front is generic over what keeps its store** (`pfx_store::Keeper`): a store, or one beside a log, which no command begins a
+//! - **A front is generic over what keeps its store** (`pfx_store::BatchKeeper`): a store, or one beside a log, which no command begins a
 //!   front at yet. The flusher can make no call but the keeper's. `start` and `close` are those of a plain store, with the contracts that
 //!   they had; `start_kept` and `close_kept`, of which they are made, take and give back any keeper whose disk tells its calls.
 #![tactic(auto)]

@@ -11,7 +11,7 @@ ghost use Rattle.std.specs.Prelude.{◌≡◌, ◌++◌, ◌∷◌, [], IsTrue};
 
 use crate::name::Since;
 use pfx_store::Mark;
-use pfx_token::past::{End, Naming, Opened, Past};
+use pfx_token::past::{End, Naming, Past, UnnamedList};
 use std::marker::{Model, PhantomData};
 
 /// Names the list of a front's marks.
@@ -51,7 +51,7 @@ where
 
 impl<J, B: Since<J>> Marking<J, B> {
     /// With no mark.
-    pub(crate) fn new(list: Opened<Mark>) -> Marking<J, B>
+    pub(crate) fn new(list: UnnamedList<Mark>) -> Marking<J, B>
         requires { list.seen.book ≡ B.marks }
         ensures { result ≡ [] }
     {

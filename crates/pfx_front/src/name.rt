@@ -33,34 +33,34 @@ impl<J> Since<J> for Brand {
 /// on its disk, and its marks.
 #[derive(Drop)]
 pub struct Names<J: Job> {
-    pub(crate) tokens: tokens::Opened<Note<J>>,
-    pub(crate) list: past::Opened<Batch<J>>,
-    pub(crate) calls: list::Opened,
-    pub(crate) marks: past::Opened<Mark>,
+    pub(crate) tokens: tokens::UnnamedKeeper<Note<J>>,
+    pub(crate) list: past::UnnamedList<Batch<J>>,
+    pub(crate) calls: list::UnnamedCalls,
+    pub(crate) marks: past::UnnamedList<Mark>,
 }
 
 /// The lists of a front but that of its disk's calls.
 #[derive(Drop)]
 pub struct Lists<J: Job> {
-    pub(crate) tokens: tokens::Opened<Note<J>>,
-    pub(crate) list: past::Opened<Batch<J>>,
-    pub(crate) marks: past::Opened<Mark>,
+    pub(crate) tokens: tokens::UnnamedKeeper<Note<J>>,
+    pub(crate) list: past::UnnamedList<Batch<J>>,
+    pub(crate) marks: past::UnnamedList<Mark>,
 }
 
 impl<J: Job> Names<J> {
     /// Lists of their own. `AllocError` if an allocation fails.
     pub fn new(alloc: Global) -> Result<Names<J>, AllocError> {
-        let tokens = tokens::Opened::new(alloc)?;
+        let tokens = tokens::UnnamedKeeper::new(alloc)?;
         Ok(Names {
             tokens,
-            list: past::Opened::new(),
-            calls: list::Opened::new(),
-            marks: past::Opened::new(),
+            list: past::UnnamedList::new(),
+            calls: list::UnnamedCalls::new(),
+            marks: past::UnnamedList::new(),
         })
     }
 
     /// The list of the disk's calls by itself: for a disk that is to tell them before a front begins at it.
-    pub fn split(self) -> (Lists<J>, list::Opened)
+    pub fn split(self) -> (Lists<J>, list::UnnamedCalls)
         ensures lists { (result.0.tokens ≡ self.tokens) × (result.0.list ≡ self.list) × (result.0.marks ≡ self.marks) }
         ensures calls { result.1 ≡ self.calls }
     {

@@ -36,9 +36,9 @@ use pfx_front_board::word::Word;
 use pfx_jobs::job::Job;
 use pfx_jobs::quantum::{Done, Quantum};
 use pfx_record::{Batch, Record};
-use pfx_store::{Keeper, Store};
+use pfx_store::{BatchKeeper, Store};
 use pfx_token::past;
-use pfx_token::tokens::Opened;
+use pfx_token::tokens::UnnamedKeeper;
 use std::alloc::{AllocError, Global};
 use std::marker::PhantomData;
 use std::sync::{Arc, Condvar, Mutex, Wait};
@@ -57,7 +57,7 @@ pub struct Hands<
     J: Job,
     B: Since<J>,
     D: Disk,
-    S: Keeper<D, J> + Drop,
+    S: BatchKeeper<D, J> + Drop,
     K: Desk<Quantum<J>, Done<J>>,
     T: Absorb<T, State = [Batch<J>; 0]> + Drop,
     R: Wait + Drop,
@@ -76,7 +76,7 @@ struct Mailbox<
     J: Job,
     B: Since<J>,
     D: Disk,
-    S: Keeper<D, J> + Drop,
+    S: BatchKeeper<D, J> + Drop,
     T: Absorb<T, State = [Batch<J>; 0]> + Drop,
     R: Wait + Drop,
 > {
@@ -102,7 +102,7 @@ type Manned<J, B, D, S, K, R> = (
 );
 
 /// Waits for what is put into the mailbox.
-fn fetch<J: Job, B: Since<J>, D: Disk, S: Keeper<D, J> + Drop, R: Wait + Drop, W: Wait>(
+fn fetch<J: Job, B: Since<J>, D: Disk, S: BatchKeeper<D, J> + Drop, R: Wait + Drop, W: Wait>(
     rt: &W,
     mailbox: &Mailbox<J, B, D, S, Shown<J, B>, R>,
 ) -> Flusher<J, B, D, S, Shown<J, B>, R> {
@@ -118,7 +118,7 @@ fn fetch<J: Job, B: Since<J>, D: Disk, S: Keeper<D, J> + Drop, R: Wait + Drop, W
 }
 
 /// Puts the flusher into the mailbox.
-fn post<J: Job, B: Since<J>, D: Disk, S: Keeper<D, J> + Drop, R: Wait + Drop, W: Wait>(
+fn post<J: Job, B: Since<J>, D: Disk, S: BatchKeeper<D, J> + Drop, R: Wait + Drop, W: Wait>(
     rt: &W,
     mailbox: &Mailbox<J, B, D, S, Shown<J, B>, R>,
     flusher: Flusher<J, B, D, S, Shown<J, B>, R>,
@@ -132,7 +132,7 @@ fn flush_there<
     J: Job,
     B: Since<J>,
     D: Disk + Logged<B>,
-    S: Keeper<D, J> + Drop,
+    S: BatchKeeper<D, J> + Drop,
     K: Desk<Quantum<J>, Done<J>> + Drop,
     R: Wait + Clock + Drop,
 >(
@@ -181,7 +181,7 @@ where
 fn furnish<J: Job, B: Since<J>, D: Disk + Logged<B>, K: Desk<Quantum<J>, Done<J>> + Drop, R: Wait>(
     rt: &R,
     alloc: Global,
-    tokens: Opened<Note<J>>,
+    tokens: UnnamedKeeper<Note<J>>,
     store: &Store<D, J>,
     word: Word<J, B>,
     marking: &Marking<J, B>,
@@ -220,7 +220,7 @@ where
 fn show_first<J: Job, B: Since<J>, D: Disk, R: Wait + Drop>(
     rt: R,
     alloc: Global,
-    list: past::Opened<Batch<J>>,
+    list: past::UnnamedList<Batch<J>>,
     store: &Store<D, J>,
     readers: u8,
 ) -> Result<(Publisher<J, B, R>, Vec<Reader<J, B>>, Vec<bool>), AllocError>
@@ -342,7 +342,7 @@ where
 }
 
 /// An empty mailbox, for the one who puts in and for the one who takes out.
-fn mailboxes<J: Job, B: Since<J>, D: Disk, S: Keeper<D, J> + Drop, R: Wait + Drop>(
+fn mailboxes<J: Job, B: Since<J>, D: Disk, S: BatchKeeper<D, J> + Drop, R: Wait + Drop>(
     alloc: Global,
 ) -> Result<(Post<J, B, D, S, R>, Post<J, B, D, S, R>), AllocError> {
     let mailbox = Arc::new(
@@ -361,7 +361,7 @@ fn man<
     J: Job + Drop + Send + Sync + 'static,
     B: Since<J> + Send + Sync + 'static,
     D: Disk + Logged<B> + Drop + Send + 'static,
-    S: Keeper<D, J> + Drop + Send + 'static,
+    S: BatchKeeper<D, J> + Drop + Send + 'static,
     K: Desk<Quantum<J>, Done<J>> + Drop + Send + Sync + 'static,
     R: Threads + Wait + Clock + Copy + Drop + Send + Sync + 'static,
 >(
@@ -398,7 +398,7 @@ fn manned<
     J: Job + Drop + Send + Sync + 'static,
     B: Since<J> + Send + Sync + 'static,
     D: Disk + Logged<B> + Drop + Send + 'static,
-    S: Keeper<D, J> + Drop + Send + 'static,
+    S: BatchKeeper<D, J> + Drop + Send + 'static,
     K: Desk<Quantum<J>, Done<J>> + Drop + Send + Sync + 'static,
     R: Threads + Wait + Clock + Copy + Drop + Send + Sync + 'static,
 >(
@@ -520,7 +520,7 @@ where
     /// `NoThread` and `NoMemory` give it back as it was, with all threads joined that had been started.
     pub fn start_kept<
         D: Disk + Logged<B> + Drop + Send + 'static,
-        S: Keeper<D, J> + Drop + Send + 'static,
+        S: BatchKeeper<D, J> + Drop + Send + 'static,
         R: Threads + Wait + Clock + Copy + Drop + Send + Sync + 'static,
     >(
         rt: R,

@@ -28,7 +28,7 @@ use pfx_disk_chronicle::name::Charted;
 use pfx_jobs::job::Job;
 use pfx_machine::State;
 use pfx_record::Batch;
-use pfx_token::past::{End, Opened};
+use pfx_token::past::{End, UnnamedList};
 use std::alloc::{AllocError, Global};
 use std::marker::Model;
 use std::sync::Wait;
@@ -104,7 +104,7 @@ impl<J: Job, B: Begun<J> + Charted, R: Wait + Drop> BoardWriter<J, B, Shown<J, B
     pub fn new(
         alloc: Global,
         rt: R,
-        opened: Opened<Batch<J>>,
+        opened: UnnamedList<Batch<J>>,
         state: &State<J>,
         readers: usize,
     ) -> Result<(Publisher<J, B, R>, Vec<Reader<J, B>>), AllocError>

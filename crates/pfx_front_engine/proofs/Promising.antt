@@ -17,8 +17,8 @@ use Rattle.pfx_store_engine.proofs.Sharing.{accepted_err, accepted_ok, told_err,
 use Rattle.pfx_store_engine.proofs.Slots.{answered_more, length_slots, slots_more}
 use Rattle.pfx_store_engine.specs.Promises.{Promise, AreAnswered, AreDone, AreInDoubt, AreLeftBy, AreNotDone, IsDone, IsInDoubt, IsLeftBy, IsNotDone, IsSame, Shows, slots_for}
 use Rattle.pfx_store_engine.specs.Sharing.{AreAllDone, AreAllLeft, Told, accepted_of}
-use Rattle.pfx_store_engine.specs.declared.engine.CallFault.{CallFault}
-use Rattle.pfx_store_engine.specs.declared.engine.CallFault.TheVariants as callfault
+use Rattle.pfx_store_engine.specs.declared.engine.EngineFault.{EngineFault}
+use Rattle.pfx_store_engine.specs.declared.engine.EngineFault.TheVariants as enginefault
 use Rattle.pfx_front_engine.proofs.Answering.{engine_fault}
 use Rattle.pfx_front_engine.proofs.Notes.{all_kept, grown, more_by, settled_stays, state_is}
 use Rattle.pfx_front_engine.specs.Asking.{AreAllAsked, AreAsked, AreSomeAsked, IsAnswered, IsFrontFault, IsUnanswered, MayEndRun}
@@ -57,13 +57,13 @@ module _ {J : Type 0} (K : Kind J) (L : Laws K) {E : Type 0} (notes : E → List
     same h = record { state = state_is K L B B.number (notes old) (notes new) [] 0 h ∙ outcome-none K (state_of K B (notes old)); keeps = h }
 
     -- a command that has no answer
-    pub not_done : (c : Command J) (why : CallFault) → IsUnanswered K B (notes old) c (notes new) why → IsNotDone K promise c old new why
-    not_done c (callfault.Refused f) h = (h.reason, same h.stays, settled_stays B.number (notes old) (notes new) h.stays)
-    not_done c (callfault.Failed f) h = (engine_fault K B (notes new) (state_of K B (notes old)) f h.reason, left_same c f (same h.stays))
+    pub not_done : (c : Command J) (why : EngineFault) → IsUnanswered K B (notes old) c (notes new) why → IsNotDone K promise c old new why
+    not_done c (enginefault.Refused f) h = (h.reason, same h.stays, settled_stays B.number (notes old) (notes new) h.stays)
+    not_done c (enginefault.Failed f) h = (engine_fault K B (notes new) (state_of K B (notes old)) f h.reason, left_same c f (same h.stays))
 
-    pub slot_not_done : (count : ℕ) (why : CallFault) → IsUnanswered K B (notes old) Slot (notes new) why → AreNotDone K promise count old new why
-    slot_not_done count (callfault.Refused f) h = (h.reason, same h.stays, settled_stays B.number (notes old) (notes new) h.stays)
-    slot_not_done count (callfault.Failed f) h = (engine_fault K B (notes new) (state_of K B (notes old)) f h.reason, slots_left_same count f (same h.stays))
+    pub slot_not_done : (count : ℕ) (why : EngineFault) → IsUnanswered K B (notes old) Slot (notes new) why → AreNotDone K promise count old new why
+    slot_not_done count (enginefault.Refused f) h = (h.reason, same h.stays, settled_stays B.number (notes old) (notes new) h.stays)
+    slot_not_done count (enginefault.Failed f) h = (engine_fault K B (notes new) (state_of K B (notes old)) f h.reason, slots_left_same count f (same h.stays))
 
     -- the board of the state after the same commands
     pub shown : KeepsBy B.number (notes old) [] 0 (notes new) → (board : Board) → IsShownBy K (state_of K B (notes new)) board → Shows K (state_of K B (notes old)) board
@@ -89,7 +89,7 @@ module _ {J : Type 0} (K : Kind J) (L : Laws K) {E : Type 0} (notes : E → List
             settled = settled;
           }
 
-      pub doubted : (c : Command J) (n : ℕ) (said : Reply) (f : Fault) → IsAnswered K B (notes old) c n said mid → IsFrontFault K B (notes new) f → f ≢ fault.NoMemory → IsNotDone K promise c old new (callfault.Failed f)
+      pub doubted : (c : Command J) (n : ℕ) (said : Reply) (f : Fault) → IsAnswered K B (notes old) c n said mid → IsFrontFault K B (notes new) f → f ≢ fault.NoMemory → IsNotDone K promise c old new (enginefault.Failed f)
       doubted c n said f a front apart =
           let k = asked c n said a in
           (engine_fault K B (notes new) (state_of K B (notes old)) f front, left_by c f apart (record { reply = said; accepted = a.accepted; state = inr (state_is K L B B.number (notes old) (notes new) (c ∷ []) 0 k); keeps = k }))
@@ -112,7 +112,7 @@ module _ {J : Type 0} (K : Kind J) (L : Laws K) {E : Type 0} (notes : E → List
           settled = settled;
         }
 
-        pub slots_doubted : (f : Fault) → IsFrontFault K B (notes new) f → f ≢ fault.NoMemory → AreNotDone K promise count old new (callfault.Failed f)
+        pub slots_doubted : (f : Fault) → IsFrontFault K B (notes new) f → f ≢ fault.NoMemory → AreNotDone K promise count old new (enginefault.Failed f)
         slots_doubted f front apart = (
           engine_fault K B (notes new) (state_of K B (notes old)) f front,
           slots_left_by count f apart (record { said = said; few = long; answered = a.answered; state = inr (state_is K L B B.number (notes old) (notes new) (slots_for said) 0 now); keeps = now }),
@@ -194,12 +194,12 @@ module _ {J : Type 0} (K : Kind J) (L : Laws K) (B : Plain J) (old mid new : Lis
   }
 
   -- or refused
-  pub told_refused : (c : Command J) (f : MachineFault) → IsUnanswered K B mid c new (callfault.Refused f) → AreAllAsked K B old (H ++ c ∷ []) (told ++ Err f ∷ []) new
+  pub told_refused : (c : Command J) (f : MachineFault) → IsUnanswered K B mid c new (enginefault.Refused f) → AreAllAsked K B old (H ++ c ∷ []) (told ++ Err f ∷ []) new
   told_refused c f u = record {
     answered = told_err K L (state_of K B old) H told c f h.answered (subst (λ (s : Plain J). answer K s c ≡ Err f) told_at u.reason);
     kept = subst (λ (G : List (Command J)). KeepsBy B.number old G 0 new) (sym (accepted_err K (state_of K B old) H told c f h.answered)) (told_so_far u.stays);
   }
 
   -- or the front failed
-  pub told_fails : (all : List (Command J)) (c : Command J) (rest : List (Command J)) (f : Fault) → all ≡ H ++ rest → IsUnanswered K B mid c new (callfault.Failed f) → AreSomeAsked K B old all new
+  pub told_fails : (all : List (Command J)) (c : Command J) (rest : List (Command J)) (f : Fault) → all ≡ H ++ rest → IsUnanswered K B mid c new (enginefault.Failed f) → AreSomeAsked K B old all new
   told_fails all c rest f split u = record { took = H; rest = rest; split = split; said = told; asked = record { answered = h.answered; kept = told_so_far u.stays } }

@@ -20,23 +20,23 @@ use Rattle.pfx_machine.specs.declared.faults.MachineFault.{MachineFault}
 use Rattle.pfx_machine.specs.declared.faults.MachineFault.TheVariants.{NoRow}
 use Rattle.pfx_store_engine.specs.Promises.{AreAnswered, slots_for}
 use Rattle.pfx_store_engine.specs.Sharing.{AreTold, Told, accepted_of}
-use Rattle.pfx_store_engine.specs.declared.engine.CallFault.{CallFault}
-use Rattle.pfx_store_engine.specs.declared.engine.CallFault.TheVariants as callfault
+use Rattle.pfx_store_engine.specs.declared.engine.EngineFault.{EngineFault}
+use Rattle.pfx_store_engine.specs.declared.engine.EngineFault.TheVariants as enginefault
 use Rattle.pfx_front_engine.specs.Keeping.{HasReceipt, KeepsBy}
 use Rattle.pfx_jobs.specs.Kind.{Kind}
 
 -- what the machine's refusal is to a run: for want of memory the run ends
-abbrev pub why_machine : MachineFault → CallFault
-why_machine (NoRow NoMemory) = callfault.Failed fault.NoMemory
-why_machine other = callfault.Refused other
+abbrev pub why_machine : MachineFault → EngineFault
+why_machine (NoRow NoMemory) = enginefault.Failed fault.NoMemory
+why_machine other = enginefault.Refused other
 
 -- what a front's refusal is to a run
-abbrev pub why_of : front.CallFault → CallFault
-why_of frontfault.NoMemory = callfault.Failed fault.NoMemory
-why_of (frontfault.Refused book.NoMemory) = callfault.Failed fault.NoMemory
-why_of (frontfault.Refused book.SessionFull) = callfault.Failed fault.SessionFull
+abbrev pub why_of : front.CallFault → EngineFault
+why_of frontfault.NoMemory = enginefault.Failed fault.NoMemory
+why_of (frontfault.Refused book.NoMemory) = enginefault.Failed fault.NoMemory
+why_of (frontfault.Refused book.SessionFull) = enginefault.Failed fault.SessionFull
 why_of (frontfault.Refused (book.Machine f)) = why_machine f
-why_of (frontfault.StoreFailed marked cause) = callfault.Failed (fault.StoreFailed marked cause)
+why_of (frontfault.StoreFailed marked cause) = enginefault.Failed (fault.StoreFailed marked cause)
 
 -- a run over a front may end with this
 abbrev pub MayEndRun : Fault → Type 0
@@ -60,9 +60,9 @@ IsFrontFault K start notes (fault.StoreFailed marked cause) = (lost_in notes ≡
 IsFrontFault K start notes other = ⊥
 
 -- the machine refuses the command, or the front ends the run
-abbrev pub IsReason : {J : Type 0} → Kind J → Plain J → List (Note J) → Command J → List (Note J) → CallFault → Type 0
-IsReason K start was c is (callfault.Refused f) = answer K (state_of K start was) c ≡ Err f
-IsReason K start was c is (callfault.Failed f) = IsFrontFault K start is f
+abbrev pub IsReason : {J : Type 0} → Kind J → Plain J → List (Note J) → Command J → List (Note J) → EngineFault → Type 0
+IsReason K start was c is (enginefault.Refused f) = answer K (state_of K start was) c ≡ Err f
+IsReason K start was c is (enginefault.Failed f) = IsFrontFault K start is f
 
 -- the command was accepted, as the machine does after the commands before it
 pub record IsAnswered {J : Type 0} (K : Kind J) (start : Plain J) (was : List (Note J)) (c : Command J) (number : ℕ) (said : Reply)
@@ -73,7 +73,7 @@ pub record IsAnswered {J : Type 0} (K : Kind J) (start : Plain J) (was : List (N
   pub known : number ≤ greatest is
 
 -- the command wasn't accepted, and no other was
-pub record IsUnanswered {J : Type 0} (K : Kind J) (start : Plain J) (was : List (Note J)) (c : Command J) (is : List (Note J)) (why : CallFault) : Type 0 where
+pub record IsUnanswered {J : Type 0} (K : Kind J) (start : Plain J) (was : List (Note J)) (c : Command J) (is : List (Note J)) (why : EngineFault) : Type 0 where
   pub reason : IsReason K start was c is why
   pub stays : KeepsBy start.number was [] 0 is
   pub known : greatest was ≤ greatest is

@@ -16,38 +16,38 @@ use pfx_choice::ChoiceFault;
 use pfx_crew::desk::Desk;
 use pfx_fault::{Cause, Fault};
 use pfx_front::calls::Front;
-use pfx_front::faults::CallFault as FrontFault;
+use pfx_front::faults::CallFault;
 use pfx_front::name::Since;
 use pfx_front::sole::Heard;
 use pfx_jobs::job::Job;
 use pfx_jobs::quantum::{Done, Quantum};
 use pfx_machine::{Board, Command, MachineFault, Reply, State};
-use pfx_store_engine::{CallFault, Told};
+use pfx_store_engine::{EngineFault, Told};
 use std::alloc::{AllocError, Global};
 use std::sync::Wait;
 
 /// What the machine's refusal is to a run.
-fn why_machine(fault: MachineFault) -> CallFault
+fn why_machine(fault: MachineFault) -> EngineFault
     ensures { result ≡ why_machine fault }
 {
     match fault {
-        MachineFault::NoRow(ChoiceFault::NoMemory) => CallFault::Failed(Fault::NoMemory),
-        fault => CallFault::Refused(fault),
+        MachineFault::NoRow(ChoiceFault::NoMemory) => EngineFault::Failed(Fault::NoMemory),
+        fault => EngineFault::Refused(fault),
     }
 }
 
 /// What a front's refusal is to a run: the machine's refusals are answers, all others end it.
-fn why(fault: FrontFault) -> CallFault
+fn why(fault: CallFault) -> EngineFault
     ensures { result ≡ why_of fault }
 {
     match fault {
-        FrontFault::Refused(BookFault::NoMemory) | FrontFault::NoMemory => {
-            CallFault::Failed(Fault::NoMemory)
+        CallFault::Refused(BookFault::NoMemory) | CallFault::NoMemory => {
+            EngineFault::Failed(Fault::NoMemory)
         }
-        FrontFault::Refused(BookFault::SessionFull) => CallFault::Failed(Fault::SessionFull),
-        FrontFault::Refused(BookFault::Machine(fault)) => why_machine(fault),
-        FrontFault::StoreFailed { marked, cause } => {
-            CallFault::Failed(Fault::StoreFailed { marked, cause })
+        CallFault::Refused(BookFault::SessionFull) => EngineFault::Failed(Fault::SessionFull),
+        CallFault::Refused(BookFault::Machine(fault)) => why_machine(fault),
+        CallFault::StoreFailed { marked, cause } => {
+            EngineFault::Failed(Fault::StoreFailed { marked, cause })
         }
     }
 }
@@ -64,12 +64,12 @@ fn stay_alone<R: Wait>(rt: &R, sole: bool)
 }
 
 /// One call of the front by its only client, whose notes are then all that has happened.
-fn call_alone<J: Job, B: Since<J>, K: Desk<Quantum<J>, Done<J>> + Drop, R: Wait>(
+fn ask_alone<J: Job, B: Since<J>, K: Desk<Quantum<J>, Done<J>> + Drop, R: Wait>(
     rt: &R,
     front: &Front<J, B, K>,
     pass: &mut Pass<J, B>,
     command: Command<J>,
-) -> Result<(u64, Reply), FrontFault>
+) -> Result<(u64, Reply), CallFault>
 where
     K::Seat: Drop,
     ensures ok { IfOk result (λ r. (pass.new ≡ noted (Accepted r.0 command r.1) pass.old) × (greatest pass.old.1 < r.0)) }
@@ -87,13 +87,13 @@ pub(crate) fn ask<J: Job, B: Since<J>, K: Desk<Quantum<J>, Done<J>> + Drop, R: W
     front: &Front<J, B, K>,
     client: &mut Client<J, B>,
     command: Command<J>,
-) -> Result<(u64, Reply), CallFault>
+) -> Result<(u64, Reply), EngineFault>
 where
     K::Seat: Drop,
     ensures ok { IfOk result (λ r. IsAnswered J.kind B.start client.old command r.0 r.1 client.new) }
     ensures err { IfErr result (IsUnanswered J.kind B.start client.old command client.new) }
 {
-    match call_alone(rt, front, &mut client.pass, command) {
+    match ask_alone(rt, front, &mut client.pass, command) {
         Ok((number, reply)) => {
             client.number = number;
             Ok((number, reply))
@@ -109,7 +109,7 @@ pub(crate) fn ask_slots<J: Job, B: Since<J>, K: Desk<Quantum<J>, Done<J>> + Drop
     front: &Front<J, B, K>,
     client: &mut Client<J, B>,
     count: u32,
-) -> Result<Vec<(u64, Reply)>, CallFault>
+) -> Result<Vec<(u64, Reply)>, EngineFault>
 where
     K::Seat: Drop,
     requires some { 0 < count }
@@ -117,7 +117,7 @@ where
     ensures err { IfErr result (IsUnanswered J.kind B.start client.old Command.Slot client.new) }
 {
     let Ok(mut said) = Vec::with_capacity(alloc, count as usize) else {
-        return Err(CallFault::Failed(Fault::NoMemory));
+        return Err(EngineFault::Failed(Fault::NoMemory));
     };
     for _ in 0..count {
         match ask(rt, front, client, Command::Slot) {
@@ -149,8 +149,8 @@ where
     for command in commands {
         match ask(rt, front, client, command) {
             Ok(reply) => told.push_reserved(Ok(reply)),
-            Err(CallFault::Refused(fault)) => told.push_reserved(Err(fault)),
-            Err(CallFault::Failed(fault)) => return Err(fault),
+            Err(EngineFault::Refused(fault)) => told.push_reserved(Err(fault)),
+            Err(EngineFault::Failed(fault)) => return Err(fault),
         }
     }
     Ok(told)
@@ -178,14 +178,14 @@ where
             client.kept = client.number;
             Ok(client.number)
         }
-        Err(FrontFault::StoreFailed { marked, cause }) => {
+        Err(CallFault::StoreFailed { marked, cause }) => {
             Err(Fault::StoreFailed { marked, cause })
         }
-        Err(FrontFault::NoMemory) => Err(Fault::StoreFailed {
+        Err(CallFault::NoMemory) => Err(Fault::StoreFailed {
             marked: client.kept,
             cause: Cause::Memory,
         }),
-        Err(FrontFault::Refused(_)) => unreachable!(),
+        Err(CallFault::Refused(_)) => unreachable!(),
     }
 }
 

@@ -16,7 +16,7 @@ use pfx_front::name::Since;
 use pfx_jobs::job::Job;
 use pfx_jobs::quantum::{Done, Quantum};
 use pfx_machine::{Board, Command, Reply, State};
-use pfx_store_engine::{CallFault, Engine, Place, Told, place_of};
+use pfx_store_engine::{Engine, EngineFault, RealTask, Told, place_of};
 use std::alloc::Global;
 use std::sync::Wait;
 
@@ -47,7 +47,7 @@ where
       keeps = λ a H n b. KeepsBy B.start.number a.client H n b.client;
     } };
 
-    fn call(&mut self, _alloc: Global, command: Command<J>) -> Result<(u64, Reply), CallFault>
+    fn ask(&mut self, _alloc: Global, command: Command<J>) -> Result<(u64, Reply), EngineFault>
         ensures done { IfOk result (λ r. IsDone J.kind ⟦<FrontEngine<J, B, K, R> as Engine<J>>⟧.promise command r.0 r.1 self.old self.new) }
         ensures not_done { IfErr result (IsNotDone J.kind ⟦<FrontEngine<J, B, K, R> as Engine<J>>⟧.promise command self.old self.new) }
     {
@@ -55,12 +55,12 @@ where
             Err(why) => Err(why),
             Ok(reply) => match settle(&self.rt, &self.front, &mut self.client) {
                 Ok(_number) => Ok(reply),
-                Err(fault) => Err(CallFault::Failed(fault)),
+                Err(fault) => Err(EngineFault::Failed(fault)),
             },
         }
     }
 
-    fn slots(&mut self, alloc: Global, count: u32) -> Result<Vec<(u64, Reply)>, CallFault> {
+    fn slots(&mut self, alloc: Global, count: u32) -> Result<Vec<(u64, Reply)>, EngineFault> {
         match ask_slots(
             &self.rt,
             alloc,
@@ -71,7 +71,7 @@ where
             Err(why) => Err(why),
             Ok(said) => match settle(&self.rt, &self.front, &mut self.client) {
                 Ok(_number) => Ok(said),
-                Err(fault) => Err(CallFault::Failed(fault)),
+                Err(fault) => Err(EngineFault::Failed(fault)),
             },
         }
     }
@@ -116,7 +116,7 @@ where
         }
     }
 
-    fn place(&mut self, alloc: Global, task: u16) -> Result<Option<Place<J>>, Fault> {
+    fn place(&mut self, alloc: Global, task: u16) -> Result<Option<RealTask<J>>, Fault> {
         let copy = self.state(alloc)?;
         Ok(place_of(&copy, task))
     }

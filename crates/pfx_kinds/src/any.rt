@@ -5,7 +5,7 @@ use crate::count::{COUNT, Count};
 use crate::own::{OWN, Own};
 use crate::rule::{RULE, Rule};
 use crate::scan::{SCAN, Scan};
-use crate::start::StartFault;
+use crate::start::JobStartFault;
 use pfx_jobs::job::{Job, JobFault};
 
 /// A job of any kind.
@@ -28,7 +28,7 @@ impl AnyJob {
     ///
     /// A kind of another name is refused first (`BadKind`), then a goal out of the kind's range (`BadGoal`), then data that is not
     /// in the kind's form (`BadData`), as `Count::start`, `Rule::start`, `Scan::start` and `Own::start` say.
-    pub fn start(kind: &str, goal: u64, text: &[u8]) -> Result<AnyJob, StartFault>
+    pub fn start(kind: &str, goal: u64, text: &[u8]) -> Result<AnyJob, JobStartFault>
         ensures { MatchResult result (λ job. any_start kind.now goal text.now ≡ Ok (fields_of job)) (λ fault. any_start kind.now goal text.now ≡ Err fault) }
     {
         if kind == "count" {
@@ -43,7 +43,7 @@ impl AnyJob {
         if kind == "own" {
             return Ok(AnyJob::Own(Own::start(goal, text)?));
         }
-        Err(StartFault::BadKind)
+        Err(JobStartFault::BadKind)
     }
 }
 

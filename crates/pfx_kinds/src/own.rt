@@ -4,7 +4,7 @@ ghost use Rattle.pfx_kinds.specs.Scans.{are_zeros};
 ghost use Rattle.pfx_kinds.specs.Owns.{own_fits, is_visible};
 ghost use Rattle.pfx_kinds.specs.Starts.{own_start, own_of, is_answer};
 
-use crate::start::StartFault;
+use crate::start::JobStartFault;
 use byteorder::{ByteOrder, LittleEndian};
 use pfx_jobs::job::JobFault;
 
@@ -98,14 +98,14 @@ impl Own {
     /// The answer that the goal and the data give: the goal is the unit's number, below 2^40, and the data are at most 106 bytes 0x21
     /// to 0x7E without quote, comma and backslash. The unit is counted from slot 0 on. Another goal is `BadGoal`, whatever the data, and
     /// other data are `BadData`.
-    pub fn start(goal: u64, text: &[u8]) -> Result<Own, StartFault>
+    pub fn start(goal: u64, text: &[u8]) -> Result<Own, JobStartFault>
         ensures { MatchResult result (λ s. own_start goal text.now ≡ Ok (own_coding.fields s)) (λ fault. own_start goal text.now ≡ Err fault) }
     {
         if goal >= 1 << 40 {
-            return Err(StartFault::BadGoal);
+            return Err(JobStartFault::BadGoal);
         }
         if !is_answer(text) {
-            return Err(StartFault::BadData);
+            return Err(JobStartFault::BadData);
         }
         Ok(Own::new(goal, text))
     }

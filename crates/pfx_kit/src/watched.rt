@@ -5,7 +5,7 @@ use std::alloc::AllocError;
 use std::sync::Wait;
 
 /// Who is told of a desk's calls, each by the thread that makes the call. A call goes on once the watch returns.
-pub trait Watch<D> {
+pub trait DeskWatch<D> {
     /// A quantum is about to be dealt.
     fn deals(&self) {}
 
@@ -43,7 +43,7 @@ impl<K: Drop, W: Drop> WatchedDesk<K, W> {
     }
 }
 
-impl<Q, D, K: Desk<Q, D> + Drop, W: Watch<D> + Drop> Desk<Q, D> for WatchedDesk<K, W> {
+impl<Q, D, K: Desk<Q, D> + Drop, W: DeskWatch<D> + Drop> Desk<Q, D> for WatchedDesk<K, W> {
     type Seat = K::Seat;
 
     ghost dealt = { K.dealt };

@@ -8,8 +8,8 @@ use Rattle.pfx_log.specs.Holding.{Holds, IsEnd}
 use Rattle.pfx_log.specs.Logs.{Block, Log, head_of, with_block}
 use Rattle.pfx_log.specs.declared.faults.AppendFault.{AppendFault}
 use Rattle.pfx_log.specs.declared.faults.AppendFault.TheVariants.{Broken, Device as DeviceIs, Full, Gap, NoMemory as NoMemoryIs, TooLong as TooLongIs}
-use Rattle.pfx_log.specs.declared.faults.CreateFault.{CreateFault}
-use Rattle.pfx_log.specs.declared.faults.CreateFault.TheVariants.{Device, NoMemory, NotEmpty}
+use Rattle.pfx_log.specs.declared.faults.CreateLogFault.{CreateLogFault}
+use Rattle.pfx_log.specs.declared.faults.CreateLogFault.TheVariants.{Device, NoMemory, NotEmpty}
 use Rattle.pfx_log.specs.declared.file.LogFile.{LogFile}
 use Rattle.pfx_log.specs.declared.place.LogPlace.{LogPlace}
 use Rattle.pfx_log.specs.declared.place.TheConstants.{MOST}
@@ -29,7 +29,7 @@ pub record IsBehind (place : LogPlace) (block : Block) (next : LogPlace) : Type 
 
 -- Why a log isn't made on this disk, which then is the other one: no memory, and no call was made; the disk failed; or it held bytes, and
 -- nothing was written.
-abbrev pub IsCreateFault : View → View → CreateFault → Type 0
+abbrev pub IsCreateFault : View → View → CreateLogFault → Type 0
 IsCreateFault old new NoMemory = (new.clock ≡ old.clock) × (new.failures ≡ old.failures) × (IsHonest old → Leaves Same old new)
 IsCreateFault old new Device = HasFailed old new
 IsCreateFault old new NotEmpty = IsHonest old → (0 < length old.contents) × Leaves Same old new

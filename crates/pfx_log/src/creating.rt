@@ -5,7 +5,7 @@ ghost use Rattle.pfx_log.specs.Files.{IsCreateFault, IsOpen, Makes};
 ghost use Rattle.pfx_log.specs.Acts.{Begun, MakesPlace};
 ghost use Rattle.pfx_log.specs.Logs.{new_log};
 
-use crate::faults::CreateFault;
+use crate::faults::CreateLogFault;
 use crate::file::LogFile;
 use crate::heads::{first_head, header_and_gate};
 use crate::place::{LogPlace, MOST};
@@ -15,12 +15,12 @@ use pfx_disk::Disk;
 use std::alloc::Global;
 
 // Writes a closed gate onto an empty disk, by three calls.
-fn begin<D: Disk>(disk: &mut D) -> Result<(), CreateFault>
+fn begin<D: Disk>(disk: &mut D) -> Result<(), CreateLogFault>
     ensures begun { Begun (D.view disk.old) (D.view disk.new) result }
     ensures fault { IfErr result (IsCreateFault (D.view disk.old) (D.view disk.new)) }
 {
     if disk.len()? != 0 {
-        return Err(CreateFault::NotEmpty);
+        return Err(CreateLogFault::NotEmpty);
     }
     disk.write_at(0, &[0])?;
     disk.sync()?;
@@ -34,7 +34,7 @@ fn write_new<D: Disk>(
     version: u8,
     state: &[u8],
     before: &[u8; 32],
-) -> Result<LogPlace, CreateFault>
+) -> Result<LogPlace, CreateLogFault>
     requires some { 8 ≤ length state.now }
     requires most { length state.now ≤ MOST }
     ensures makes { Makes (new_log version state.now before.now) (D.view disk.old) (D.view disk.new) result }
@@ -66,7 +66,7 @@ impl<D: Disk> LogFile<D> {
         version: u8,
         state: &[u8],
         before: [u8; 32],
-    ) -> Result<LogFile<D>, (CreateFault, D)>
+    ) -> Result<LogFile<D>, (CreateLogFault, D)>
         requires some { 8 ≤ length state.now }
         requires most { length state.now ≤ MOST }
         // At every moment of the call, whatever it answers.

@@ -1,7 +1,7 @@
 // Why a log isn't made, read or written.
 ghost use Rattle.std.specs.Prelude.{◌≡◌};
 ghost use Rattle.pfx_log.specs.declared.faults.AppendFault.TheVariants.{Device as DeviceIs, NoMemory as NoMemoryIs};
-ghost use Rattle.pfx_log.specs.declared.faults.CreateFault.TheVariants.{Device as NoDevice, NoMemory as NoRoom};
+ghost use Rattle.pfx_log.specs.declared.faults.CreateLogFault.TheVariants.{Device as NoDevice, NoMemory as NoRoom};
 ghost use Rattle.pfx_log.specs.declared.faults.LogFault.TheVariants.{NoMemory, Device};
 
 use pfx_disk::DeviceFailed;
@@ -74,7 +74,7 @@ impl<T: Drop> From<AllocFailed<T>> for LogFault {
 
 /// Why a log isn't made.
 #[derive(Clone, Copy, Debug, PartialEq, Eq, Error)]
-pub enum CreateFault {
+pub enum CreateLogFault {
     /// An allocation failed. No call of the disk was made.
     #[error("out of memory")]
     NoMemory,
@@ -86,19 +86,19 @@ pub enum CreateFault {
     NotEmpty,
 }
 
-impl From<DeviceFailed> for CreateFault {
+impl From<DeviceFailed> for CreateLogFault {
     ghost from_gives = { λ _ e. e ≡ NoDevice };
 
     fn from(_: DeviceFailed) -> Self {
-        CreateFault::Device
+        CreateLogFault::Device
     }
 }
 
-impl From<AllocError> for CreateFault {
+impl From<AllocError> for CreateLogFault {
     ghost from_gives = { λ _ e. e ≡ NoRoom };
 
     fn from(_: AllocError) -> Self {
-        CreateFault::NoMemory
+        CreateLogFault::NoMemory
     }
 }
 

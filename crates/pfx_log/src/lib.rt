@@ -33,7 +33,7 @@ mod place;
 mod putting;
 mod reading;
 
-pub use faults::{AppendFault, CreateFault, Damage, LogFault};
+pub use faults::{AppendFault, CreateLogFault, Damage, LogFault};
 pub use file::LogFile;
 pub use place::{LogBlock, LogHeader, LogPlace, MOST};
 pub use reading::{read_block, read_header};

@@ -1,7 +1,7 @@
 // A store beside its log is a keeper.
 //
 // Why it is so:
-// - **A log's failing disk doesn't break the store**, and stops what keeps the batches (`Keeper::failure`), whose cause tells that it
+// - **A log's failing disk doesn't break the store**, and stops what keeps the batches (`BatchKeeper::failure`), whose cause tells that it
 //   was the log.
 // - **Coverage is said of the calls that the engines make** (`keep`, `keep_reweigh`, `tend_on` of a store beside its log), in two steps
 //   where the log is brought up first: an image of the log from before that with one of the file from after it is no pair that a stop
@@ -23,7 +23,7 @@ use pfx_disk::Disk;
 use pfx_fault::Cause;
 use pfx_jobs::job::Job;
 use pfx_record::Batch;
-use pfx_store::{Keeper, Mark, Renewal, Store};
+use pfx_store::{BatchKeeper, Mark, Renewal, Store};
 use pfx_store_file::Tended;
 
 // What has failed of a store beside its log.
@@ -64,7 +64,7 @@ impl<D: Disk, L: Disk, J: Job> LoggedStore<D, L, J> {
     }
 }
 
-impl<D: Disk, L: Disk, J: Job> Keeper<D, J> for LoggedStore<D, L, J> {
+impl<D: Disk, L: Disk, J: Job> BatchKeeper<D, J> for LoggedStore<D, L, J> {
     ghost kept = { λ beside. beside.store };
 
     ghost failed = { λ beside. failure_beside beside };

@@ -7,7 +7,7 @@ ghost use Rattle.pfx_store.specs.Noting.{IsHeldBy};
 use crate::beside::LoggedStore;
 use pfx_disk::Disk;
 use pfx_disk_chronicle::chronicle::Chronicle;
-use pfx_disk_chronicle::list::Opened;
+use pfx_disk_chronicle::list::UnnamedCalls;
 use pfx_disk_chronicle::name::Charted;
 use pfx_jobs::job::Job;
 
@@ -17,7 +17,7 @@ impl<D: Disk, L: Disk, J: Job> LoggedStore<D, L, J> {
     ///
     /// It takes what `noted` of a store takes: a list of that name, a store that isn't broken, and a name with the moment and the
     /// failures of the disk, and with what the disk held, of which an honest disk is shown to meet the premise.
-    pub fn noted<B: Charted>(self, list: Opened) -> LoggedStore<Chronicle<D, B>, L, J>
+    pub fn noted<B: Charted>(self, list: UnnamedCalls) -> LoggedStore<Chronicle<D, B>, L, J>
         requires list { list.seen.book ≡ B.calls }
         requires whole { self.store.file.broken ≡ false }
         requires moment { ((D.view self.store.file.disk).clock ≡ B.clock) × ((D.view self.store.file.disk).failures ≡ B.failures) }

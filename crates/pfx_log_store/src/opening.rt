@@ -23,7 +23,7 @@ use pfx_log::{AppendFault, LogFile};
 use pfx_store::{FileFormat, Store};
 use pfx_store_file::{Places, StoreFile};
 use pfx_store_image::SEGMENT_HEAD;
-use pfx_store_recover::{OpenFault, Opened, open};
+use pfx_store_recover::{OpenFault, OpenedFile, open};
 use std::alloc::Global;
 
 // Whether so many copied bytes lie in the segment that frames go to.
@@ -59,7 +59,7 @@ fn with_frames<J: Job, D: Disk>(
     }
 }
 
-fn file_of<D: Disk, J: Job>(opened: Opened<D, FileFormat<J>>) -> StoreFile<D>
+fn file_of<D: Disk, J: Job>(opened: OpenedFile<D, FileFormat<J>>) -> StoreFile<D>
     ensures { result ≡ opened.file }
 {
     opened.file

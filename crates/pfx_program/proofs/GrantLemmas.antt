@@ -11,14 +11,14 @@ use Rattle.pfx_kinds.specs.declared.units.Unit.{Unit}
 use Rattle.pfx_machine.specs.Plain.{Plain}
 use Rattle.pfx_program.specs.Grants.{counted, counted_at, counted_by, counted_from, is_next, is_taken_by, granted}
 use Rattle.pfx_store_engine.specs.Promises.{IsPlace}
-use Rattle.pfx_store_engine.specs.declared.place.Place.{Place}
+use Rattle.pfx_store_engine.specs.declared.place.RealTask.{RealTask}
 
 unit_from : (from : ℕ) (job : own_type.Own) → from < 2 ^ 40 → unit_of (Own (own_from from job)) ≡ Some (record { since = from; number = job.answered })
 unit_from from job early =
     let fits = own_fits-since job.answered job.since job.text_length job.text from job.fits early in
     ap (λ (j : own_type.Own). unit_of (Own j)) (sym (own_from-is from job fits))
 
-pub counted_is : (s : Plain AnyJob) (x : ℕ) (place : Option (Place AnyJob)) (job : AnyJob) → IsPlace s x place → counted_by place job ≡ counted s x job
+pub counted_is : (s : Plain AnyJob) (x : ℕ) (place : Option (RealTask AnyJob)) (job : AnyJob) → IsPlace s x place → counted_by place job ≡ counted s x job
 counted_is s x None job is = ap (λ (o : Option (Option AnyJob)). counted_at o s.from job) (sym is)
 counted_is s x (Some place) job (here, allocs, from) =
     ap (λ n. counted_from n job) from ∙ ap (λ (o : Option (Option AnyJob)). counted_at o s.from job) (sym here)
@@ -26,7 +26,7 @@ counted_is s x (Some place) job (here, allocs, from) =
 same_number : (n : ℕ) → (n == n) ≡ true
 same_number n = grind (arith, nat_tests)
 
-pub next_is : (s : Plain AnyJob) (x : ℕ) (place : Option (Place AnyJob)) (job : own_type.Own) → IsPlace s x place → is_taken_by place job.answered ≡ is_next s x (counted_by place (Own job))
+pub next_is : (s : Plain AnyJob) (x : ℕ) (place : Option (RealTask AnyJob)) (job : own_type.Own) → IsPlace s x place → is_taken_by place job.answered ≡ is_next s x (counted_by place (Own job))
 next_is s x None job is = ap (λ (o : Option (Option AnyJob)). is_taken unit_of s.from o (granted s x) (unit_of (Own job))) (sym is)
 next_is s x (Some place) job (here, allocs, from) =
     let early : place.from < 2 ^ 40 = place.early in

@@ -13,7 +13,7 @@ use Rattle.pfx_kinds.specs.AnyKind.{any_kind, any_laws, any_left, any_stepped}
 use Rattle.pfx_kinds.specs.Starts.{any_start}
 use Rattle.pfx_kinds.specs.declared.any.AnyJob.{AnyJob}
 use Rattle.pfx_kinds.specs.declared.any.AnyJob.TheVariants.{Count, Rule, Scan, Own}
-use Rattle.pfx_kinds.specs.declared.start.StartFault.{StartFault}
+use Rattle.pfx_kinds.specs.declared.start.JobStartFault.{JobStartFault}
 use Rattle.pfx_machine.specs.Plain.{Plain, whole}
 use Rattle.pfx_machine.specs.declared.plain.Happening.{Happening}
 use Rattle.pfx_machine.specs.declared.plain.Happening.TheVariants.{Given as given, Taken as taken, Ran as ran}
@@ -238,7 +238,7 @@ slots_each r (suc n) = more (command_step r Slot).command (step_each r Slot (λ 
     more None h rest = tt
     more (Some c) h rest = each_both r.state (c ∷ []) (commands_of (slot_steps (moved r (c ∷ [])) n)) h (rest (moved r (c ∷ [])))
 
-submit_each : (r : Run) (x : ℕ) (job : Result AnyJob StartFault) → Each r.state [] (with_command (submitted r x job).command [])
+submit_each : (r : Run) (x : ℕ) (job : Result AnyJob JobStartFault) → Each r.state [] (with_command (submitted r x job).command [])
 submit_each r x (Ok given_job) = by (is_next r.state x job) refl
   where
     job : AnyJob

@@ -27,7 +27,7 @@ use Rattle.pfx_machine.proofs.Compose.{outcome-none, outcome-outcome}
 use Rattle.pfx_machine.proofs.Snoc.{outcome-snoc}
 use Rattle.pfx_program_script.specs.Records.{Fields, Records, Takes}
 use Rattle.pfx_program_script.specs.Verbs.{submit, withdraw, verb_of}
-use Rattle.pfx_program.specs.declared.form.Form.{Form}
+use Rattle.pfx_program.specs.declared.form.OutputForm.{OutputForm}
 use Rattle.pfx_program.specs.declared.groups.Joining.{Joining}
 use Rattle.pfx_program.specs.declared.groups.Joining.TheVariants as joining
 use Rattle.pfx_program.specs.Answers.{reply_line}
@@ -105,11 +105,11 @@ behind_snoc r H c =
 
 -- ---- what they are told
 
-abbrev pub told_step : Form → Command AnyJob → Told → Step
+abbrev pub told_step : OutputForm → Command AnyJob → Told → Step
 told_step form c (Ok x) = carried (reply_line form x.0 x.1) c
 told_step form c (Err f) = refused form (fault_of_machine f)
 
-abbrev pub told_steps : Form → List (Command AnyJob) → List Told → List Step
+abbrev pub told_steps : OutputForm → List (Command AnyJob) → List Told → List Step
 told_steps form [] told = []
 told_steps form (c ∷ H) [] = []
 told_steps form (c ∷ H) (x ∷ told) = told_step form c x ∷ told_steps form H told
@@ -139,20 +139,20 @@ told_group r (c ∷ H) (Err f ∷ told) (refusal, more) few =
     ∙ ap (λ (t : Run). told_step r.form c (Err f) ∷ group_steps t H) (moved_none r)
     ∙ ap (λ (l : List Step). told_step r.form c (Err f) ∷ l) (told_group r H told more (omega (arith, few)))
 
-pub told_commands : (form : Form) (H : List (Command AnyJob)) (told : List Told) → commands_of (told_steps form H told) ≡ accepted_of H told
+pub told_commands : (form : OutputForm) (H : List (Command AnyJob)) (told : List Told) → commands_of (told_steps form H told) ≡ accepted_of H told
 told_commands form [] told = refl
 told_commands form (c ∷ H) [] = refl
 told_commands form (c ∷ H) (Ok x ∷ told) = ap (λ (l : List (Command AnyJob)). c ∷ l) (told_commands form H told)
 told_commands form (c ∷ H) (Err f ∷ told) = told_commands form H told
 
-told_long : (form : Form) (s : Plain AnyJob) (H : List (Command AnyJob)) (told : List Told) → AreTold any_kind s H told → length (told_steps form H told) ≡ length H
+told_long : (form : OutputForm) (s : Plain AnyJob) (H : List (Command AnyJob)) (told : List Told) → AreTold any_kind s H told → length (told_steps form H told) ≡ length H
 told_long form s [] [] all = refl
 told_long form s [] (x ∷ told) all = absurd all
 told_long form s (c ∷ H) [] all = absurd all
 told_long form s (c ∷ H) (Ok x ∷ told) (accepted, next, more) = ap suc (told_long form (outcome any_kind s (c ∷ [])) H told more)
 told_long form s (c ∷ H) (Err f ∷ told) (refusal, more) = ap suc (told_long form s H told more)
 
-told_lines : (form : Form) (s : Plain AnyJob) (H : List (Command AnyJob)) (told : List Told) → AreTold any_kind s H told → text_of (told_steps form H told) ≡ told_text form told
+told_lines : (form : OutputForm) (s : Plain AnyJob) (H : List (Command AnyJob)) (told : List Told) → AreTold any_kind s H told → text_of (told_steps form H told) ≡ told_text form told
 told_lines form s [] [] all = refl
 told_lines form s [] (x ∷ told) all = absurd all
 told_lines form s (c ∷ H) [] all = absurd all
@@ -166,7 +166,7 @@ told_counts s (c ∷ H) [] all = absurd all
 told_counts s (c ∷ H) (Ok x ∷ told) (accepted, next, more) = let rest = told_counts (outcome any_kind s (c ∷ [])) H told more in omega (arith, rest)
 told_counts s (c ∷ H) (Err f ∷ told) (refusal, more) = told_counts s H told more
 
-pub told_refused : (form : Form) (s : Plain AnyJob) (at : ℕ) (H : List (Command AnyJob)) (told : List Told) → AreTold any_kind s H told → group_refusals at (told_steps form H told) ≡ told_refusals at told
+pub told_refused : (form : OutputForm) (s : Plain AnyJob) (at : ℕ) (H : List (Command AnyJob)) (told : List Told) → AreTold any_kind s H told → group_refusals at (told_steps form H told) ≡ told_refusals at told
 told_refused form s at [] [] all = refl
 told_refused form s at [] (x ∷ told) all = absurd all
 told_refused form s at (c ∷ H) [] all = absurd all
@@ -174,7 +174,7 @@ told_refused form s at (c ∷ H) (Ok x ∷ told) (accepted, next, more) = told_r
 told_refused form s at (c ∷ H) (Err f ∷ told) (refusal, more) = ap (λ (l : List RefusedRecord). record { at = at; fault = fault_of_machine f } ∷ l) (told_refused form s (at + 1) H told more)
 
 -- the step of the command behind some first ones
-pub told_split : (form : Form) (s : Plain AnyJob) (H : List (Command AnyJob)) (front : List Told) (x : Told) (back : List Told) → AreTold any_kind s H (front ++ x ∷ back)
+pub told_split : (form : OutputForm) (s : Plain AnyJob) (H : List (Command AnyJob)) (front : List Told) (x : Told) (back : List Told) → AreTold any_kind s H (front ++ x ∷ back)
     → (printed : List Step) × (c : Command AnyJob) × (rest : List Step) × (told_steps form H (front ++ x ∷ back) ≡ printed ++ told_step form c x ∷ rest) × (text_of printed ≡ told_text form front)
 told_split form s [] [] x back all = absurd all
 told_split form s [] (y ∷ front) x back all = absurd all
@@ -186,13 +186,13 @@ told_split form s (c ∷ H) (Err f ∷ front) x back (refusal, more) =
     let (printed, d, rest, split, text) = told_split form s H front x back more in
     (told_step form c (Err f) ∷ printed, d, rest, ap (λ (l : List Step). told_step form c (Err f) ∷ l) split, ap (λ (l : List ℕ). told_line form (Err f) ++ l) text)
 
-pub step_line : (form : Form) (c : Command AnyJob) (x : Told) → (told_step form c x).text ≡ told_line form x
+pub step_line : (form : OutputForm) (c : Command AnyJob) (x : Told) → (told_step form c x).text ≡ told_line form x
 step_line form c (Ok x) = refl
 step_line form c (Err f) = refl
 
 -- ---- lines that are written one after the other
 
-pub told_append : (form : Form) (a b : List Told) → told_text form (a ++ b) ≡ told_text form a ++ told_text form b
+pub told_append : (form : OutputForm) (a b : List Told) → told_text form (a ++ b) ≡ told_text form a ++ told_text form b
 told_append form [] b = refl
 told_append form (x ∷ a) b = ap (λ (l : List ℕ). told_line form x ++ l) (told_append form a b) ∙ sym (append_assoc (told_line form x) (told_text form a) (told_text form b))
 
@@ -204,7 +204,7 @@ count_append (Err f ∷ a) b = count_append a b
 told_next : (told : List Told) (i : ℕ) (x : Told) → i < length told → x ≡ get_or told i x → take (i + 1) told ≡ take i told ++ x ∷ []
 told_next told i x within is = take_more told i x within ∙ ap (λ (y : Told). take i told ++ y ∷ []) (sym is)
 
-pub told_more : (form : Form) (told : List Told) (i : ℕ) (x : Told) (a b c : Option (List ℕ)) → i < length told → x ≡ get_or told i x → Appends a b (told_text form (take i told)) → Appends b c (told_line form x)
+pub told_more : (form : OutputForm) (told : List Told) (i : ℕ) (x : Told) (a b c : Option (List ℕ)) → i < length told → x ≡ get_or told i x → Appends a b (told_text form (take i told)) → Appends b c (told_line form x)
     → Appends a c (told_text form (take (i + 1) told))
 told_more form told i x a b c within is first second =
     let all : told_text form (take (i + 1) told) ≡ told_text form (take i told) ++ told_line form x =
@@ -269,7 +269,7 @@ refusals_small at [] = omega arith
 refusals_small at (Ok x ∷ told) = let rest = refusals_small (at + 1) told in omega (arith, rest)
 refusals_small at (Err f ∷ told) = let rest = refusals_small (at + 1) told in omega (arith, rest)
 
-pub told_fail : (form : Form) (told : List Told) (i : ℕ) (x : Told) (a b c : Option (List ℕ)) (f : Fault) → i < length told → x ≡ get_or told i x → Appends a b (told_text form (take i told)) → LineFails (told_line form x) b c f
+pub told_fail : (form : OutputForm) (told : List Told) (i : ℕ) (x : Told) (a b c : Option (List ℕ)) (f : Fault) → i < length told → x ≡ get_or told i x → Appends a b (told_text form (take i told)) → LineFails (told_line form x) b c f
     → ToldFail form told a c f
 told_fail form told i x a b c f within is first fails = record {
   printed = take i told;
@@ -441,7 +441,7 @@ gathers_more s script mid next group c row h (place, whole, took) (verb, means, 
 
 -- ---- a call that carries them out
 
-module _ {E : Type 0} (P : Promise AnyJob E) (form : Form) (L : Laws P) where
+module _ {E : Type 0} (P : Promise AnyJob E) (form : OutputForm) (L : Laws P) where
   -- steps that are carried out, of which a line wasn't written
   steps_unwritten : {most : ℕ} (steps printed rest : List Step) (x : Step) (a b : E) (u v w : Option (List ℕ)) (f : Fault) → steps ≡ printed ++ x ∷ rest → length steps ≤ most → P.state b ≡ outcome any_kind (P.state a) (commands_of steps)
       → P.keeps a (commands_of steps) (length (commands_of steps)) b → Appends u v (text_of printed) → LineFails x.text v w f → Stopped P most ⊥ steps a b u w f

@@ -6,7 +6,7 @@ use Rattle.pfx_machine.specs.Plain.{Plain}
 use Rattle.pfx_program_script.specs.Records.{Fields, Records, ReadFails, Takes}
 use Rattle.pfx_kinds.specs.declared.any.AnyJob.{AnyJob}
 use Rattle.pfx_machine.specs.declared.command.Command.{Command}
-use Rattle.pfx_program.specs.declared.form.Form.{Form}
+use Rattle.pfx_program.specs.declared.form.OutputForm.{OutputForm}
 use Rattle.pfx_program.specs.declared.groups.Behind.{Behind}
 use Rattle.pfx_program.specs.declared.groups.Behind.TheVariants as left
 use Rattle.pfx_program.specs.Groups.{Gathers, IsBehind, IsStill, behind_group, group_refusals, group_steps}
@@ -27,7 +27,7 @@ use Rattle.pfx_program.proofs.SlotLemmas.{slots_failed}
 use Rattle.pfx_program.proofs.StepLemmas.{carried_then, commands_append, same_state, stopped_after, stopped_anyway, stopped_before, stopped_wider}
 use Rattle.pfx_program.proofs.Appends.{appends-nothing}
 
-module _ {E : Type 0} (P : Promise AnyJob E) (form : Form) (at_refusal : AtRefusal) (L : Laws P) where
+module _ {E : Type 0} (P : Promise AnyJob E) (form : OutputForm) (at_refusal : AtRefusal) (L : Laws P) where
   -- a call that changed nothing
   pub progress_same : (first script : Records) (a b c : E) (report : Report) (u v : Option (List ℕ)) → Progress P form at_refusal first script a b report u v → IsSame P b c → (P.settled b → P.settled c) → Progress P form at_refusal first script a c report u v
   progress_same first script a b c report u v h same settled = record {

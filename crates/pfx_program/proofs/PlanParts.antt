@@ -6,7 +6,7 @@ use Rattle.pfx_choice.specs.PfRows.{chosen}
 use Rattle.pfx_choice.specs.declared.faults.ChoiceFault.{ChoiceFault}
 use Rattle.pfx_machine.proofs.Keeping.{chosen_is, ledger_after_row}
 use Rattle.pfx_program_set.specs.SetFile.{FileTask}
-use Rattle.pfx_program.specs.declared.form.Form.{Form}
+use Rattle.pfx_program.specs.declared.form.OutputForm.{OutputForm}
 use Rattle.pfx_program.specs.Leaving.{left, ledger_text}
 use Rattle.pfx_program.specs.Ledger.{Begins}
 use Rattle.pfx_program.specs.Lines.{Lines, before, slot_line, plan_lines}
@@ -15,7 +15,7 @@ use Rattle.pfx_program.proofs.PlanLemmas.{row_lines, zero_lines, before-before, 
 use Rattle.pfx_program.proofs.ReadBack.{begins_back}
 
 -- what is left is a ledger of the set, and the lines go on with its lines
-record Parts (form : Form) (tasks : List FileTask) (g : Ledger) (n : ℕ) (next : Ledger) : Type 0 where
+record Parts (form : OutputForm) (tasks : List FileTask) (g : Ledger) (n : ℕ) (next : Ledger) : Type 0 where
   ledger : IsLedger next
   set : next.set ≡ g.set
   lines : (more : ℕ) → plan_lines form tasks g (n + more) ≡ before (plan_lines form tasks g n).text (plan_lines form tasks next more)
@@ -26,7 +26,7 @@ no_ledger next e = cc
 same_ledger : (g next : Ledger) → Some g ≡ Some next → g ≡ next
 same_ledger g next e = cc
 
-parts : (form : Form) (tasks : List FileTask) (g : Ledger) (n : ℕ) (next : Ledger) → IsLedger g → left g n ≡ Some next → Parts form tasks g n next
+parts : (form : OutputForm) (tasks : List FileTask) (g : Ledger) (n : ℕ) (next : Ledger) → IsLedger g → left g n ≡ Some next → Parts form tasks g n next
 parts form tasks g zero next ledger is =
     let same : g ≡ next = same_ledger g next (sym (zero_left g) ∙ is) in
     subst (Parts form tasks g 0) same (record {
@@ -52,7 +52,7 @@ parts form tasks g (suc n) next ledger is =
         }
     by (Err why) e rest = absurd (no_ledger next (sym (stop_left g why n e) ∙ is))
 
-pub goes_on_from : (form : Form) (tasks : List FileTask) (g : Ledger) (n : ℕ) (next : Ledger) → IsLedger g → left g n ≡ Some next → GoesOnFrom form tasks g n next
+pub goes_on_from : (form : OutputForm) (tasks : List FileTask) (g : Ledger) (n : ℕ) (next : Ledger) → IsLedger g → left g n ≡ Some next → GoesOnFrom form tasks g n next
 goes_on_from form tasks g n next ledger is =
     let p = parts form tasks g n next ledger is in
     record { begins = subst (λ set. Begins set (Some (ledger_text next)) next) p.set (begins_back next p.ledger); lines = p.lines }

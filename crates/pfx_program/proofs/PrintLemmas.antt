@@ -8,7 +8,7 @@ use Rattle.pfx_machine.specs.declared.command.Reply.{Reply}
 use Rattle.pfx_kinds.specs.declared.any.AnyJob.{AnyJob}
 use Rattle.pfx_program_script.specs.Records.{Fields, Records, Takes}
 use Rattle.pfx_program_script.specs.Verbs.{Said, verb_of}
-use Rattle.pfx_program.specs.declared.form.Form.{Form}
+use Rattle.pfx_program.specs.declared.form.OutputForm.{OutputForm}
 use Rattle.pfx_program.specs.Answers.{closed_line}
 use Rattle.pfx_program.specs.Groups.{Gathers, behind_group, group_steps, told_line, told_text}
 use Rattle.pfx_program.specs.Printing.{MayPrint, MayRun, MayTell, Rule, line_of, lines_of}
@@ -82,7 +82,7 @@ module _ {E : Type 0} (P : Promise AnyJob E) (L : Laws P) (allows : Rule E) wher
       L.fewer a b (commands_of (printed ++ x ∷ rest)) (length (commands_of (printed ++ x ∷ rest))) (length (commands_of (printed ++ x ∷ []))) (omega (arith, long)) kept
 
   -- the lines of Slots that were carried out
-  pub may_ran : (a b : E) (was : Option (List ℕ)) (form : Form) (said : List (ℕ × Reply)) (steps more : List Step) → steps ≡ ran_steps form said ++ more → MayPrint P allows a was steps → P.keeps a (slots_for said) (length said) b
+  pub may_ran : (a b : E) (was : Option (List ℕ)) (form : OutputForm) (said : List (ℕ × Reply)) (steps more : List Step) → steps ≡ ran_steps form said ++ more → MayPrint P allows a was steps → P.keeps a (slots_for said) (length said) b
       → length (slots_for {J = AnyJob} said) ≡ length said → MayTell allows b was (line_of form) (lines_of form) said
   may_ran a b was form said steps more is h kept long front x back split shows text =
       let all : ran_steps form said ≡ ran_steps form front ++ ran_step form x ∷ ran_steps form back = ap (ran_steps form) split ∙ ran_append form front (x ∷ back) in
@@ -91,7 +91,7 @@ module _ {E : Type 0} (P : Promise AnyJob E) (L : Laws P) (allows : Rule E) wher
       (kept_first a b (ran_steps form front) (ran_step form x) (ran_steps form back) (subst (λ (H : List (Command AnyJob)). P.keeps a H (length H) b) commands (subst (λ (n : ℕ). P.keeps a (slots_for said) n b) (sym long) kept))) shows text
 
   -- the lines of commands that were told something
-  pub may_told : (a b : E) (was : Option (List ℕ)) (form : Form) (s : Plain AnyJob) (H : List (Command AnyJob)) (told : List Told) (steps : List Step) → steps ≡ told_steps form H told → AreTold any_kind s H told → MayPrint P allows a was steps
+  pub may_told : (a b : E) (was : Option (List ℕ)) (form : OutputForm) (s : Plain AnyJob) (H : List (Command AnyJob)) (told : List Told) (steps : List Step) → steps ≡ told_steps form H told → AreTold any_kind s H told → MayPrint P allows a was steps
       → P.keeps a (accepted_of H told) (length (accepted_of H told)) b → MayTell allows b was (told_line form) (told_text form) told
   may_told a b was form s H told steps is answered h kept front x back split shows text =
       let (printed, c, rest, at, lines) = told_split form s H front x back (subst (λ (l : List Told). AreTold any_kind s H l) split answered) in
@@ -104,7 +104,7 @@ module _ {E : Type 0} (P : Promise AnyJob E) (L : Laws P) (allows : Rule E) wher
   -- ---- the records of a script
 
   -- those that are left behind some that were run
-  pub may_run_on : (form : Form) (at_refusal : AtRefusal) (first script : Records) (a b : E) (report : Report) (was is : Option (List ℕ)) → Progress P form at_refusal first script a b report was is → MayRun P allows form at_refusal first 0 a was
+  pub may_run_on : (form : OutputForm) (at_refusal : AtRefusal) (first script : Records) (a b : E) (report : Report) (was is : Option (List ℕ)) → Progress P form at_refusal first script a b report was is → MayRun P allows form at_refusal first 0 a was
       → MayRun P allows form at_refusal script report.accepted b is
   may_run_on form at_refusal first script a b report was is p h records known =
       may_more p.steps (course_from (script.place + 1) (run_of P form b report.accepted) records).steps a b was is p.carried
@@ -129,7 +129,7 @@ module _ {E : Type 0} (P : Promise AnyJob E) (L : Laws P) (allows : Rule E) wher
   all_taken at_refusal r (Some rows) all some is known = ap (taken at_refusal r) known ∙ is
 
   -- the next one
-  pub may_row : (form : Form) (at_refusal : AtRefusal) (script next : Records) (row : Fields) (verb : Said) (e : E) (accepted : ℕ) (was : Option (List ℕ)) → MayRun P allows form at_refusal script accepted e was → Takes script row next
+  pub may_row : (form : OutputForm) (at_refusal : AtRefusal) (script next : Records) (row : Fields) (verb : Said) (e : E) (accepted : ℕ) (was : Option (List ℕ)) → MayRun P allows form at_refusal script accepted e was → Takes script row next
       → verb_of row ≡ Some verb → MayPrint P allows e was (verb_steps (run_of P form e accepted) verb)
   may_row form at_refusal script next row verb e accepted was h (place, whole, took) means =
       let found = next_of script next row took in
@@ -139,7 +139,7 @@ module _ {E : Type 0} (P : Promise AnyJob E) (L : Laws P) (allows : Rule E) wher
       (h (row ∷ tail) (all_taken at_refusal r script.left (row ∷ found.0) (row ∷ tail) takes found.1))
 
   -- those of a group
-  pub may_group : (form : Form) (at_refusal : AtRefusal) (script mid : Records) (group : List (Command AnyJob)) (e : E) (accepted : ℕ) (was : Option (List ℕ)) → MayRun P allows form at_refusal script accepted e was → Gathers (P.state e) script mid group
+  pub may_group : (form : OutputForm) (at_refusal : AtRefusal) (script mid : Records) (group : List (Command AnyJob)) (e : E) (accepted : ℕ) (was : Option (List ℕ)) → MayRun P allows form at_refusal script accepted e was → Gathers (P.state e) script mid group
       → MayShare P form at_refusal L group → MayPrint P allows e was (group_steps (run_of P form e accepted) group)
   may_group form at_refusal script mid group e accepted was h g share =
       let found = by script.left g.known in
@@ -153,14 +153,14 @@ module _ {E : Type 0} (P : Promise AnyJob E) (L : Laws P) (allows : Rule E) wher
       by (Some all) (rest, split, left) = (rest, split)
 
   -- none is left
-  pub may_close : (form : Form) (at_refusal : AtRefusal) (script : Records) (e : E) (accepted : ℕ) (was : Option (List ℕ)) → MayRun P allows form at_refusal script accepted e was → IfSome script.left (λ rows. rows ≡ [])
+  pub may_close : (form : OutputForm) (at_refusal : AtRefusal) (script : Records) (e : E) (accepted : ℕ) (was : Option (List ℕ)) → MayRun P allows form at_refusal script accepted e was → IfSome script.left (λ rows. rows ≡ [])
       → MayPrint P allows e was (shown (closed_line form (P.state e).number) ∷ [])
   may_close form at_refusal script e accepted was h over =
       subst (λ (l : List Step). MayPrint P allows e was l) (ap (λ o. o.steps) (from_none (script.place + 1) (run_of P form e accepted)))
       (h [] (all_taken at_refusal (run_of P form e accepted) script.left [] [] (taken_none at_refusal (run_of P form e accepted)) over))
 
   -- the next one was refused, and the run ends there
-  pub may_end : (form : Form) (at_refusal : AtRefusal) (script next : Records) (row : Fields) (verb : Said) (f : Fault) (a b : E) (accepted later : ℕ) (was is : Option (List ℕ)) → MayRun P allows form at_refusal script accepted a was
+  pub may_end : (form : OutputForm) (at_refusal : AtRefusal) (script next : Records) (row : Fields) (verb : Said) (f : Fault) (a b : E) (accepted later : ℕ) (was is : Option (List ℕ)) → MayRun P allows form at_refusal script accepted a was
       → Takes script row next → verb_of row ≡ Some verb → at_refusal ≡ End → refusal_of (verb_steps (run_of P form a accepted) verb) ≡ Some f → Carried P (verb_steps (run_of P form a accepted) verb) a b was is
       → later ≡ accepted + length (commands_of (verb_steps (run_of P form a accepted) verb)) → MayPrint P allows b is (shown (closed_line form (P.state b).number) ∷ [])
   may_end form at_refusal script next row verb f a b accepted later was is h (place, whole, took) means ends why done counts =
@@ -176,7 +176,7 @@ module _ {E : Type 0} (P : Promise AnyJob E) (L : Laws P) (allows : Rule E) wher
       (h (row ∷ []) (all_taken at_refusal r script.left (row ∷ found.0) (row ∷ []) last found.1))))
 
   -- those of a group that was gathered from the engine's state before
-  pub may_gathered : (form : Form) (at_refusal : AtRefusal) (first script mid : Records) (a b c : E) (report : Report) (group : List (Command AnyJob)) (u v : Option (List ℕ)) → MayRun P allows form at_refusal first 0 a u
+  pub may_gathered : (form : OutputForm) (at_refusal : AtRefusal) (first script mid : Records) (a b c : E) (report : Report) (group : List (Command AnyJob)) (u v : Option (List ℕ)) → MayRun P allows form at_refusal first 0 a u
       → Progress P form at_refusal first script a b report u v → Gathers (P.state b) script mid group → MayShare P form at_refusal L group → IsSame P b c → (P.settled b → P.settled c)
       → MayPrint P allows c v (group_steps (run_of P form c report.accepted) group)
   may_gathered form at_refusal first script mid a b c report group u v h p g share same settled =

@@ -10,7 +10,7 @@ use Rattle.pfx_machine.specs.declared.command.Command.TheVariants.{Slot}
 use Rattle.pfx_program.specs.Printing.{MayPrint, MayRun, MayTell, Rule}
 use Rattle.pfx_store_engine.specs.Promises.{Promise}
 use Rattle.pfx_program.specs.Script.{Step, carried, course_from, taken, with_command}
-use Rattle.pfx_program.specs.declared.form.Form.{Form}
+use Rattle.pfx_program.specs.declared.form.OutputForm.{OutputForm}
 use Rattle.pfx_program.specs.declared.report.AtRefusal.{AtRefusal}
 use Rattle.pfx_program_script.specs.Records.{Fields, Records}
 
@@ -65,7 +65,7 @@ module _ (s : Plain AnyJob) where
       omega (arith, long)
 
   -- at the end of a script a line is printed, whatever its records were
-  end_is_printed : (form : Form) (at_refusal : AtRefusal) (script : Records) → script.left ≡ None → MayRun counted (behind 1) form at_refusal script 0 0 (Some []) → ⊥
+  end_is_printed : (form : OutputForm) (at_refusal : AtRefusal) (script : Records) → script.left ≡ None → MayRun counted (behind 1) form at_refusal script 0 0 (Some []) → ⊥
   unfolding course_from
   end_is_printed form at_refusal script unknown may =
       let none : 1 ≤ 0 = may [] (subst (λ (l : Option (List Fields)). IfSome l (λ all. taken at_refusal (record { form = form; state = s; accepted = 0 }) all ≡ [])) (sym unknown) tt) [] _ [] [] refl 0 (omega arith) (Some []) refl in

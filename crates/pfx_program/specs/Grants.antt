@@ -7,7 +7,7 @@ use Rattle.pfx_kinds.specs.declared.any.AnyJob.{AnyJob}
 use Rattle.pfx_kinds.specs.declared.any.AnyJob.TheVariants.{Count, Rule, Scan, Own}
 use Rattle.pfx_kinds.specs.declared.units.Unit.{Unit}
 use Rattle.pfx_kinds.specs.Units.{unit_of, last_by, count_in, is_behind, is_taken}
-use Rattle.pfx_store_engine.specs.declared.place.Place.{Place}
+use Rattle.pfx_store_engine.specs.declared.place.RealTask.{RealTask}
 use Rattle.pfx_machine.specs.Plain.{Plain}
 use Rattle.pfx_machine.specs.Outcome.{outcome}
 use Rattle.pfx_machine.specs.declared.command.Command.{Command}
@@ -40,11 +40,11 @@ abbrev pub is_next : Plain AnyJob → ℕ → AnyJob → Bool
 is_next s x job = is_taken unit_of s.from (slice_get s.jobs x) (granted s x) (unit_of job)
 
 -- the same of an answer by what its task has, where there is one
-abbrev pub counted_by : Option (Place AnyJob) → AnyJob → AnyJob
+abbrev pub counted_by : Option (RealTask AnyJob) → AnyJob → AnyJob
 counted_by None job = job
 counted_by (Some place) job = counted_from place.from job
 
-abbrev pub is_taken_by : Option (Place AnyJob) → ℕ → Bool
+abbrev pub is_taken_by : Option (RealTask AnyJob) → ℕ → Bool
 is_taken_by None number = true
 is_taken_by (Some place) number = nat_le number place.allocation && is_behind place.from (last_by unit_of place.job) number
 

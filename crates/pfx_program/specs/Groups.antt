@@ -8,7 +8,7 @@ use Rattle.pfx_machine.specs.declared.command.Command.TheVariants.{Submit, Slot,
 use Rattle.pfx_fault.specs.declared.refusals.Fault.{Fault}
 use Rattle.pfx_program_script.specs.Records.{Fields, Records, Takes, Reads, ReadFails}
 use Rattle.pfx_program_script.specs.Verbs.{Said, verb_of}
-use Rattle.pfx_program.specs.declared.form.Form.{Form}
+use Rattle.pfx_program.specs.declared.form.OutputForm.{OutputForm}
 use Rattle.pfx_program.specs.declared.groups.Behind.{Behind}
 use Rattle.pfx_program.specs.declared.groups.Behind.TheVariants as behind
 use Rattle.pfx_program.specs.declared.groups.Joining.{Joining}
@@ -27,7 +27,7 @@ unfoldable pub group_steps : Run → List (Command AnyJob) → List Step
 group_steps r [] = []
 group_steps r (c ∷ H) = command_step r c ∷ group_steps (moved r (commands_of (command_step r c ∷ []))) H
 
-abbrev pub run_at : Form → Plain AnyJob → ℕ → Run
+abbrev pub run_at : OutputForm → Plain AnyJob → ℕ → Run
 run_at form s accepted = record { form = form; state = s; accepted = accepted }
 
 -- the refused ones of records that have one step each, of which the first has the place `at`
@@ -41,11 +41,11 @@ behind_group r H = moved r (commands_of (group_steps r H))
 
 -- ---- their lines
 
-abbrev pub told_line : Form → Told → List ℕ
+abbrev pub told_line : OutputForm → Told → List ℕ
 told_line form (Ok x) = reply_line form x.0 x.1
 told_line form (Err f) = refused_line form (fault_of_machine f)
 
-abbrev pub told_text : Form → List Told → List ℕ
+abbrev pub told_text : OutputForm → List Told → List ℕ
 told_text form [] = []
 told_text form (x ∷ told) = told_line form x ++ told_text form told
 
@@ -61,7 +61,7 @@ told_refusals at (Ok x ∷ told) = told_refusals (at + 1) told
 told_refusals at (Err f ∷ told) = record { at = at; fault = fault_of_machine f } ∷ told_refusals (at + 1) told
 
 -- some first lines were written, whole, and the next one wasn't
-pub record ToldFail (form : Form) (told : List Told) (old new : Option (List ℕ)) (f : Fault) : Type 0 where
+pub record ToldFail (form : OutputForm) (told : List Told) (old new : Option (List ℕ)) (f : Fault) : Type 0 where
   pub printed : List Told
   pub next : Told
   pub rest : List Told
@@ -86,7 +86,7 @@ Avoid x (c ∷ H) = (touches x c ≡ false) × Avoid x H
 -- behind a group of commands from the state on, the record asks for this command and nothing else
 abbrev pub Joins : Plain AnyJob → List (Command AnyJob) → Command AnyJob → Fields → Type 0
 Joins s group c row = (verb : Said) × (verb_of row ≡ Some verb)
-    × ((form : Form) → (accepted : ℕ) → verb_steps (behind_group (run_at form s accepted) group) verb ≡ command_step (behind_group (run_at form s accepted) group) c ∷ [])
+    × ((form : OutputForm) → (accepted : ℕ) → verb_steps (behind_group (run_at form s accepted) group) verb ≡ command_step (behind_group (run_at form s accepted) group) c ∷ [])
 
 -- the machine may be asked to give a task this job, which counts in the weights in force if it is an answer
 abbrev pub IsGiven : (Plain AnyJob → Fault → Type 0) → Plain AnyJob → ℕ → AnyJob → Joining → Type 0
@@ -112,7 +112,7 @@ pub record Gathers (s : Plain AnyJob) (script next : Records) (group : List (Com
   pub long : length rows ≡ length group
   pub known : IfSome script.left (λ all. (rest : List Fields) × (all ≡ rows ++ rest) × (next.left ≡ Some rest))
   pub place : next.place ≡ script.place + length group
-  pub course : (form : Form) → (accepted : ℕ) → (rest : List Fields) → course_from (script.place + 1) (run_at form s accepted) (rows ++ rest)
+  pub course : (form : OutputForm) → (accepted : ℕ) → (rest : List Fields) → course_from (script.place + 1) (run_at form s accepted) (rows ++ rest)
       ≡ after (group_steps (run_at form s accepted) group) (group_refusals (script.place + 1) (group_steps (run_at form s accepted) group))
       (course_from (next.place + 1) (behind_group (run_at form s accepted) group) rest)
 

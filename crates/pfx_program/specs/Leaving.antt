@@ -6,8 +6,8 @@ use Rattle.pfx_weights.specs.Rows.{is_in}
 use Rattle.pfx_columns.specs.Ledgers.{Ledger, after}
 use Rattle.pfx_choice.specs.PfRows.{chosen}
 use Rattle.pfx_choice.specs.declared.faults.ChoiceFault.{ChoiceFault}
-use Rattle.pfx_program.specs.declared.form.Form.{Form}
-use Rattle.pfx_program.specs.declared.form.Form.TheVariants.{Text, Json}
+use Rattle.pfx_program.specs.declared.form.OutputForm.{OutputForm}
+use Rattle.pfx_program.specs.declared.form.OutputForm.TheVariants.{Text, Json}
 use Rattle.pfx_program.specs.Objects.{object_line, text_at}
 
 -- numbers, a sign before the first and a comma before each further one
@@ -23,7 +23,7 @@ ledger_text g = decimal g.slot ++ numbers_after (codes ":") g.allocs
 abbrev pub ledger_object : List ℕ → Data
 ledger_object text = object (text_at (codes "ledger") text no_members)
 
-abbrev pub ledger_line : Form → Ledger → List ℕ
+abbrev pub ledger_line : OutputForm → Ledger → List ℕ
 ledger_line Text g = ledger_text g ++ codes "\n"
 ledger_line Json g = object_line (ledger_object (ledger_text g))
 
@@ -38,6 +38,6 @@ left g zero = Some g
 left g (suc n) = left_by (λ row. left (after g (is_in row)) n) (chosen g)
 
 -- what stands behind a plan's lines: the line of the ledger that they leave, if it is asked for and no slot lacks a row
-abbrev pub closing : Form → Bool → Option Ledger → List ℕ
+abbrev pub closing : OutputForm → Bool → Option Ledger → List ℕ
 closing form leaving None = []
 closing form leaving (Some g) = if leaving then ledger_line form g else []

@@ -6,7 +6,7 @@ use Rattle.pfx_program.specs.Answers.{reply_line}
 use Rattle.pfx_store_engine.specs.Promises.{Promise}
 use Rattle.pfx_program.specs.Running.{run_of, ran_steps}
 use Rattle.pfx_program.specs.Script.{Step, commands_of, course_from, taken, text_of}
-use Rattle.pfx_program.specs.declared.form.Form.{Form}
+use Rattle.pfx_program.specs.declared.form.OutputForm.{OutputForm}
 use Rattle.pfx_program.specs.declared.report.AtRefusal.{AtRefusal}
 use Rattle.pfx_program_script.specs.Records.{Fields, Records}
 use Rattle.pfx_kinds.specs.declared.any.AnyJob.{AnyJob}
@@ -26,13 +26,13 @@ abbrev pub MayTell : {E A : Type 0} → Rule E → E → Option (List ℕ) → (
 MayTell {E} {A} allows engine was line lines xs = (front : List A) → (x : A) → (back : List A) → xs ≡ front ++ x ∷ back → (is : Option (List ℕ)) → Appends was is (lines front) → allows engine is (line x)
 
 -- the line of a Slot that was carried out, and the lines of some
-abbrev pub line_of : Form → ℕ × Reply → List ℕ
+abbrev pub line_of : OutputForm → ℕ × Reply → List ℕ
 line_of form x = reply_line form x.0 x.1
 
-abbrev pub lines_of : Form → List (ℕ × Reply) → List ℕ
+abbrev pub lines_of : OutputForm → List (ℕ × Reply) → List ℕ
 lines_of form said = text_of (ran_steps form said)
 
 -- whatever records a run takes of those that a script has left, as far as they are known: of their course from here on each text may be printed so
-abbrev pub MayRun : {E : Type 0} → Promise AnyJob E → Rule E → Form → AtRefusal → Records → ℕ → E → Option (List ℕ) → Type 0
+abbrev pub MayRun : {E : Type 0} → Promise AnyJob E → Rule E → OutputForm → AtRefusal → Records → ℕ → E → Option (List ℕ) → Type 0
 MayRun P allows form at_refusal script accepted engine was = (records : List Fields) → IfSome script.left (λ all. taken at_refusal (run_of P form engine accepted) all ≡ records)
     → MayPrint P allows engine was (course_from (script.place + 1) (run_of P form engine accepted) records).steps

@@ -9,7 +9,7 @@ use Rattle.pfx_kinds.specs.Scans.{scan_bytes}
 use Rattle.pfx_kinds.specs.Owns.{own_bytes}
 use Rattle.pfx_kinds.specs.Starts.{AnyFields, a_count, a_rule, a_scan, an_own, any_start, or_bad_data}
 use Rattle.pfx_kinds.specs.declared.any.AnyJob.{AnyJob}
-use Rattle.pfx_kinds.specs.declared.start.StartFault.{StartFault}
+use Rattle.pfx_kinds.specs.declared.start.JobStartFault.{JobStartFault}
 use Rattle.pfx_machine.specs.Plain.{Plain, whole}
 use Rattle.pfx_machine.specs.Outcome.{outcome}
 use Rattle.pfx_machine.specs.Runs.{answer}
@@ -23,7 +23,7 @@ use Rattle.pfx_program_script.specs.Weights.{said_weights}
 use Rattle.pfx_program_script.specs.Records.{Fields, script_records}
 use Rattle.pfx_fault.specs.declared.refusals.Fault.{Fault}
 use Rattle.pfx_fault.specs.declared.refusals.Fault.TheVariants as fault
-use Rattle.pfx_program.specs.declared.form.Form.{Form}
+use Rattle.pfx_program.specs.declared.form.OutputForm.{OutputForm}
 use Rattle.pfx_program.specs.declared.report.AtRefusal.{AtRefusal}
 use Rattle.pfx_program.specs.declared.report.AtRefusal.TheVariants.{GoOn, End}
 use Rattle.pfx_program.specs.declared.report.RefusedRecord.{RefusedRecord}
@@ -34,7 +34,7 @@ use Rattle.pfx_program.specs.Faults.{fault_of_start, fault_of_machine}
 
 -- how a run's lines are written, and how far it has come: the state, and how many commands were accepted
 pub record Run : Type 0 where
-  pub form : Form
+  pub form : OutputForm
   pub state : Plain AnyJob
   pub accepted : ℕ
 
@@ -75,7 +75,7 @@ abbrev pub shown : List ℕ → Step
 shown text = silent text None
 
 -- a refused command changes nothing
-abbrev pub refused : Form → Fault → Step
+abbrev pub refused : OutputForm → Fault → Step
 refused form f = silent (refused_line form f) (Some f)
 
 -- a command that is carried out
@@ -107,7 +107,7 @@ job_of (a_rule f) = any_decoded (rule_bytes f)
 job_of (a_scan f) = any_decoded (scan_bytes f)
 job_of (an_own f) = any_decoded (own_bytes f)
 
-abbrev pub job_by : Result AnyFields StartFault → Result AnyJob StartFault
+abbrev pub job_by : Result AnyFields JobStartFault → Result AnyJob JobStartFault
 job_by (Ok f) = or_bad_data (job_of f)
 job_by (Err f) = Err f
 
@@ -116,16 +116,16 @@ job_by (Err f) = Err f
 abbrev pub submitted_if : Bool → Run → ℕ → AnyJob → Step
 submitted_if next r task job = if next then command_step r (Submit task job) else refused r.form (fault.NotNext task)
 
-abbrev pub submitted : Run → ℕ → Result AnyJob StartFault → Step
+abbrev pub submitted : Run → ℕ → Result AnyJob JobStartFault → Step
 submitted r task (Ok job) = submitted_if (is_next r.state task (counted r.state task job)) r task (counted r.state task job)
 submitted r task (Err f) = refused r.form (fault_of_start f)
 
 -- the board of a state
-abbrev pub board_of : Form → Plain AnyJob → List ℕ
+abbrev pub board_of : OutputForm → Plain AnyJob → List ℕ
 board_of form s = board_shown form s.number (whole s) s.from (all_lines any_kind s) s.jobs
 
 -- the lines of jobs, or why there is none
-abbrev pub jobs_step : Form → Result (List ℕ) Fault → Step
+abbrev pub jobs_step : OutputForm → Result (List ℕ) Fault → Step
 jobs_step form (Ok text) = shown text
 jobs_step form (Err f) = refused form f
 
@@ -182,9 +182,9 @@ taken GoOn r rows = rows
 taken End r rows = up_to_refusal r rows
 
 -- how far a run has come that begins with a state
-abbrev pub at_start : Form → Plain AnyJob → Run
+abbrev pub at_start : OutputForm → Plain AnyJob → Run
 at_start form s = record { form = form; state = s; accepted = 0 }
 
 -- the course of a script's bytes, from a state on, by what it does at a refusal
-abbrev pub script_course : Form → AtRefusal → Plain AnyJob → List ℕ → Course
+abbrev pub script_course : OutputForm → AtRefusal → Plain AnyJob → List ℕ → Course
 script_course form at_refusal s bytes = course_from 1 (at_start form s) (taken at_refusal (at_start form s) (script_records bytes))

@@ -10,12 +10,12 @@ ghost use Rattle.pfx_program.specs.Script.{job_by};
 use pfx_fault::Fault;
 use pfx_kinds::any::AnyJob;
 use pfx_kinds::own::Own;
-use pfx_kinds::start::StartFault;
-use pfx_store_engine::{Engine, Place};
+use pfx_kinds::start::JobStartFault;
+use pfx_store_engine::{Engine, RealTask};
 use std::alloc::Global;
 
 /// A job at its start.
-pub(crate) fn started(kind: &str, goal: u64, text: &str) -> Result<AnyJob, StartFault>
+pub(crate) fn started(kind: &str, goal: u64, text: &str) -> Result<AnyJob, JobStartFault>
     ensures { result ≡ job_by (any_start kind.now goal text.now) }
 {
     AnyJob::start(kind, goal, text.as_bytes())
@@ -42,7 +42,7 @@ fn is_behind(from: u64, place: &Option<AnyJob>, unit: u64) -> bool
 }
 
 // Whether a unit's answer is taken, by what its task has.
-fn is_taken(place: &Option<Place<AnyJob>>, unit: u64) -> bool
+fn is_taken(place: &Option<RealTask<AnyJob>>, unit: u64) -> bool
     ensures { result ≡ is_taken_by place.now unit }
 {
     match place {
@@ -52,7 +52,7 @@ fn is_taken(place: &Option<Place<AnyJob>>, unit: u64) -> bool
 }
 
 // Counts an answer in the weights in force, by what its task has.
-fn count(place: &Option<Place<AnyJob>>, job: &mut AnyJob)
+fn count(place: &Option<RealTask<AnyJob>>, job: &mut AnyJob)
     ensures { job.new ≡ counted_by place.now job.old }
 {
     if let (Some(place), AnyJob::Own(answer)) = (place, job) {

@@ -17,7 +17,7 @@ ghost use Rattle.pfx_program.specs.Running.{run_of, Carried, Stopped};
 ghost use Rattle.pfx_program.specs.Script.{commands_of};
 ghost use Rattle.pfx_store_engine.specs.Sharing.{AreChanges};
 
-use crate::Form;
+use crate::OutputForm;
 use crate::faults::machine_fault;
 use crate::grants::{is_next, started};
 use crate::printer::Printer;
@@ -203,7 +203,7 @@ fn put_told<W: Printer<E>, E>(
     alloc: Global,
     from: u64,
     report: &mut Report,
-    form: Form,
+    form: OutputForm,
     output: &mut W,
     engine: &E,
     told: &[Told],
@@ -240,7 +240,7 @@ pub(crate) fn run_group<W: Printer<E>, E: Engine<AnyJob>>(
     group: Vec<Command<AnyJob>>,
     from: u64,
     report: &mut Report,
-    form: Form,
+    form: OutputForm,
     output: &mut W,
     engine: &mut E,
 ) -> Result<(), Fault>

@@ -11,7 +11,7 @@ ghost use Rattle.serde_json.specs.View.{view};
 ghost use Rattle.pfx_program.specs.Leaving.{ledger_text, ledger_object, ledger_line, closing};
 ghost use Rattle.pfx_program.specs.Running.{LineFails};
 
-use crate::Form;
+use crate::OutputForm;
 use crate::objects::object_line;
 use crate::output::put;
 use pfx_columns::Columns;
@@ -41,16 +41,16 @@ fn ledger_object(alloc: Global, text: String) -> Result<Value, AllocError>
     json!(in alloc; {"ledger": text})
 }
 
-fn ledger_line(alloc: Global, form: Form, columns: &Columns) -> Result<String, AllocError>
+fn ledger_line(alloc: Global, form: OutputForm, columns: &Columns) -> Result<String, AllocError>
     ensures { IfOk result (λ s. string_bytes s ≡ ledger_line form columns.now) }
 {
     let mut text = ledger_text(alloc, columns)?;
     match form {
-        Form::Text => {
+        OutputForm::Text => {
             text.push_str("\n")?;
             Ok(text)
         }
-        Form::Json => {
+        OutputForm::Json => {
             let object = ledger_object(alloc, text)?;
             object_line(alloc, &object)
         }
@@ -60,7 +60,7 @@ fn ledger_line(alloc: Global, form: Form, columns: &Columns) -> Result<String, A
 /// Writes what stands behind a plan's lines: the line of the ledger, if it is asked for.
 pub(crate) fn put_closing<W: Write>(
     alloc: Global,
-    form: Form,
+    form: OutputForm,
     leaving: bool,
     columns: &Columns,
     output: &mut W,

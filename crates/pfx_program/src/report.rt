@@ -11,7 +11,7 @@ ghost use Rattle.std.specs.Prelude.{◌≡◌, ◌<◌, ◌≤◌, None};
 ghost use Rattle.pfx_program.specs.Reports.{IsAdded};
 ghost use Rattle.pfx_program.specs.Script.{noted};
 
-use crate::Form;
+use crate::OutputForm;
 use pfx_fault::Fault;
 
 /// What a run of a script does behind a record that is refused.
@@ -33,7 +33,7 @@ pub struct Run {
     /// What is done behind a record that is refused.
     pub at_refusal: AtRefusal,
     /// Whether lines are text or objects.
-    pub form: Form,
+    pub form: OutputForm,
     ghost some: { 0 < batch },
     ghost few: { group ≤ 16 },
 }

@@ -33,7 +33,7 @@ ghost use Rattle.pfx_program_script.specs.Verbs.{Said, verb_of};
 ghost use Rattle.pfx_program.specs.Running.{run_of, ran_steps, LineFails, LinesFail, Carried, Slotted, Stopped, Runs};
 ghost use Rattle.pfx_kinds.specs.AnyKind.{any_kind};
 
-use crate::Form;
+use crate::OutputForm;
 use crate::answers::{board_shown, closed_line, settled_line};
 use crate::faults::{machine_fault, start_fault};
 use crate::grants::{is_next, started};
@@ -45,10 +45,10 @@ use crate::writing::{put_bytes, put_refused, put_reply, put_text, refuse};
 use csv::StringRecord;
 use pfx_fault::Fault;
 use pfx_kinds::any::AnyJob;
-use pfx_kinds::start::StartFault;
+use pfx_kinds::start::JobStartFault;
 use pfx_machine::{Board, Command, Reply, State};
 use pfx_program_script::{Script, Verb, read_verb, said_weights};
-use pfx_store_engine::{CallFault, Engine};
+use pfx_store_engine::{Engine, EngineFault};
 use pfx_weights::Weights;
 use std::alloc::Global;
 use std::io::Read;
@@ -61,7 +61,7 @@ fn run_command<W: Printer<E>, E: Engine<AnyJob>>(
     alloc: Global,
     command: Command<AnyJob>,
     accepted: &mut u32,
-    form: Form,
+    form: OutputForm,
     output: &mut W,
     engine: &mut E,
 ) -> Result<Option<Fault>, Fault>
@@ -78,25 +78,25 @@ fn run_command<W: Printer<E>, E: Engine<AnyJob>>(
         put_refused(alloc, form, output, engine, Fault::SessionFull)?;
         return Ok(Some(Fault::SessionFull));
     }
-    match engine.call(alloc, command) {
+    match engine.ask(alloc, command) {
         Ok((number, said)) => {
             *accepted += 1;
             put_reply(alloc, form, output, engine, number, &said)?;
             Ok(None)
         }
-        Err(CallFault::Refused(fault)) => {
+        Err(EngineFault::Refused(fault)) => {
             let fault = machine_fault(fault);
             put_refused(alloc, form, output, engine, fault)?;
             Ok(Some(fault))
         }
-        Err(CallFault::Failed(fault)) => Err(fault),
+        Err(EngineFault::Failed(fault)) => Err(fault),
     }
 }
 
 // Prints the lines of Slots.
 fn put_replies<W: Printer<E>, E>(
     alloc: Global,
-    form: Form,
+    form: OutputForm,
     output: &mut W,
     engine: &E,
     said: &[(u64, Reply)],
@@ -118,7 +118,7 @@ fn run_batch<W: Printer<E>, E: Engine<AnyJob>>(
     left: u32,
     batch: u32,
     accepted: &mut u32,
-    form: Form,
+    form: OutputForm,
     output: &mut W,
     engine: &mut E,
 ) -> Result<(u32, Option<Fault>), Fault>
@@ -141,12 +141,12 @@ fn run_batch<W: Printer<E>, E: Engine<AnyJob>>(
             put_replies(alloc, form, output, engine, &said)?;
             Ok((ran, None))
         }
-        Err(CallFault::Refused(fault)) => {
+        Err(EngineFault::Refused(fault)) => {
             let fault = machine_fault(fault);
             put_refused(alloc, form, output, engine, fault)?;
             Ok((0, Some(fault)))
         }
-        Err(CallFault::Failed(fault)) => Err(fault),
+        Err(EngineFault::Failed(fault)) => Err(fault),
     }
 }
 
@@ -156,7 +156,7 @@ fn run_slots<W: Printer<E>, E: Engine<AnyJob>>(
     count: u32,
     batch: u32,
     accepted: &mut u32,
-    form: Form,
+    form: OutputForm,
     output: &mut W,
     engine: &mut E,
 ) -> Result<Option<Fault>, Fault>
@@ -184,9 +184,9 @@ fn run_slots<W: Printer<E>, E: Engine<AnyJob>>(
 fn run_submit<W: Printer<E>, E: Engine<AnyJob>>(
     alloc: Global,
     task: u16,
-    job: Result<AnyJob, StartFault>,
+    job: Result<AnyJob, JobStartFault>,
     accepted: &mut u32,
-    form: Form,
+    form: OutputForm,
     output: &mut W,
     engine: &mut E,
 ) -> Result<Option<Fault>, Fault>
@@ -223,7 +223,7 @@ fn run_reweigh<W: Printer<E>, E: Engine<AnyJob>>(
     workers: u32,
     text: &str,
     accepted: &mut u32,
-    form: Form,
+    form: OutputForm,
     output: &mut W,
     engine: &mut E,
 ) -> Result<Option<Fault>, Fault>
@@ -254,7 +254,7 @@ fn run_reweigh<W: Printer<E>, E: Engine<AnyJob>>(
 
 fn run_settle<W: Printer<E>, E: Engine<AnyJob>>(
     alloc: Global,
-    form: Form,
+    form: OutputForm,
     output: &mut W,
     engine: &mut E,
 ) -> Result<(), Fault>
@@ -288,7 +288,7 @@ fn looked<E: Engine<AnyJob>>(alloc: Global, engine: &mut E) -> Result<(Board, St
 /// task; or as JSON one object. Any fault is the writer's, the memory's or the engine's: a beginning of the board is printed then.
 pub fn run_status<W: Printer<E>, E: Engine<AnyJob>>(
     alloc: Global,
-    form: Form,
+    form: OutputForm,
     output: &mut W,
     engine: &mut E,
 ) -> Result<(), Fault>
@@ -311,7 +311,7 @@ pub fn run_status<W: Printer<E>, E: Engine<AnyJob>>(
 fn run_jobs<W: Printer<E>, E: Engine<AnyJob>>(
     alloc: Global,
     task: Option<u16>,
-    form: Form,
+    form: OutputForm,
     output: &mut W,
     engine: &mut E,
 ) -> Result<Option<Fault>, Fault>
@@ -340,7 +340,7 @@ fn run_jobs<W: Printer<E>, E: Engine<AnyJob>>(
 fn close<W: Printer<E>, E: Engine<AnyJob>>(
     alloc: Global,
     report: Report,
-    form: Form,
+    form: OutputForm,
     output: &mut W,
     engine: &mut E,
 ) -> Result<Report, Fault>
@@ -368,7 +368,7 @@ fn run_verb<W: Printer<E>, E: Engine<AnyJob>>(
     verb: Verb<'_>,
     batch: u32,
     accepted: &mut u32,
-    form: Form,
+    form: OutputForm,
     output: &mut W,
     engine: &mut E,
 ) -> Result<Option<Fault>, Fault>
@@ -425,7 +425,7 @@ fn run_row<W: Printer<E>, E: Engine<AnyJob>>(
     row: &StringRecord,
     batch: u32,
     accepted: &mut u32,
-    form: Form,
+    form: OutputForm,
     output: &mut W,
     engine: &mut E,
 ) -> Result<Option<Fault>, Fault>
@@ -457,7 +457,7 @@ pub fn run_record<R: Read + Drop, W: Printer<E>, E: Engine<AnyJob>>(
     row: &mut StringRecord,
     batch: u32,
     accepted: &mut u32,
-    form: Form,
+    form: OutputForm,
     output: &mut W,
     engine: &mut E,
 ) -> Result<bool, Fault>

@@ -5,7 +5,7 @@ ghost use Rattle.std.specs.Io.KnownBytes.{Appends};
 ghost use Rattle.pfx_program.specs.Answers.{reply_line, refused_line};
 ghost use Rattle.pfx_program.specs.Running.{LineFails};
 
-use crate::Form;
+use crate::OutputForm;
 use crate::answers::{refused_line, reply_line};
 use crate::printer::Printer;
 use pfx_fault::Fault;
@@ -41,7 +41,7 @@ pub(crate) fn put_bytes<W: Printer<E>, E>(
 
 pub(crate) fn put_reply<W: Printer<E>, E>(
     alloc: Global,
-    form: Form,
+    form: OutputForm,
     output: &mut W,
     engine: &E,
     number: u64,
@@ -59,7 +59,7 @@ pub(crate) fn put_reply<W: Printer<E>, E>(
 
 pub(crate) fn put_refused<W: Printer<E>, E>(
     alloc: Global,
-    form: Form,
+    form: OutputForm,
     output: &mut W,
     engine: &E,
     fault: Fault,
@@ -77,7 +77,7 @@ pub(crate) fn put_refused<W: Printer<E>, E>(
 /// Writes the line of a refusal, and gives back why.
 pub(crate) fn refuse<W: Printer<E>, E>(
     alloc: Global,
-    form: Form,
+    form: OutputForm,
     output: &mut W,
     engine: &E,
     fault: Fault,

@@ -7,7 +7,7 @@ use Rattle.pfx_fault.specs.declared.refusals.Fault.{Fault}
 use Rattle.pfx_fault.specs.declared.refusals.Fault.TheVariants as fault
 use Rattle.pfx_program_set.specs.SetFile.{SetFile, weights_of, set_of_bytes}
 use Rattle.pfx_program.specs.Plan.{IsInputFault}
-use Rattle.pfx_program.specs.declared.form.Form.{Form}
+use Rattle.pfx_program.specs.declared.form.OutputForm.{OutputForm}
 use Rattle.pfx_program_check.specs.Faults.{AreAllFaults}
 use Rattle.pfx_program_check.specs.Text.{check_text}
 
@@ -16,22 +16,22 @@ abbrev pub IsDivisor : List (ℕ × ℕ) → FilledSet → ℕ → Type 0
 IsDivisor tasks s by = IsGcd s.hyper (demand s.hyper tasks) by
 
 -- the text is that of these tasks and of a store of their set, in this form
-abbrev pub IsText : Form → List (ℕ × ℕ) → Header → List ℕ → Type 0
+abbrev pub IsText : OutputForm → List (ℕ × ℕ) → Header → List ℕ → Type 0
 IsText form tasks h text = (by : ℕ) × IsDivisor tasks h.set by × (text ≡ check_text form tasks h by)
 
 -- m workers and these tasks are a set, segments of this length make a store of it, and the text is that of both
-pub record IsTextOf (form : Form) (m : ℕ) (tasks : List (ℕ × ℕ)) (segment : ℕ) (text : List ℕ) : Type 0 where
+pub record IsTextOf (form : OutputForm) (m : ℕ) (tasks : List (ℕ × ℕ)) (segment : ℕ) (text : List ℕ) : Type 0 where
   pub set : FilledSet
   pub accepted : Accepts m tasks set
   pub fits : IsSegmentSize m segment
   pub is : IsText form tasks (record { set = set; segment = segment }) text
 
 -- so it is with the set of a file
-abbrev pub IsCheck : Form → SetFile → List ℕ → Type 0
+abbrev pub IsCheck : OutputForm → SetFile → List ℕ → Type 0
 IsCheck form file text = IsTextOf form file.workers (weights_of file) file.segment text
 
 -- the bytes are such a set file
-abbrev pub Checks : Form → List ℕ → List ℕ → Type 0
+abbrev pub Checks : OutputForm → List ℕ → List ℕ → Type 0
 Checks form bytes text = (file : SetFile) × (set_of_bytes bytes ≡ Some file) × IsCheck form file text
 
 -- all that is wrong with the set of a file

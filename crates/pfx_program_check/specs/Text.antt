@@ -7,8 +7,8 @@ use Rattle.pfx_weights.specs.Sets.{FilledSet, demand}
 use Rattle.pfx_store_header.specs.Headers.{Header, least_segment}
 use Rattle.pfx_store_format.specs.Format.{layout}
 use Rattle.pfx_program.specs.Objects.{object_line, number_at, numbers_at}
-use Rattle.pfx_program.specs.declared.form.Form.{Form}
-use Rattle.pfx_program.specs.declared.form.Form.TheVariants.{Text, Json}
+use Rattle.pfx_program.specs.declared.form.OutputForm.{OutputForm}
+use Rattle.pfx_program.specs.declared.form.OutputForm.TheVariants.{Text, Json}
 
 -- a word and what is said of it, as `workers 2`
 abbrev pub line : List ℕ → List ℕ → List ℕ
@@ -43,6 +43,6 @@ check_object tasks h by =
     (number_at (codes "size") (file_len (layout h)) (number_at (codes "tasks") h.set.real (number_at (codes "workers") h.set.workers no_members))))))))
 
 -- what is printed of the set of these tasks and of its store, if the load is divided by this number
-abbrev pub check_text : Form → List (ℕ × ℕ) → Header → ℕ → List ℕ
+abbrev pub check_text : OutputForm → List (ℕ × ℕ) → Header → ℕ → List ℕ
 check_text Text tasks h by = tasks_text tasks h.set by ++ store_text h
 check_text Json tasks h by = object_line (check_object tasks h by)

@@ -8,7 +8,7 @@ ghost use Rattle.pfx_program_check.specs.Checks.{IsTextOf, IsCheck, Checks, File
 use crate::faults::all_faults;
 use crate::text::check_text;
 use pfx_fault::Fault;
-use pfx_program::{Form, read_all};
+use pfx_program::{OutputForm, read_all};
 use pfx_program_set::{SetText, read_set};
 use pfx_weights::TaskSet;
 use std::alloc::{AllocError, Global};
@@ -16,20 +16,20 @@ use std::io::Read;
 
 /// All that is wrong with a set.
 #[derive(Debug, Drop)]
-pub struct Refusal {
+pub struct SetRefusals {
     /// What every command says of it.
     pub first: Fault,
     /// What would be said next, one after the other.
     pub further: Vec<Fault>,
 }
 
-impl Refusal {
+impl SetRefusals {
     /// A fault with no further ones.
-    pub fn alone(alloc: Global, first: Fault) -> Refusal
+    pub fn alone(alloc: Global, first: Fault) -> SetRefusals
         ensures first { result.first ≡ first }
         ensures alone { result.further.items ≡ [] }
     {
-        Refusal {
+        SetRefusals {
             first,
             further: Vec::new(alloc),
         }
@@ -37,14 +37,14 @@ impl Refusal {
 }
 
 // The faults as the first one and the further ones, if there are any.
-fn refusal_of(mut faults: Vec<Fault>) -> Option<Refusal>
+fn refusal_of(mut faults: Vec<Fault>) -> Option<SetRefusals>
     ensures { MatchOption result (faults.items ≡ []) (λ r. faults.items ≡ r.first ∷ r.further.items) }
 {
     if faults.is_empty() {
         return None;
     }
     let first = faults.remove(0);
-    Some(Refusal {
+    Some(SetRefusals {
         first,
         further: faults,
     })
@@ -53,7 +53,7 @@ fn refusal_of(mut faults: Vec<Fault>) -> Option<Refusal>
 // The text of a set without a fault, which is refused only for want of memory.
 fn faultless(
     alloc: Global,
-    form: Form,
+    form: OutputForm,
     workers: u32,
     tasks: &[(u32, u32)],
     segment: u32,
@@ -68,23 +68,23 @@ fn faultless(
 }
 
 // The text of a set of which a store can be made, or its faults.
-fn checked(alloc: Global, form: Form, file: &SetText) -> Result<Vec<u8>, Refusal>
+fn checked(alloc: Global, form: OutputForm, file: &SetText) -> Result<Vec<u8>, SetRefusals>
     ensures ok { IfOk result (λ text. IsCheck form (set_view file.now) text.items) }
     ensures err { IfErr result (λ r. FileFails (set_view file.now) r.first r.further.items) }
 {
     let Ok(weights) = file.weights(alloc) else {
-        return Err(Refusal::alone(alloc, Fault::NoMemory));
+        return Err(SetRefusals::alone(alloc, Fault::NoMemory));
     };
     let tasks = weights.as_slice();
     let Ok(faults) = all_faults(alloc, file.workers, tasks, file.segment) else {
-        return Err(Refusal::alone(alloc, Fault::NoMemory));
+        return Err(SetRefusals::alone(alloc, Fault::NoMemory));
     };
     if let Some(refusal) = refusal_of(faults) {
         return Err(refusal);
     }
     match faultless(alloc, form, file.workers, tasks, file.segment) {
         Ok(text) => Ok(text),
-        Err(_) => Err(Refusal::alone(alloc, Fault::NoMemory)),
+        Err(_) => Err(SetRefusals::alone(alloc, Fault::NoMemory)),
     }
 }
 
@@ -95,16 +95,20 @@ fn checked(alloc: Global, form: Form, file: &SetText) -> Result<Vec<u8>, Refusal
 /// An `Err` has all that is wrong with the set. The first fault is the one of `run_plan`, or `SegmentTooSmall` or
 /// `SegmentTooLarge` if that one has none; after it come those that would be said next, were each task that is named taken
 /// out of the set. `InputFailed` if the reader fails, and `NoMemory` if an allocation failed, stand alone.
-pub fn run_check<R: Read>(alloc: Global, form: Form, input: &mut R) -> Result<Vec<u8>, Refusal>
+pub fn run_check<R: Read>(
+    alloc: Global,
+    form: OutputForm,
+    input: &mut R,
+) -> Result<Vec<u8>, SetRefusals>
     ensures ok { IfOk result (λ text. IfSome (R.remaining input.old) (λ bytes. Checks form bytes text.items)) }
     ensures err { IfErr result (λ r. IfSome (R.remaining input.old) (λ bytes. CheckFails bytes r.first r.further.items)) }
 {
     let bytes = match read_all(alloc, input) {
         Ok(bytes) => bytes,
-        Err(fault) => return Err(Refusal::alone(alloc, fault)),
+        Err(fault) => return Err(SetRefusals::alone(alloc, fault)),
     };
     match read_set(alloc, bytes.as_slice()) {
         Ok(file) => checked(alloc, form, &file),
-        Err(fault) => Err(Refusal::alone(alloc, fault)),
+        Err(fault) => Err(SetRefusals::alone(alloc, fault)),
     }
 }

@@ -27,5 +27,5 @@ mod load;
 mod text;
 
 pub use also::put_also;
-pub use checks::{Refusal, run_check};
+pub use checks::{SetRefusals, run_check};
 pub use text::store_len;

@@ -13,7 +13,7 @@ ghost use Rattle.pfx_program_check.specs.Checks.{IsDivisor, IsText};
 
 use crate::load::{demand, greatest_common_divisor};
 use pfx_checkpoint::whole_len;
-use pfx_program::{Form, object_line};
+use pfx_program::{OutputForm, object_line};
 use pfx_store_header::{header_len, least_segment};
 use pfx_weights::TaskSet;
 use serde_json::{Value, json};
@@ -161,7 +161,7 @@ fn object_text(
     requires accepted { Accepts set.now.workers tasks.now set.now }
     requires segment { IsSegmentSize set.now.workers segment }
     requires positive { 0 < by }
-    ensures { IfOk result (λ text. text.items ≡ check_text Form.Json tasks.now (record { set = set.now; segment = segment }) by) }
+    ensures { IfOk result (λ text. text.items ≡ check_text OutputForm.Json tasks.now (record { set = set.now; segment = segment }) by) }
 {
     let object = check_object(alloc, tasks, set, segment, by)?;
     let line = object_line(alloc, &object)?;
@@ -180,7 +180,7 @@ fn lines_text(
     requires accepted { Accepts set.now.workers tasks.now set.now }
     requires segment { IsSegmentSize set.now.workers segment }
     requires positive { 0 < by }
-    ensures { IfOk result (λ text. text.items ≡ check_text Form.Text tasks.now (record { set = set.now; segment = segment }) by) }
+    ensures { IfOk result (λ text. text.items ≡ check_text OutputForm.Text tasks.now (record { set = set.now; segment = segment }) by) }
 {
     let mut text = Vec::new(alloc);
     put_tasks(alloc, &mut text, tasks, set, by)?;
@@ -191,7 +191,7 @@ fn lines_text(
 /// What is printed of the set of these tasks, whose store has a segment of so many bytes.
 pub(crate) fn check_text(
     alloc: Global,
-    form: Form,
+    form: OutputForm,
     tasks: &[(u32, u32)],
     set: &TaskSet,
     segment: u32,
@@ -202,7 +202,7 @@ pub(crate) fn check_text(
 {
     let by = divisor(tasks, set);
     match form {
-        Form::Text => lines_text(alloc, tasks, set, segment, by),
-        Form::Json => object_text(alloc, tasks, set, segment, by),
+        OutputForm::Text => lines_text(alloc, tasks, set, segment, by),
+        OutputForm::Json => object_text(alloc, tasks, set, segment, by),
     }
 }

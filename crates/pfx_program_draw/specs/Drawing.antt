@@ -14,7 +14,7 @@ use Rattle.pfx_program_draw.specs.Sizes.{sizes_for}
 use Rattle.pfx_program_draw.specs.declared.drawing.DrawFault.{DrawFault}
 use Rattle.pfx_program_draw.specs.declared.drawing.DrawFault.TheVariants as drawfault
 use Rattle.pfx_program_draw.specs.declared.lags.Course.{Course}
-use Rattle.pfx_program_draw.specs.declared.sizes.Sizes.{Sizes}
+use Rattle.pfx_program_draw.specs.declared.sizes.PictureSizes.{PictureSizes}
 
 -- a task's course from the ledger on
 abbrev pub course_of : Ledger → ℕ → Course
@@ -32,17 +32,17 @@ abbrev pub digits : Ledger → ℕ → ℕ
 digits g x = length (decimal (task g x).p)
 
 -- the sizes of a picture of so many slots; a name of more than 64 letters goes beyond its room
-abbrev pub sizes_of : List FileTask → Ledger → ℕ → Sizes
+abbrev pub sizes_of : List FileTask → Ledger → ℕ → PictureSizes
 sizes_of tasks g slots = sizes_for g.slot slots (total g) (min 64 (most (letters tasks) (total g))) (min 64 (most (digits g) (total g)))
 
-abbrev pub lane_of : Sizes → List FileTask → Ledger → Schedule → ℕ → List ℕ
+abbrev pub lane_of : PictureSizes → List FileTask → Ledger → Schedule → ℕ → List ℕ
 lane_of s tasks g rows x = lane s g.set.real x (name_of tasks x) (course_of g x) (marks_of rows x)
 
-abbrev pub lanes_of : Sizes → List FileTask → Ledger → Schedule → List ℕ
+abbrev pub lanes_of : PictureSizes → List FileTask → Ledger → Schedule → List ℕ
 lanes_of s tasks g rows = each (lane_of s tasks g rows) (total g)
 
 -- head, slots and hyperperiods, a lane for each task, and foot
-abbrev pub framed : Sizes → List ℕ → List FileTask → Ledger → Schedule → List ℕ
+abbrev pub framed : PictureSizes → List ℕ → List FileTask → Ledger → Schedule → List ℕ
 framed s name tasks g rows =
     head s (title s name g.set.real g.set.workers) ++ grid s ++ dashes s g.set.hyper ++ lanes_of s tasks g rows ++ foot s g.set.hyper
 

@@ -2,7 +2,7 @@
 use Rattle.std.specs.Prelude.{ℕ, ◌+◌, ◌*◌, ◌≤◌, ◌<◌, ◌^◌, nat_le, if◌then◌else◌, max}
 use Rattle.pfx_program_draw.specs.declared.sizes.Widths.{Widths}
 use Rattle.pfx_program_draw.specs.declared.sizes.Heights.{Heights}
-use Rattle.pfx_program_draw.specs.declared.sizes.Sizes.{Sizes}
+use Rattle.pfx_program_draw.specs.declared.sizes.PictureSizes.{PictureSizes}
 
 -- the width of one of so many slots, and how many there are from one number above them to the next
 abbrev pub widths_for : ℕ → Widths
@@ -27,7 +27,7 @@ left_for lanes letters digits = if nat_le lanes 48 then 39 + 7 * letters + 14 * 
 abbrev pub right_for : ℕ → ℕ → ℕ
 right_for lanes digits = if nat_le lanes 48 then 78 + 14 * digits else 20
 
-abbrev pub sizes_for : ℕ → ℕ → ℕ → ℕ → ℕ → Sizes
+abbrev pub sizes_for : ℕ → ℕ → ℕ → ℕ → ℕ → PictureSizes
 sizes_for first slots lanes letters digits = record {
   first = first;
   slots = slots;
@@ -39,28 +39,28 @@ sizes_for first slots lanes letters digits = record {
 }
 
 -- where the i-th slot begins, and where the lane of task x does
-abbrev pub x_at : Sizes → ℕ → ℕ
+abbrev pub x_at : PictureSizes → ℕ → ℕ
 x_at s i = s.left + i * s.widths.slot
 
-abbrev pub y_at : Sizes → ℕ → ℕ
+abbrev pub y_at : PictureSizes → ℕ → ℕ
 y_at s x = 64 + x * s.heights.lane
 
 -- where the slots end, and where the lanes do
-abbrev pub slots_end : Sizes → ℕ
+abbrev pub slots_end : PictureSizes → ℕ
 slots_end s = x_at s s.slots
 
-abbrev pub lanes_end : Sizes → ℕ
+abbrev pub lanes_end : PictureSizes → ℕ
 lanes_end s = y_at s s.lanes
 
 -- the whole picture; the texts at its top need 720
-abbrev pub width : Sizes → ℕ
+abbrev pub width : PictureSizes → ℕ
 width s = max 720 (slots_end s + s.right)
 
-abbrev pub height : Sizes → ℕ
+abbrev pub height : PictureSizes → ℕ
 height s = lanes_end s + 34
 
 -- a picture that can be drawn: none of its numbers is large
-pub record IsDrawable (s : Sizes) : Type 0 where
+pub record IsDrawable (s : PictureSizes) : Type 0 where
   pub first : s.first < 2 ^ 40
   pub slots : s.slots ≤ 1440
   pub lanes : s.lanes ≤ 1152

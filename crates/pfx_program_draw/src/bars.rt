@@ -4,7 +4,7 @@ ghost use Rattle.std.specs.Prelude.{◌≡◌, ◌++◌, ◌≤◌, ◌<◌, OnO
 ghost use Rattle.pfx_program_draw.specs.Bars.{has, had, begins, ends, bar_piece, bars_path, run_track, cell_track};
 ghost use Rattle.pfx_program_draw.specs.Sizes.{IsDrawable};
 
-use crate::sizes::{Sizes, x_at};
+use crate::sizes::{PictureSizes, x_at};
 use crate::text::{put_across, put_move};
 use std::alloc::{AllocError, Global};
 
@@ -49,7 +49,7 @@ fn ends(track: Track, marks: &[u64], mark: u64, i: usize) -> bool
 fn put_piece(
     alloc: Global,
     text: &mut Vec<u8>,
-    s: Sizes,
+    s: PictureSizes,
     track: Track,
     marks: &[u64],
     mark: u64,
@@ -76,7 +76,7 @@ fn put_piece(
 pub(crate) fn put_bars(
     alloc: Global,
     text: &mut Vec<u8>,
-    s: Sizes,
+    s: PictureSizes,
     track: Track,
     marks: &[u64],
     mark: u64,
@@ -93,7 +93,7 @@ pub(crate) fn put_bars(
 }
 
 /// The track of the slots in which a task runs.
-pub(crate) fn run_track(s: Sizes, y: u64) -> Track
+pub(crate) fn run_track(s: PictureSizes, y: u64) -> Track
     ensures is { result ≡ run_track s y }
     ensures gap { result.gap ≤ 1 }
 {

@@ -13,7 +13,7 @@ ghost use Rattle.pfx_program_draw.specs.Sizes.{IsDrawable};
 use crate::frame::{put_dashes, put_foot, put_grid, put_head, title};
 use crate::lags::{Course, greater};
 use crate::lane::put_lane;
-use crate::sizes::{Sizes, sizes_for};
+use crate::sizes::{PictureSizes, sizes_for};
 use crate::text::{put_bytes, put_number};
 use pfx_choice::{ChoiceFault, PlanFault, plan};
 use pfx_columns::Columns;
@@ -99,7 +99,7 @@ fn sizes_of(
     tasks: &[NamedTask],
     ledger: &Columns,
     slots: u64,
-) -> Result<Sizes, AllocError>
+) -> Result<PictureSizes, AllocError>
     requires { slots ≤ 1440 }
     ensures is { IfOk result (λ s. s ≡ sizes_of (map task_view tasks.now) ledger.now slots) }
     ensures drawable { IfOk result IsDrawable }
@@ -146,7 +146,7 @@ fn marks_of(alloc: Global, rows: &[Row], x: u16) -> Result<Vec<u64>, AllocError>
 fn put_lane_of(
     alloc: Global,
     text: &mut Vec<u8>,
-    s: Sizes,
+    s: PictureSizes,
     tasks: &[NamedTask],
     ledger: &Columns,
     rows: &[Row],
@@ -178,7 +178,7 @@ fn put_lane_of(
 fn put_lanes(
     alloc: Global,
     text: &mut Vec<u8>,
-    s: Sizes,
+    s: PictureSizes,
     tasks: &[NamedTask],
     ledger: &Columns,
     rows: &[Row],
@@ -195,7 +195,7 @@ fn put_lanes(
 
 fn framed(
     alloc: Global,
-    s: Sizes,
+    s: PictureSizes,
     name: &str,
     tasks: &[NamedTask],
     ledger: &Columns,

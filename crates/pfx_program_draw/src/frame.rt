@@ -9,7 +9,7 @@ ghost use Rattle.pfx_program_draw.specs.Frame.{grid_lines, numbers, columns, gri
 ghost use Rattle.pfx_program_draw.specs.Sizes.{IsDrawable};
 
 use crate::phrases::{Phrase, put_phrase, put_phrase_number};
-use crate::sizes::{Sizes, height, lanes_end, slots_end, width, x_at};
+use crate::sizes::{PictureSizes, height, lanes_end, slots_end, width, x_at};
 use crate::text::{put_bytes, put_down, put_move, put_number};
 use pfx_program_set::is_name;
 use std::alloc::{AllocError, Global};
@@ -39,7 +39,7 @@ fn put_counted(alloc: Global, text: &mut Vec<u8>, n: u64, word: Phrase) -> Resul
 #[tactic(auto, unfolding(crate::specs::Frame::title))]
 pub(crate) fn title(
     alloc: Global,
-    s: Sizes,
+    s: PictureSizes,
     name: &str,
     real: u64,
     workers: u64,
@@ -58,7 +58,7 @@ pub(crate) fn title(
     Ok(text)
 }
 
-fn put_opening(alloc: Global, text: &mut Vec<u8>, s: Sizes) -> Result<(), AllocError>
+fn put_opening(alloc: Global, text: &mut Vec<u8>, s: PictureSizes) -> Result<(), AllocError>
     requires { IsDrawable s }
     ensures { OnOk result (text.new.items ≡ text.old.items ++ opening s) }
 {
@@ -88,7 +88,12 @@ fn put_dark(text: &mut Vec<u8>) -> Result<(), AllocError>
     put_phrase(text, Phrase::DarkAhead)
 }
 
-fn put_heading(alloc: Global, text: &mut Vec<u8>, s: Sizes, words: &[u8]) -> Result<(), AllocError>
+fn put_heading(
+    alloc: Global,
+    text: &mut Vec<u8>,
+    s: PictureSizes,
+    words: &[u8],
+) -> Result<(), AllocError>
     requires { IsDrawable s }
     ensures { OnOk result (text.new.items ≡ text.old.items ++ heading s words.now) }
 {
@@ -125,7 +130,7 @@ fn put_key(text: &mut Vec<u8>, lanes: u64) -> Result<(), AllocError>
 pub(crate) fn put_head(
     alloc: Global,
     text: &mut Vec<u8>,
-    s: Sizes,
+    s: PictureSizes,
     words: &[u8],
 ) -> Result<(), AllocError>
     requires { IsDrawable s }
@@ -138,7 +143,7 @@ pub(crate) fn put_head(
     put_key(text, s.lanes)
 }
 
-fn put_upright(alloc: Global, text: &mut Vec<u8>, s: Sizes, i: u64) -> Result<(), AllocError>
+fn put_upright(alloc: Global, text: &mut Vec<u8>, s: PictureSizes, i: u64) -> Result<(), AllocError>
     requires drawable { IsDrawable s }
     requires within { i ≤ 1440 }
     ensures { OnOk result (text.new.items ≡ text.old.items ++ upright s i) }
@@ -149,7 +154,7 @@ fn put_upright(alloc: Global, text: &mut Vec<u8>, s: Sizes, i: u64) -> Result<()
 
 // The slot at the `i`-th number.
 #[tactic(auto, using(crate::proofs::Bounds::within_quotient))]
-fn tick_slot(s: Sizes, i: u64) -> u64
+fn tick_slot(s: PictureSizes, i: u64) -> u64
     requires drawable { IsDrawable s }
     requires within { i ≤ s.slots / s.widths.tick }
     ensures is { result ≡ i * s.widths.tick }
@@ -158,7 +163,12 @@ fn tick_slot(s: Sizes, i: u64) -> u64
     i * s.widths.tick
 }
 
-fn put_grid_piece(alloc: Global, text: &mut Vec<u8>, s: Sizes, i: u64) -> Result<(), AllocError>
+fn put_grid_piece(
+    alloc: Global,
+    text: &mut Vec<u8>,
+    s: PictureSizes,
+    i: u64,
+) -> Result<(), AllocError>
     requires drawable { IsDrawable s }
     requires within { i ≤ s.slots / s.widths.tick }
     ensures { OnOk result (text.new.items ≡ text.old.items ++ grid_piece s i) }
@@ -166,7 +176,12 @@ fn put_grid_piece(alloc: Global, text: &mut Vec<u8>, s: Sizes, i: u64) -> Result
     put_upright(alloc, text, s, tick_slot(s, i))
 }
 
-fn put_number_piece(alloc: Global, text: &mut Vec<u8>, s: Sizes, i: u64) -> Result<(), AllocError>
+fn put_number_piece(
+    alloc: Global,
+    text: &mut Vec<u8>,
+    s: PictureSizes,
+    i: u64,
+) -> Result<(), AllocError>
     requires drawable { IsDrawable s }
     requires within { i ≤ s.slots / s.widths.tick }
     ensures { OnOk result (text.new.items ≡ text.old.items ++ number_piece s i) }
@@ -177,7 +192,7 @@ fn put_number_piece(alloc: Global, text: &mut Vec<u8>, s: Sizes, i: u64) -> Resu
     put_phrase(text, Phrase::TextEnd)
 }
 
-fn ticks(s: Sizes) -> u64
+fn ticks(s: PictureSizes) -> u64
     requires { IsDrawable s }
     ensures { result ≡ ticks s }
 {
@@ -185,7 +200,7 @@ fn ticks(s: Sizes) -> u64
 }
 
 #[tactic(auto, using(crate::proofs::Pieces::each_more, crate::proofs::Pieces::each_begins))]
-fn put_grid_lines(alloc: Global, text: &mut Vec<u8>, s: Sizes) -> Result<(), AllocError>
+fn put_grid_lines(alloc: Global, text: &mut Vec<u8>, s: PictureSizes) -> Result<(), AllocError>
     requires { IsDrawable s }
     ensures { OnOk result (text.new.items ≡ text.old.items ++ grid_lines s) }
 {
@@ -196,7 +211,7 @@ fn put_grid_lines(alloc: Global, text: &mut Vec<u8>, s: Sizes) -> Result<(), All
 }
 
 #[tactic(auto, using(crate::proofs::Pieces::each_more, crate::proofs::Pieces::each_begins))]
-fn put_numbers(alloc: Global, text: &mut Vec<u8>, s: Sizes) -> Result<(), AllocError>
+fn put_numbers(alloc: Global, text: &mut Vec<u8>, s: PictureSizes) -> Result<(), AllocError>
     requires { IsDrawable s }
     ensures { OnOk result (text.new.items ≡ text.old.items ++ numbers s) }
 {
@@ -206,7 +221,7 @@ fn put_numbers(alloc: Global, text: &mut Vec<u8>, s: Sizes) -> Result<(), AllocE
     Ok(())
 }
 
-fn put_columns(alloc: Global, text: &mut Vec<u8>, s: Sizes) -> Result<(), AllocError>
+fn put_columns(alloc: Global, text: &mut Vec<u8>, s: PictureSizes) -> Result<(), AllocError>
     requires { IsDrawable s }
     ensures { OnOk result (text.new.items ≡ text.old.items ++ columns s) }
 {
@@ -222,7 +237,7 @@ fn put_columns(alloc: Global, text: &mut Vec<u8>, s: Sizes) -> Result<(), AllocE
 
 /// Puts the slots' numbers, the lines below them, and what stands in the columns beside the lanes.
 #[tactic(auto, unfolding(crate::specs::Frame::grid))]
-pub(crate) fn put_grid(alloc: Global, text: &mut Vec<u8>, s: Sizes) -> Result<(), AllocError>
+pub(crate) fn put_grid(alloc: Global, text: &mut Vec<u8>, s: PictureSizes) -> Result<(), AllocError>
     requires { IsDrawable s }
     ensures { OnOk result (text.new.items ≡ text.old.items ++ grid s) }
 {
@@ -233,7 +248,7 @@ pub(crate) fn put_grid(alloc: Global, text: &mut Vec<u8>, s: Sizes) -> Result<()
     put_columns(alloc, text, s)
 }
 
-fn hyper_count(s: Sizes, hyper: u64) -> u64
+fn hyper_count(s: PictureSizes, hyper: u64) -> u64
     requires drawable { IsDrawable s }
     requires some { 1 ≤ hyper }
     ensures { result ≡ hyper_count s hyper }
@@ -244,7 +259,7 @@ fn hyper_count(s: Sizes, hyper: u64) -> u64
 
 // The slots from the first one to the `k`-th that begins a hyperperiod.
 #[tactic(auto, using(crate::proofs::Bounds::hyper_within))]
-fn hyper_slot(s: Sizes, hyper: u64, k: u64) -> u64
+fn hyper_slot(s: PictureSizes, hyper: u64, k: u64) -> u64
     requires drawable { IsDrawable s }
     requires some { 1 ≤ hyper }
     requires within { k < hyper_count s hyper }
@@ -258,7 +273,7 @@ fn hyper_slot(s: Sizes, hyper: u64, k: u64) -> u64
 fn put_hyper_piece(
     alloc: Global,
     text: &mut Vec<u8>,
-    s: Sizes,
+    s: PictureSizes,
     hyper: u64,
     k: u64,
 ) -> Result<(), AllocError>
@@ -274,7 +289,7 @@ fn put_hyper_piece(
 fn put_hyper_lines(
     alloc: Global,
     text: &mut Vec<u8>,
-    s: Sizes,
+    s: PictureSizes,
     hyper: u64,
 ) -> Result<(), AllocError>
     requires drawable { IsDrawable s }
@@ -287,7 +302,7 @@ fn put_hyper_lines(
     Ok(())
 }
 
-fn is_dashed(s: Sizes, hyper: u64) -> bool
+fn is_dashed(s: PictureSizes, hyper: u64) -> bool
     requires drawable { IsDrawable s }
     requires some { 1 ≤ hyper }
     ensures { result ≡ is_dashed s hyper }
@@ -301,7 +316,7 @@ fn is_dashed(s: Sizes, hyper: u64) -> bool
 pub(crate) fn put_dashes(
     alloc: Global,
     text: &mut Vec<u8>,
-    s: Sizes,
+    s: PictureSizes,
     hyper: u64,
 ) -> Result<(), AllocError>
     requires drawable { IsDrawable s }
@@ -316,7 +331,12 @@ pub(crate) fn put_dashes(
     Ok(())
 }
 
-fn put_hyper_key(alloc: Global, text: &mut Vec<u8>, s: Sizes, hyper: u64) -> Result<(), AllocError>
+fn put_hyper_key(
+    alloc: Global,
+    text: &mut Vec<u8>,
+    s: PictureSizes,
+    hyper: u64,
+) -> Result<(), AllocError>
     requires drawable { IsDrawable s }
     requires some { 1 ≤ hyper }
     ensures { OnOk result (text.new.items ≡ text.old.items ++ hyper_key s hyper) }
@@ -334,7 +354,7 @@ fn put_hyper_key(alloc: Global, text: &mut Vec<u8>, s: Sizes, hyper: u64) -> Res
 pub(crate) fn put_foot(
     alloc: Global,
     text: &mut Vec<u8>,
-    s: Sizes,
+    s: PictureSizes,
     hyper: u64,
 ) -> Result<(), AllocError>
     requires drawable { IsDrawable s }

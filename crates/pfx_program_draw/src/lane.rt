@@ -15,7 +15,7 @@ use crate::bars::{cell_track, put_bars, run_track};
 use crate::lags::{Course, Summary, levels, put_lag, put_point_lag, summed};
 use crate::line::put_lag_path;
 use crate::phrases::{Phrase, put_phrase, put_phrase_number};
-use crate::sizes::{Sizes, slots_end, width, y_at};
+use crate::sizes::{PictureSizes, slots_end, width, y_at};
 use crate::text::{put_across, put_bytes, put_down, put_move, put_number};
 use std::alloc::{AllocError, Global};
 
@@ -44,7 +44,7 @@ fn colour(real: u64, x: u64) -> Phrase
 fn put_task_words(
     alloc: Global,
     text: &mut Vec<u8>,
-    s: Sizes,
+    s: PictureSizes,
     name: &[u8],
     c: Course,
     m: Summary,
@@ -64,7 +64,7 @@ fn put_task_words(
 fn put_lag_words(
     alloc: Global,
     text: &mut Vec<u8>,
-    s: Sizes,
+    s: PictureSizes,
     c: Course,
     m: Summary,
 ) -> Result<(), AllocError>
@@ -81,7 +81,7 @@ fn put_lag_words(
     put_phrase(text, Phrase::TitleEnd)
 }
 
-fn put_shade(alloc: Global, text: &mut Vec<u8>, s: Sizes, x: u64) -> Result<(), AllocError>
+fn put_shade(alloc: Global, text: &mut Vec<u8>, s: PictureSizes, x: u64) -> Result<(), AllocError>
     requires drawable { IsDrawable s }
     requires within { x ≤ 1152 }
     ensures { OnOk result (text.new.items ≡ text.old.items ++ shade s x) }
@@ -107,7 +107,7 @@ fn put_stroke(alloc: Global, text: &mut Vec<u8>, ink: Phrase, wide: u64) -> Resu
 fn put_run_bars(
     alloc: Global,
     text: &mut Vec<u8>,
-    s: Sizes,
+    s: PictureSizes,
     ink: Phrase,
     y: u64,
     marks: &[u64],
@@ -122,7 +122,12 @@ fn put_run_bars(
     put_stroke(alloc, text, ink, s.heights.bar)
 }
 
-fn put_across_all(alloc: Global, text: &mut Vec<u8>, s: Sizes, y: u64) -> Result<(), AllocError>
+fn put_across_all(
+    alloc: Global,
+    text: &mut Vec<u8>,
+    s: PictureSizes,
+    y: u64,
+) -> Result<(), AllocError>
     requires { IsDrawable s }
     ensures { OnOk result (text.new.items ≡ text.old.items ++ across s y) }
 {
@@ -130,7 +135,12 @@ fn put_across_all(alloc: Global, text: &mut Vec<u8>, s: Sizes, y: u64) -> Result
     put_across(alloc, text, slots_end(s))
 }
 
-fn put_bounds(alloc: Global, text: &mut Vec<u8>, s: Sizes, base: u64) -> Result<(), AllocError>
+fn put_bounds(
+    alloc: Global,
+    text: &mut Vec<u8>,
+    s: PictureSizes,
+    base: u64,
+) -> Result<(), AllocError>
     requires drawable { IsDrawable s }
     requires base { base ≤ 131072 }
     ensures { OnOk result (text.new.items ≡ text.old.items ++ bounds s base) }
@@ -141,7 +151,12 @@ fn put_bounds(alloc: Global, text: &mut Vec<u8>, s: Sizes, base: u64) -> Result<
     put_phrase(text, Phrase::BoundsEnd)
 }
 
-fn put_base_line(alloc: Global, text: &mut Vec<u8>, s: Sizes, base: u64) -> Result<(), AllocError>
+fn put_base_line(
+    alloc: Global,
+    text: &mut Vec<u8>,
+    s: PictureSizes,
+    base: u64,
+) -> Result<(), AllocError>
     requires { IsDrawable s }
     ensures { OnOk result (text.new.items ≡ text.old.items ++ base_line s base) }
 {
@@ -153,7 +168,7 @@ fn put_base_line(alloc: Global, text: &mut Vec<u8>, s: Sizes, base: u64) -> Resu
 fn put_area(
     alloc: Global,
     text: &mut Vec<u8>,
-    s: Sizes,
+    s: PictureSizes,
     ink: Phrase,
     base: u64,
     path: &[u8],
@@ -169,7 +184,7 @@ fn put_area(
     put_phrase(text, Phrase::AreaEnd)
 }
 
-fn put_lag_line(text: &mut Vec<u8>, s: Sizes, path: &[u8]) -> Result<(), AllocError>
+fn put_lag_line(text: &mut Vec<u8>, s: PictureSizes, path: &[u8]) -> Result<(), AllocError>
     ensures { OnOk result (text.new.items ≡ text.old.items ++ lag_line s path.now) }
 {
     put_phrase(text, Phrase::PathBegin)?;
@@ -199,7 +214,7 @@ fn put_name(
 fn put_weight_label(
     alloc: Global,
     text: &mut Vec<u8>,
-    s: Sizes,
+    s: PictureSizes,
     y: u64,
     c: Course,
 ) -> Result<(), AllocError>
@@ -216,7 +231,7 @@ fn put_weight_label(
 fn put_lag_label(
     alloc: Global,
     text: &mut Vec<u8>,
-    s: Sizes,
+    s: PictureSizes,
     y: u64,
     c: Course,
     runs: u64,
@@ -238,7 +253,7 @@ fn put_lag_label(
 fn put_tall_drawn(
     alloc: Global,
     text: &mut Vec<u8>,
-    s: Sizes,
+    s: PictureSizes,
     ink: Phrase,
     x: u64,
     c: Course,
@@ -262,7 +277,7 @@ fn put_tall_drawn(
     put_lag_line(text, s, path.as_slice())
 }
 
-fn words_y(s: Sizes, x: u64) -> u64
+fn words_y(s: PictureSizes, x: u64) -> u64
     requires drawable { IsDrawable s }
     requires within { x ≤ 1152 }
     ensures { result ≡ words_y s x }
@@ -273,7 +288,7 @@ fn words_y(s: Sizes, x: u64) -> u64
 fn put_tall_written(
     alloc: Global,
     text: &mut Vec<u8>,
-    s: Sizes,
+    s: PictureSizes,
     x: u64,
     name: &[u8],
     c: Course,
@@ -307,7 +322,7 @@ fn level_ink(k: u64) -> Phrase
 fn put_cells(
     alloc: Global,
     text: &mut Vec<u8>,
-    s: Sizes,
+    s: PictureSizes,
     y: u64,
     marks: &[u64],
     k: u64,
@@ -325,7 +340,7 @@ fn put_cells(
 fn put_all_cells(
     alloc: Global,
     text: &mut Vec<u8>,
-    s: Sizes,
+    s: PictureSizes,
     y: u64,
     marks: &[u64],
 ) -> Result<(), AllocError>
@@ -345,7 +360,7 @@ fn put_all_cells(
 fn put_low_lane(
     alloc: Global,
     text: &mut Vec<u8>,
-    s: Sizes,
+    s: PictureSizes,
     x: u64,
     name: &[u8],
     c: Course,
@@ -368,7 +383,7 @@ fn put_low_lane(
 fn put_body(
     alloc: Global,
     text: &mut Vec<u8>,
-    s: Sizes,
+    s: PictureSizes,
     real: u64,
     x: u64,
     name: &[u8],
@@ -398,7 +413,7 @@ fn put_body(
 pub(crate) fn put_lane(
     alloc: Global,
     text: &mut Vec<u8>,
-    s: Sizes,
+    s: PictureSizes,
     real: u64,
     x: u64,
     name: &[u8],

@@ -6,12 +6,12 @@ ghost use Rattle.pfx_program_draw.specs.Line.{lag_y, line_point, lag_path};
 ghost use Rattle.pfx_program_draw.specs.Sizes.{IsDrawable};
 
 use crate::lags::{Course, ahead_by, behind_by, counted};
-use crate::sizes::{Sizes, x_at};
+use crate::sizes::{PictureSizes, x_at};
 use crate::text::{put_line, put_move};
 use std::alloc::{AllocError, Global};
 
 #[tactic(auto, using(crate::proofs::Bounds::product_within))]
-fn lag_y(s: Sizes, c: Course, base: u64, i: u64, k: u64) -> u64
+fn lag_y(s: PictureSizes, c: Course, base: u64, i: u64, k: u64) -> u64
     requires drawable { IsDrawable s }
     requires course { IsCourse c }
     requires base { base ≤ 131072 }
@@ -26,7 +26,7 @@ fn lag_y(s: Sizes, c: Course, base: u64, i: u64, k: u64) -> u64
 fn put_point(
     alloc: Global,
     text: &mut Vec<u8>,
-    s: Sizes,
+    s: PictureSizes,
     c: Course,
     base: u64,
     i: u64,
@@ -47,7 +47,7 @@ fn put_point(
 pub(crate) fn put_lag_path(
     alloc: Global,
     text: &mut Vec<u8>,
-    s: Sizes,
+    s: PictureSizes,
     c: Course,
     base: u64,
     marks: &[u64],

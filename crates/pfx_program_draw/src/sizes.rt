@@ -29,7 +29,7 @@ pub struct Heights {
 
 /// What the sizes of a picture follow from, and they.
 #[derive(Clone, Copy)]
-pub struct Sizes {
+pub struct PictureSizes {
     /// The first slot.
     pub first: u64,
     /// How many slots are drawn.
@@ -113,7 +113,13 @@ fn right_for(lanes: u64, digits: u64) -> u64
 
 /// The sizes of a picture of so many slots and lanes, whose names have so many letters and whose weights' numbers so many
 /// digits at the most.
-pub(crate) fn sizes_for(first: u64, slots: u64, lanes: u64, letters: u64, digits: u64) -> Sizes
+pub(crate) fn sizes_for(
+    first: u64,
+    slots: u64,
+    lanes: u64,
+    letters: u64,
+    digits: u64,
+) -> PictureSizes
     requires first { first < 2 ^ 40 }
     requires slots { slots ≤ 1440 }
     requires lanes { lanes ≤ 1152 }
@@ -122,7 +128,7 @@ pub(crate) fn sizes_for(first: u64, slots: u64, lanes: u64, letters: u64, digits
     ensures sizes { result ≡ sizes_for first slots lanes letters digits }
     ensures drawable { IsDrawable result }
 {
-    Sizes {
+    PictureSizes {
         first,
         slots,
         lanes,
@@ -135,7 +141,7 @@ pub(crate) fn sizes_for(first: u64, slots: u64, lanes: u64, letters: u64, digits
 
 /// Where the `i`-th slot begins.
 #[tactic(auto, using(crate::proofs::Bounds::product_within))]
-pub(crate) fn x_at(s: Sizes, i: u64) -> u64
+pub(crate) fn x_at(s: PictureSizes, i: u64) -> u64
     requires drawable { IsDrawable s }
     requires within { i ≤ 1440 }
     ensures at { result ≡ x_at s i }
@@ -146,7 +152,7 @@ pub(crate) fn x_at(s: Sizes, i: u64) -> u64
 
 /// Where the lane of task `x` begins.
 #[tactic(auto, using(crate::proofs::Bounds::product_within))]
-pub(crate) fn y_at(s: Sizes, x: u64) -> u64
+pub(crate) fn y_at(s: PictureSizes, x: u64) -> u64
     requires drawable { IsDrawable s }
     requires within { x ≤ 1152 }
     ensures at { result ≡ y_at s x }
@@ -156,7 +162,7 @@ pub(crate) fn y_at(s: Sizes, x: u64) -> u64
 }
 
 /// Where the slots end.
-pub(crate) fn slots_end(s: Sizes) -> u64
+pub(crate) fn slots_end(s: PictureSizes) -> u64
     requires { IsDrawable s }
     ensures at { result ≡ slots_end s }
     ensures small { result ≤ 131072 }
@@ -165,7 +171,7 @@ pub(crate) fn slots_end(s: Sizes) -> u64
 }
 
 /// Where the lanes end.
-pub(crate) fn lanes_end(s: Sizes) -> u64
+pub(crate) fn lanes_end(s: PictureSizes) -> u64
     requires { IsDrawable s }
     ensures at { result ≡ lanes_end s }
     ensures small { result ≤ 65536 }
@@ -174,7 +180,7 @@ pub(crate) fn lanes_end(s: Sizes) -> u64
 }
 
 /// The width of the whole picture.
-pub(crate) fn width(s: Sizes) -> u64
+pub(crate) fn width(s: PictureSizes) -> u64
     requires { IsDrawable s }
     ensures { result ≡ width s }
 {
@@ -183,7 +189,7 @@ pub(crate) fn width(s: Sizes) -> u64
 }
 
 /// The height of the whole picture.
-pub(crate) fn height(s: Sizes) -> u64
+pub(crate) fn height(s: PictureSizes) -> u64
     requires { IsDrawable s }
     ensures at { result ≡ height s }
     ensures small { result ≤ 131072 }

@@ -10,4 +10,4 @@ mod note;
 
 pub use entries::Entry;
 pub use explaining::{entry_named, put_entry};
-pub use note::Note;
+pub use note::NoteLines;

@@ -7,7 +7,7 @@ use std::alloc::{AllocError, Global};
 
 /// What is said below the line of a fault or of a warning: at most three lines.
 #[derive(Debug, Drop)]
-pub struct Note {
+pub struct NoteLines {
     /// Where the mistake stands, and what is wrong there.
     pub what: String,
     /// What to change.
@@ -49,7 +49,7 @@ fn put_further(alloc: Global, lines: &mut Vec<u8>, text: &Option<String>) -> Res
     }
 }
 
-impl Note {
+impl NoteLines {
     /// The note's lines, each with two spaces in front and a line feed after. Within a line there is none: bytes that aren't seen are
     /// shown as question marks. Fails only if memory runs out.
     pub fn text(&self, alloc: Global) -> Result<Vec<u8>, AllocError>

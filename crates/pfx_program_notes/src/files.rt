@@ -3,12 +3,12 @@
 use crate::texts;
 use crate::words::{Texts, Word, say, written};
 use pfx_fault::{Fault, Part};
-use pfx_program_explain::Note;
+use pfx_program_explain::NoteLines;
 use std::alloc::{AllocError, Global};
 
 /// What a word of the command line names.
 #[derive(Clone, Copy, PartialEq, Eq)]
-pub enum Named {
+pub enum NamedFile {
     /// A set file.
     Set,
     /// A script.
@@ -23,12 +23,12 @@ pub enum Named {
     Log,
 }
 
-fn noun(named: Named) -> &'static str {
+fn noun(named: NamedFile) -> &'static str {
     match named {
-        Named::Set => "set",
-        Named::Script => "script",
-        Named::Store | Named::ReadStore | Named::NewStore => "store",
-        Named::Log => "log",
+        NamedFile::Set => "set",
+        NamedFile::Script => "script",
+        NamedFile::Store | NamedFile::ReadStore | NamedFile::NewStore => "store",
+        NamedFile::Log => "log",
     }
 }
 
@@ -36,16 +36,16 @@ fn noun(named: Named) -> &'static str {
 /// memory runs out.
 pub fn input_note<'a>(
     alloc: Global,
-    named: Named,
+    named: NamedFile,
     path: &'a str,
     why: &'a str,
     missing: bool,
-) -> Result<Option<Note>, AllocError> {
+) -> Result<Option<NoteLines>, AllocError> {
     let texts = match named {
-        Named::Store | Named::ReadStore if missing => texts::STORE_MISSING,
-        Named::Store => texts::STORE,
-        Named::ReadStore => texts::READ_STORE,
-        Named::NewStore => texts::NEW_STORE,
+        NamedFile::Store | NamedFile::ReadStore if missing => texts::STORE_MISSING,
+        NamedFile::Store => texts::STORE,
+        NamedFile::ReadStore => texts::READ_STORE,
+        NamedFile::NewStore => texts::NEW_STORE,
         _ => texts::INPUT,
     };
     let words = [
@@ -69,7 +69,11 @@ pub enum Stands {
 }
 
 /// The note of an output that can't be written: why. Fails only if memory runs out.
-pub fn output_note(alloc: Global, why: &str, stands: Stands) -> Result<Option<Note>, AllocError> {
+pub fn output_note(
+    alloc: Global,
+    why: &str,
+    stands: Stands,
+) -> Result<Option<NoteLines>, AllocError> {
     let texts = match stands {
         Stands::Nothing => texts::PLAIN_OUTPUT,
         Stands::NewStore => texts::NEW_OUTPUT,
@@ -82,7 +86,7 @@ pub fn output_note(alloc: Global, why: &str, stands: Stands) -> Result<Option<No
 #[derive(Clone, Copy, PartialEq, Eq)]
 pub enum Trouble<'a> {
     /// Its name is empty, where a word names a set or a script.
-    NoName(Named),
+    NoName(NamedFile),
     /// It is longer than sets are.
     Long,
     /// The directory in which it is to be made isn't there.
@@ -111,7 +115,7 @@ pub enum Trouble<'a> {
 
 fn texts_of(trouble: Trouble<'_>) -> Texts {
     match trouble {
-        Trouble::NoName(Named::Set | Named::Script) => texts::NO_NAME,
+        Trouble::NoName(NamedFile::Set | NamedFile::Script) => texts::NO_NAME,
         Trouble::NoName(_) => texts::NO_STORE_NAME,
         Trouble::Long => texts::SET_LONG,
         Trouble::NoDirectory(_) => texts::NO_DIRECTORY,
@@ -146,7 +150,7 @@ pub fn trouble_note<'a>(
     alloc: Global,
     path: &'a str,
     trouble: Trouble<'a>,
-) -> Result<Option<Note>, AllocError> {
+) -> Result<Option<NoteLines>, AllocError> {
     let words = [Word::At(path, None), word_of(trouble), Word::Text(path)];
     written(alloc, say(texts_of(trouble), &words))
 }
@@ -228,7 +232,7 @@ fn fault_note(
     path: &str,
     script: Option<&str>,
     fault: Fault,
-) -> Result<Option<Note>, AllocError> {
+) -> Result<Option<NoteLines>, AllocError> {
     let Some(texts) = texts else {
         return Ok(None);
     };
@@ -238,12 +242,16 @@ fn fault_note(
 
 /// The note of a fault of the part of a history at this path: a log, or a store's file behind logs. `None` if the fault is of another kind.
 /// Fails only if memory runs out.
-pub fn history_note(alloc: Global, path: &str, fault: Fault) -> Result<Option<Note>, AllocError> {
+pub fn history_note(
+    alloc: Global,
+    path: &str,
+    fault: Fault,
+) -> Result<Option<NoteLines>, AllocError> {
     fault_note(alloc, history_texts(fault), path, None, fault)
 }
 
 /// The note of a fault of the log at this path. `None` if the fault is of another kind. Fails only if memory runs out.
-pub fn log_note(alloc: Global, path: &str, fault: Fault) -> Result<Option<Note>, AllocError> {
+pub fn log_note(alloc: Global, path: &str, fault: Fault) -> Result<Option<NoteLines>, AllocError> {
     fault_note(alloc, log_texts(fault), path, None, fault)
 }
 
@@ -254,6 +262,6 @@ pub fn store_note(
     path: &str,
     script: Option<&str>,
     fault: Fault,
-) -> Result<Option<Note>, AllocError> {
+) -> Result<Option<NoteLines>, AllocError> {
     fault_note(alloc, store_texts(script, fault), path, script, fault)
 }

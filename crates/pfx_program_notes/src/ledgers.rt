@@ -5,7 +5,7 @@ use crate::texts;
 use crate::words::{Said, Word, say, written};
 use pfx_fault::Fault;
 use pfx_kinds_decimal::number_in;
-use pfx_program_explain::Note;
+use pfx_program_explain::NoteLines;
 use pfx_program_set::SetText;
 use pfx_weights::TaskSet;
 use std::alloc::{AllocError, Global};
@@ -158,7 +158,7 @@ pub(crate) fn ledger_fault_note(
     file: &SetText,
     at: &str,
     fault: Fault,
-) -> Result<Option<Note>, AllocError> {
+) -> Result<Option<NoteLines>, AllocError> {
     let weights = file.weights(alloc)?;
     match TaskSet::new(alloc, file.workers, weights.as_slice()) {
         Ok(set) => written(alloc, said_of(file, at, &set, fault)),

@@ -31,10 +31,10 @@ mod weights;
 mod words;
 
 pub use files::{
-    Named, Stands, Trouble, history_note, input_note, log_note, output_note, store_note,
+    NamedFile, Stands, Trouble, history_note, input_note, log_note, output_note, store_note,
     trouble_note,
 };
-pub use refusals::{First, refused_note};
+pub use refusals::{FirstRefusal, refused_note};
 pub use scripts::{record_note, script_note};
 pub use sets::{further_note, set_note};
 pub use warnings::passed_over_note;

@@ -6,7 +6,7 @@ use crate::texts;
 use crate::words::{Said, Texts, Word, note_of, said_with};
 use csv::ByteRecord;
 use pfx_fault::Fault;
-use pfx_program_explain::Note;
+use pfx_program_explain::NoteLines;
 use std::alloc::{AllocError, Global};
 use std::str::from_utf8;
 
@@ -37,14 +37,14 @@ fn word_of(row: &ByteRecord, fault: Fault) -> &str {
 
 /// A record that was refused first: its place, counted from 1, why it was, and how many records were refused.
 #[derive(Clone, Copy)]
-pub struct First {
+pub struct FirstRefusal {
     pub at: u64,
     pub fault: Fault,
     pub refused: u64,
 }
 
 // What is said of the record that was refused first: its line and its word, as far as the script's text has them.
-fn said_of<'a>(file: &'a str, first: First, line: Option<Place>, word: &'a str) -> Said<'a> {
+fn said_of<'a>(file: &'a str, first: FirstRefusal, line: Option<Place>, word: &'a str) -> Said<'a> {
     let what = if word.is_empty() {
         texts::REFUSED
     } else {
@@ -73,8 +73,8 @@ pub fn refused_note(
     alloc: Global,
     file: &str,
     text: &[u8],
-    first: First,
-) -> Result<Note, AllocError> {
+    first: FirstRefusal,
+) -> Result<NoteLines, AllocError> {
     let text = without_mark(text);
     let mut row = ByteRecord::new(alloc);
     if !read_to(alloc, text, first.at, &mut row) {

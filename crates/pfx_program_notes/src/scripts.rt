@@ -5,7 +5,7 @@ use crate::texts;
 use crate::words::{Said, Texts, Word, say, written};
 use csv::{ByteRecord, ReaderBuilder};
 use pfx_kinds_decimal::number_in;
-use pfx_program_explain::Note;
+use pfx_program_explain::NoteLines;
 use pfx_program_script::Whole;
 use std::alloc::{AllocError, Global};
 use std::io::Read;
@@ -201,7 +201,7 @@ fn broken_note<'a>(alloc: Global, file: &'a str, text: &[u8], place: u64) -> Opt
 }
 
 /// The note of the record at this place of a script whose text isn't at hand. Fails only if memory runs out.
-pub fn record_note(alloc: Global, file: &str, place: u64) -> Result<Option<Note>, AllocError> {
+pub fn record_note(alloc: Global, file: &str, place: u64) -> Result<Option<NoteLines>, AllocError> {
     let words = [Word::At(file, None), Word::Number(place)];
     written(alloc, say(texts::RECORD, &words))
 }
@@ -214,7 +214,7 @@ pub fn script_note(
     file: &str,
     text: &[u8],
     place: u64,
-) -> Result<Option<Note>, AllocError> {
+) -> Result<Option<NoteLines>, AllocError> {
     let text = without_mark(text);
     let broken = broken_note(alloc, file, text, place);
     if broken.is_some() {

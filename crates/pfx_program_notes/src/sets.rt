@@ -8,7 +8,7 @@ use crate::weights::{
 };
 use crate::words::{Said, written};
 use pfx_fault::Fault;
-use pfx_program_explain::Note;
+use pfx_program_explain::NoteLines;
 use pfx_program_set::{SetText, read_set};
 use std::alloc::{AllocError, Global};
 use std::str::from_utf8;
@@ -49,7 +49,7 @@ fn numbers_note(
     at: Option<&str>,
     out: &[u16],
     fault: Fault,
-) -> Result<Option<Note>, AllocError> {
+) -> Result<Option<NoteLines>, AllocError> {
     let said = said_of_numbers(source, set, out, fault);
     match at {
         Some(at) if said.is_none() => ledger_fault_note(alloc, set, at, fault),
@@ -66,7 +66,7 @@ pub fn set_note(
     text: &[u8],
     at: Option<&str>,
     fault: Fault,
-) -> Result<Option<Note>, AllocError> {
+) -> Result<Option<NoteLines>, AllocError> {
     note_without(alloc, file, text, at, &[], fault)
 }
 
@@ -77,7 +77,7 @@ pub fn further_note(
     text: &[u8],
     out: &[u16],
     fault: Fault,
-) -> Result<Option<Note>, AllocError> {
+) -> Result<Option<NoteLines>, AllocError> {
     note_without(alloc, file, text, None, out, fault)
 }
 
@@ -88,7 +88,7 @@ fn note_without(
     at: Option<&str>,
     out: &[u16],
     fault: Fault,
-) -> Result<Option<Note>, AllocError> {
+) -> Result<Option<NoteLines>, AllocError> {
     let table = match toml::table_from_slice(alloc, text) {
         Ok(table) => table,
         Err(e) if e.is_memory() => return Err(AllocError),

@@ -3,7 +3,7 @@
 use crate::members::{SetSource, is_set_key, is_task_key, other_set_key, other_task_key};
 use crate::texts;
 use crate::words::{Said, Word, said_with, written};
-use pfx_program_explain::Note;
+use pfx_program_explain::NoteLines;
 use std::alloc::{AllocError, Global};
 use std::str::from_utf8;
 
@@ -65,7 +65,7 @@ pub fn passed_over_note(
     alloc: Global,
     file: &str,
     text: &[u8],
-) -> Result<Option<Note>, AllocError> {
+) -> Result<Option<NoteLines>, AllocError> {
     let table = match toml::table_from_slice(alloc, text) {
         Ok(table) => table,
         Err(e) if e.is_memory() => return Err(AllocError),

@@ -4,7 +4,7 @@ use crate::fractions::Fraction;
 use crate::places::{Place, shown_path};
 use pfx_fault::Fault;
 use pfx_kinds_decimal::number_in;
-use pfx_program_explain::Note;
+use pfx_program_explain::NoteLines;
 use std::alloc::{AllocError, Global};
 
 /// The most bytes of a text that is shown in front.
@@ -247,7 +247,7 @@ fn filled(alloc: Global, form: &str, words: &[Word<'_>]) -> Result<String, Alloc
 }
 
 /// The note that says this. Fails only if memory runs out.
-pub(crate) fn note_of(alloc: Global, said: Said<'_>) -> Result<Note, AllocError> {
+pub(crate) fn note_of(alloc: Global, said: Said<'_>) -> Result<NoteLines, AllocError> {
     let words = [
         said.first,
         said.second,
@@ -263,11 +263,14 @@ pub(crate) fn note_of(alloc: Global, said: Said<'_>) -> Result<Note, AllocError>
     } else {
         Some(filled(alloc, said.more, &words)?)
     };
-    Ok(Note { what, change, more })
+    Ok(NoteLines { what, change, more })
 }
 
 /// The note that says this, if it is anything.
-pub(crate) fn written(alloc: Global, said: Option<Said<'_>>) -> Result<Option<Note>, AllocError> {
+pub(crate) fn written(
+    alloc: Global,
+    said: Option<Said<'_>>,
+) -> Result<Option<NoteLines>, AllocError> {
     match said {
         Some(said) => Ok(Some(note_of(alloc, said)?)),
         None => Ok(None),

@@ -4,7 +4,7 @@ ghost use Rattle.std.specs.Prelude.{◌≡◌, IfOk, option_map, string_bytes};
 ghost use Rattle.serde_json.specs.View.{view};
 ghost use Rattle.pfx_program_objects.specs.Said.{text_or_null, note_object, note_or_null};
 
-use pfx_program_explain::Note;
+use pfx_program_explain::NoteLines;
 use serde_json::{Value, json};
 use std::alloc::{AllocError, Global};
 
@@ -17,7 +17,7 @@ fn text_or_null(alloc: Global, text: &Option<String>) -> Result<Value, AllocErro
     }
 }
 
-fn note_object(alloc: Global, note: &Note) -> Result<Value, AllocError>
+fn note_object(alloc: Global, note: &NoteLines) -> Result<Value, AllocError>
     ensures { IfOk result (λ v. view v ≡ note_object note.now) }
 {
     let change = text_or_null(alloc, &note.change)?;
@@ -26,7 +26,7 @@ fn note_object(alloc: Global, note: &Note) -> Result<Value, AllocError>
 }
 
 /// A note, or null where there is none.
-pub(crate) fn note_or_null(alloc: Global, note: Option<&Note>) -> Result<Value, AllocError>
+pub(crate) fn note_or_null(alloc: Global, note: Option<&NoteLines>) -> Result<Value, AllocError>
     ensures { IfOk result (λ v. view v ≡ note_or_null (option_map (λ n. n.now) note.entry)) }
 {
     match note {

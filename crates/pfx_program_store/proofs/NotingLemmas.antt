@@ -17,7 +17,7 @@ use Rattle.pfx_machine.specs.Outcome.{outcome}
 use Rattle.pfx_machine.specs.Plain.{Plain}
 use Rattle.pfx_machine.specs.declared.command.Command.{Command}
 use Rattle.pfx_program.proofs.StepLemmas.{commands_append, then_state}
-use Rattle.pfx_program.specs.declared.form.Form.{Form}
+use Rattle.pfx_program.specs.declared.form.OutputForm.{OutputForm}
 use Rattle.pfx_program.specs.Running.{Carried, Ends, Halts, Runs, Stopped}
 use Rattle.pfx_program.specs.Script.{Step, at_start, commands_of, course_from, taken, text_of}
 use Rattle.pfx_program.specs.declared.report.AtRefusal.{AtRefusal}
@@ -79,7 +79,7 @@ stands s printed tried rest t (inr at) = record {
 }
 
 module _ (may meant : Cause → Type 0) (could : (cause : Cause) → may cause → meant cause) (held : Type 0) (image : List ℕ) (made : List Made) (disk : View) (premise : IsHonest disk → held) where
-  module _ {E : Type 0} (view : E → View) (failed_by : E → Option Cause) (kept : E → Plain AnyJob) (form : Form) (at_refusal : AtRefusal) (script : Records) (records : List Fields)
+  module _ {E : Type 0} (view : E → View) (failed_by : E → Option Cause) (kept : E → Plain AnyJob) (form : OutputForm) (at_refusal : AtRefusal) (script : Records) (records : List Fields)
       (a b : E) (known : IfSome script.left (λ all. taken at_refusal (at_start form (kept a)) all ≡ records))
       (failed : Bool) (was is : Option (List ℕ)) (whole : failed_by a ≡ None) (honest : held → IsHonest (view a)) (anchors : held → Anchors any_kind (view a) (kept a))
       (leaves : held → (left : List ℕ) → Left image (acts_of made) left → (view b).now left) (follows : IsHonest disk → (left : List ℕ) → disk.now left → (view b).now left) where
@@ -145,7 +145,7 @@ module _ (may meant : Cause → Type 0) (could : (cause : Cause) → may cause �
     by_end most (Err fault.NoMemory) h = stopped most fault.NoMemory h (λ printed tried rest t why. (tt, why.1))
     by_end most (Err other) h = stopped most other h (λ printed tried rest t why. ((why.0.0, could why.0.0 why.0.1, why.0.2), why.2))
 
-  module _ {E : Type 0} (view : E → View) (failed_by : E → Option Cause) (kept : E → Plain AnyJob) (form : Form) (at_refusal : AtRefusal) where
+  module _ {E : Type 0} (view : E → View) (failed_by : E → Option Cause) (kept : E → Plain AnyJob) (form : OutputForm) (at_refusal : AtRefusal) where
     pub noted_run : (most : ℕ) (script : Records) (failed : Bool) (a b : E) (was is : Option (List ℕ)) (result : Result Report Fault) → Runs (promise any_kind view failed_by kept may) form at_refusal most script failed a b was is result
         → failed_by a ≡ None → (held → IsHonest (view a)) → (held → Anchors any_kind (view a) (kept a)) → (held → (left : List ℕ) → Left image (acts_of made) left → (view b).now left)
         → (IsHonest disk → (left : List ℕ) → disk.now left → (view b).now left) → IsNotedRun meant form at_refusal (kept a) script failed was is held image made disk (kept b) result
@@ -153,7 +153,7 @@ module _ (may meant : Cause → Type 0) (could : (cause : Cause) → may cause �
         by_end view failed_by kept form at_refusal script h.records a b h.known failed was is whole honest anchors leaves follows most result h.ends
 
 -- a run for which there was no memory
-pub noted_none : (may : Cause → Type 0) (form : Form) (at_refusal : AtRefusal) (s : Plain AnyJob) (script : Records) (failed : Bool) (was : Option (List ℕ)) (held : Type 0) (image : List ℕ) (made : List Made) (disk : View) (here : List ℕ → Type 0) → (IsHonest disk → held)
+pub noted_none : (may : Cause → Type 0) (form : OutputForm) (at_refusal : AtRefusal) (s : Plain AnyJob) (script : Records) (failed : Bool) (was : Option (List ℕ)) (held : Type 0) (image : List ℕ) (made : List Made) (disk : View) (here : List ℕ → Type 0) → (IsHonest disk → held)
     → (held → (left : List ℕ) → Left image (acts_of made) left → here left) → (IsHonest disk → (left : List ℕ) → disk.now left → here left)
     → (held → (left : List ℕ) → here left → recovered (format any_kind) left ≡ Ok s)
     → IsNotedRun may form at_refusal s script failed was was held image made disk s (Err fault.NoMemory)

@@ -24,7 +24,7 @@ use Rattle.pfx_program.specs.declared.report.RefusedRecord.{RefusedRecord}
 use Rattle.pfx_program.proofs.RunLemmas.{taken_none}
 use Rattle.pfx_program.specs.declared.report.AtRefusal.{AtRefusal}
 use Rattle.pfx_program.specs.declared.report.Report.{Report}
-use Rattle.pfx_program.specs.declared.form.Form.{Form}
+use Rattle.pfx_program.specs.declared.form.OutputForm.{OutputForm}
 use Rattle.pfx_store_image.specs.Recovery.{found, recovered}
 use Rattle.pfx_program_script.specs.Records.{Fields, Records}
 use Rattle.pfx_program_store.specs.Noting.{IsAloneFault, IsNotedRun}
@@ -40,15 +40,15 @@ none_first [] ys h = refl
 none_first (x ∷ xs) ys h = cc
 
 -- a script without records has no command, and its course comes to its end
-no_commands : (at : ℕ) (form : Form) (s : Plain AnyJob) → commands_of (course_from at (at_start form s) []).steps ≡ []
+no_commands : (at : ℕ) (form : OutputForm) (s : Plain AnyJob) → commands_of (course_from at (at_start form s) []).steps ≡ []
 unfolding course_from
 no_commands at form s = refl
 
-no_end : (at : ℕ) (form : Form) (s : Plain AnyJob) → (course_from at (at_start form s) []).ends_at ≡ None
+no_end : (at : ℕ) (form : OutputForm) (s : Plain AnyJob) → (course_from at (at_start form s) []).ends_at ≡ None
 unfolding course_from
 no_end at form s = refl
 
-no_refusals : (at : ℕ) (form : Form) (s : Plain AnyJob) → (course_from at (at_start form s) []).refusals ≡ []
+no_refusals : (at : ℕ) (form : OutputForm) (s : Plain AnyJob) → (course_from at (at_start form s) []).refusals ≡ []
 unfolding course_from
 no_refusals at form s = refl
 
@@ -75,7 +75,7 @@ cause_of_another s marked h = let (why, is, same) = h in let log = ap cause_in s
     cause_in (fault.StoreFailed marked why) = why
     cause_in other = cause.Device
 
-module _ (may : Cause → Type 0) (form : Form) (at_refusal : AtRefusal) (s : Plain AnyJob) (script : Records) (none : script.left ≡ Some []) (failed : Bool) (was is : Option (List ℕ)) (held : Type 0) (made : List Made) (disk : View) (t : Plain AnyJob) where
+module _ (may : Cause → Type 0) (form : OutputForm) (at_refusal : AtRefusal) (s : Plain AnyJob) (script : Records) (none : script.left ≡ Some []) (failed : Bool) (was is : Option (List ℕ)) (held : Type 0) (made : List Made) (disk : View) (t : Plain AnyJob) where
   records_none : (image : List ℕ) (result : Result Report Fault) (h : IsNotedRun may form at_refusal s script failed was is held image made disk t result) → h.records ≡ []
   records_none image result h = sym (subst (λ (left : Option (List Fields)). IfSome left (λ all. taken at_refusal (at_start form s) all ≡ h.records)) none h.known) ∙ taken_none at_refusal (at_start form s)
 
@@ -122,6 +122,6 @@ module _ (may : Cause → Type 0) (form : Form) (at_refusal : AtRefusal) (s : Pl
   on_disk_nowhere image result honest here h = not_in_nothing s _ _ (h.on_disk honest [] here)
 
 -- an honest disk, and bytes that it didn't hold
-premise_lost : (may : Cause → Type 0) (form : Form) (at_refusal : AtRefusal) (s : Plain AnyJob) (script : Records) (failed : Bool) (was is : Option (List ℕ)) (image : List ℕ) (made : List Made) (disk : View) (t : Plain AnyJob) (result : Result Report Fault)
+premise_lost : (may : Cause → Type 0) (form : OutputForm) (at_refusal : AtRefusal) (s : Plain AnyJob) (script : Records) (failed : Bool) (was is : Option (List ℕ)) (image : List ℕ) (made : List Made) (disk : View) (t : Plain AnyJob) (result : Result Report Fault)
     → IsHonest disk → IsNotedRun may form at_refusal s script failed was is ⊥ image made disk t result → ⊥
 premise_lost may form at_refusal s script failed was is image made disk t result honest h = h.premise honest

@@ -11,7 +11,7 @@ use Rattle.pfx_machine.specs.Plain.{Plain}
 use Rattle.pfx_machine.specs.Outcome.{outcome}
 use Rattle.pfx_machine.specs.declared.command.Command.{Command}
 use Rattle.pfx_program_script.specs.Records.{Fields, Records}
-use Rattle.pfx_program.specs.declared.form.Form.{Form}
+use Rattle.pfx_program.specs.declared.form.OutputForm.{OutputForm}
 use Rattle.pfx_program.specs.Script.{Step, at_start, commands_of, course_from, taken, text_of}
 use Rattle.pfx_program.specs.declared.report.AtRefusal.{AtRefusal}
 use Rattle.pfx_program.specs.declared.report.Report.{Report}
@@ -23,7 +23,7 @@ use Rattle.pfx_store_engine.specs.Surviving.{Survives}
 use Rattle.pfx_store_engine.proofs.Keeps.{survives_more}
 use Rattle.pfx_store_engine.proofs.Promising.{promise}
 
-module _ {E : Type 0} (view : E → View) (failed_by : E → Option Cause) (kept : E → Plain AnyJob) (may : Cause → Type 0) (form : Form) where
+module _ {E : Type 0} (view : E → View) (failed_by : E → Option Cause) (kept : E → Plain AnyJob) (may : Cause → Type 0) (form : OutputForm) where
   -- what was printed at a halt
   part_of : (reading : Type 0) (faults : Plain AnyJob → Fault → Type 0) (s : Plain AnyJob) (text : List ℕ) (tried : List Step) (t : Plain AnyJob) (was is : Option (List ℕ)) (f : Fault) → Halts reading faults s text tried t was is f
       → (part : List ℕ) × Appends was is (text ++ part)

@@ -32,7 +32,7 @@ use Rattle.pfx_machine.specs.Outcome.{outcome}
 use Rattle.pfx_machine.specs.Plain.{Plain}
 use Rattle.pfx_machine.specs.declared.command.Command.{Command}
 use Rattle.pfx_program.proofs.StepLemmas.{commands_append}
-use Rattle.pfx_program.specs.declared.form.Form.{Form}
+use Rattle.pfx_program.specs.declared.form.OutputForm.{OutputForm}
 use Rattle.pfx_program.specs.Running.{Carried, Ends, Halts, Runs, Stopped, first_text}
 use Rattle.pfx_program.specs.Script.{Step, at_start, course_from, taken, text_of}
 use Rattle.pfx_program.specs.declared.report.AtRefusal.{AtRefusal}
@@ -87,7 +87,7 @@ session_alone K B r n notes h =
     first [] = []
     first (x ∷ xs) = x
 
-module _ (form : Form) (at_refusal : AtRefusal) (B : Plain AnyJob) (r : Register AnyJob) (disk : View) (began : ℕ) (b : List (Note AnyJob)) (session : r.history ≡ alone b) (accepted : r.session.accepted ≡ commands_of r.history) where
+module _ (form : OutputForm) (at_refusal : AtRefusal) (B : Plain AnyJob) (r : Register AnyJob) (disk : View) (began : ℕ) (b : List (Note AnyJob)) (session : r.history ≡ alone b) (accepted : r.session.accepted ≡ commands_of r.history) where
   as_engine : (H : List (Command AnyJob)) (n m : ℕ) (image : List ℕ) → r.session.accepted ≡ H → B.number + n ≤ m → Survives any_kind B r.session.accepted m image → engine.Survives any_kind B H n image
   as_engine H n m image are le v =
       let most = v.at_most in
@@ -185,7 +185,7 @@ module _ (form : Form) (at_refusal : AtRefusal) (B : Plain AnyJob) (r : Register
         by_end x y none end held lines h.records failed was is most result known ends
 
 -- a run whose front didn't start
-pub unserved : (form : Form) (at_refusal : AtRefusal) (B : Plain AnyJob) (disk : View) (lines : Records) (failed : Bool) (was : Option (List ℕ)) (f : Fault) → (f ≡ fault.NoThread) ⊎ (f ≡ fault.NoMemory)
+pub unserved : (form : OutputForm) (at_refusal : AtRefusal) (B : Plain AnyJob) (disk : View) (lines : Records) (failed : Bool) (was : Option (List ℕ)) (f : Fault) → (f ≡ fault.NoThread) ⊎ (f ≡ fault.NoMemory)
     → (IsHonest disk → (image : List ℕ) → disk.now image → recovered (format any_kind) image ≡ Ok B) → IsServedRun form at_refusal B lines failed was was disk (Err f)
 unserved form at_refusal B disk lines failed was f why images = record {
   records = rest.0;
@@ -220,7 +220,7 @@ fresh_images start s failed now broken disk fresh honest image here =
 
 -- a run on a disk that told its calls was one on the disk itself
 pub told_run : (held : Type 0) (image : List ℕ) (first before : ℕ) (made : List Made) (late : ℕ) (failed : Bool) (disk : View)
-    → GoesAlong held image first before made late failed disk → (form : Form) (at_refusal : AtRefusal) (B : Plain AnyJob) (lines : Records) (stopped : Bool)
+    → GoesAlong held image first before made late failed disk → (form : OutputForm) (at_refusal : AtRefusal) (B : Plain AnyJob) (lines : Records) (stopped : Bool)
     (was is : Option (List ℕ)) (result : Result Report Fault)
     → IsServedRun form at_refusal B lines stopped was is (charted held image first before made late failed) result
     → IsServedRun form at_refusal B lines stopped was is disk result

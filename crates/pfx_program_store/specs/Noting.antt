@@ -11,7 +11,7 @@ use Rattle.pfx_kinds.specs.AnyKind.{any_kind}
 use Rattle.pfx_kinds.specs.declared.any.AnyJob.{AnyJob}
 use Rattle.pfx_machine.specs.Outcome.{outcome}
 use Rattle.pfx_machine.specs.Plain.{Plain}
-use Rattle.pfx_program.specs.declared.form.Form.{Form}
+use Rattle.pfx_program.specs.declared.form.OutputForm.{OutputForm}
 use Rattle.pfx_program.specs.Script.{Step, at_start, commands_of, course_from, taken}
 use Rattle.pfx_program.specs.declared.report.AtRefusal.{AtRefusal}
 use Rattle.pfx_program.specs.declared.report.Report.{Report}
@@ -30,7 +30,7 @@ IsAloneFault may s printed other = IsStop may (outcome any_kind s (commands_of p
 -- held these bytes, each image that a stop may leave behind the calls that were made on it is recovered to the outcome of a beginning of
 -- the course's commands which holds each one that was printed. An honest disk is shown to have held them, and the images that a stop now
 -- may leave on it are recovered so.
-pub record IsNotedRun (may : Cause → Type 0) (form : Form) (at_refusal : AtRefusal) (s : Plain AnyJob) (script : Records) (failed : Bool) (was is : Option (List ℕ)) (held : Type 0)
+pub record IsNotedRun (may : Cause → Type 0) (form : OutputForm) (at_refusal : AtRefusal) (s : Plain AnyJob) (script : Records) (failed : Bool) (was is : Option (List ℕ)) (held : Type 0)
     (image : List ℕ) (made : List Made) (disk : View) (left : Plain AnyJob) (result : Result Report Fault) : Type 0 where
   pub records : List Fields
   pub known : IfSome script.left (λ all. taken at_refusal (at_start form s) all ≡ records)

@@ -7,7 +7,7 @@ use Rattle.pfx_fault.specs.declared.refusals.Fault.{Fault}
 use Rattle.pfx_fault.specs.declared.refusals.Fault.TheVariants as fault
 use Rattle.pfx_kinds.specs.declared.any.AnyJob.{AnyJob}
 use Rattle.pfx_machine.specs.Plain.{Plain}
-use Rattle.pfx_program.specs.declared.form.Form.{Form}
+use Rattle.pfx_program.specs.declared.form.OutputForm.{OutputForm}
 use Rattle.pfx_program.specs.Script.{Step, at_start, commands_of, course_from, taken}
 use Rattle.pfx_program.specs.declared.report.AtRefusal.{AtRefusal}
 use Rattle.pfx_program.specs.declared.report.Report.{Report}
@@ -23,7 +23,7 @@ IsServedFault printed other = MayEndRun other
 -- The records are those that the run takes of the script's, as far as it is known. Of their course from the state on some first steps were printed, whole, and
 -- the run ended so after them. Each image that a stop now may leave is recovered to the outcome of a beginning of the course's
 -- commands which holds each one that was printed, if the disk is honest.
-pub record IsServedRun (form : Form) (at_refusal : AtRefusal) (s : Plain AnyJob) (script : Records) (failed : Bool) (was is : Option (List ℕ)) (disk : View)
+pub record IsServedRun (form : OutputForm) (at_refusal : AtRefusal) (s : Plain AnyJob) (script : Records) (failed : Bool) (was is : Option (List ℕ)) (disk : View)
     (result : Result Report Fault) : Type 0 where
   pub records : List Fields
   pub known : IfSome script.left (λ all. taken at_refusal (at_start form s) all ≡ records)

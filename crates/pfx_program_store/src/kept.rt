@@ -18,7 +18,7 @@ use pfx_jobs::quantum::{Done, Quantum};
 use pfx_kinds::any::AnyJob;
 use pfx_program::{Report, Run, run_script};
 use pfx_program_script::Script;
-use pfx_store::Keeper;
+use pfx_store::BatchKeeper;
 use std::alloc::Global;
 use std::io::{Read, Write};
 use std::marker::PhantomData;
@@ -28,7 +28,7 @@ use std::time::Clock;
 
 /// What a run over a front at a keeper leaves.
 #[derive(Drop)]
-pub struct Kept<D: Disk, S: Keeper<D, AnyJob> + Drop> {
+pub struct Kept<D: Disk, S: BatchKeeper<D, AnyJob> + Drop> {
     /// What keeps the store.
     pub keeper: S,
     /// What the run answered.
@@ -47,7 +47,7 @@ fn start_fault(fault: StartFault) -> Fault
 }
 
 /// Never returns.
-fn never<D: Disk, S: Keeper<D, AnyJob> + Drop, R: Wait>(rt: &R) -> Kept<D, S>
+fn never<D: Disk, S: BatchKeeper<D, AnyJob> + Drop, R: Wait>(rt: &R) -> Kept<D, S>
     ensures { ⊥ }
 {
     for _ in rt.forever() {}
@@ -61,7 +61,7 @@ pub fn serve_kept<
     W: Write,
     D: Disk + Logged<B> + Drop + Send + 'static,
     B: Since<AnyJob> + Send + Sync + 'static,
-    S: Keeper<D, AnyJob> + Drop + Send + 'static,
+    S: BatchKeeper<D, AnyJob> + Drop + Send + 'static,
     K: Desk<Quantum<AnyJob>, Done<AnyJob>> + Drop + Send + Sync + 'static,
     R: Threads + Wait + Clock + Copy + Drop + Send + Sync + 'static,
 >(

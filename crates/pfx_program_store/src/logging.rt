@@ -10,7 +10,7 @@ ghost use Rattle.pfx_log_store.specs.Working.{failure_beside};
 use crate::running::run_durable;
 use pfx_disk::Disk;
 use pfx_disk_chronicle::chronicle::Logged;
-use pfx_disk_chronicle::list::{Moment, Opened};
+use pfx_disk_chronicle::list::{Moment, UnnamedCalls};
 use pfx_disk_chronicle::name::Charted;
 use pfx_fault::Fault;
 use pfx_kinds::any::AnyJob;
@@ -42,7 +42,7 @@ pub struct LoggedRun<D: Disk, L: Disk, B: Charted> {
 /// If the store's disk fails or the log can't be brought up the run ends with `StoreFailed`, and its cause says which: `Device`, or `Log`.
 pub fn run_logged<R: Read + Drop, W: Write, D: Disk, L: Disk, B: Charted>(
     alloc: Global,
-    list: Opened,
+    list: UnnamedCalls,
     beside: LoggedStore<D, L, AnyJob>,
     script: &mut Script<R>,
     run: Run,

@@ -15,7 +15,7 @@ ghost use Rattle.pfx_program_store.specs.Noting.{IsNotedRun};
 use crate::running::run_durable;
 use pfx_disk::Disk;
 use pfx_disk_chronicle::chronicle::Logged;
-use pfx_disk_chronicle::list::{Moment, Opened};
+use pfx_disk_chronicle::list::{Moment, UnnamedCalls};
 use pfx_disk_chronicle::name::Charted;
 use pfx_fault::Fault;
 use pfx_kinds::any::AnyJob;
@@ -45,7 +45,7 @@ pub struct NotedRun<D: Disk, B: Charted> {
 /// whose line was printed. An honest disk is shown to have held them, and a stop leaves no other image on it; of a file it is the premise.
 pub fn run_noted<R: Read + Drop, W: Write, D: Disk, B: Charted>(
     alloc: Global,
-    list: Opened,
+    list: UnnamedCalls,
     store: Store<D, AnyJob>,
     script: &mut Script<R>,
     run: Run,

@@ -15,7 +15,7 @@ use pfx_fault::Fault;
 use pfx_kinds::any::AnyJob;
 use pfx_program::{Report, Run, run_script};
 use pfx_program_script::Script;
-use pfx_store::Keeper;
+use pfx_store::BatchKeeper;
 use pfx_store_engine::{DurableEngine, Engine};
 use std::alloc::Global;
 use std::io::{Read, Write};
@@ -28,7 +28,7 @@ use std::io::{Read, Write};
 /// A printed line is a receipt: whatever the run answers, each image that a stop may leave after it is recovered to the
 /// outcome of a beginning of the script's accepted commands which holds every command whose line was printed. It takes an
 /// honest disk, and a store that was whole and all of whose images were those of its state, as `init` and `open` leave it.
-pub fn run_durable<R: Read + Drop, W: Write, D: Disk, K: Keeper<D, AnyJob>>(
+pub fn run_durable<R: Read + Drop, W: Write, D: Disk, K: BatchKeeper<D, AnyJob>>(
     alloc: Global,
     script: &mut Script<R>,
     run: Run,

@@ -21,4 +21,4 @@ pub mod laws;
 mod recording;
 
 pub use applying::{apply_all, apply_record, apply_reweigh, is_common};
-pub use recording::{Recorded, prepare_recorded, run_recorded};
+pub use recording::{Recorded, apply_recorded, prepare_recorded};

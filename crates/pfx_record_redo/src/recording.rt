@@ -124,7 +124,7 @@ fn run_reweigh<J: Job>(
 
 /// Runs a whole command on the state, as `State::apply` does, and records it: the record is right at the state before.
 /// `NoRow(NoMemory)` comes only for a Slot or a Reweigh, if an allocation failed.
-pub fn run_recorded<J: Job>(
+pub fn apply_recorded<J: Job>(
     alloc: Global,
     state: &mut State<J>,
     command: Command<J>,

@@ -25,7 +25,7 @@ use pfx_jobs::job::Job;
 use pfx_kinds::units::Units;
 use pfx_store::{FileFormat, FileHeader};
 use pfx_store_file::Places;
-use pfx_store_recover::{OpenFault, Opened, Refusal, open};
+use pfx_store_recover::{OpenFault, OpenedFile, Refusal, open};
 use std::alloc::Global;
 
 /// All bytes of a disk, of which there are so many.
@@ -100,7 +100,7 @@ pub fn replay<J: Job + Units, D: Disk>(
     ensures device { IfErr result (λ e. e.0 ≡ OpenFault.Device → HasFailed (D.view disk) (D.view e.1)) }
     ensures looks { MatchResult result (λ r. Looks (D.view disk) (D.view r.1)) (λ e. Looks (D.view disk) (D.view e.1)) }
 {
-    let Opened { file, header, .. } = match open::<FileFormat<J>, D>(alloc, disk) {
+    let OpenedFile { file, header, .. } = match open::<FileFormat<J>, D>(alloc, disk) {
         Ok(opened) => opened,
         Err(fault) => return Err(fault),
     };

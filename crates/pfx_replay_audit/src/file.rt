@@ -26,7 +26,7 @@ use pfx_record::Record;
 use pfx_replay::{PlainState, file_frames, read_image, records_behind, state_in};
 use pfx_store::{FileFormat, FileHeader};
 use pfx_store_file::Places;
-use pfx_store_recover::{Format, OpenFault, Opened, Refusal, open};
+use pfx_store_recover::{Format, OpenFault, OpenedFile, Refusal, open};
 use std::alloc::{AllocError, Global};
 
 /// What a store's file has of a history: the states that it holds, and its records.
@@ -208,7 +208,7 @@ pub fn read_file<J: Job, D: Disk>(
     ensures device { IfErr result (λ e. e.0 ≡ OpenFault.Device → HasFailed (D.view disk) (D.view e.1)) }
     ensures looks { MatchResult result (λ r. Looks (D.view disk) (D.view r.1)) (λ e. Looks (D.view disk) (D.view e.1)) }
 {
-    let Opened {
+    let OpenedFile {
         file,
         header,
         state,

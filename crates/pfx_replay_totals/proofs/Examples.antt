@@ -8,13 +8,13 @@ use Rattle.pfx_replay_totals.specs.Lines.{count_cells, counts_text, csv_line, de
 use Rattle.pfx_replay_totals.specs.Slots.{Slot}
 use Rattle.pfx_replay_totals.specs.Windows.{Window, alone, windows, windows_from}
 use Rattle.pfx_replay_totals.specs.declared.choice.Choice.{Choice}
-use Rattle.pfx_replay_totals.specs.declared.share.Share.{Share}
+use Rattle.pfx_replay_totals.specs.declared.share.SlotShare.{SlotShare}
 
 -- a task of weight 1/2: whether it got the slot, whether it had an open job, and its lag's numerator at the end
-abbrev half : Bool → Bool → ℤ → List Share
+abbrev half : Bool → Bool → ℤ → List SlotShare
 half got busy lag = record { e = 1; p = 2; got = got; busy = busy; lag = lag } ∷ []
 
-abbrev slot : ℕ → ℕ → List Share → Slot
+abbrev slot : ℕ → ℕ → List SlotShare → Slot
 slot at since shares = record { at = at; since = since; shares = shares }
 
 -- three slots: it got the first with an open job, not the second, and the third with none

@@ -5,7 +5,7 @@ use Rattle.std.specs.Prelude.{Bool, ℤ}
 use Rattle.pfx_columns.specs.Ledgers.{Ledger, IsLedger, task, total}
 use Rattle.pfx_columns.proofs.Shown.{filled_weight}
 use Rattle.pfx_columns.proofs.Steps.{fair_below}
-use Rattle.pfx_replay_totals.specs.declared.share.Share.{Share}
+use Rattle.pfx_replay_totals.specs.declared.share.SlotShare.{SlotShare}
 
 module _ (g : Ledger) (x : ℕ) (kept : IsLedger g) (real : x < g.set.real) where
   pub within : x < total g
@@ -29,7 +29,7 @@ module _ (g : Ledger) (x : ℕ) (kept : IsLedger g) (real : x < g.set.real) wher
   pub got_is : (a : ℕ) → a ≡ get_or g.allocs x a → a ≡ get_or g.allocs x 0
   got_is a is = is ∙ get_or_default g.allocs x a 0 (omega (arith, kept.length, within))
 
-abbrev pub made : ℕ → ℕ → Bool → Bool → ℤ → Share
+abbrev pub made : ℕ → ℕ → Bool → Bool → ℤ → SlotShare
 made e p got busy lag = record { e = e; p = p; got = got; busy = busy; lag = lag }
 
 pub same_share : {e p e' p' : ℕ} {got busy got' busy' : Bool} {lag lag' : ℤ} → e ≡ e' → p ≡ p' → got ≡ got' → busy ≡ busy' → lag ≡ lag' → made e p got busy lag ≡ made e' p' got' busy' lag'

@@ -6,12 +6,12 @@ use Rattle.pfx_replay_totals.specs.Figures.{Figures, all_figures, figures, great
 use Rattle.pfx_replay_totals.specs.Slots.{Slot}
 use Rattle.pfx_replay_totals.specs.Windows.{Window as Slots, end_of, windows}
 use Rattle.pfx_replay_totals.specs.declared.choice.Choice.{Choice}
-use Rattle.pfx_replay_totals.specs.declared.share.Share.{Share}
+use Rattle.pfx_replay_totals.specs.declared.share.SlotShare.{SlotShare}
 use Rattle.pfx_replay_totals.specs.declared.totals.Totals.{Totals}
 use Rattle.pfx_replay_totals.specs.declared.window.Window.{Window}
 
 -- the figures of the first slot's share
-abbrev pub begun : ℕ → ℕ → Share → Figures
+abbrev pub begun : ℕ → ℕ → SlotShare → Figures
 begun at x s = record {
   from = at;
   to = at + 1;
@@ -27,7 +27,7 @@ begun at x s = record {
 }
 
 -- figures with a share more
-abbrev pub more : Figures → Share → Figures
+abbrev pub more : Figures → SlotShare → Figures
 more f s = record {
   from = f.from;
   to = f.to + 1;

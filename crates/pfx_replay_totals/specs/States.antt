@@ -11,11 +11,11 @@ use Rattle.pfx_record.specs.Records.{Recorded, submitted, ran, withdrawn, reweig
 use Rattle.pfx_replay.specs.Commands.{command_of}
 use Rattle.pfx_weights.specs.Rows.{is_in, one}
 use Rattle.pfx_replay_totals.specs.Slots.{Slot}
-use Rattle.pfx_replay_totals.specs.declared.share.Share.{Share}
+use Rattle.pfx_replay_totals.specs.declared.share.SlotShare.{SlotShare}
 
 module _ {J : Type 0} (K : Kind J) where
   -- a task's share of a slot with this row: whether it had an open job is a matter of the state before, and its lag is that behind the slot
-  abbrev pub share_in : Plain J → List ℕ → ℕ → Share
+  abbrev pub share_in : Plain J → List ℕ → ℕ → SlotShare
   share_in s row x = record {
     e = (task s.ledger x).e;
     p = (task s.ledger x).p;

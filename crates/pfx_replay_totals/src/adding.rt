@@ -5,7 +5,7 @@ ghost use Rattle.pfx_replay_totals.specs.Figures.{due_of, figures, greater, less
 ghost use Rattle.pfx_replay_totals.specs.Kept.{IsShare};
 ghost use Rattle.pfx_weights.specs.Rows.{one};
 
-use crate::share::Share;
+use crate::share::SlotShare;
 use crate::total::Total;
 
 /// The number one for what holds, else none.
@@ -17,14 +17,14 @@ pub(crate) fn one(holds: bool) -> u64
 }
 
 // Whether the task had an open job in the slot that it got.
-fn is_used(share: Share) -> bool
+fn is_used(share: SlotShare) -> bool
     ensures { result ≡ (share.got && share.busy) }
 {
     share.got && share.busy
 }
 
 // Whether it had none.
-fn is_wasted(share: Share) -> bool
+fn is_wasted(share: SlotShare) -> bool
     ensures { result ≡ (share.got && not share.busy) }
 {
     share.got && !share.busy
@@ -44,7 +44,7 @@ fn greater(one: i64, other: i64) -> i64
 
 impl Total {
     /// The totals of a window of one slot.
-    pub(crate) fn begin(at: u64, task: usize, share: Share) -> Total
+    pub(crate) fn begin(at: u64, task: usize, share: SlotShare) -> Total
         requires early { at < 2 ^ 40 }
         requires kept { IsShare share }
         ensures { figures result ≡ begun at task share }
@@ -65,7 +65,7 @@ impl Total {
     }
 
     /// The totals with a slot more.
-    pub(crate) fn with(&self, share: Share) -> Total
+    pub(crate) fn with(&self, share: SlotShare) -> Total
         requires { self.now.to < 2 ^ 40 }
         ensures { figures result ≡ more (figures self.now) share }
     {

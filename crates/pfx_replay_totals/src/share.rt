@@ -2,7 +2,7 @@
 
 /// What one slot gave one task.
 #[derive(Clone, Copy, Debug, PartialEq, Eq)]
-pub struct Share {
+pub struct SlotShare {
     /// The numerator of its weight.
     pub e: u32,
     /// The period, the weight's denominator.

@@ -2,7 +2,7 @@
 ghost use Rattle.std.specs.Prelude.{◌<◌, ◌^◌, All};
 ghost use Rattle.pfx_replay_totals.specs.Kept.{IsShare};
 
-use crate::share::Share;
+use crate::share::SlotShare;
 
 /// A slot that ran, and what it gave to each task.
 #[derive(Drop)]
@@ -12,7 +12,7 @@ pub struct SlotShares {
     /// The slot at which the weights in force came into force.
     pub since: u64,
     /// Each real task's share.
-    pub shares: Vec<Share>,
+    pub shares: Vec<SlotShare>,
     ghost early: { at < 2 ^ 40 },
     ghost kept: { All IsShare shares.items },
 }

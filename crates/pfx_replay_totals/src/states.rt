@@ -10,7 +10,7 @@ ghost use Rattle.pfx_replay_totals.specs.Slots.{slot_of};
 ghost use Rattle.pfx_replay_totals.specs.States.{share_in, slot_in};
 
 use crate::adding::one;
-use crate::share::Share;
+use crate::share::SlotShare;
 use crate::slot::SlotShares;
 use pfx_jobs::job::Job;
 use pfx_record::Place;
@@ -51,14 +51,14 @@ fn lag_of(e: u32, p: u32, got: u64, slot: u64) -> i64
 }
 
 // A real task's share of a slot with this row.
-fn share_in<J: Job>(state: &PlainState<J>, row: &[Place<J>], task: usize) -> Share
+fn share_in<J: Job>(state: &PlainState<J>, row: &[Place<J>], task: usize) -> SlotShare
     requires { task < state.now.ledger.real }
     ensures share { result ≡ share_in J.kind (plain_of state.now) (tasks_of row.now) task }
     ensures kept { IsShare result }
 {
     let (e, p) = state.ledger.weights[task];
     let got = is_in(row, task);
-    Share {
+    SlotShare {
         e,
         p,
         got,

@@ -8,14 +8,14 @@ ghost use Rattle.pfx_replay_totals.specs.Windows.{Window as Slots, alone, joins,
 ghost use Rattle.pfx_replay_totals.specs.declared.choice.Choice.{Choice};
 
 use crate::choice::{Choice, is_below};
-use crate::share::Share;
+use crate::share::SlotShare;
 use crate::slot::SlotShares;
 use crate::total::Total;
 use crate::window::Window;
 use std::alloc::{AllocError, Global};
 
 /// No task's share: the weight and the lag are zero, and it got nothing.
-const NO_SHARE: Share = Share {
+const NO_SHARE: SlotShare = SlotShare {
     e: 0,
     p: 0,
     got: false,
@@ -24,7 +24,7 @@ const NO_SHARE: Share = Share {
 };
 
 // A task's share of a slot.
-fn share_of(slot: &SlotShares, task: usize) -> Share
+fn share_of(slot: &SlotShares, task: usize) -> SlotShare
     ensures { result ≡ share_of (slot_of slot.now) task }
 {
     match slot.shares.get(task) {

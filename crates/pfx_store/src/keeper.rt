@@ -13,7 +13,7 @@ use pfx_record::Batch;
 use pfx_store_file::Tended;
 
 /// What keeps batches in a store.
-pub trait Keeper<D: Disk, J: Job> {
+pub trait BatchKeeper<D: Disk, J: Job> {
     ghost use Rattle.std.specs.Prelude.{◌≡◌, false, Option, None, map};
     ghost use Rattle.pfx_fault.specs.declared.fields.Cause.{Cause};
     ghost use Rattle.pfx_record.specs.Batches.{batch_bytes, batch_of};
@@ -60,7 +60,7 @@ pub trait Keeper<D: Disk, J: Job> {
         ensures { KeepsTending D.view J.kind (kept self.old) (kept self.new) (failed self.old) (failed self.new) result };
 }
 
-impl<D: Disk, J: Job> Keeper<D, J> for Store<D, J> {
+impl<D: Disk, J: Job> BatchKeeper<D, J> for Store<D, J> {
     ghost kept = { λ store. store };
 
     ghost failed = { λ store. failure_of store };

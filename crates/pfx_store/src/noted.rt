@@ -8,7 +8,7 @@ use crate::journal::Journal;
 use crate::store::Store;
 use pfx_disk::Disk;
 use pfx_disk_chronicle::chronicle::Chronicle;
-use pfx_disk_chronicle::list::Opened;
+use pfx_disk_chronicle::list::UnnamedCalls;
 use pfx_disk_chronicle::name::Charted;
 use pfx_jobs::job::Job;
 use pfx_store_file::StoreFile;
@@ -19,7 +19,7 @@ impl<D: Disk, J: Job> Store<D, J> {
     /// `list` has that name. The store isn't broken, and the name has the moment and the failures of the disk. What the disk held
     /// is a premise: an honest disk is shown to meet it, with these bytes and no others; and under it these bytes stand for the
     /// store. Of a file nothing is shown, so whoever names the list says what has to hold of the file.
-    pub fn noted<B: Charted>(self, list: Opened) -> Store<Chronicle<D, B>, J>
+    pub fn noted<B: Charted>(self, list: UnnamedCalls) -> Store<Chronicle<D, B>, J>
         requires list { list.seen.book ≡ B.calls }
         requires whole { self.file.broken ≡ false }
         requires moment { ((D.view self.file.disk).clock ≡ B.clock) × ((D.view self.file.disk).failures ≡ B.failures) }

@@ -23,7 +23,7 @@ use pfx_jobs::job::Job;
 use pfx_machine::State;
 use pfx_record::batch_most;
 use pfx_store_file::StoreFile;
-use pfx_store_recover::{OpenFault, Opened, open};
+use pfx_store_recover::{OpenFault, OpenedFile, open};
 use std::alloc::{AllocError, Global};
 
 // How many bytes the longest frame takes, be it of rows or of new weights, with the closed gate behind it.
@@ -106,7 +106,7 @@ impl<D: Disk, J: Job> Store<D, J> {
         match open::<FileFormat<J>, D>(alloc, disk) {
             Err(fault) => Err(fault),
             Ok(opened) => {
-                let Opened {
+                let OpenedFile {
                     file,
                     header,
                     state,

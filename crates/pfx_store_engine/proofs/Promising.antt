@@ -19,8 +19,8 @@ use Rattle.pfx_fault.specs.declared.refusals.Fault.{Fault}
 use Rattle.pfx_fault.specs.declared.refusals.Fault.TheVariants as fault
 use Rattle.pfx_machine.specs.Runs.{answer}
 use Rattle.pfx_store_engine.specs.Promises.{Promise, AreNotDone, IsSame, IsInDoubt, IsLeftBy, IsEngineFault, IsNotDone}
-use Rattle.pfx_store_engine.specs.declared.engine.CallFault.{CallFault}
-use Rattle.pfx_store_engine.specs.declared.engine.CallFault.TheVariants as callfault
+use Rattle.pfx_store_engine.specs.declared.engine.EngineFault.{EngineFault}
+use Rattle.pfx_store_engine.specs.declared.engine.EngineFault.TheVariants as enginefault
 use Rattle.pfx_store_engine.specs.Failing.{Fails, IsLook, IsStop, NotAccepted, Stops, last_kept, stopped_at}
 use Rattle.pfx_store_engine.specs.Failing as failing
 use Rattle.pfx_store_engine.specs.Surviving.{KeepsAll}
@@ -92,8 +92,8 @@ some_cause : (a b : Cause) → Some a ≡ Some b → a ≡ b
 some_cause a b same = cc
 
 -- what is answered of it
-abbrev failed_call : {T : Type 0} → Fault → Result T CallFault
-failed_call f = Err (callfault.Failed f)
+abbrev failed_call : {T : Type 0} → Fault → Result T EngineFault
+failed_call f = Err (enginefault.Failed f)
 
 abbrev pub an_err : {T : Type 0} → Fault → Result T Fault
 an_err f = Err f
@@ -147,36 +147,36 @@ pub look_starved : {E T : Type 0} (was : Option Cause) (marked n : ℕ) (a : E) 
 look_starved was marked n a is = record { stopped = λ cause failed. absurd (let e = sym (kept_whole was marked n (sym is)) ∙ failed in cc); whole = λ none. refl; stays = refl }
 
 -- why a call stops: something had failed before, or nothing had
-pub fails_more : (marked : ℕ) (known : Cause → Type 0) (one other : Type 0) (why : CallFault) → (one → other) → Fails 0 (λ cause. ⊥) one why → Fails marked known other why
-fails_more marked known one other (callfault.Refused f) more fails = more fails
-fails_more marked known one other (callfault.Failed f) more fails = by f fails
+pub fails_more : (marked : ℕ) (known : Cause → Type 0) (one other : Type 0) (why : EngineFault) → (one → other) → Fails 0 (λ cause. ⊥) one why → Fails marked known other why
+fails_more marked known one other (enginefault.Refused f) more fails = more fails
+fails_more marked known one other (enginefault.Failed f) more fails = by f fails
   where
-    by : (f : Fault) → Fails 0 (λ cause. ⊥) one (callfault.Failed f) → Fails marked known other (callfault.Failed f)
+    by : (f : Fault) → Fails 0 (λ cause. ⊥) one (enginefault.Failed f) → Fails marked known other (enginefault.Failed f)
     by fault.NoMemory fails = more fails
     by another fails = absurd fails.2
 
 -- of the cause less is known
-pub fails_known : (marked : ℕ) (known less : Cause → Type 0) (unchanged : Type 0) (why : CallFault) → ((cause : Cause) → known cause → less cause) → Fails marked known unchanged why → Fails marked less unchanged why
-fails_known marked known less unchanged (callfault.Refused f) so fails = fails
-fails_known marked known less unchanged (callfault.Failed f) so fails = by f fails
+pub fails_known : (marked : ℕ) (known less : Cause → Type 0) (unchanged : Type 0) (why : EngineFault) → ((cause : Cause) → known cause → less cause) → Fails marked known unchanged why → Fails marked less unchanged why
+fails_known marked known less unchanged (enginefault.Refused f) so fails = fails
+fails_known marked known less unchanged (enginefault.Failed f) so fails = by f fails
   where
-    by : (f : Fault) → Fails marked known unchanged (callfault.Failed f) → Fails marked less unchanged (callfault.Failed f)
+    by : (f : Fault) → Fails marked known unchanged (enginefault.Failed f) → Fails marked less unchanged (enginefault.Failed f)
     by fault.NoMemory fails = fails
     by another fails = (fails.0, fails.1, so fails.0 fails.2)
 
 pub stops_failed : {T : Type 0} (marked : ℕ) (was : Option Cause) (known : Cause → Type 0) (unchanged : Type 0) (f : Fault) (cause : Cause) → Some cause ≡ was → f ≡ stopped_at marked cause → known cause → unchanged
-    → Stops {T = T} marked was known unchanged (Err (callfault.Failed f))
+    → Stops {T = T} marked was known unchanged (Err (enginefault.Failed f))
 stops_failed {T = T} marked was known unchanged f cause before told is same = record {
-  fails = subst (λ (g : Fault). Fails marked known unchanged (callfault.Failed g)) (sym told) (cause, refl, is);
+  fails = subst (λ (g : Fault). Fails marked known unchanged (enginefault.Failed g)) (sym told) (cause, refl, is);
   stopped = λ other failed. (ap (λ (g : Fault). failed_call {T = T} g) (told ∙ ap (stopped_at marked) (some_cause cause other (before ∙ failed))), same);
 }
 
-pub stops_refused : {T : Type 0} (marked : ℕ) (was : Option Cause) (known : Cause → Type 0) (unchanged : Type 0) (why : CallFault) → None ≡ was → Fails marked known unchanged why → Stops {T = T} marked was known unchanged (Err why)
+pub stops_refused : {T : Type 0} (marked : ℕ) (was : Option Cause) (known : Cause → Type 0) (unchanged : Type 0) (why : EngineFault) → None ≡ was → Fails marked known unchanged why → Stops {T = T} marked was known unchanged (Err why)
 stops_refused marked was known unchanged why before fails = record { fails = fails; stopped = λ other failed. absurd (let e = before ∙ failed in cc) }
 
-pub stops_failing : {T : Type 0} (marked : ℕ) (was : Option Cause) (known : Cause → Type 0) (unchanged : Type 0) (f : Fault) (cause : Cause) → None ≡ was → f ≡ stopped_at marked cause → known cause → Stops {T = T} marked was known unchanged (Err (callfault.Failed f))
+pub stops_failing : {T : Type 0} (marked : ℕ) (was : Option Cause) (known : Cause → Type 0) (unchanged : Type 0) (f : Fault) (cause : Cause) → None ≡ was → f ≡ stopped_at marked cause → known cause → Stops {T = T} marked was known unchanged (Err (enginefault.Failed f))
 stops_failing marked was known unchanged f cause before told is =
-    stops_refused marked was known unchanged (callfault.Failed f) before (subst (λ (g : Fault). Fails marked known unchanged (callfault.Failed g)) (sym told) (cause, refl, is))
+    stops_refused marked was known unchanged (enginefault.Failed f) before (subst (λ (g : Fault). Fails marked known unchanged (enginefault.Failed g)) (sym told) (cause, refl, is))
 
 pub stops_ok : {T : Type 0} (marked : ℕ) (was : Option Cause) (known : Cause → Type 0) (unchanged : Type 0) (x : T) → None ≡ was → Stops marked was known unchanged (Ok x)
 stops_ok marked was known unchanged x before = record { fails = tt; stopped = λ other failed. absurd (let e = before ∙ failed in cc) }
@@ -194,10 +194,10 @@ module _ {J : Type 0} (K : Kind J) {E : Type 0} (view : E → View) (failed : E 
     keeps = λ a H n b. KeepsFrom K (view a) (failed a) (kept a) H n (view b) (kept b);
   }
 
-  pub not_done : (c : Command J) (a b : E) (run next : Plain J) (known : Cause → Type 0) (same : Type 0) (why : CallFault) → (failed a ≡ None → run ≡ kept a) → NotAccepted K run c next why → kept b ≡ kept a
+  pub not_done : (c : Command J) (a b : E) (run next : Plain J) (known : Cause → Type 0) (same : Type 0) (why : EngineFault) → (failed a ≡ None → run ≡ kept a) → NotAccepted K run c next why → kept b ≡ kept a
       → (failed a ≡ None → failing.IsInDoubt K run c why) → Fails (kept a).number known same why → ((cause : Cause) → known cause → may cause)
       → (same → KeepsFrom K (view a) (failed a) (kept a) [] 0 (view b) (kept b) × (failed a ≡ None → failed b ≡ None))
-      → ((cause : Cause) → failed a ≡ Some cause → (why ≡ callfault.Failed (stopped_at (kept a).number cause)) × same)
+      → ((cause : Cause) → failed a ≡ Some cause → (why ≡ enginefault.Failed (stopped_at (kept a).number cause)) × same)
       → (IsAccepted K (kept a) c → KeepsFrom K (view a) (failed a) (kept a) (c ∷ []) 0 (view b) (kept b))
       → IsNotDone K promise c a b why
   not_done c a b run next known same why at refused stays doubt fails could unchanged was keeps = by why refl
@@ -205,38 +205,38 @@ module _ {J : Type 0} (K : Kind J) {E : Type 0} (view : E → View) (failed : E 
       is_same : same → IsSame promise a b
       is_same y = record { state = stays; keeps = (unchanged y).0 }
 
-      whole_by : (o : Option Cause) → failed a ≡ o → (f : MachineFault) → why ≡ callfault.Refused f → failed a ≡ None
+      whole_by : (o : Option Cause) → failed a ≡ o → (f : MachineFault) → why ≡ enginefault.Refused f → failed a ≡ None
       whole_by None is f refused = is
-      whole_by (Some cause) is f refused = absurd (let e : callfault.Refused f ≡ callfault.Failed (stopped_at (kept a).number cause) = sym refused ∙ (was cause is).0 in cc)
+      whole_by (Some cause) is f refused = absurd (let e : enginefault.Refused f ≡ enginefault.Failed (stopped_at (kept a).number cause) = sym refused ∙ (was cause is).0 in cc)
 
-      doubted : (o : Option Cause) → failed a ≡ o → (f : Fault) (cause : Cause) → why ≡ callfault.Failed f → f ≡ stopped_at (kept a).number cause → IsSame promise a b ⊎ IsInDoubt K promise c a b
+      doubted : (o : Option Cause) → failed a ≡ o → (f : Fault) (cause : Cause) → why ≡ enginefault.Failed f → f ≡ stopped_at (kept a).number cause → IsSame promise a b ⊎ IsInDoubt K promise c a b
       doubted (Some before) is f cause told stopped = inl (is_same (was before is).1)
       doubted None is f cause told stopped =
-          let accepted : IsAccepted K run c = subst (failing.IsInDoubt K run c) (told ∙ ap callfault.Failed stopped) (doubt is) in
+          let accepted : IsAccepted K run c = subst (failing.IsInDoubt K run c) (told ∙ ap enginefault.Failed stopped) (doubt is) in
           let mine : IsAccepted K (kept a) c = subst (λ (s : Plain J). IsAccepted K s c) (at is) accepted in
           inr (record { reply = mine.0; accepted = mine.1; state = inl stays; keeps = keeps mine })
 
-      stopped_by : (f : Fault) (cause : Cause) → why ≡ callfault.Failed f → f ≡ stopped_at (kept a).number cause → may cause → IsEngineFault promise.faults (kept a) f × IsLeftBy K promise c a b f
+      stopped_by : (f : Fault) (cause : Cause) → why ≡ enginefault.Failed f → f ≡ stopped_at (kept a).number cause → may cause → IsEngineFault promise.faults (kept a) f × IsLeftBy K promise c a b f
       stopped_by f cause told stopped could_be =
           subst (λ (g : Fault). IsEngineFault promise.faults (kept a) g × IsLeftBy K promise c a b g) (sym stopped) ((cause, could_be, refl), doubted (failed a) refl f cause told stopped)
 
-      failed_by : (f : Fault) → why ≡ callfault.Failed f → Fails (kept a).number known same (callfault.Failed f) → IsNotDone K promise c a b (callfault.Failed f)
+      failed_by : (f : Fault) → why ≡ enginefault.Failed f → Fails (kept a).number known same (enginefault.Failed f) → IsNotDone K promise c a b (enginefault.Failed f)
       failed_by fault.NoMemory told h = (tt, is_same h)
       failed_by other told h = stopped_by other h.0 told h.1 (could h.0 h.2)
 
-      by : (w : CallFault) → why ≡ w → IsNotDone K promise c a b w
-      by (callfault.Refused f) is =
-          let y : same = subst (λ (w : CallFault). Fails (kept a).number known same w) is fails in
+      by : (w : EngineFault) → why ≡ w → IsNotDone K promise c a b w
+      by (enginefault.Refused f) is =
+          let y : same = subst (λ (w : EngineFault). Fails (kept a).number known same w) is fails in
           let no : (answer K run c ≡ Err f) × (next ≡ run) = subst (NotAccepted K run c next) is refused in
           (subst (λ (s : Plain J). answer K s c ≡ Err f) (at (whole_by (failed a) refl f is)) no.0, is_same y, (unchanged y).1)
-      by (callfault.Failed f) is = failed_by f is (subst (λ (w : CallFault). Fails (kept a).number known same w) is fails)
+      by (enginefault.Failed f) is = failed_by f is (subst (λ (w : EngineFault). Fails (kept a).number known same w) is fails)
 
   -- Slots of which none was run
-  pub slots_not_run : (count : ℕ) (a b : E) (run next : Plain J) (unchanged : Type 0) (why : CallFault) → run ≡ kept a → NotAccepted K run Slot next why → Fails 0 (λ cause. ⊥) unchanged why → IsSame promise a b
+  pub slots_not_run : (count : ℕ) (a b : E) (run next : Plain J) (unchanged : Type 0) (why : EngineFault) → run ≡ kept a → NotAccepted K run Slot next why → Fails 0 (λ cause. ⊥) unchanged why → IsSame promise a b
       → (failed a ≡ None → failed b ≡ None) → AreNotDone K promise count a b why
-  slots_not_run count a b run next unchanged (callfault.Refused f) at refused fails same whole = (subst (λ (s : Plain J). answer K s Slot ≡ Err f) at refused.0, same, whole)
-  slots_not_run count a b run next unchanged (callfault.Failed f) at refused fails same whole = by f fails
+  slots_not_run count a b run next unchanged (enginefault.Refused f) at refused fails same whole = (subst (λ (s : Plain J). answer K s Slot ≡ Err f) at refused.0, same, whole)
+  slots_not_run count a b run next unchanged (enginefault.Failed f) at refused fails same whole = by f fails
     where
-      by : (f : Fault) → Fails 0 (λ cause. ⊥) unchanged (callfault.Failed f) → AreNotDone K promise count a b (callfault.Failed f)
+      by : (f : Fault) → Fails 0 (λ cause. ⊥) unchanged (enginefault.Failed f) → AreNotDone K promise count a b (enginefault.Failed f)
       by fault.NoMemory fails = (tt, same)
       by other fails = absurd fails.2

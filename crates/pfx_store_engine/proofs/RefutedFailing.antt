@@ -4,7 +4,7 @@ use Rattle.pfx_fault.specs.declared.fields.Cause.{Cause}
 use Rattle.pfx_fault.specs.declared.fields.Cause.TheVariants as cause
 use Rattle.pfx_fault.specs.declared.refusals.Fault.{Fault}
 use Rattle.pfx_fault.specs.declared.refusals.Fault.TheVariants as fault
-use Rattle.pfx_store_engine.specs.declared.engine.CallFault.TheVariants as callfault
+use Rattle.pfx_store_engine.specs.declared.engine.EngineFault.TheVariants as enginefault
 use Rattle.pfx_store_engine.specs.Failing.{Fails, IsStop, last_kept}
 
 kept : last_kept None 5 ≡ Ok 5
@@ -34,5 +34,5 @@ not_another : (may : Cause → Type 0) → IsStop may 5 fault.NotEmpty → ⊥
 not_another may (why, can, is) = cc
 
 -- a failure is known by its cause
-not_unknown : Fails 5 (λ why. ⊥) ⊥ (callfault.Failed (fault.StoreFailed 5 cause.Device)) → ⊥
+not_unknown : Fails 5 (λ why. ⊥) ⊥ (enginefault.Failed (fault.StoreFailed 5 cause.Device)) → ⊥
 not_unknown (why, is, known) = known

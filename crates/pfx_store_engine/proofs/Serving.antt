@@ -19,8 +19,8 @@ use Rattle.pfx_machine.specs.declared.command.Reply.{Reply}
 use Rattle.pfx_machine.specs.declared.faults.MachineFault.{MachineFault}
 use Rattle.pfx_machine.proofs.Compose.{outcome-none}
 use Rattle.pfx_store_engine.specs.Failing.{NotAccepted}
-use Rattle.pfx_store_engine.specs.declared.engine.CallFault.{CallFault}
-use Rattle.pfx_store_engine.specs.declared.engine.CallFault.TheVariants as callfault
+use Rattle.pfx_store_engine.specs.declared.engine.EngineFault.{EngineFault}
+use Rattle.pfx_store_engine.specs.declared.engine.EngineFault.TheVariants as enginefault
 use Rattle.pfx_store_image.specs.Recovery.{recovered}
 use Rattle.pfx_store_image.proofs.Answers.{not_ok, err_same, ok_same}
 use Rattle.pfx_weights.specs.Sets.{FilledSet, IsFilled}
@@ -37,10 +37,10 @@ refused_by said (Some g) f is = ap Some (err_same {A = Reply} g f is)
 pub limits_refuse : {J : Type 0} (K : Kind J) (s : Plain J) (f : MachineFault) → IsState s → IsEndless s.ledger → refusal K s Slot ≡ Some f → limit_fault s ≡ Some f
 limits_refuse K s f h endless is = sym (slot_refusal K s (ledger_goes_on s.ledger h.ledger endless)) ∙ is
 
-pub served_by : {J : Type 0} (K : Kind J) (s : Plain J) (c : Command J) (new : Plain J) (fault : CallFault) → IsState s → IsEndless s.ledger → NotAccepted K s c new fault → IsServed s c fault
-served_by {J = J} K s c new (callfault.Refused f) h endless why =
+pub served_by : {J : Type 0} (K : Kind J) (s : Plain J) (c : Command J) (new : Plain J) (fault : EngineFault) → IsState s → IsEndless s.ledger → NotAccepted K s c new fault → IsServed s c fault
+served_by {J = J} K s c new (enginefault.Refused f) h endless why =
     λ slot. limits_refuse K s f h endless (refused_by (reply s Slot) (refusal K s Slot) f (subst (λ (d : Command J). answer K s d ≡ Err f) slot why.0))
-served_by K s c new (callfault.Failed f) h endless why = tt
+served_by K s c new (enginefault.Failed f) h endless why = tt
 
 -- an accepted command
 pub endless_after : {J : Type 0} (K : Kind J) (L : Laws K) (s new : Plain J) (c : Command J) → IsState s → IsEndless s.ledger → refusal K s c ≡ None → new ≡ outcome K s (c ∷ []) → IsEndless new.ledger

@@ -12,9 +12,9 @@ use Rattle.pfx_machine.specs.declared.command.Command.TheVariants.{Slot}
 use Rattle.pfx_machine.specs.declared.command.Reply.{Reply}
 use Rattle.pfx_fault.specs.declared.refusals.Fault.{Fault}
 use Rattle.pfx_fault.specs.declared.refusals.Fault.TheVariants as fault
-use Rattle.pfx_store_engine.specs.declared.place.Place.{Place}
-use Rattle.pfx_store_engine.specs.declared.engine.CallFault.{CallFault}
-use Rattle.pfx_store_engine.specs.declared.engine.CallFault.TheVariants as callfault
+use Rattle.pfx_store_engine.specs.declared.place.RealTask.{RealTask}
+use Rattle.pfx_store_engine.specs.declared.engine.EngineFault.{EngineFault}
+use Rattle.pfx_store_engine.specs.declared.engine.EngineFault.TheVariants as enginefault
 
 -- What an engine of this type is: the state that its accepted commands made; what its calls fail with in a state, besides
 -- NoMemory; whether all that was accepted is kept; and what is kept from one engine to a later one: these commands were
@@ -66,9 +66,9 @@ IsLeftBy K P c old new fault.NoMemory = IsSame P old new
 IsLeftBy K P c old new other = IsSame P old new ⊎ IsInDoubt K P c old new
 
 -- why a command has no answer: the machine refuses it, which changes nothing, or the engine failed
-abbrev pub IsNotDone : {J E : Type 0} → Kind J → Promise J E → Command J → E → E → CallFault → Type 0
-IsNotDone K P c old new (callfault.Refused f) = (answer K (P.state old) c ≡ Err f) × IsSame P old new × (P.settled old → P.settled new)
-IsNotDone K P c old new (callfault.Failed f) = IsEngineFault P.faults (P.state old) f × IsLeftBy K P c old new f
+abbrev pub IsNotDone : {J E : Type 0} → Kind J → Promise J E → Command J → E → E → EngineFault → Type 0
+IsNotDone K P c old new (enginefault.Refused f) = (answer K (P.state old) c ≡ Err f) × IsSame P old new × (P.settled old → P.settled new)
+IsNotDone K P c old new (enginefault.Failed f) = IsEngineFault P.faults (P.state old) f × IsLeftBy K P c old new f
 
 -- ---- several Slots in one call
 
@@ -104,9 +104,9 @@ AreLeftBy K P count old new fault.NoMemory = IsSame P old new
 AreLeftBy K P count old new other = IsSame P old new ⊎ AreInDoubt K P count old new
 
 -- why no Slot has an answer: the machine refuses the first, which changes nothing, or the engine failed
-abbrev pub AreNotDone : {J E : Type 0} → Kind J → Promise J E → ℕ → E → E → CallFault → Type 0
-AreNotDone K P count old new (callfault.Refused f) = (answer K (P.state old) Slot ≡ Err f) × IsSame P old new × (P.settled old → P.settled new)
-AreNotDone K P count old new (callfault.Failed f) = IsEngineFault P.faults (P.state old) f × AreLeftBy K P count old new f
+abbrev pub AreNotDone : {J E : Type 0} → Kind J → Promise J E → ℕ → E → E → EngineFault → Type 0
+AreNotDone K P count old new (enginefault.Refused f) = (answer K (P.state old) Slot ≡ Err f) × IsSame P old new × (P.settled old → P.settled new)
+AreNotDone K P count old new (enginefault.Failed f) = IsEngineFault P.faults (P.state old) f × AreLeftBy K P count old new f
 
 -- the board is that of the state
 pub record Shows {J : Type 0} (K : Kind J) (s : Plain J) (board : Board) : Type 0 where
@@ -116,6 +116,6 @@ pub record Shows {J : Type 0} (K : Kind J) (s : Plain J) (board : Board) : Type 
   pub lines : board.lines.items ≡ all_lines K s
 
 -- what a real task of the state has, or that the state has none of this number
-abbrev pub IsPlace : {J : Type 0} → Plain J → ℕ → Option (Place J) → Type 0
+abbrev pub IsPlace : {J : Type 0} → Plain J → ℕ → Option (RealTask J) → Type 0
 IsPlace s x None = slice_get s.jobs x ≡ None
 IsPlace s x (Some place) = (slice_get s.jobs x ≡ Some place.job) × (place.allocation ≡ (task s.ledger x).alloc) × (place.from ≡ s.from)

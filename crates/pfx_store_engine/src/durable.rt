@@ -15,9 +15,9 @@ ghost use Rattle.pfx_store_engine.specs.Keeping.{Anchors, KeepsFrom};
 ghost use Rattle.pfx_store_engine.specs.KeepingLaws.{keeps_none, keeps_more, keeps_fewer};
 ghost use Rattle.pfx_store_engine.specs.Stepping.{command_calls, frame_len};
 
-use crate::engine::{CallFault, Engine, Told};
+use crate::engine::{Engine, EngineFault, Told};
 use crate::keeping::{Prepared, commit, run_prepared};
-use crate::place::Place;
+use crate::place::RealTask;
 use crate::places::place_of;
 use crate::windows::{Changes, Window, run_changes, run_slots};
 use pfx_disk::Disk;
@@ -25,7 +25,7 @@ use pfx_fault::{Cause, Fault};
 use pfx_jobs::job::Job;
 use pfx_machine::{Board, Command, Reply, State};
 use pfx_record_redo::Recorded;
-use pfx_store::{Keeper, Mark, Store};
+use pfx_store::{BatchKeeper, Mark, Store};
 use std::alloc::{AllocError, Global};
 use std::marker::PhantomData;
 
@@ -34,7 +34,7 @@ use std::marker::PhantomData;
 /// An engine that had no memory within a window of Slots is starved: it keeps what was run of them, and to the next call for Slots
 /// it answers `NoMemory`.
 #[derive(Drop)]
-pub struct DurableEngine<D: Disk, J: Job, K: Keeper<D, J>> {
+pub struct DurableEngine<D: Disk, J: Job, K: BatchKeeper<D, J>> {
     /// What keeps the commands: a store, or one beside a log.
     pub keeper: K,
     /// The state that commands are run on.
@@ -48,7 +48,7 @@ pub struct DurableEngine<D: Disk, J: Job, K: Keeper<D, J>> {
 pub type StoreEngine<D, J> = DurableEngine<D, J, Store<D, J>>;
 
 // The fault of an engine whose keeper has failed so.
-fn stopped<D: Disk, J: Job, K: Keeper<D, J>>(keeper: &K, cause: Cause) -> Fault
+fn stopped<D: Disk, J: Job, K: BatchKeeper<D, J>>(keeper: &K, cause: Cause) -> Fault
     ensures { result ≡ stopped_at (K.kept keeper.now).state.number cause }
 {
     Fault::StoreFailed {
@@ -57,7 +57,7 @@ fn stopped<D: Disk, J: Job, K: Keeper<D, J>>(keeper: &K, cause: Cause) -> Fault
     }
 }
 
-impl<D: Disk, J: Job, K: Keeper<D, J>> DurableEngine<D, J, K> {
+impl<D: Disk, J: Job, K: BatchKeeper<D, J>> DurableEngine<D, J, K> {
     /// The engine over what keeps its commands, at the state of the store. If an allocation failed, it is given back.
     pub fn new(alloc: Global, keeper: K) -> Result<DurableEngine<D, J, K>, (AllocError, K)>
         ensures keeper { IfOk result (λ engine. engine.keeper ≡ keeper) }
@@ -110,7 +110,7 @@ impl<D: Disk, J: Job, K: Keeper<D, J>> DurableEngine<D, J, K> {
         &mut self,
         alloc: Global,
         command: Command<J>,
-    ) -> Result<(Mark, Reply), CallFault>
+    ) -> Result<(Mark, Reply), EngineFault>
         ensures done { IfOk result (IsExecuted J.kind self.old.state command self.new.state
             (D.view (K.kept self.new.keeper).file.disk).clock (K.failed self.new.keeper)) }
         ensures refused { IfErr result (λ e. NotAccepted J.kind self.old.state command self.new.state e
@@ -137,29 +137,29 @@ impl<D: Disk, J: Job, K: Keeper<D, J>> DurableEngine<D, J, K> {
             → CommitsOne J.kind (K.kept self.old.keeper).state command self.new.state (D.view (K.kept self.old.keeper).file.disk) (D.view (K.kept self.new.keeper).file.disk) result }
     {
         if let Some(cause) = self.keeper.failure() {
-            return Err(CallFault::Failed(stopped(&self.keeper, cause)));
+            return Err(EngineFault::Failed(stopped(&self.keeper, cause)));
         }
         let _number = self.state.number();
         // The allocations come first: once the state has moved, only the disk can fail.
         let Ok(mut records) = Vec::with_capacity(alloc, 1) else {
-            return Err(CallFault::Failed(Fault::NoMemory));
+            return Err(EngineFault::Failed(Fault::NoMemory));
         };
         match run_prepared(alloc, self.keeper.stored(), &mut self.state, command) {
-            Err(fault) if fault.is_memory() => Err(CallFault::Failed(Fault::NoMemory)),
-            Err(fault) => Err(CallFault::Refused(fault)),
+            Err(fault) if fault.is_memory() => Err(EngineFault::Failed(Fault::NoMemory)),
+            Err(fault) => Err(EngineFault::Refused(fault)),
             Ok(Prepared { done, renewal }) => {
                 let Recorded { reply, entry } = done;
                 records.push_reserved(entry);
                 match commit(&mut self.keeper, records, renewal) {
                     Ok(mark) => Ok((mark, reply)),
-                    Err(cause) => Err(CallFault::Failed(stopped(&self.keeper, cause))),
+                    Err(cause) => Err(EngineFault::Failed(stopped(&self.keeper, cause))),
                 }
             }
         }
     }
 }
 
-impl<D: Disk, J: Job, K: Keeper<D, J>> Engine<J> for DurableEngine<D, J, K> {
+impl<D: Disk, J: Job, K: BatchKeeper<D, J>> Engine<J> for DurableEngine<D, J, K> {
     // The state is that of the store: the one after the commands that are known to be durable.
     ghost promise = { record {
       state = λ engine. (K.kept engine.keeper).state;
@@ -178,7 +178,7 @@ impl<D: Disk, J: Job, K: Keeper<D, J>> Engine<J> for DurableEngine<D, J, K> {
     /// `StoreFailed` breaks the store; a broken store does nothing, and answers so to every command. The disk is honest after the
     /// call if and only if it was before. At every moment of the call, whatever it answers, the commands that survived before
     /// survive, with this one or without; from the return on each image is recovered to the state after it.
-    fn call(&mut self, alloc: Global, command: Command<J>) -> Result<(u64, Reply), CallFault>
+    fn ask(&mut self, alloc: Global, command: Command<J>) -> Result<(u64, Reply), EngineFault>
         ensures done { IfOk result (λ r. IsDone J.kind ⟦<DurableEngine<D, J, K> as Engine<J>>⟧.promise command r.0 r.1 self.old self.new) }
         ensures not_done { IfErr result (IsNotDone J.kind ⟦<DurableEngine<D, J, K> as Engine<J>>⟧.promise command self.old self.new) }
         ensures accepted { IfOk result (λ r. IsCarriedOut J.kind self.old.state command self.new.state (K.failed self.new.keeper) r.1) }
@@ -207,7 +207,7 @@ impl<D: Disk, J: Job, K: Keeper<D, J>> Engine<J> for DurableEngine<D, J, K> {
     ///
     /// `StoreFailed` breaks the store; a broken store does nothing, and answers so to every call. The disk is honest after the
     /// call if and only if it was before. From the return on each image is recovered to the state after the Slots.
-    fn slots(&mut self, alloc: Global, count: u32) -> Result<Vec<(u64, Reply)>, CallFault>
+    fn slots(&mut self, alloc: Global, count: u32) -> Result<Vec<(u64, Reply)>, EngineFault>
         requires some { 0 < count }
         ensures done { IfOk result (λ said. AreDone J.kind ⟦<DurableEngine<D, J, K> as Engine<J>>⟧.promise count said.items self.old self.new) }
         ensures not_done { IfErr result (AreNotDone J.kind ⟦<DurableEngine<D, J, K> as Engine<J>>⟧.promise count self.old self.new) }
@@ -221,17 +221,17 @@ impl<D: Disk, J: Job, K: Keeper<D, J>> Engine<J> for DurableEngine<D, J, K> {
             → OnOk result (Anchors J.kind (D.view (K.kept self.new.keeper).file.disk) self.new.state) }
     {
         if let Some(cause) = self.keeper.failure() {
-            return Err(CallFault::Failed(stopped(&self.keeper, cause)));
+            return Err(EngineFault::Failed(stopped(&self.keeper, cause)));
         }
         if self.starved {
-            return Err(CallFault::Failed(Fault::NoMemory));
+            return Err(EngineFault::Failed(Fault::NoMemory));
         }
         let _number = self.state.number();
         match run_slots(alloc, &mut self.state, &mut self.starved, count.min(16)) {
             Err(why) => Err(why),
             Ok(Window { said, records }) => match commit(&mut self.keeper, records, None) {
                 Ok(_) => Ok(said),
-                Err(cause) => Err(CallFault::Failed(stopped(&self.keeper, cause))),
+                Err(cause) => Err(EngineFault::Failed(stopped(&self.keeper, cause))),
             },
         }
     }
@@ -306,7 +306,7 @@ impl<D: Disk, J: Job, K: Keeper<D, J>> Engine<J> for DurableEngine<D, J, K> {
         }
     }
 
-    fn place(&mut self, _alloc: Global, task: u16) -> Result<Option<Place<J>>, Fault>
+    fn place(&mut self, _alloc: Global, task: u16) -> Result<Option<RealTask<J>>, Fault>
         ensures copies { IfOk result (IsPlace (K.kept self.old.keeper).state task) }
         ensures settled { OnOk result (K.failed self.new.keeper ≡ None) }
         ensures same { IsSame ⟦<DurableEngine<D, J, K> as Engine<J>>⟧.promise self.old self.new }

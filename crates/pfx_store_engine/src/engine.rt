@@ -4,7 +4,7 @@ ghost use Rattle.std.specs.Prelude.{◌≡◌, ◌<◌, ◌≤◌, length, IfOk,
 ghost use Rattle.pfx_store_engine.specs.Promises.{Promise, Laws, AreDone, AreNotDone, IsDone, IsNotDone, IsPlace, IsSame, IsEngineFault, Shows};
 ghost use Rattle.pfx_store_engine.specs.Sharing.{AreChanges, AreAllDone, AreAllLeft};
 
-use crate::place::Place;
+use crate::place::RealTask;
 use pfx_fault::Fault;
 use pfx_jobs::job::Job;
 use pfx_machine::{Board, Command, MachineFault, Reply, State};
@@ -12,7 +12,7 @@ use std::alloc::Global;
 
 /// Why a command wasn't accepted.
 #[derive(Clone, Copy, Debug, PartialEq, Eq)]
-pub enum CallFault {
+pub enum EngineFault {
     /// The machine refuses it: it takes no number and changes nothing.
     Refused(MachineFault),
     /// The engine failed, or an allocation failed: the run ends.
@@ -31,7 +31,7 @@ pub trait Engine<J: Job> {
     ///
     /// A command that the machine refuses changes nothing. `NoMemory` leaves the state. After another fault it isn't known
     /// whether the command is kept, if the machine accepts it.
-    fn call(&mut self, alloc: Global, command: Command<J>) -> Result<(u64, Reply), CallFault>
+    fn ask(&mut self, alloc: Global, command: Command<J>) -> Result<(u64, Reply), EngineFault>
         ensures done { IfOk result (λ r. IsDone J.kind promise command r.0 r.1 self.old self.new) }
         ensures not_done { IfErr result (IsNotDone J.kind promise command self.old self.new) };
 
@@ -41,7 +41,7 @@ pub trait Engine<J: Job> {
     /// If the machine refuses the first, nothing changes; a Slot after those that are answered is asked for by the next
     /// call. `NoMemory` leaves the state. After another fault it isn't known how many Slots are kept, of those that the
     /// machine accepts one after the other, `count` at the most.
-    fn slots(&mut self, alloc: Global, count: u32) -> Result<Vec<(u64, Reply)>, CallFault>
+    fn slots(&mut self, alloc: Global, count: u32) -> Result<Vec<(u64, Reply)>, EngineFault>
         requires some { 0 < count }
         ensures done { IfOk result (λ said. AreDone J.kind promise count said.items self.old self.new) }
         ensures not_done { IfErr result (AreNotDone J.kind promise count self.old self.new) };
@@ -80,7 +80,7 @@ pub trait Engine<J: Job> {
 
     /// What a task has after all accepted commands, once every one of them is kept, or `None` if there is no real task of this number.
     /// The state stays.
-    fn place(&mut self, alloc: Global, task: u16) -> Result<Option<Place<J>>, Fault>
+    fn place(&mut self, alloc: Global, task: u16) -> Result<Option<RealTask<J>>, Fault>
         ensures copies { IfOk result (IsPlace (promise.state self.old) task) }
         ensures settled { OnOk result (promise.settled self.new) }
         ensures same { IsSame promise self.old self.new }

@@ -27,8 +27,8 @@ use pfx_fault::Cause;
 use pfx_jobs::job::Job;
 use pfx_machine::{Command, MachineFault, State};
 use pfx_record::Record;
-use pfx_record_redo::{Recorded, run_recorded};
-use pfx_store::{Keeper, Mark, Renewal, Store, batch_of, reweigh_of};
+use pfx_record_redo::{Recorded, apply_recorded};
+use pfx_store::{BatchKeeper, Mark, Renewal, Store, batch_of, reweigh_of};
 use std::alloc::Global;
 
 /// What a store prepares for a command: the set of a Reweigh, and nothing for others.
@@ -80,12 +80,12 @@ pub(crate) fn run_prepared<D: Disk, J: Job>(
     ensures kept { OnErr result (state.new ≡ state.old) }
 {
     let renewal = prepared_for(alloc, store, &command)?;
-    let done = run_recorded(alloc, state, command)?;
+    let done = apply_recorded(alloc, state, command)?;
     Ok(Prepared { done, renewal })
 }
 
 /// Keeps the records of commands in one batch, or that of new weights with what was prepared for them.
-fn put<D: Disk, J: Job, K: Keeper<D, J>>(
+fn put<D: Disk, J: Job, K: BatchKeeper<D, J>>(
     keeper: &mut K,
     records: Vec<Record<J>>,
     renewal: Option<Renewal>,
@@ -112,7 +112,7 @@ fn put<D: Disk, J: Job, K: Keeper<D, J>>(
 /// Takes a step of the checkpoint in progress, if there is one, and then keeps the records of 1 to 16 commands that the
 /// store's state accepts one after the other, in one batch; or that of a Reweigh, with the set that the store prepared for it. The
 /// step comes first, so that no reply waits after it.
-pub(crate) fn commit<D: Disk, J: Job, K: Keeper<D, J>>(
+pub(crate) fn commit<D: Disk, J: Job, K: BatchKeeper<D, J>>(
     keeper: &mut K,
     records: Vec<Record<J>>,
     renewal: Option<Renewal>,

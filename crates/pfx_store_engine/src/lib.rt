@@ -41,6 +41,6 @@ mod places;
 mod windows;
 
 pub use durable::{DurableEngine, StoreEngine};
-pub use engine::{CallFault, Engine, Told};
-pub use place::Place;
+pub use engine::{Engine, EngineFault, Told};
+pub use place::RealTask;
 pub use places::place_of;

@@ -4,8 +4,8 @@ ghost use Rattle.std.specs.Prelude.{◌≡◌, ◌≤◌, length, IfOk, IfErr, O
 ghost use Rattle.pfx_store_engine.specs.Promises.{Promise, Laws, AreDone, AreNotDone, IsDone, IsNotDone, IsSame, IsEngineFault, Shows};
 ghost use Rattle.pfx_store_engine.specs.Sharing.{AreChanges, AreAllDone, AreAllLeft};
 
-use crate::engine::{CallFault, Engine, Told};
-use crate::place::Place;
+use crate::engine::{Engine, EngineFault, Told};
+use crate::place::RealTask;
 use crate::places::place_of;
 use pfx_choice::ChoiceFault;
 use pfx_fault::Fault;
@@ -18,33 +18,33 @@ impl<J: Job> Engine<J> for State<J> {
 
     ghost laws = { record { none = λ e. tt; more = λ a b c H G n settled one two. tt; fewer = λ a b H n m le one. tt } };
 
-    fn call(&mut self, _alloc: Global, command: Command<J>) -> Result<(u64, Reply), CallFault>
+    fn ask(&mut self, _alloc: Global, command: Command<J>) -> Result<(u64, Reply), EngineFault>
         ensures done { IfOk result (λ r. IsDone J.kind ⟦<State<J> as Engine<J>>⟧.promise command r.0 r.1 self.old self.new) }
         ensures not_done { IfErr result (IsNotDone J.kind ⟦<State<J> as Engine<J>>⟧.promise command self.old self.new) }
     {
         let before = self.number();
         match self.apply(command) {
             Ok(said) => Ok((before + 1, said)),
-            Err(MachineFault::NoRow(ChoiceFault::NoMemory)) => Err(CallFault::Failed(
+            Err(MachineFault::NoRow(ChoiceFault::NoMemory)) => Err(EngineFault::Failed(
                 Fault::NoMemory,
             )),
-            Err(fault) => Err(CallFault::Refused(fault)),
+            Err(fault) => Err(EngineFault::Refused(fault)),
         }
     }
 
-    fn slots(&mut self, alloc: Global, count: u32) -> Result<Vec<(u64, Reply)>, CallFault> {
+    fn slots(&mut self, alloc: Global, count: u32) -> Result<Vec<(u64, Reply)>, EngineFault> {
         let Ok(mut said) = Vec::with_capacity(alloc, count as usize) else {
-            return Err(CallFault::Failed(Fault::NoMemory));
+            return Err(EngineFault::Failed(Fault::NoMemory));
         };
         for _ in 0..count {
             let before = self.number();
             match self.apply(Command::Slot) {
                 Ok(reply) => said.push_reserved((before + 1, reply)),
                 Err(_) if !said.is_empty() => return Ok(said),
-                Err(MachineFault::NoRow(ChoiceFault::NoMemory)) => return Err(CallFault::Failed(
+                Err(MachineFault::NoRow(ChoiceFault::NoMemory)) => return Err(EngineFault::Failed(
                     Fault::NoMemory,
                 )),
-                Err(fault) => return Err(CallFault::Refused(fault)),
+                Err(fault) => return Err(EngineFault::Refused(fault)),
             }
         }
         Ok(said)
@@ -88,7 +88,7 @@ impl<J: Job> Engine<J> for State<J> {
         }
     }
 
-    fn place(&mut self, _alloc: Global, task: u16) -> Result<Option<Place<J>>, Fault> {
+    fn place(&mut self, _alloc: Global, task: u16) -> Result<Option<RealTask<J>>, Fault> {
         Ok(place_of(self, task))
     }
 }

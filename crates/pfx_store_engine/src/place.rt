@@ -4,7 +4,7 @@ ghost use Rattle.std.specs.Prelude.{◌<◌};
 
 /// What a real task has.
 #[derive(Drop)]
-pub struct Place<J> {
+pub struct RealTask<J> {
     /// The slot at which its weights came into force, below 2^40.
     pub from: u64,
     /// How many slots it got since then.

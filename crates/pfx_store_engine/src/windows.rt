@@ -15,12 +15,12 @@ ghost use Rattle.pfx_store_engine.specs.Executing.{Fills};
 ghost use Rattle.pfx_store_engine.specs.Failing.{Fails, NotAccepted};
 ghost use Rattle.pfx_store_engine.specs.Surviving.{AreRun};
 
-use crate::engine::{CallFault, Told};
+use crate::engine::{EngineFault, Told};
 use pfx_fault::Fault;
 use pfx_jobs::job::Job;
 use pfx_machine::{Command, Reply, State};
 use pfx_record::Record;
-use pfx_record_redo::{Recorded, run_recorded};
+use pfx_record_redo::{Recorded, apply_recorded};
 use std::alloc::{AllocError, Global};
 
 /// Slots that were run, in order.
@@ -39,7 +39,7 @@ pub(crate) fn run_slots<J: Job>(
     state: &mut State<J>,
     starved: &mut bool,
     count: u32,
-) -> Result<Window<J>, CallFault>
+) -> Result<Window<J>, EngineFault>
     requires some { 0 < count }
     ensures ran { IfOk result (λ w. AreRun J.kind state.old count w.said.items (map plain w.records.items) state.new) }
 
@@ -52,14 +52,14 @@ pub(crate) fn run_slots<J: Job>(
     ensures why { IfErr result (Fails 0 (λ cause. ⊥) (state.new ≡ state.old)) }
 {
     let Ok(mut said) = Vec::with_capacity(alloc, count as usize) else {
-        return Err(CallFault::Failed(Fault::NoMemory));
+        return Err(EngineFault::Failed(Fault::NoMemory));
     };
     let Ok(mut records) = Vec::with_capacity(alloc, count as usize) else {
-        return Err(CallFault::Failed(Fault::NoMemory));
+        return Err(EngineFault::Failed(Fault::NoMemory));
     };
     for _ in 0..count {
         let before = state.number();
-        match run_recorded(alloc, state, Command::Slot) {
+        match apply_recorded(alloc, state, Command::Slot) {
             Ok(Recorded { reply, entry }) => {
                 said.push_reserved((before + 1, reply));
                 records.push_reserved(entry);
@@ -68,8 +68,8 @@ pub(crate) fn run_slots<J: Job>(
                 *starved = fault.is_memory();
                 return Ok(Window { said, records });
             }
-            Err(fault) if fault.is_memory() => return Err(CallFault::Failed(Fault::NoMemory)),
-            Err(fault) => return Err(CallFault::Refused(fault)),
+            Err(fault) if fault.is_memory() => return Err(EngineFault::Failed(Fault::NoMemory)),
+            Err(fault) => return Err(EngineFault::Refused(fault)),
         }
     }
     Ok(Window { said, records })
@@ -100,7 +100,7 @@ pub(crate) fn run_changes<J: Job>(
     let mut records = Vec::with_capacity(alloc, commands.len())?;
     for command in commands {
         let last = state.number();
-        match run_recorded(alloc, state, command) {
+        match apply_recorded(alloc, state, command) {
             Ok(Recorded { reply, entry }) => {
                 told.push_reserved(Ok((last + 1, reply)));
                 records.push_reserved(entry);

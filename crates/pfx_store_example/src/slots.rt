@@ -5,7 +5,7 @@ use crate::sum::Sum;
 use pfx_disk::FileDisk;
 use pfx_fault::Fault;
 use pfx_machine::{Command, JobStatus, Reply};
-use pfx_store_engine::{CallFault, StoreEngine};
+use pfx_store_engine::{EngineFault, StoreEngine};
 use std::alloc::Global;
 
 /// How many slots a run has.
@@ -15,11 +15,11 @@ const SLOTS: u32 = 10;
 const GREATEST: u32 = 1_000;
 
 /// Why a command wasn't accepted.
-fn failure_of(fault: CallFault) -> Failure {
+fn failure_of(fault: EngineFault) -> Failure {
     match fault {
-        CallFault::Refused(_) => Failure::Refused,
-        CallFault::Failed(Fault::NoMemory) => Failure::NoMemory,
-        CallFault::Failed(_) => Failure::NotDurable,
+        EngineFault::Refused(_) => Failure::Refused,
+        EngineFault::Failed(Fault::NoMemory) => Failure::NoMemory,
+        EngineFault::Failed(_) => Failure::NotDurable,
     }
 }
 

@@ -15,7 +15,7 @@ use crate::format::OldFormat;
 use pfx_disk::Disk;
 use pfx_jobs::job::Job;
 use pfx_store::Store;
-use pfx_store_recover::{Opened, open};
+use pfx_store_recover::{OpenedFile, open};
 use std::alloc::Global;
 
 /// Makes a store of this version on an empty disk out of a file of version 1, which stays as it is. Both disks come back, the new one in its
@@ -50,7 +50,7 @@ pub fn migrate<D: Disk, E: Disk, J: Job>(
     match open::<OldFormat<J>, D>(alloc, old) {
         Err((fault, old)) => Err((MigrateFault::Old(fault), old, new)),
         Ok(opened) => {
-            let Opened {
+            let OpenedFile {
                 file,
                 header,
                 state,

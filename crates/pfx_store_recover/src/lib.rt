@@ -42,4 +42,4 @@ mod walked;
 
 pub use faults::{HeadFault, OpenFault, Refusal};
 pub use format::Format;
-pub use opened::{Opened, open};
+pub use opened::{OpenedFile, open};

@@ -15,7 +15,7 @@ use std::alloc::Global;
 
 /// A store's file that was opened.
 #[derive(Drop)]
-pub struct Opened<D: Disk, F: Format> {
+pub struct OpenedFile<D: Disk, F: Format> {
     /// The file on its disk, where the next frame goes.
     pub file: StoreFile<D>,
     /// Its header.
@@ -32,7 +32,7 @@ pub struct Opened<D: Disk, F: Format> {
 /// What comes is what is found in the disk's bytes. `Refused` names the first test that they don't pass, `Device` comes only if the
 /// disk failed, and `NoMemory` if an allocation failed. Nothing is written, and a store can go on with the file: none of its calls has
 /// failed, no checkpoint is begun, and a checkpoint area can hold the state.
-pub fn open<F: Format, D: Disk>(alloc: Global, disk: D) -> Result<Opened<D, F>, (OpenFault, D)>
+pub fn open<F: Format, D: Disk>(alloc: Global, disk: D) -> Result<OpenedFile<D, F>, (OpenFault, D)>
     // What is found in the disk's bytes, and the store of it.
     ensures opened { IsHonest (D.view disk) → IfOk result (λ o. IsOpened F.codec o.header
         (D.view disk).contents o.file.places o.state o.middle (D.view o.file.disk)) }
@@ -47,7 +47,7 @@ pub fn open<F: Format, D: Disk>(alloc: Global, disk: D) -> Result<Opened<D, F>, 
 {
     let mut disk = disk;
     match read_file::<F, D>(alloc, &mut disk) {
-        Ok((outline, contents)) => Ok(Opened {
+        Ok((outline, contents)) => Ok(OpenedFile {
             file: StoreFile::new::<F::Header, F::State>(disk, contents.places),
             header: outline.header,
             state: contents.state,

@@ -2,9 +2,9 @@
 use logbook::{Gain, Plain, Play, Rule};
 
 /// The word is the list's length.
-pub struct Law;
+pub struct LengthLaw;
 
-impl<E> Rule<E, u64> for Law {
+impl<E> Rule<E, u64> for LengthLaw {
     ghost use Rattle.std.specs.Prelude.{[]};
     ghost use base.Fml.{ftrue};
     ghost use Rattle.pfx_token.specs.Growing.{IsKept};

@@ -3,7 +3,7 @@ ghost use Rattle.std.specs.Prelude.{◌≡◌, ◌+◌, ◌==◌, ◌<◌, ◌�
 ghost use mathlib.Core.List.{IsPrefix};
 ghost use Rattle.pfx_token.specs.Growing.{head_of, IsLonger};
 
-use crate::growing::{Add, Law, Nothing};
+use crate::growing::{Add, LengthLaw, Nothing};
 use logbook::{Offer, Seen, Start, Word};
 use std::marker::{Brand, Model, PhantomData};
 
@@ -21,18 +21,18 @@ impl Naming for Brand {
 
 /// An empty list, which has no name yet.
 #[derive(Drop)]
-pub struct Opened<E> {
-    head: Word<E, u64, Law>,
-    seen: Seen<E, u64, Law>,
+pub struct UnnamedList<E> {
+    head: Word<E, u64, LengthLaw>,
+    seen: Seen<E, u64, LengthLaw>,
     ghost empty: { seen.log ≡ [] },
     ghost head_is: { head ≡ head_of seen.book },
 }
 
-impl<E> Opened<E> {
+impl<E> UnnamedList<E> {
     /// A list of its own. It takes no memory.
-    pub fn new() -> Opened<E> {
+    pub fn new() -> UnnamedList<E> {
         let (seen, mut first, _second) = Seen::open(Start::alone(), 0, 0);
-        Opened {
+        UnnamedList {
             head: Word::tracked(0, &mut first),
             seen,
         }
@@ -43,7 +43,7 @@ impl<E> Opened<E> {
         requires { self.seen.book ≡ J.book }
         ensures { result.1 ≡ [] }
     {
-        let Opened { head, seen } = self;
+        let UnnamedList { head, seen } = self;
         (
             End {
                 head,
@@ -61,7 +61,7 @@ impl<E> Opened<E> {
 /// Where the list grows. It may be shared by reference; there is one for a list.
 #[derive(Drop)]
 pub struct End<E, J: Naming> {
-    head: Word<E, u64, Law>,
+    head: Word<E, u64, LengthLaw>,
     of: PhantomData<J>,
     ghost head_is: { head ≡ head_of J.book },
 }
@@ -70,7 +70,7 @@ pub struct End<E, J: Naming> {
 #[derive(Drop)]
 pub struct Past<E, J: Naming> {
     count: u64,
-    seen: Seen<E, u64, Law>,
+    seen: Seen<E, u64, LengthLaw>,
     of: PhantomData<J>,
 }
 
@@ -121,7 +121,9 @@ impl<E, J: Naming> End<E, J> {
         requires room { length past.old < 2 ^ 62 }
         ensures { MatchBool result (past.new ≡ past.old ++ entry.now ∷ []) (IsLonger past.old past.new) }
     {
-        let mut offer: Offer<E, u64, Law, Nothing> = past.seen.plain::<Nothing, E, Add>(entry);
+        let mut offer: Offer<E, u64, LengthLaw, Nothing> = past
+            .seen
+            .plain::<Nothing, E, Add>(entry);
         let mut pen = past.seen.no_pen();
         let count = past.count;
         let found = self

@@ -17,9 +17,9 @@ pub struct View<E> {
 }
 
 /// One seat at most knows all lists, and each number has one seat at most, which knows the list that stands there.
-pub struct Law;
+pub struct SeatLaw;
 
-impl<E> TableRule<E, View<E>, ()> for Law {
+impl<E> TableRule<E, View<E>, ()> for SeatLaw {
     ghost use Rattle.std.specs.Prelude.{[]};
     ghost use Rattle.pfx_token.specs.Seats.{keeper, KeptIn};
 

@@ -2,7 +2,7 @@
 ghost use Rattle.std.specs.Prelude.{◌≡◌, ℕ, List, [], ◌∷◌, ◌++◌, ◌<◌, length, Some, slice_get, slice_set};
 ghost use Rattle.pfx_token.specs.Seats.{keeper, token as token_view};
 
-use crate::seats::{Adds, Blank, Gives, Law, Learns, Makes, Takes, View};
+use crate::seats::{Adds, Blank, Gives, Learns, Makes, SeatLaw, Takes, View};
 use atomic_table::{Seat, Table};
 use std::alloc::{AllocError, Global};
 use std::marker::{Brand, Model, PhantomData};
@@ -24,19 +24,19 @@ impl Room for Brand {
 
 /// A keeper that has no name yet, and has issued nothing.
 #[derive(Drop)]
-pub struct Opened<E: Drop> {
-    table: Table<E, View<E>, (), Law, Global>,
+pub struct UnnamedKeeper<E: Drop> {
+    table: Table<E, View<E>, (), SeatLaw, Global>,
     seat: Seat<E, View<E>>,
     ghost seated: { seat.table_id ≡ table.shared.table_id },
     ghost starts: { seat.me ≡ (keeper [], []) },
     ghost wide: { table.shared.table_id.words ≡ 1 },
 }
 
-impl<E: Drop> Opened<E> {
+impl<E: Drop> UnnamedKeeper<E> {
     /// A keeper of its own. `AllocError` if an allocation fails.
-    pub fn new(alloc: Global) -> Result<Opened<E>, AllocError> {
+    pub fn new(alloc: Global) -> Result<UnnamedKeeper<E>, AllocError> {
         let (table, seat) = Table::of_words(alloc, &[0], &())?;
-        Ok(Opened { table, seat })
+        Ok(UnnamedKeeper { table, seat })
     }
 
     /// The keeper under its name. It knows no list yet.
@@ -44,7 +44,7 @@ impl<E: Drop> Opened<E> {
         requires { self.table.shared.table_id ≡ B.table }
         ensures { result ≡ [] }
     {
-        let Opened { table, seat } = self;
+        let UnnamedKeeper { table, seat } = self;
         Keeper {
             table,
             seat,
@@ -56,7 +56,7 @@ impl<E: Drop> Opened<E> {
 /// Knows the list of each token that it has issued. Contracts see it as these lists, a token's at its number.
 #[derive(Drop)]
 pub struct Keeper<E: Drop, B: Room> {
-    table: Table<E, View<E>, (), Law, Global>,
+    table: Table<E, View<E>, (), SeatLaw, Global>,
     seat: Seat<E, View<E>>,
     room: PhantomData<B>,
 }

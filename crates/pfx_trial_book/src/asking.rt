@@ -4,7 +4,7 @@ ghost use Rattle.pfx_book.specs.Register.{HasRoom};
 
 use crate::states::Trial;
 use pfx_book::book::{Book, Pass};
-use pfx_book::closing::Receipt;
+use pfx_book::closing::PlainReceipt;
 use pfx_book::faults::BookFault;
 use pfx_book::name::Named;
 use pfx_jobs::quantum::Quantum;
@@ -87,7 +87,7 @@ pub fn receipt<J: Trial, B: Named<J>>(
     book: &mut Book<J, B>,
     pass: &mut Pass<J, B>,
     number: u64,
-) -> Option<Result<Receipt, AllocError>> {
+) -> Option<Result<PlainReceipt, AllocError>> {
     if number > book.marked() {
         return None;
     }

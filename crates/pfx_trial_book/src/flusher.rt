@@ -9,7 +9,7 @@ use pfx_book::note::Note;
 use pfx_fault::Cause;
 use pfx_machine::State;
 use pfx_record::{Batch, Record};
-use pfx_token::tokens::Opened;
+use pfx_token::tokens::UnnamedKeeper;
 use std::alloc::Global;
 
 /// A flusher.
@@ -30,7 +30,7 @@ pub struct Kept<J: Trial, B: Named<J>> {
 /// A book that begins at this state, marked at clock 7, and its flusher, behind a pointer.
 pub fn begin<J: Trial, B: Named<J>>(
     alloc: Global,
-    tokens: Opened<Note<J>>,
+    tokens: UnnamedKeeper<Note<J>>,
     state: &State<J>,
 ) -> Option<Box<Kept<J, B>>>
     requires table { tokens.table.shared.table_id ≡ B.table }

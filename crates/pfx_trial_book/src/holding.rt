@@ -2,7 +2,7 @@
 
 use pfx_jobs::quantum::Done;
 use pfx_kinds::any::AnyJob;
-use pfx_kit::watched::Watch;
+use pfx_kit::watched::DeskWatch;
 use std::sync::atomic::{AtomicBool, AtomicU64, Ordering};
 use std::thread;
 
@@ -36,7 +36,7 @@ impl Holding {
     }
 }
 
-impl Watch<Done<AnyJob>> for Holding {
+impl DeskWatch<Done<AnyJob>> for Holding {
     fn hands_back(&self, done: &Done<AnyJob>) {
         if done.task != 0 {
             return;

@@ -5,7 +5,7 @@ use crate::answers::{is_submitted, is_withdrawn, is_without_memory, seals};
 use crate::asking::Answer;
 use crate::service::Service;
 use crate::sessions::{Session, at_thirds};
-use pfx_book::closing::Receipt;
+use pfx_book::closing::PlainReceipt;
 use pfx_book::faults::BookFault;
 
 /// Submits, and once more if an allocation fails.
@@ -49,7 +49,7 @@ fn open_again<S: Service>(
 }
 
 /// A receipt for the start, once more if an allocation fails.
-fn receipt_again<S: Service>(book: &mut S, pass: &mut S::Pass) -> Option<Receipt> {
+fn receipt_again<S: Service>(book: &mut S, pass: &mut S::Pass) -> Option<PlainReceipt> {
     match book.receipt(pass, 0)? {
         Ok(given) => Some(given),
         Err(_) => book.receipt(pass, 0)?.ok(),

@@ -1,6 +1,6 @@
 ghost use Rattle.std.specs.Prelude.{◌≡◌};
 
-use pfx_token::past::{End, Naming, Opened, Past};
+use pfx_token::past::{End, Naming, Past, UnnamedList};
 use std::marker::Brand;
 
 /// Adds an entry if there is room.
@@ -15,7 +15,7 @@ fn are_ordered<J: Naming>(old: &Past<u32, J>, two: &Past<u32, J>, all: &Past<u32
 }
 
 /// A list grows by three entries; an old beginning of it can't add one, and then knows the list.
-fn grow<J: Naming>(opened: Opened<u32>) -> bool
+fn grow<J: Naming>(opened: UnnamedList<u32>) -> bool
     requires { opened.seen.book ≡ J.book }
 {
     let (end, mut all) = opened.named::<J>();
@@ -34,7 +34,7 @@ fn grow<J: Naming>(opened: Opened<u32>) -> bool
 
 /// Whether a list grows as it should.
 fn list_grows() -> bool {
-    grow::<Brand>(Opened::new())
+    grow::<Brand>(UnnamedList::new())
 }
 
 #[test]

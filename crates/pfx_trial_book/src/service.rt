@@ -4,7 +4,7 @@ use crate::asking::{self, Answer};
 use crate::flusher::{Kept, batch_room};
 use crate::states::Trial;
 use pfx_book::book::Pass;
-use pfx_book::closing::Receipt;
+use pfx_book::closing::PlainReceipt;
 use pfx_book::faults::BookFault;
 use pfx_book::name::Named;
 use pfx_book::note::Loss;
@@ -122,7 +122,7 @@ pub trait Service {
         &mut self,
         pass: &mut Self::Pass,
         number: u64,
-    ) -> Option<Result<Receipt, AllocError>>;
+    ) -> Option<Result<PlainReceipt, AllocError>>;
 
     /// Tells a client that the flusher has given up. Whether it has.
     fn tell(&mut self, pass: &mut Self::Pass) -> bool;
@@ -283,7 +283,7 @@ impl<J: Trial, B: Named<J>> Service for Kept<J, B> {
         &mut self,
         pass: &mut Pass<J, B>,
         number: u64,
-    ) -> Option<Result<Receipt, AllocError>> {
+    ) -> Option<Result<PlainReceipt, AllocError>> {
         asking::receipt(&mut self.book, pass, number)
     }
 

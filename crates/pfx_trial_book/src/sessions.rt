@@ -9,7 +9,7 @@ use pfx_book::name::Named;
 use pfx_book::note::Note;
 use pfx_kinds::any::AnyJob;
 use pfx_machine::{MachineFault, State};
-use pfx_token::tokens::Opened;
+use pfx_token::tokens::UnnamedKeeper;
 use std::alloc::Global;
 use std::marker::Brand;
 
@@ -57,7 +57,7 @@ fn visit<S: Service>(alloc: Global, book: &mut S, session: Session) -> Option<bo
 /// The same at a new book that begins at this state.
 fn serve<J: Trial, B: Named<J>>(
     alloc: Global,
-    tokens: Opened<Note<J>>,
+    tokens: UnnamedKeeper<Note<J>>,
     state: &State<J>,
     session: Session,
 ) -> Option<bool>
@@ -70,7 +70,7 @@ fn serve<J: Trial, B: Named<J>>(
 
 /// The same by a name of its own. `None` too if there is no such book.
 pub fn is_right(alloc: Global, state: &State<AnyJob>, session: Session) -> Option<bool> {
-    let tokens = Opened::new(alloc).ok()?;
+    let tokens = UnnamedKeeper::new(alloc).ok()?;
     serve::<AnyJob, Brand>(alloc, tokens, state, session)
 }
 

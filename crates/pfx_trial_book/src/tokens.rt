@@ -1,11 +1,11 @@
 ghost use Rattle.std.specs.Prelude.{◌≡◌};
 
-use pfx_token::tokens::{Keeper, Opened, Room};
+use pfx_token::tokens::{Keeper, Room, UnnamedKeeper};
 use std::alloc::Global;
 use std::marker::Brand;
 
 /// Two tokens are noted in turn and looked at. What they bring home the contracts say; here it is seen that it runs.
-fn bring_home<B: Room>(opened: Opened<u32>) -> bool
+fn bring_home<B: Room>(opened: UnnamedKeeper<u32>) -> bool
     requires { opened.table.shared.table_id ≡ B.table }
 {
     let mut keeper: Keeper<u32, B> = opened.named::<B>();
@@ -21,7 +21,7 @@ fn bring_home<B: Room>(opened: Opened<u32>) -> bool
 
 /// Whether a keeper is made, and serves.
 fn keeper_serves(alloc: Global) -> bool {
-    match Opened::new(alloc) {
+    match UnnamedKeeper::new(alloc) {
         Ok(opened) => bring_home::<Brand>(opened),
         Err(_) => false,
     }

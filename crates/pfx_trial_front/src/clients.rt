@@ -27,9 +27,9 @@ fn client<F: Service, R: Wait>(
     task: u16,
 ) -> (F::Pass, bool) {
     let mut pass = pass;
-    let mut answered = is_accepted(&front.ask(rt, alloc, &mut pass, Ask::Submit { task }));
+    let mut answered = is_accepted(&front.asks(rt, alloc, &mut pass, Ask::Submit { task }));
     for _slot in 0..SLOTS {
-        answered = is_accepted(&front.ask(rt, alloc, &mut pass, Ask::Slot)) && answered;
+        answered = is_accepted(&front.asks(rt, alloc, &mut pass, Ask::Slot)) && answered;
         answered = is_settled(rt, front, &mut pass) && answered;
     }
     (pass, answered)

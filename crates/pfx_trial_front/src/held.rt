@@ -23,7 +23,7 @@ fn slots_are_answered<F: Service, R: Wait>(
 ) -> bool {
     let mut answered = true;
     for number in 1..17 {
-        let slot = front.ask(rt, alloc, pass, Ask::Slot);
+        let slot = front.asks(rt, alloc, pass, Ask::Slot);
         answered = is_number(&slot, number) && answered;
     }
     answered

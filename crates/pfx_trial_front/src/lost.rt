@@ -27,9 +27,9 @@ fn is_told<F: Service, R: Wait>(rt: &R, alloc: Global, front: &F, pass: &mut F::
         marked: 0,
         cause: Cause::Device,
     };
-    let slot = front.ask(rt, alloc, pass, Ask::Slot);
+    let slot = front.asks(rt, alloc, pass, Ask::Slot);
     let lost = front.settle(rt, pass) == Some(Err(failed));
-    let next = front.ask(rt, alloc, pass, Ask::Slot);
+    let next = front.asks(rt, alloc, pass, Ask::Slot);
     is_number(&slot, 1) && lost && is_refused(&next, failed) && front.lost(pass) == Some(told)
 }
 

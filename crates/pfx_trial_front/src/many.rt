@@ -29,7 +29,7 @@ fn client<F: Service, R: Wait>(rt: &R, alloc: Global, front: &F, pass: F::Pass) 
     let mut pass = pass;
     let mut settled = true;
     for _slot in 0..SLOTS {
-        settled = is_accepted(&front.ask(rt, alloc, &mut pass, Ask::Slot)) && settled;
+        settled = is_accepted(&front.asks(rt, alloc, &mut pass, Ask::Slot)) && settled;
         settled = is_settled(rt, front, &mut pass) && settled;
     }
     (pass, settled)
@@ -72,7 +72,7 @@ where
 fn are_given<F: Service, R: Wait>(rt: &R, alloc: Global, front: &F, pass: &mut F::Pass) -> bool {
     let mut given = true;
     for task in 0..TASKS {
-        given = is_accepted(&front.ask(rt, alloc, pass, Ask::Submit { task })) && given;
+        given = is_accepted(&front.asks(rt, alloc, pass, Ask::Submit { task })) && given;
     }
     given
 }

@@ -21,12 +21,12 @@ fn slots_are_answered<F: Service, R: Wait>(
     front: &F,
     pass: &mut F::Pass,
 ) -> bool {
-    let given = is_accepted(&front.ask(rt, alloc, pass, Ask::Submit { task: 0 }));
-    let both = is_accepted(&front.ask(rt, alloc, pass, Ask::Submit { task: 1 }));
-    let slot = front.ask(rt, alloc, pass, Ask::Slot);
+    let given = is_accepted(&front.asks(rt, alloc, pass, Ask::Submit { task: 0 }));
+    let both = is_accepted(&front.asks(rt, alloc, pass, Ask::Submit { task: 1 }));
+    let slot = front.asks(rt, alloc, pass, Ask::Slot);
     let mut answered = given && both && is_first_slot(&slot) && is_settled(rt, front, pass);
     for number in 4..LAST + 1 {
-        let slot = front.ask(rt, alloc, pass, Ask::Slot);
+        let slot = front.asks(rt, alloc, pass, Ask::Slot);
         answered = is_number(&slot, number) && is_settled(rt, front, pass) && answered;
     }
     answered

@@ -12,7 +12,7 @@ const MOST: usize = 64;
 
 /// Whether a slot is run, with a receipt.
 fn is_called<F: Service, R: Wait>(rt: &R, alloc: Global, front: &F, pass: &mut F::Pass) -> bool {
-    let called = is_accepted(&front.ask(rt, alloc, pass, Ask::Slot));
+    let called = is_accepted(&front.asks(rt, alloc, pass, Ask::Slot));
     let settled = is_settled(rt, front, pass);
     called && settled
 }

@@ -25,7 +25,7 @@ const FIRST_PIECE: u64 = 9 + 4 * TURNING + 6;
 fn is_turned<F: Service, R: Wait>(rt: &R, alloc: Global, front: &F, pass: &mut F::Pass) -> bool {
     let mut settled = true;
     for _slot in 0..TURNING {
-        settled = is_accepted(&front.ask(rt, alloc, pass, Ask::Slot)) && settled;
+        settled = is_accepted(&front.asks(rt, alloc, pass, Ask::Slot)) && settled;
         settled = is_settled(rt, front, pass) && settled;
     }
     settled
@@ -39,7 +39,7 @@ fn is_answered<F: Service, R: Wait>(
     pass: &mut F::Pass,
     latch: &Latch,
 ) -> bool {
-    let slot = front.ask(rt, alloc, pass, Ask::Slot);
+    let slot = front.asks(rt, alloc, pass, Ask::Slot);
     latch.release();
     is_number(&slot, TURNING + 1) && is_settled(rt, front, pass)
 }

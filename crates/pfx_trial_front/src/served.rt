@@ -40,10 +40,10 @@ fn are_submitted<F: Service, R: Wait>(
     front: &F,
     pass: &mut F::Pass,
 ) -> bool {
-    let first = front.ask(rt, alloc, pass, Ask::Submit { task: 0 });
-    let busy = front.ask(rt, alloc, pass, Ask::Submit { task: 0 });
-    let second = front.ask(rt, alloc, pass, Ask::Submit { task: 1 });
-    let none = front.ask(rt, alloc, pass, Ask::Submit { task: 3 });
+    let first = front.asks(rt, alloc, pass, Ask::Submit { task: 0 });
+    let busy = front.asks(rt, alloc, pass, Ask::Submit { task: 0 });
+    let second = front.asks(rt, alloc, pass, Ask::Submit { task: 1 });
+    let none = front.asks(rt, alloc, pass, Ask::Submit { task: 3 });
     is_number(&first, 1)
         && is_faulty(&busy, MachineFault::TaskBusy { task: 0 })
         && is_number(&second, 2)
@@ -52,17 +52,17 @@ fn are_submitted<F: Service, R: Wait>(
 
 /// Whether a job that isn't there is refused to be taken back, and a slot of two tasks is answered.
 fn is_run<F: Service, R: Wait>(rt: &R, alloc: Global, front: &F, pass: &mut F::Pass) -> bool {
-    let gone = front.ask(rt, alloc, pass, Ask::Withdraw { task: 2 });
-    let slot = front.ask(rt, alloc, pass, Ask::Slot);
+    let gone = front.asks(rt, alloc, pass, Ask::Withdraw { task: 2 });
+    let slot = front.asks(rt, alloc, pass, Ask::Slot);
     is_faulty(&gone, MachineFault::NoJob { task: 2 }) && is_number(&slot, 3) && is_first_slot(&slot)
 }
 
 /// Whether new weights are refused where a task is ahead, and come into force two slots later, where none is.
 fn is_reweighed<F: Service, R: Wait>(rt: &R, alloc: Global, front: &F, pass: &mut F::Pass) -> bool {
-    let early = front.ask(rt, alloc, pass, Ask::Thirds);
-    let second = front.ask(rt, alloc, pass, Ask::Slot);
-    let third = front.ask(rt, alloc, pass, Ask::Slot);
-    let level = front.ask(rt, alloc, pass, Ask::Thirds);
+    let early = front.asks(rt, alloc, pass, Ask::Thirds);
+    let second = front.asks(rt, alloc, pass, Ask::Slot);
+    let third = front.asks(rt, alloc, pass, Ask::Slot);
+    let level = front.asks(rt, alloc, pass, Ask::Thirds);
     let renewed = match &level {
         Some(Ok((6, Reply::Reweighed { slot }))) => *slot == 3,
         _ => false,
@@ -123,7 +123,7 @@ where
 {
     let (front, crew, given) = open;
     let (mut given, mut pass) = (given, pass);
-    let slot = front.ask(rt, alloc, &mut pass, Ask::Slot);
+    let slot = front.asks(rt, alloc, &mut pass, Ask::Slot);
     if !is_number(&slot, 7) {
         return None;
     }

@@ -48,7 +48,7 @@ pub trait Service {
     fn admit<R: Wait>(&self, rt: &R) -> Option<Self::Pass>;
 
     /// Asks.
-    fn ask<R: Wait>(&self, rt: &R, alloc: Global, pass: &mut Self::Pass, ask: Ask) -> Answer;
+    fn asks<R: Wait>(&self, rt: &R, alloc: Global, pass: &mut Self::Pass, ask: Ask) -> Answer;
 
     /// Asks: whether it is accepted, and whether the client is said to be the only one. `None` if there was no memory to ask.
     fn hears<R: Wait>(
@@ -169,9 +169,9 @@ where
         self.pass(rt)
     }
 
-    fn ask<R: Wait>(&self, rt: &R, alloc: Global, pass: &mut Pass<AnyJob, B>, ask: Ask) -> Answer {
+    fn asks<R: Wait>(&self, rt: &R, alloc: Global, pass: &mut Pass<AnyJob, B>, ask: Ask) -> Answer {
         let command = command_of(alloc, ask)?;
-        Some(self.call(rt, pass, command))
+        Some(self.ask(rt, pass, command))
     }
 
     fn hears<R: Wait>(

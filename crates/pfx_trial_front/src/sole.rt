@@ -9,8 +9,8 @@ use std::sync::Wait;
 
 /// Whether two Submits and a slot are accepted, the slot of the only client. None of them is waited for.
 fn are_accepted<F: Service, R: Wait>(rt: &R, alloc: Global, front: &F, pass: &mut F::Pass) -> bool {
-    let first = is_accepted(&front.ask(rt, alloc, pass, Ask::Submit { task: 0 }));
-    let second = is_accepted(&front.ask(rt, alloc, pass, Ask::Submit { task: 2 }));
+    let first = is_accepted(&front.asks(rt, alloc, pass, Ask::Submit { task: 0 }));
+    let second = is_accepted(&front.asks(rt, alloc, pass, Ask::Submit { task: 2 }));
     let slot = front.hears(rt, alloc, pass, Ask::Slot) == Some((true, true));
     first && second && slot
 }

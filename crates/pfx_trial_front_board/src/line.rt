@@ -1,7 +1,7 @@
 //! A publisher with the state that its batches lead to.
 ghost use Rattle.std.specs.Prelude.{◌≡◌, ◌<◌, ◌^◌, []};
 
-use pfx_disk_chronicle::list::{Moment, Opened};
+use pfx_disk_chronicle::list::{Moment, UnnamedCalls};
 use pfx_disk_chronicle::name::Charted;
 use pfx_front_board::name::Begun;
 use pfx_front_board::publisher::Publisher;
@@ -46,7 +46,7 @@ impl<J: Job, B: Listed<J>, R: Wait + Drop> Model for Line<J, B, R> {
 
 impl<J: Job, B: Listed<J>, R: Wait + Drop> Line<J, B, R> {
     /// With nothing durable yet.
-    pub fn new(publisher: Publisher<J, B, R>, state: State<J>, calls: Opened) -> Line<J, B, R>
+    pub fn new(publisher: Publisher<J, B, R>, state: State<J>, calls: UnnamedCalls) -> Line<J, B, R>
         requires batches { publisher.batches ≡ [] }
         requires origin { state ≡ B.origin }
         requires calls { (calls.seen.book ≡ B.calls) × (B.clock ≡ 0) }
@@ -103,8 +103,8 @@ pub fn thirds(alloc: Global) -> Option<Held> {
 pub fn begin<B: Listed<AnyJob>, R: Wait + Drop>(
     rt: R,
     alloc: Global,
-    opened: past::Opened<Batch<AnyJob>>,
-    calls: Opened,
+    opened: past::UnnamedList<Batch<AnyJob>>,
+    calls: UnnamedCalls,
     state: Held,
     readers: usize,
 ) -> Option<Lined<B, R>>

@@ -9,7 +9,7 @@ use pfx_front_board::word::Word;
 use pfx_kinds::any::AnyJob;
 use pfx_machine::Board;
 use pfx_record::Batch;
-use pfx_token::past::Opened;
+use pfx_token::past::UnnamedList;
 use std::alloc::Global;
 use std::marker::Brand;
 use std::sync::{Mutex, Wait};
@@ -159,8 +159,8 @@ fn only<B: Begun<AnyJob>>(
 fn race<B: Listed<AnyJob> + Send + Sync, R: Threads + Wait + Copy + Drop + Send + Sync>(
     rt: R,
     alloc: Global,
-    opened: Opened<Batch<AnyJob>>,
-    calls: list::Opened,
+    opened: UnnamedList<Batch<AnyJob>>,
+    calls: list::UnnamedCalls,
     state: Held,
 ) -> bool
     requires book { opened.seen.book ≡ B.book }
@@ -180,7 +180,13 @@ fn race<B: Listed<AnyJob> + Send + Sync, R: Threads + Wait + Copy + Drop + Send 
 /// Whether a reader sees all that it is told of, beside a thread that publishes.
 fn told_reader_sees<R: Threads + Wait + Copy + Drop + Send + Sync>(rt: R, alloc: Global) -> bool {
     match thirds(alloc) {
-        Some(state) => race::<Brand, R>(rt, alloc, Opened::new(), list::Opened::new(), state),
+        Some(state) => race::<Brand, R>(
+            rt,
+            alloc,
+            UnnamedList::new(),
+            list::UnnamedCalls::new(),
+            state,
+        ),
         None => false,
     }
 }

@@ -9,7 +9,7 @@ use pfx_front_board::word::Word;
 use pfx_kinds::any::AnyJob;
 use pfx_machine::{Board, JobStatus};
 use pfx_record::Batch;
-use pfx_token::past::Opened;
+use pfx_token::past::UnnamedList;
 use std::alloc::Global;
 use std::marker::Brand;
 use std::sync::Wait;
@@ -128,8 +128,8 @@ fn leave<B: Listed<AnyJob>, R: Wait + Drop>(
 fn serve<B: Listed<AnyJob>, R: Wait + Copy + Drop>(
     rt: R,
     alloc: Global,
-    opened: Opened<Batch<AnyJob>>,
-    calls: list::Opened,
+    opened: UnnamedList<Batch<AnyJob>>,
+    calls: list::UnnamedCalls,
     state: Held,
 ) -> bool
     requires book { opened.seen.book ≡ B.book }
@@ -146,7 +146,13 @@ fn serve<B: Listed<AnyJob>, R: Wait + Copy + Drop>(
 /// Whether readers see what they should.
 fn readers_see<R: Wait + Copy + Drop>(rt: R, alloc: Global) -> bool {
     match thirds(alloc) {
-        Some(state) => serve::<Brand, R>(rt, alloc, Opened::new(), list::Opened::new(), state),
+        Some(state) => serve::<Brand, R>(
+            rt,
+            alloc,
+            UnnamedList::new(),
+            list::UnnamedCalls::new(),
+            state,
+        ),
         None => false,
     }
 }

@@ -7,7 +7,7 @@ use pfx_kinds::any::AnyJob;
 use pfx_machine::Command;
 use pfx_replay::PlainState;
 use pfx_store::Store;
-use pfx_store_engine::{CallFault, DurableEngine, StoreEngine};
+use pfx_store_engine::{DurableEngine, EngineFault, StoreEngine};
 use pfx_store_file::StoreFault;
 use std::alloc::Global;
 
@@ -66,7 +66,7 @@ pub trait Engine<D>: Drop {
     fn is_at(&self, state: &PlainState<AnyJob>) -> bool;
 
     /// Carries a command out, and answers the clock of its mark.
-    fn carry_out(&mut self, alloc: Global, command: Command<AnyJob>) -> Result<u64, CallFault>;
+    fn carry_out(&mut self, alloc: Global, command: Command<AnyJob>) -> Result<u64, EngineFault>;
 
     /// Its disk.
     fn into_disk(self) -> D;
@@ -97,7 +97,7 @@ impl<D: Disk + Drop> Engine<D> for StoreEngine<D, AnyJob> {
         is_state(self.keeper.state(), state)
     }
 
-    fn carry_out(&mut self, alloc: Global, command: Command<AnyJob>) -> Result<u64, CallFault> {
+    fn carry_out(&mut self, alloc: Global, command: Command<AnyJob>) -> Result<u64, EngineFault> {
         match self.execute(alloc, command) {
             Ok((mark, _reply)) => Ok(mark.clock),
             Err(fault) => Err(fault),

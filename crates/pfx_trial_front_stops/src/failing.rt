@@ -9,7 +9,7 @@ use pfx_fault::{Cause, Fault};
 use pfx_kinds::any::AnyJob;
 use pfx_machine::Command;
 use pfx_store::Store;
-use pfx_store_engine::{CallFault, StoreEngine};
+use pfx_store_engine::{EngineFault, StoreEngine};
 use pfx_store_recover::OpenFault;
 use std::alloc::Global;
 
@@ -29,7 +29,10 @@ fn failing(alloc: Global, call: u64, works: bool) -> Option<FaultDisk<MemoryDisk
 }
 
 /// How many commands of the run are carried out, and why the next one isn't.
-fn carried_out<D, E: Engine<D>>(alloc: Global, engine: &mut E) -> Option<(u64, Option<CallFault>)> {
+fn carried_out<D, E: Engine<D>>(
+    alloc: Global,
+    engine: &mut E,
+) -> Option<(u64, Option<EngineFault>)> {
     for number in 1..COMMANDS + 1 {
         match engine.carry_out(alloc, command(alloc, number)?) {
             Ok(_) => {}
@@ -63,7 +66,7 @@ pub fn holds<D, E: Engine<D>>(
 fn ends<D, E: Engine<D>>(alloc: Global, disk: D) -> Option<(u64, bool, D)> {
     let mut engine = E::begun(alloc, disk)?;
     let (done, fault) = carried_out(alloc, &mut engine)?;
-    let told = CallFault::Failed(Fault::StoreFailed {
+    let told = EngineFault::Failed(Fault::StoreFailed {
         marked: done,
         cause: Cause::Device,
     });

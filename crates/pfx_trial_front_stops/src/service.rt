@@ -20,7 +20,7 @@ pub trait Service {
     fn admit<R: Wait>(&self, rt: &R) -> Option<Self::Pass>;
 
     /// Asks the run's command of this number: the number that it is answered. `None` if there is no such command.
-    fn ask<R: Wait>(
+    fn asks<R: Wait>(
         &self,
         rt: &R,
         alloc: Global,
@@ -48,7 +48,7 @@ where
         self.pass(rt)
     }
 
-    fn ask<R: Wait>(
+    fn asks<R: Wait>(
         &self,
         rt: &R,
         alloc: Global,
@@ -56,7 +56,7 @@ where
         number: u64,
     ) -> Option<Result<u64, CallFault>> {
         let command = command(alloc, number)?;
-        match self.call(rt, pass, command) {
+        match self.ask(rt, pass, command) {
             Ok((given, _reply)) => Some(Ok(given)),
             Err(fault) => Some(Err(fault)),
         }

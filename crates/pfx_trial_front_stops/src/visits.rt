@@ -61,7 +61,7 @@ fn ask<F: Service, R: Wait>(
     visit: &mut Visit<F::Pass>,
     number: u64,
 ) -> bool {
-    match front.ask(rt, alloc, &mut visit.pass, number) {
+    match front.asks(rt, alloc, &mut visit.pass, number) {
         None => {
             visit.stays = false;
             false

@@ -11,7 +11,7 @@ use pfx_crew::channel::ChannelDesk;
 use pfx_disk::{Disk, MemoryDisk};
 use pfx_kinds::any::AnyJob;
 use pfx_kit::week::{FIRST_WEEK, SECOND_WEEK, WEEK};
-use pfx_program::{AtRefusal, Form, Run};
+use pfx_program::{AtRefusal, OutputForm, Run};
 use pfx_program_script::Script;
 use pfx_program_store::run_served;
 use pfx_store::Store;
@@ -59,7 +59,7 @@ fn printed<R: Threads + Wait + Clock + Copy + Drop + Send + Sync + 'static>(
             batch: 2,
             group: 0,
             at_refusal: AtRefusal::GoOn,
-            form: Form::Text,
+            form: OutputForm::Text,
         },
         &mut output,
     );

@@ -7,7 +7,7 @@ use crate::vector::{
 };
 use pfx_disk::Disk;
 use pfx_log::laws::{one_head, one_log, unmade_holds_none};
-use pfx_log::{AppendFault, CreateFault, Damage, LogBlock, LogFault, LogFile, LogPlace, MOST};
+use pfx_log::{AppendFault, CreateLogFault, Damage, LogBlock, LogFault, LogFile, LogPlace, MOST};
 use std::alloc::Global;
 
 /// Whether a log of three blocks takes 7 calls and 4 each, and has these very bytes.
@@ -109,7 +109,7 @@ fn room_that_is_handed_in_serves(rt: HostRuntime) {
 fn is_left_alone(alloc: Global) -> Option<bool> {
     let disk = disk_of(alloc, &[7])?;
     match LogFile::create(alloc, disk, VERSION, &STATE, BEFORE) {
-        Err((CreateFault::NotEmpty, mut disk)) => {
+        Err((CreateLogFault::NotEmpty, mut disk)) => {
             let calls = disk.clock();
             Some(calls == 1 && held(alloc, &mut disk)?.as_slice() == [7].as_slice())
         }
@@ -231,7 +231,7 @@ fn is_asked_again(alloc: Global) -> Option<bool> {
     let mut disk = disk_of(alloc, &[]).or(disk_of(alloc, &[]))?;
     let mut file = match LogFile::create(alloc, disk, VERSION, &STATE, BEFORE) {
         Ok(file) => file,
-        Err((CreateFault::NoMemory, back)) => {
+        Err((CreateLogFault::NoMemory, back)) => {
             LogFile::create(alloc, back, VERSION, &STATE, BEFORE).ok()?
         }
         Err(_) => return Some(false),

@@ -5,7 +5,7 @@ use crate::vector::{
     BEFORE, FATES, STATE, VERSION, append, blocks_of, disk_of, ends_behind, written,
 };
 use pfx_disk::{Disk, Fate, FaultDisk, MemoryDisk};
-use pfx_log::{AppendFault, CreateFault, LogFault, LogFile};
+use pfx_log::{AppendFault, CreateLogFault, LogFault, LogFile};
 use std::alloc::Global;
 
 /// What a stop after so many calls leaves, each write with this fate.
@@ -90,7 +90,7 @@ fn is_not_made(alloc: Global, k: u64, works: bool) -> Option<bool> {
     let disk = faulty(disk_of(alloc, &[])?, k, works);
     match LogFile::create(alloc, disk, VERSION, &STATE, BEFORE) {
         Ok(_) => Some(k == 7),
-        Err((CreateFault::Device, _)) => Some(k < 7),
+        Err((CreateLogFault::Device, _)) => Some(k < 7),
         Err(_) => Some(false),
     }
 }

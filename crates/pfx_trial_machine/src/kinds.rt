@@ -5,7 +5,7 @@ ghost use Rattle.std.specs.Prelude.{◌≤◌};
 use pfx_jobs::job::{Job, JobFault, are_same};
 use pfx_jobs::quantum::{Done, Quantum};
 use pfx_kinds::any::AnyJob;
-use pfx_kinds::start::StartFault;
+use pfx_kinds::start::JobStartFault;
 
 /// The bytes, followed by zeros.
 fn with_zeros(front: &[u8]) -> [u8; 128] {
@@ -186,7 +186,7 @@ fn finds_all_places(rt: HostRuntime) {
 }
 
 /// Whether a job is started so, or refused for this fault.
-fn is_answered(kind: &str, goal: u64, text: &[u8], want: Option<StartFault>) -> bool {
+fn is_answered(kind: &str, goal: u64, text: &[u8], want: Option<JobStartFault>) -> bool {
     match AnyJob::start(kind, goal, text) {
         Ok(_) => want.is_none(),
         Err(fault) => want == Some(fault),
@@ -256,8 +256,8 @@ const BAD_DATA: [(&str, u64, &[&[u8]]); 4] = [
 fn refuses_in_order(rt: HostRuntime) {
     for (starts, want) in [
         (STARTED.as_slice(), None),
-        (NO_KINDS.as_slice(), Some(StartFault::BadKind)),
-        (BAD_GOALS.as_slice(), Some(StartFault::BadGoal)),
+        (NO_KINDS.as_slice(), Some(JobStartFault::BadKind)),
+        (BAD_GOALS.as_slice(), Some(JobStartFault::BadGoal)),
     ] {
         for (at, (kind, goal, text)) in starts.iter().enumerate() {
             assert!(rt;
@@ -269,7 +269,7 @@ fn refuses_in_order(rt: HostRuntime) {
     for (kind, goal, texts) in BAD_DATA.as_slice() {
         for (at, text) in texts.iter().enumerate() {
             assert!(rt;
-                is_answered(kind, *goal, text, Some(StartFault::BadData)),
+                is_answered(kind, *goal, text, Some(JobStartFault::BadData)),
                 "{kind} {goal}, data {at}"
             );
         }
@@ -281,7 +281,7 @@ fn takes_512_cells() -> bool {
     let mut ring = [b'1'; 515];
     ring[1] = b':';
     is_answered("rule", 1, &ring[..514], None)
-        && is_answered("rule", 1, &ring, Some(StartFault::BadData))
+        && is_answered("rule", 1, &ring, Some(JobStartFault::BadData))
 }
 
 /// Whether a needle of 16 bytes is searched in a text of 64, and not in one of 65.
@@ -289,21 +289,21 @@ fn takes_64_bytes() -> bool {
     let mut search = [b'a'; 83];
     search[16] = b':';
     is_answered("scan", 0, &search[..81], None)
-        && is_answered("scan", 0, &search[..82], Some(StartFault::BadData))
+        && is_answered("scan", 0, &search[..82], Some(JobStartFault::BadData))
 }
 
 /// Whether a needle of 17 bytes is refused.
 fn refuses_17_bytes() -> bool {
     let mut search = [b'a'; 83];
     search[17] = b':';
-    is_answered("scan", 0, &search[..82], Some(StartFault::BadData))
+    is_answered("scan", 0, &search[..82], Some(JobStartFault::BadData))
 }
 
 /// Whether an answer of 106 bytes is taken, and not one of 107.
 fn takes_106_bytes() -> bool {
     let answer = [b'a'; 107];
     is_answered("own", 0, &answer[..106], None)
-        && is_answered("own", 0, &answer, Some(StartFault::BadData))
+        && is_answered("own", 0, &answer, Some(JobStartFault::BadData))
 }
 
 #[test]

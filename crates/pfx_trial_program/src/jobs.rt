@@ -2,7 +2,7 @@
 
 use crate::scripts::{prints_as, thirds};
 use pfx_fault::Fault;
-use pfx_program::Form;
+use pfx_program::OutputForm;
 use std::alloc::Global;
 
 /// The jobs of two tasks, before they are given, all at once and one by one, and those of tasks that have none.
@@ -55,7 +55,13 @@ const OBJECTS: &str = "{\"did\":\"submitted\",\"number\":1,\"task\":0}
 ";
 
 /// Whether a script over three tasks prints just this and ends so.
-fn prints(alloc: Global, form: Form, script: &str, want: &str, end: Result<(), Fault>) -> bool {
+fn prints(
+    alloc: Global,
+    form: OutputForm,
+    script: &str,
+    want: &str,
+    end: Result<(), Fault>,
+) -> bool {
     match thirds(alloc) {
         Some(mut state) => prints_as(alloc, form, &mut state, script, want, end),
         None => false,
@@ -64,9 +70,12 @@ fn prints(alloc: Global, form: Form, script: &str, want: &str, end: Result<(), F
 
 #[test]
 fn a_script_shows_jobs(rt: HostRuntime) {
-    assert!(rt; prints(rt.alloc(), Form::Text, SHOW, SHOWN, Ok(())), "text");
     assert!(rt;
-        prints(rt.alloc(), Form::Json, SHOW, OBJECTS, Ok(())),
+        prints(rt.alloc(), OutputForm::Text, SHOW, SHOWN, Ok(())),
+        "text"
+    );
+    assert!(rt;
+        prints(rt.alloc(), OutputForm::Json, SHOW, OBJECTS, Ok(())),
         "objects"
     );
 }
@@ -75,7 +84,13 @@ fn a_script_shows_jobs(rt: HostRuntime) {
 fn ends_at(alloc: Global, record: &str) -> bool {
     let end = Err(Fault::BadScript { at: 2 });
     match format!(in alloc; "slot,,,,\n{record}\nslot,,,,\n") {
-        Ok(script) => prints(alloc, Form::Text, script.as_str(), "1 ran 0: 0 1\n", end),
+        Ok(script) => prints(
+            alloc,
+            OutputForm::Text,
+            script.as_str(),
+            "1 ran 0: 0 1\n",
+            end,
+        ),
         Err(_) => false,
     }
 }

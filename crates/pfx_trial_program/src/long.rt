@@ -5,7 +5,7 @@ use crate::runs::one_by_one;
 use crate::scripts::{prints_as, run_into, runs_to_its_end, thirds};
 use crate::torn::Torn;
 use pfx_fault::Fault;
-use pfx_program::{Form, read_task_set, run_plan};
+use pfx_program::{OutputForm, read_task_set, run_plan};
 use std::alloc::Global;
 use std::io;
 use std::io::Write;
@@ -31,7 +31,13 @@ fn runs_slots(alloc: Global, script: &[u8], slots: u32) -> bool {
     };
     match thirds(alloc) {
         Some(mut state) => {
-            runs_to_its_end(alloc, one_by_one(Form::Text), &mut state, script, &want)
+            runs_to_its_end(
+                alloc,
+                one_by_one(OutputForm::Text),
+                &mut state,
+                script,
+                &want,
+            )
         }
         None => false,
     }
@@ -92,7 +98,7 @@ fn is_written_slowly(alloc: Global) -> bool {
         taken: Vec::new(alloc),
     };
     let script = b"slot,,,150,\n".as_slice();
-    let run = one_by_one(Form::Text);
+    let run = one_by_one(OutputForm::Text);
     let end = run_into(alloc, run, &mut state, script, &mut output);
     end.is_ok() && want.len() > 2000 && output.taken.as_slice() == want.as_slice()
 }
@@ -122,7 +128,7 @@ fn plans_five_thousand(alloc: Global) -> bool {
         alloc,
         &mut THIRDS.as_bytes(),
         None,
-        Form::Text,
+        OutputForm::Text,
         &mut written,
         5000,
         false,
@@ -152,7 +158,7 @@ closed 4
 /// Whether the worked script is answered line by line.
 fn answers_worked(alloc: Global) -> bool {
     match thirds(alloc) {
-        Some(mut state) => prints_as(alloc, Form::Text, &mut state, WORKED, ANSWERS, Ok(())),
+        Some(mut state) => prints_as(alloc, OutputForm::Text, &mut state, WORKED, ANSWERS, Ok(())),
         None => false,
     }
 }

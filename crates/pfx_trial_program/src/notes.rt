@@ -1,10 +1,10 @@
 //! Notes as a user reads them: each fault has its entry, and what stands below a fault's line.
 
 use pfx_fault::Fault;
-use pfx_program_explain::{Note, entry_named, put_entry};
+use pfx_program_explain::{NoteLines, entry_named, put_entry};
 use pfx_program_notes::{
-    First, Named, Stands, Trouble, input_note, output_note, passed_over_note, record_note,
-    refused_note, script_note, set_note, store_note, trouble_note,
+    FirstRefusal, NamedFile, Stands, Trouble, input_note, output_note, passed_over_note,
+    record_note, refused_note, script_note, set_note, store_note, trouble_note,
 };
 use std::alloc::{AllocError, Global};
 
@@ -59,7 +59,7 @@ fn prints_an_entry(rt: HostRuntime) {
 }
 
 /// Whether these are the note's lines.
-fn says(alloc: Global, note: Result<Option<Note>, AllocError>, lines: &str) -> bool {
+fn says(alloc: Global, note: Result<Option<NoteLines>, AllocError>, lines: &str) -> bool {
     match note {
         Ok(Some(note)) => match note.text(alloc) {
             Ok(text) => text.as_slice() == lines.as_bytes(),
@@ -70,7 +70,7 @@ fn says(alloc: Global, note: Result<Option<Note>, AllocError>, lines: &str) -> b
 }
 
 /// Whether these are the note's lines.
-fn tells(alloc: Global, note: Result<Note, AllocError>, lines: &str) -> bool {
+fn tells(alloc: Global, note: Result<NoteLines, AllocError>, lines: &str) -> bool {
     match note {
         Ok(note) => says(alloc, Ok(Some(note)), lines),
         Err(_) => false,
@@ -107,7 +107,7 @@ fn says_what_is_wrong_with_a_script(rt: HostRuntime) {
     let lines = "  standard input: record 3 has no form of a record
   A record has five fields, VERB,TASK,KIND,GOAL,DATA, as submit,0,count,5, or slot,,,3, with unused ones empty.\n";
     assert!(rt; says(rt.alloc(), note, lines));
-    let first = First {
+    let first = FirstRefusal {
         at: 2,
         fault: Fault::NoJob { task: 0 },
         refused: 3,
@@ -159,7 +159,7 @@ fn says_how_new_weights_are_given(rt: HostRuntime) {
 #[test]
 fn says_what_to_do_about_refused_weights(rt: HostRuntime) {
     let text = b"slot,,,,\nreweigh,,,2,1/3\n";
-    let first = First {
+    let first = FirstRefusal {
         at: 2,
         fault: Fault::NotLevel { task: 0 },
         refused: 1,
@@ -171,8 +171,8 @@ fn says_what_to_do_about_refused_weights(rt: HostRuntime) {
 }
 
 /// A record that is refused because a task has no job.
-fn jobless(at: u64) -> First {
-    First {
+fn jobless(at: u64) -> FirstRefusal {
+    FirstRefusal {
         at,
         fault: Fault::NoJob { task: 2 },
         refused: 1,
@@ -244,7 +244,7 @@ fn says_what_is_wrong_with_a_file(rt: HostRuntime) {
     let lines = "  store a?b: the file isn't empty
   Name another file; or delete this one, if nothing in it is wanted.\n";
     assert!(rt; says(rt.alloc(), note, lines));
-    let note = input_note(rt.alloc(), Named::Script, "a.csv", "no such file", true);
+    let note = input_note(rt.alloc(), NamedFile::Script, "a.csv", "no such file", true);
     let lines = "  script a.csv: no such file
   Name a file that can be read, or - for standard input.\n";
     assert!(rt; says(rt.alloc(), note, lines));

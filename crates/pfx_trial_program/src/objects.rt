@@ -2,13 +2,13 @@
 
 use crate::check::check;
 use pfx_fault::Fault;
-use pfx_program_explain::{Note, entry_named};
+use pfx_program_explain::{NoteLines, entry_named};
 use pfx_program_objects::{also_line, entry_line, error_line, warning_line};
 use std::alloc::{AllocError, Global};
 
 /// A note of two lines.
-fn note(alloc: Global) -> Result<Note, AllocError> {
-    Ok(Note {
+fn note(alloc: Global) -> Result<NoteLines, AllocError> {
+    Ok(NoteLines {
         what: String::from_str(alloc, "a.toml:5:5: \"big\"")?,
         change: Some(String::from_str(alloc, "Make e smaller.")?),
         more: None,

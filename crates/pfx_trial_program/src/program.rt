@@ -3,7 +3,7 @@
 use crate::refused_sets::REFUSED_SETS;
 use crate::torn::Torn;
 use pfx_fault::Fault;
-use pfx_program::{Form, run_plan};
+use pfx_program::{OutputForm, run_plan};
 use std::alloc::Global;
 use std::io::{ErrorKind, Write};
 use std::{io, str};
@@ -57,7 +57,7 @@ fn plans(
         alloc,
         &mut set.as_bytes(),
         at,
-        Form::Text,
+        OutputForm::Text,
         &mut written,
         slots,
         false,
@@ -73,7 +73,7 @@ fn plans_objects(alloc: Global, set: &str, slots: u64, want: &str) -> bool {
         alloc,
         &mut input,
         None,
-        Form::Json,
+        OutputForm::Json,
         &mut written,
         slots,
         false,
@@ -149,7 +149,7 @@ fn goes_on_from_a_ledger(rt: HostRuntime) {
 /// What a plan that says which ledger it leaves writes, if no slot lacks a row.
 fn left(
     alloc: Global,
-    form: Form,
+    form: OutputForm,
     set: &str,
     at: Option<&str>,
     slots: u64,
@@ -169,7 +169,7 @@ fn left(
 
 /// Whether such a plan writes just this.
 fn leaves(alloc: Global, set: &str, at: Option<&str>, slots: u64, want: &str) -> bool {
-    match left(alloc, Form::Text, set, at, slots) {
+    match left(alloc, OutputForm::Text, set, at, slots) {
         Ok(written) => written.as_slice() == want.as_bytes(),
         Err(_) => false,
     }
@@ -209,7 +209,7 @@ fn leaves_none(alloc: Global) -> bool {
         alloc,
         &mut QUARTERS_AND_EIGHTHS.as_bytes(),
         Some("2:0,0,0,1,1"),
-        Form::Text,
+        OutputForm::Text,
         &mut written,
         6,
         true,
@@ -219,7 +219,7 @@ fn leaves_none(alloc: Global) -> bool {
 
 /// Whether such a plan writes these objects.
 fn leaves_object(alloc: Global, want: &str) -> bool {
-    match left(alloc, Form::Json, THIRDS, Some("2:2,1,1"), 1) {
+    match left(alloc, OutputForm::Json, THIRDS, Some("2:2,1,1"), 1) {
         Ok(written) => written.as_slice() == want.as_bytes(),
         Err(_) => false,
     }
@@ -243,10 +243,17 @@ fn last_line(text: &str) -> Option<(&str, &str)> {
 
 /// Whether a plan in two parts, of these slots each, has the lines of the whole plan.
 fn goes_on_where_it_ended(alloc: Global, set: &str, first: u64, second: u64) -> Option<bool> {
-    let one = left(alloc, Form::Text, set, None, first).ok()?;
+    let one = left(alloc, OutputForm::Text, set, None, first).ok()?;
     let (front, line) = last_line(str::from_utf8(one.as_slice()).ok()?)?;
-    let two = left(alloc, Form::Text, set, Some(line), second).ok()?;
-    let whole = left(alloc, Form::Text, set, None, first.checked_add(second)?).ok()?;
+    let two = left(alloc, OutputForm::Text, set, Some(line), second).ok()?;
+    let whole = left(
+        alloc,
+        OutputForm::Text,
+        set,
+        None,
+        first.checked_add(second)?,
+    )
+    .ok()?;
     let mut parts = String::from_str(alloc, front).ok()?;
     parts.push_str(str::from_utf8(two.as_slice()).ok()?).ok()?;
     Some(parts.as_bytes() == whole.as_slice())
@@ -359,7 +366,15 @@ fn reads_no_part(alloc: Global) -> bool {
         left: THIRDS.as_bytes(),
     };
     let mut written = Vec::new(alloc);
-    let end = run_plan(alloc, &mut input, None, Form::Text, &mut written, 4, false);
+    let end = run_plan(
+        alloc,
+        &mut input,
+        None,
+        OutputForm::Text,
+        &mut written,
+        4,
+        false,
+    );
     end == Err(Fault::InputFailed) && written.is_empty()
 }
 
@@ -406,7 +421,7 @@ fn writes_the_beginning(alloc: Global) -> bool {
         alloc,
         &mut THIRDS.as_bytes(),
         None,
-        Form::Text,
+        OutputForm::Text,
         &mut output,
         4,
         false,

@@ -3,7 +3,7 @@
 use crate::runs::run_of;
 use crate::scripts::{thirds, written_by};
 use pfx_fault::Fault;
-use pfx_program::{AtRefusal, Form, RefusedRecord, Report};
+use pfx_program::{AtRefusal, OutputForm, RefusedRecord, Report};
 use std::alloc::Global;
 
 /// Records that are refused behind slots, alone and in a group, and one that shows no job.
@@ -29,7 +29,7 @@ fn runs(
     let Some(mut state) = thirds(alloc) else {
         return false;
     };
-    let run = run_of(size, at_refusal, Form::Text);
+    let run = run_of(size, at_refusal, OutputForm::Text);
     let (written, end) = written_by(alloc, run, &mut state, script.as_bytes());
     end == Ok(report) && written.as_slice() == want.as_bytes()
 }

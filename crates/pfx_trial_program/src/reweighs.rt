@@ -2,7 +2,7 @@
 
 use crate::scripts::{begun, begun_with, prints_as, thirds};
 use pfx_fault::Fault;
-use pfx_program::Form;
+use pfx_program::OutputForm;
 use std::alloc::Global;
 
 // Refused once, and accepted at the end of a round.
@@ -41,7 +41,7 @@ const ROUND_OBJECTS: &str = "{\"did\":\"ran\",\"number\":1,\"slot\":0,\"tasks\":
 ";
 
 /// Whether a script over three tasks of weight 2/3 on two workers prints just this.
-fn prints(alloc: Global, form: Form, script: &str, want: &str) -> bool {
+fn prints(alloc: Global, form: OutputForm, script: &str, want: &str) -> bool {
     match thirds(alloc) {
         Some(mut state) => prints_as(alloc, form, &mut state, script, want, Ok(())),
         None => false,
@@ -50,8 +50,8 @@ fn prints(alloc: Global, form: Form, script: &str, want: &str) -> bool {
 
 #[test]
 fn new_weights_come_into_force_where_all_is_level(rt: HostRuntime) {
-    assert!(rt; prints(rt.alloc(), Form::Text, ROUND, ROUND_LINES));
-    assert!(rt; prints(rt.alloc(), Form::Json, ROUND, ROUND_OBJECTS));
+    assert!(rt; prints(rt.alloc(), OutputForm::Text, ROUND, ROUND_LINES));
+    assert!(rt; prints(rt.alloc(), OutputForm::Json, ROUND, ROUND_OBJECTS));
 }
 
 // Each is refused, and the last one, with leading zeros, is accepted.
@@ -99,7 +99,7 @@ closed 4
 
 #[test]
 fn new_weights_are_refused_in_order(rt: HostRuntime) {
-    assert!(rt; prints(rt.alloc(), Form::Text, REFUSED, REFUSED_LINES));
+    assert!(rt; prints(rt.alloc(), OutputForm::Text, REFUSED, REFUSED_LINES));
 }
 
 // What is recorded stays until the first unit of the new weights is answered.
@@ -157,7 +157,7 @@ closed 14
 
 #[test]
 fn answers_count_in_the_weights_in_force(rt: HostRuntime) {
-    assert!(rt; prints(rt.alloc(), Form::Text, ANSWERS, ANSWERED));
+    assert!(rt; prints(rt.alloc(), OutputForm::Text, ANSWERS, ANSWERED));
 }
 
 const TWICE: &str = "reweigh,,,2,2/3 2/3 2/3
@@ -190,7 +190,7 @@ const TWICE_OBJECTS: &str = "{\"did\":\"reweighed\",\"number\":1,\"slot\":0}
 
 #[test]
 fn weights_of_slot_0_are_the_first_ones(rt: HostRuntime) {
-    assert!(rt; prints(rt.alloc(), Form::Json, TWICE, TWICE_OBJECTS));
+    assert!(rt; prints(rt.alloc(), OutputForm::Json, TWICE, TWICE_OBJECTS));
 }
 
 /// Whether a task that is idle is named where it isn't level, and the weights are in force two slots later.
@@ -201,7 +201,7 @@ fn waits_for_the_idle(alloc: Global) -> bool {
     let script = "slot,,,2,\nreweigh,,,2,1/2\nslot,,,2,\nreweigh,,,2,1/2\n";
     let want =
         "1 ran 0: 1 2\n2 ran 1: 0 1\nrefused 35 NotLevel task=1\n3 ran 2: 0 2\n4 ran 3: 1 2\n5 reweighed 4\nclosed 5\n";
-    prints_as(alloc, Form::Text, &mut state, script, want, Ok(()))
+    prints_as(alloc, OutputForm::Text, &mut state, script, want, Ok(()))
 }
 
 #[test]
@@ -214,7 +214,7 @@ fn wants_room(alloc: Global) -> bool {
     let script = "reweigh,,,2,1/2\nreweigh,,,1,1/2\n";
     let want = "refused 19 SegmentTooSmall least=4233\n1 reweighed 0\nclosed 1\n";
     match begun_with(alloc, 1, &[(1, 2)], 4_232) {
-        Some(mut state) => prints_as(alloc, Form::Text, &mut state, script, want, Ok(())),
+        Some(mut state) => prints_as(alloc, OutputForm::Text, &mut state, script, want, Ok(())),
         None => false,
     }
 }
@@ -235,7 +235,7 @@ fn stops_at(alloc: Global, record: &str) -> bool {
     let end = Err(Fault::BadScript { at: 2 });
     prints_as(
         alloc,
-        Form::Text,
+        OutputForm::Text,
         &mut state,
         script.as_str(),
         "settled 0\n",

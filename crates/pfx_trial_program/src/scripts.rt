@@ -8,7 +8,7 @@ use pfx_kinds::any::AnyJob;
 use pfx_kit::states::SEGMENT;
 use pfx_kit::week::{FIRST_WEEK, SECOND_WEEK, WEEK};
 use pfx_machine::State;
-use pfx_program::{AtRefusal, Form, Report, Run, run_record, run_script};
+use pfx_program::{AtRefusal, OutputForm, Report, Run, run_record, run_script};
 use pfx_program_script::Script;
 use pfx_weights::TaskSet;
 use std::alloc::Global;
@@ -77,7 +77,7 @@ pub fn runs_to_its_end(
 /// Whether a script prints just this and ends so.
 pub fn prints_as(
     alloc: Global,
-    form: Form,
+    form: OutputForm,
     state: &mut State<AnyJob>,
     script: &str,
     want: &str,
@@ -94,7 +94,7 @@ fn prints(
     want: &str,
     end: Result<(), Fault>,
 ) -> bool {
-    prints_as(alloc, Form::Text, state, script, want, end)
+    prints_as(alloc, OutputForm::Text, state, script, want, end)
 }
 
 const DAY: &str = "submit,0,count,9,
@@ -131,7 +131,14 @@ fn prints_objects(alloc: Global) -> bool {
     let Ok(want) = format!(in alloc; "{DAY_OBJECTS}{DAY_BOARD}") else {
         return false;
     };
-    prints_as(alloc, Form::Json, &mut state, DAY, want.as_str(), Ok(()))
+    prints_as(
+        alloc,
+        OutputForm::Json,
+        &mut state,
+        DAY,
+        want.as_str(),
+        Ok(()),
+    )
 }
 
 #[test]
@@ -317,7 +324,13 @@ fn runs_up_to_the_tear(alloc: Global, state: &mut State<AnyJob>) -> bool {
         left: b"slot,,,,\nslot,",
     };
     let mut written = Vec::new(alloc);
-    let end = run_into(alloc, one_by_one(Form::Text), state, input, &mut written);
+    let end = run_into(
+        alloc,
+        one_by_one(OutputForm::Text),
+        state,
+        input,
+        &mut written,
+    );
     end == Err(Fault::InputFailed) && written.as_slice() == b"1 ran 0: 0 1\n".as_slice()
 }
 
@@ -338,7 +351,7 @@ fn answers_before_it_asks(alloc: Global, state: &mut State<AnyJob>) -> bool {
         &mut row,
         1,
         &mut accepted,
-        Form::Text,
+        OutputForm::Text,
         &mut written,
         state,
     );
@@ -349,7 +362,7 @@ fn answers_before_it_asks(alloc: Global, state: &mut State<AnyJob>) -> bool {
         &mut row,
         1,
         &mut accepted,
-        Form::Text,
+        OutputForm::Text,
         &mut written,
         state,
     );
@@ -366,7 +379,7 @@ fn answers_a_group_before_it_asks(alloc: Global, state: &mut State<AnyJob>) -> b
         batch: 1,
         group: 16,
         at_refusal: AtRefusal::GoOn,
-        form: Form::Text,
+        form: OutputForm::Text,
     };
     let end = run_into(alloc, run, state, input, &mut written);
     end == Err(Fault::InputFailed)
@@ -393,7 +406,7 @@ fn answers_one_by_one(alloc: Global, state: &mut State<AnyJob>) -> bool {
             &mut row,
             16,
             &mut accepted,
-            Form::Text,
+            OutputForm::Text,
             &mut written,
             state,
         );
@@ -427,7 +440,7 @@ fn writes_the_beginning(alloc: Global, state: &mut State<AnyJob>) -> bool {
         bytes: [0; 64],
         room: 20,
     };
-    let run = one_by_one(Form::Text);
+    let run = one_by_one(OutputForm::Text);
     let end = run_into(alloc, run, state, WEEK.as_bytes(), &mut output);
     end == Err(Fault::OutputFailed) && output.bytes.ends_with(b"\x002 submitted 0\n3 ran ")
 }

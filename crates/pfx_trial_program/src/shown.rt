@@ -5,14 +5,14 @@ use crate::scripts::{thirds, written_by};
 use pfx_fault::Fault;
 use pfx_kinds::any::AnyJob;
 use pfx_machine::{Command, State};
-use pfx_program::{Form, created_line, run_show, run_status};
+use pfx_program::{OutputForm, created_line, run_show, run_status};
 use pfx_weights::TaskSet;
 use std::alloc::Global;
 
 /// Whether this is the line of a new store of this set and size.
 fn has_line(
     alloc: Global,
-    form: Form,
+    form: OutputForm,
     m: u32,
     tasks: &[(u32, u32)],
     size: usize,
@@ -32,19 +32,19 @@ fn tells_what_was_created(rt: HostRuntime) {
     let thirds = [(2, 3), (2, 3), (2, 3)];
     let line = "created m=2 real=3 idle=0 hyper=3 size=19395\n";
     assert!(rt;
-        has_line(rt.alloc(), Form::Text, 2, &thirds, 19_395, line),
+        has_line(rt.alloc(), OutputForm::Text, 2, &thirds, 19_395, line),
         "thirds"
     );
     let line = "{\"created\":{\"hyper\":3,\"idle\":0,\"m\":2,\"real\":3,\"size\":19395}}\n";
     assert!(rt;
-        has_line(rt.alloc(), Form::Json, 2, &thirds, 19_395, line),
+        has_line(rt.alloc(), OutputForm::Json, 2, &thirds, 19_395, line),
         "an object"
     );
     // One idle task of 1/6 fills the worker.
     let most = [(1, 2), (1, 3)];
     let line = "created m=1 real=2 idle=1 hyper=6 size=0\n";
     assert!(rt;
-        has_line(rt.alloc(), Form::Text, 1, &most, 0, line),
+        has_line(rt.alloc(), OutputForm::Text, 1, &most, 0, line),
         "an idle task"
     );
 }
@@ -64,7 +64,7 @@ fn shows_first_slot(alloc: Global) -> bool {
         return false;
     }
     let mut written = Vec::new(alloc);
-    run_status(alloc, Form::Text, &mut written, &mut *state).is_ok()
+    run_status(alloc, OutputForm::Text, &mut written, &mut *state).is_ok()
         && written.as_slice() == BOARD.as_bytes()
 }
 
@@ -86,7 +86,7 @@ const JOBS: &str = "0 count left=98 value=12
 /// Whether this is shown of all jobs of a state, or of one.
 fn has_shown(
     alloc: Global,
-    form: Form,
+    form: OutputForm,
     state: &State<AnyJob>,
     task: Option<u16>,
     text: &str,
@@ -97,13 +97,13 @@ fn has_shown(
 }
 
 fn has_jobs(alloc: Global, state: &State<AnyJob>, task: Option<u16>, text: &str) -> bool {
-    has_shown(alloc, Form::Text, state, task, text)
+    has_shown(alloc, OutputForm::Text, state, task, text)
 }
 
 /// Whether nothing is shown of a task, for this reason.
 fn has_none(alloc: Global, state: &State<AnyJob>, task: u16, fault: Fault) -> bool {
     let mut written = Vec::new(alloc);
-    let end = run_show(alloc, Form::Text, &mut written, state, Some(task));
+    let end = run_show(alloc, OutputForm::Text, &mut written, state, Some(task));
     end == Err(fault) && written.is_empty()
 }
 
@@ -122,7 +122,12 @@ const COUNT_OBJECT: &str = "{\"job\":\"count\",\"left\":98,\"task\":0,\"value\":
 
 /// Whether a script is run to its end.
 fn is_run(alloc: Global, state: &mut State<AnyJob>, script: &str) -> bool {
-    let (_lines, end) = written_by(alloc, one_by_one(Form::Text), state, script.as_bytes());
+    let (_lines, end) = written_by(
+        alloc,
+        one_by_one(OutputForm::Text),
+        state,
+        script.as_bytes(),
+    );
     end.is_ok()
 }
 
@@ -132,8 +137,8 @@ fn shows_objects(alloc: Global) -> bool {
         return false;
     };
     is_run(alloc, &mut state, WHOLE_WEEK)
-        && has_shown(alloc, Form::Json, &state, None, OBJECTS)
-        && has_shown(alloc, Form::Json, &state, Some(0), COUNT_OBJECT)
+        && has_shown(alloc, OutputForm::Json, &state, None, OBJECTS)
+        && has_shown(alloc, OutputForm::Json, &state, Some(0), COUNT_OBJECT)
 }
 
 #[test]

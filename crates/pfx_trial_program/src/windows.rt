@@ -5,7 +5,7 @@ use crate::runs::run_of;
 use crate::scripts::{Held, run_into, runs_to_its_end};
 use pfx_fault::Fault;
 use pfx_kit::states::state_at;
-use pfx_program::{AtRefusal, Form};
+use pfx_program::{AtRefusal, OutputForm};
 use pfx_weights::TaskSet;
 use std::alloc::Global;
 use std::io;
@@ -71,7 +71,7 @@ fn prints(alloc: Global, room: u64, window: u32) -> bool {
     let Some(want) = lines(alloc, room) else {
         return false;
     };
-    let run = run_of(window, AtRefusal::GoOn, Form::Text);
+    let run = run_of(window, AtRefusal::GoOn, OutputForm::Text);
     match with_room_for(alloc, room) {
         Some(mut state) => { runs_to_its_end(alloc, run, &mut state, SCRIPT.as_bytes(), &want) }
         None => false,
@@ -123,7 +123,7 @@ fn takes_the_first(alloc: Global, all: &[u8], room: usize, window: u32) -> bool 
         taken: Vec::new(alloc),
         room,
     };
-    let run = run_of(window, AtRefusal::GoOn, Form::Text);
+    let run = run_of(window, AtRefusal::GoOn, OutputForm::Text);
     let end = run_into(alloc, run, &mut state, SCRIPT.as_bytes(), &mut output);
     end == Err(Fault::OutputFailed) && Some(output.taken.as_slice()) == all.get(..room)
 }

@@ -10,7 +10,7 @@ use pfx_disk::Disk;
 use pfx_jobs::job::Job;
 use pfx_machine::{Command, State};
 use pfx_record::Record;
-use pfx_record_redo::run_recorded;
+use pfx_record_redo::apply_recorded;
 use pfx_store::{Mark, Store, batch_of};
 use std::alloc::Global;
 
@@ -22,7 +22,7 @@ pub fn slots<J: Job>(alloc: Global, count: u32, state: &mut State<J>) -> Option<
 {
     let mut records = Vec::new(alloc);
     for _slot in 0..count {
-        let Ok(done) = run_recorded(alloc, state, Command::Slot) else {
+        let Ok(done) = apply_recorded(alloc, state, Command::Slot) else {
             return None;
         };
         if records.push(done.entry).is_err() {

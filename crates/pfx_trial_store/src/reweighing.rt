@@ -8,7 +8,7 @@ use pfx_jobs::job::Job;
 use pfx_kinds::any::AnyJob;
 use pfx_machine::{Command, MachineFault, Reply};
 use pfx_store::Store;
-use pfx_store_engine::CallFault;
+use pfx_store_engine::EngineFault;
 use pfx_weights::{SetFault, TaskSet, Weights};
 use std::alloc::Global;
 
@@ -158,7 +158,7 @@ fn refuses(
         return false;
     };
     match engine.execute(alloc, command) {
-        Err(CallFault::Refused(got)) => {
+        Err(EngineFault::Refused(got)) => {
             got == fault
                 && engine.keeper.disk().clock() == clock
                 && engine.keeper.state().number() == number

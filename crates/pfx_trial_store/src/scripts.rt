@@ -8,9 +8,9 @@ use pfx_kinds::any::AnyJob;
 use pfx_kit::places::END;
 use pfx_kit::week::{FIRST_WEEK, SECOND_WEEK, WEEK};
 use pfx_machine::{Command, Reply};
-use pfx_program::{AtRefusal, Form, Run, run_script};
+use pfx_program::{AtRefusal, OutputForm, Run, run_script};
 use pfx_program_script::Script;
-use pfx_store_engine::{CallFault, Engine, StoreEngine, laws};
+use pfx_store_engine::{Engine, EngineFault, StoreEngine, laws};
 use std::alloc::Global;
 use std::fs::{File, OpenOptions};
 use std::path::PathBuf;
@@ -21,7 +21,7 @@ const ONE_BY_ONE: Run = Run {
     batch: 1,
     group: 0,
     at_refusal: AtRefusal::GoOn,
-    form: Form::Text,
+    form: OutputForm::Text,
 };
 
 /// Whether a script prints this, and ends so.
@@ -249,9 +249,9 @@ fn stays_failed(
     let is_settled = engine.settled(alloc) == Err(fault);
     let has_status = engine.status(alloc).err() == Some(fault);
     let has_state = engine.state(alloc).err() == Some(fault);
-    match engine.call(alloc, Command::Withdraw { task: 2 }) {
+    match engine.ask(alloc, Command::Withdraw { task: 2 }) {
         Ok(_) => false,
-        Err(why) => is_settled && has_status && has_state && why == CallFault::Failed(fault),
+        Err(why) => is_settled && has_status && has_state && why == EngineFault::Failed(fault),
     }
 }
 

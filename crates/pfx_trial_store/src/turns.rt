@@ -12,7 +12,7 @@ use pfx_kinds::any::AnyJob;
 use pfx_kit::places::{END, FIRST_FRAME, FIRST_SEGMENT, SECOND_AREA};
 use pfx_machine::{Command, State};
 use pfx_record::{Batch, Record, fits};
-use pfx_record_redo::{apply_all, run_recorded};
+use pfx_record_redo::{apply_all, apply_recorded};
 use pfx_store::Store;
 use pfx_store_file::Tended;
 use std::alloc::Global;
@@ -20,7 +20,7 @@ use std::alloc::Global;
 /// The record of a command, if the state accepts it.
 fn entry_of<J: Job>(alloc: Global, command: Command<J>, state: &State<J>) -> Option<Record<J>> {
     let mut copy = state.copy_of(alloc).ok()?;
-    let done = run_recorded(alloc, &mut copy, command).ok()?;
+    let done = apply_recorded(alloc, &mut copy, command).ok()?;
     Some(done.entry)
 }
 

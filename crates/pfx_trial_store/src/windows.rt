@@ -6,7 +6,7 @@ use crate::stops::{kept_by, survivors};
 use pfx_disk::{Disk, Fate, FaultDisk, MemoryDisk};
 use pfx_fault::{Cause, Fault};
 use pfx_kinds::any::AnyJob;
-use pfx_program::{AtRefusal, Form, Run};
+use pfx_program::{AtRefusal, OutputForm, Run};
 use pfx_program_script::Script;
 use pfx_program_store::run_durable;
 use pfx_store_engine::StoreEngine;
@@ -28,7 +28,7 @@ fn run<D: Disk>(
             batch: window.max(1),
             group: window.min(16),
             at_refusal: AtRefusal::GoOn,
-            form: Form::Text,
+            form: OutputForm::Text,
         },
         &mut written,
         engine,

@@ -7,7 +7,7 @@ use pfx_kinds::any::AnyJob;
 use pfx_machine::{Command, MachineFault, Reply, State};
 use pfx_record::{Place, Record};
 use pfx_record_redo::{
-    Recorded, apply_all, apply_record, apply_reweigh, is_common, laws, run_recorded,
+    Recorded, apply_all, apply_record, apply_recorded, apply_reweigh, is_common, laws,
 };
 use pfx_weights::Weights;
 use std::alloc::Global;
@@ -62,7 +62,7 @@ fn run_both(
     other: &mut State<AnyJob>,
     command: Command<AnyJob>,
 ) -> bool {
-    match run_recorded(alloc, one, command) {
+    match apply_recorded(alloc, one, command) {
         Ok(done) => {
             is_common(&done.entry) && apply_record(other, &done.entry) && are_alike(one, other)
         }
@@ -112,7 +112,7 @@ fn is_given(alloc: Global, state: &mut State<AnyJob>, command: Option<Command<An
     let Some(command) = command else {
         return false;
     };
-    match run_recorded(alloc, state, command) {
+    match apply_recorded(alloc, state, command) {
         Ok(done) => matches!(done.reply, Reply::Submitted { task: 0 }),
         Err(_) => false,
     }
@@ -120,7 +120,7 @@ fn is_given(alloc: Global, state: &mut State<AnyJob>, command: Option<Command<An
 
 /// The row that a slot is recorded with.
 fn row_of_slot(alloc: Global, state: &mut State<AnyJob>) -> Option<Vec<Place<AnyJob>>> {
-    match run_recorded(alloc, state, Command::Slot) {
+    match apply_recorded(alloc, state, Command::Slot) {
         Ok(
             Recorded {
                 entry: Record::Slot { row },
@@ -451,7 +451,7 @@ fn all_or_up_to_the_first_wrong_one(rt: HostRuntime) {
 
 /// Whether the task has no job that can be taken away, and nothing is recorded.
 fn has_no_record(alloc: Global, state: &mut State<AnyJob>, task: u16) -> bool {
-    match run_recorded(alloc, state, Command::Withdraw { task }) {
+    match apply_recorded(alloc, state, Command::Withdraw { task }) {
         Ok(_) => false,
         Err(fault) => fault == MachineFault::NoJob { task: 2 } && state.number() == 0,
     }

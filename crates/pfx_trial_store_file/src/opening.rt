@@ -8,7 +8,7 @@ use crate::toy::{Tally, Toy};
 use pfx_disk::{Disk, FaultDisk, GATE_OPEN, MemoryDisk};
 use pfx_fault::Part;
 use pfx_store_file::{StoreFile, Tended};
-use pfx_store_recover::{OpenFault, Opened, Refusal, open};
+use pfx_store_recover::{OpenFault, OpenedFile, Refusal, open};
 use std::alloc::Global;
 use std::process::Abort;
 
@@ -54,7 +54,7 @@ fn two_segments() -> [u8; 104] {
 }
 
 /// What was opened, behind a pointer: a proof spells what a function holds itself at each of its steps.
-type Found = Box<Opened<MemoryDisk, Toy>>;
+type Found = Box<OpenedFile<MemoryDisk, Toy>>;
 
 fn opened(alloc: Global, bytes: &[u8]) -> Option<Found> {
     let disk = MemoryDisk::new(alloc, bytes, bytes.len(), 200, 1000).ok()?;
@@ -77,7 +77,7 @@ fn damaged(at: usize, what: Part) -> Refusal {
 }
 
 /// Whether the state has this number and this sum.
-fn stands_at(opened: &Opened<MemoryDisk, Toy>, number: u64, sum: u64) -> bool {
+fn stands_at(opened: &OpenedFile<MemoryDisk, Toy>, number: u64, sum: u64) -> bool {
     opened.state.number() == number && opened.state.sum() == sum
 }
 
@@ -145,7 +145,7 @@ fn the_newer_area_is_taken(rt: HostRuntime) {
 }
 
 /// Whether the state between the segments has number 2 and sum 11.
-fn has_middle(opened: &Opened<MemoryDisk, Toy>) -> bool {
+fn has_middle(opened: &OpenedFile<MemoryDisk, Toy>) -> bool {
     match &opened.middle {
         Some(middle) => middle.as_slice() == [2, 11, 0, 0, 0, 0, 0, 0].as_slice(),
         None => false,
@@ -231,7 +231,7 @@ fn takes_step(file: &mut StoreFile<MemoryDisk>, middle: &[u8], step: Tended) -> 
 
 /// The file that was opened, and the body of its checkpoint, if one is in progress.
 fn in_progress(alloc: Global, opened: Found) -> Option<(Box<StoreFile<MemoryDisk>>, Vec<u8>)> {
-    let Opened { file, middle, .. } = Box::into_inner(opened);
+    let OpenedFile { file, middle, .. } = Box::into_inner(opened);
     Some((Box::new(alloc, file).ok()?, middle?))
 }
 

@@ -42,7 +42,7 @@ pub returns-clause-store : goal.returns-clause-store
 returns-clause-store g c ended =
     let K = g.J.Job.kind in
     let start = g.B.Named.start in
-    let store = g.S.Keeper.kept c.args._keeper.now in
+    let store = g.S.BatchKeeper.kept c.args._keeper.now in
     let r = c.settled.new.self in
     let same = sym c.settled.ensures.same.0 in
     let over : (r.session.marked ≡ length r.session.accepted) ⊎ (r.failure ≢ None) =
@@ -51,7 +51,7 @@ returns-clause-store g c ended =
       | else-is_none-via-then-is_none+else-not-is_settled w ↦ inl (w.if-not-is_settled.ensures.0 refl)
       | else-is_none-via-else-is_none w ↦ inr (λ none. false≢true (sym (ap is_some (c.failure.ensures ∙ none)) ∙ w.if-is_none.ensures))
     ]) in
-    stored K g.met.J.Job.laws start g.B.Charted.failures g.B.Charted.clock c.args.share.now (g.S.Keeper.failed c.args._keeper.now) store.file.broken store.state (g.D.Disk.view store.file.disk)
+    stored K g.met.J.Job.laws start g.B.Charted.failures g.B.Charted.clock c.args.share.now (g.S.BatchKeeper.failed c.args._keeper.now) store.file.broken store.state (g.D.Disk.view store.file.disk)
     c.requires.behind
     r.session.accepted r.session.taken c.legal.ensures.start c.legal.ensures.accepted c.legal.ensures.taken
     (c.settled.ensures.records ∙ ap (λ q. records_of K start (take q.session.taken q.session.accepted)) same)
@@ -62,10 +62,10 @@ pub returns-clause-images : goal.returns-clause-images
 returns-clause-images g c ended honest =
     let K = g.J.Job.kind in
     let start = g.B.Named.start in
-    let store = g.S.Keeper.kept c.args._keeper.now in
+    let store = g.S.BatchKeeper.kept c.args._keeper.now in
     let r = c.settled.new.self in
     let same = sym c.settled.ensures.same.0 in
-    held K g.met.J.Job.laws start g.B.Charted.failures g.B.Charted.clock c.args.share.now (g.S.Keeper.failed c.args._keeper.now) store.file.broken store.state (g.D.Disk.view store.file.disk)
+    held K g.met.J.Job.laws start g.B.Charted.failures g.B.Charted.clock c.args.share.now (g.S.BatchKeeper.failed c.args._keeper.now) store.file.broken store.state (g.D.Disk.view store.file.disk)
     c.requires.behind
     r.session.accepted r.session.taken c.legal.ensures.start c.legal.ensures.accepted c.legal.ensures.taken
     (c.settled.ensures.records ∙ ap (λ q. records_of K start (take q.session.taken q.session.accepted)) same)
@@ -75,10 +75,10 @@ pub returns-clause-whole : goal.returns-clause-whole
 returns-clause-whole g c ended =
     let K = g.J.Job.kind in
     let start = g.B.Named.start in
-    let store = g.S.Keeper.kept c.args._keeper.now in
+    let store = g.S.BatchKeeper.kept c.args._keeper.now in
     let r = c.settled.new.self in
     let same = sym c.settled.ensures.same.0 in
-    whole_still K g.met.J.Job.laws start g.B.Charted.failures g.B.Charted.clock c.args.share.now (g.S.Keeper.failed c.args._keeper.now) store.file.broken store.state
+    whole_still K g.met.J.Job.laws start g.B.Charted.failures g.B.Charted.clock c.args.share.now (g.S.BatchKeeper.failed c.args._keeper.now) store.file.broken store.state
     (g.D.Disk.view store.file.disk) c.requires.behind
     r.session.accepted r.session.taken c.legal.ensures.start c.legal.ensures.accepted c.legal.ensures.taken
     (c.settled.ensures.records ∙ ap (λ q. records_of K start (take q.session.taken q.session.accepted)) same)
@@ -94,7 +94,7 @@ returns-clause-readers g c ended =
           let K = g.J.Job.kind in
           let start = g.B.Named.start in
           let r = c.settled.new.self in
-          let s = (g.S.Keeper.kept c.args._keeper.now).state in
+          let s = (g.S.BatchKeeper.kept c.args._keeper.now).state in
           let h = looked.2 k was is before now in
           let begins = subst (λ w. IsPrefix w c.args.publisher.now.batches) (sym c.published.ensures.shown) c.published.ensures.durable in
           let same = sym c.settled.ensures.same.0 in (

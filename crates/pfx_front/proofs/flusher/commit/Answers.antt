@@ -12,8 +12,8 @@ use Rattle.pfx_front.proofs.flusher.commit.Goals as goal
 
 pub show-requires : goal.show-requires
 show-requires g c =
-    let old = g.S.Keeper.kept c.args.keeper.now in
-    let new = g.S.Keeper.kept c.append_taken.new.keeper in
+    let old = g.S.BatchKeeper.kept c.args.keeper.now in
+    let new = g.S.BatchKeeper.kept c.append_taken.new.keeper in
     let small = batch_small c.args.batch.workers c.args.batch.real c.args.batch.first c.args.batch.records.items c.args.batch.fits in
     let leads = published_leads g.J.Job.kind g.B.Named.start g.B.Charted.failures g.B.Charted.clock c.args.share.now c.args.batch old.file.broken new.file.broken
     old.state new.state (g.D.Disk.view old.file.disk) (g.D.Disk.view new.file.disk) c.requires.taken small
@@ -29,8 +29,8 @@ show-requires g c =
 
 pub mark_in-requires : goal.mark_in-requires
 mark_in-requires g c =
-    let old = g.S.Keeper.kept c.args.keeper.now in
-    let new = g.S.Keeper.kept c.append_taken.new.keeper in
+    let old = g.S.BatchKeeper.kept c.args.keeper.now in
+    let new = g.S.BatchKeeper.kept c.append_taken.new.keeper in
     let small = batch_small c.args.batch.workers c.args.batch.real c.args.batch.first c.args.batch.records.items c.args.batch.fits in
     record {
       taken = c.in-Some.ensures.shown.1;
@@ -55,17 +55,17 @@ mark_in-requires g c =
 
 pub returns-in-None-clause-behind : goal.returns-in-None-clause-behind
 returns-in-None-clause-behind g c =
-    let old = g.S.Keeper.kept c.args.keeper.now in
-    let new = g.S.Keeper.kept c.append_taken.new.keeper in
+    let old = g.S.BatchKeeper.kept c.args.keeper.now in
+    let new = g.S.BatchKeeper.kept c.append_taken.new.keeper in
     let small = batch_small c.args.batch.workers c.args.batch.real c.args.batch.first c.args.batch.records.items c.args.batch.fits in
     memory_behind g.J.Job.kind g.B.Named.start g.B.Charted.failures g.B.Charted.clock c.args.share.now c.args.batch old.file.broken new.file.broken
     old.state new.state (g.D.Disk.view old.file.disk) (g.D.Disk.view new.file.disk) c.requires.taken small
-    c.show.new.share (g.S.Keeper.failed c.append_taken.new.keeper) c.in-Ok.mark c.in-Ok.ensures.done.whole c.in-None.ensures.lost c.in-Ok.ensures.done.moved c.in-Ok.ensures.done.honest c.in-Ok.ensures.done.marks
+    c.show.new.share (g.S.BatchKeeper.failed c.append_taken.new.keeper) c.in-Ok.mark c.in-Ok.ensures.done.whole c.in-None.ensures.lost c.in-Ok.ensures.done.moved c.in-Ok.ensures.done.honest c.in-Ok.ensures.done.marks
 
 pub returns-in-None-clause-left : goal.returns-in-None-clause-left
 returns-in-None-clause-left g c =
-    let old = g.S.Keeper.kept c.args.keeper.now in
-    let new = g.S.Keeper.kept c.append_taken.new.keeper in
+    let old = g.S.BatchKeeper.kept c.args.keeper.now in
+    let new = g.S.BatchKeeper.kept c.append_taken.new.keeper in
     let small = batch_small c.args.batch.workers c.args.batch.real c.args.batch.first c.args.batch.records.items c.args.batch.fits in
     subst (λ b. IsShown g.J.Job.kind g.B.Named.start c.show.new.share b new.state) (sym c.show.ensures.batches)
     (memory_shown g.J.Job.kind g.B.Named.start g.B.Charted.failures g.B.Charted.clock c.args.share.now c.args.batch old.file.broken new.file.broken
@@ -74,8 +74,8 @@ returns-in-None-clause-left g c =
 
 pub returns-in-Some-clause-step : goal.returns-in-Some-clause-step
 returns-in-Some-clause-step g c =
-    let old = g.S.Keeper.kept c.args.keeper.now in
-    let new = g.S.Keeper.kept c.append_taken.new.keeper in
+    let old = g.S.BatchKeeper.kept c.args.keeper.now in
+    let new = g.S.BatchKeeper.kept c.append_taken.new.keeper in
     let small = batch_small c.args.batch.workers c.args.batch.real c.args.batch.first c.args.batch.records.items c.args.batch.fits in
     let noted = c.mark_in.ensures.share ∙ ap (λ l. l ++ Marked c.in-Ok.mark.number c.in-Ok.mark.clock ∷ []) c.in-Some.ensures.shown.0 in
     step_marked g.J.Job.kind g.B.Named.start g.B.Charted.failures g.B.Charted.clock c.args.share.now c.args.batch old.file.broken new.file.broken
@@ -85,8 +85,8 @@ returns-in-Some-clause-step g c =
 
 pub returns-in-Some-clause-shown : goal.returns-in-Some-clause-shown
 returns-in-Some-clause-shown g c =
-    let old = g.S.Keeper.kept c.args.keeper.now in
-    let new = g.S.Keeper.kept c.append_taken.new.keeper in
+    let old = g.S.BatchKeeper.kept c.args.keeper.now in
+    let new = g.S.BatchKeeper.kept c.append_taken.new.keeper in
     let small = batch_small c.args.batch.workers c.args.batch.real c.args.batch.first c.args.batch.records.items c.args.batch.fits in
     let noted = c.mark_in.ensures.share ∙ ap (λ l. l ++ Marked c.in-Ok.mark.number c.in-Ok.mark.clock ∷ []) c.in-Some.ensures.shown.0 in
     subst (AreShown c.mark_in.new.share) (sym c.show.ensures.batches)
@@ -96,17 +96,17 @@ returns-in-Some-clause-shown g c =
 
 pub append_taken-requires : goal.append_taken-requires
 append_taken-requires g c =
-    let next = c.requires.taken.goes (g.S.Keeper.kept c.args.keeper.now).state c.requires.taken.step.state in
+    let next = c.requires.taken.goes (g.S.BatchKeeper.kept c.args.keeper.now).state c.requires.taken.step.state in
     record { next = (next.0, next.1, next.2, next.3); goes_on = c.requires.goes_on }
 
 pub returns-in-Err-clause-behind : goal.returns-in-Err-clause-behind
 returns-in-Err-clause-behind g c =
-    let old = g.S.Keeper.kept c.args.keeper.now in
-    let new = g.S.Keeper.kept c.append_taken.new.keeper in
+    let old = g.S.BatchKeeper.kept c.args.keeper.now in
+    let new = g.S.BatchKeeper.kept c.append_taken.new.keeper in
     let small = batch_small c.args.batch.workers c.args.batch.real c.args.batch.first c.args.batch.records.items c.args.batch.fits in
     batch_behind g.J.Job.kind g.B.Named.start g.B.Charted.failures g.B.Charted.clock c.args.share.now c.args.batch old.file.broken new.file.broken
     old.state new.state (g.D.Disk.view old.file.disk) (g.D.Disk.view new.file.disk) c.requires.taken small
-    c.fail_in.new.share c.in-Err.cause (g.S.Keeper.failed c.append_taken.new.keeper) c.fail_in.ensures c.in-Err.ensures.missed.same (
+    c.fail_in.new.share c.in-Err.cause (g.S.BatchKeeper.failed c.append_taken.new.keeper) c.fail_in.ensures c.in-Err.ensures.missed.same (
       c.in-Err.ensures.missed.device,
       λ is. ap (λ (p : PlainStore _ _). p.file.broken) (c.in-Err.ensures.missed.memory is) ∙ c.requires.taken.step.whole,
       λ is. ((c.in-Err.ensures.missed.log is).1, ap (λ (p : PlainStore _ _). p.file.broken) (c.in-Err.ensures.missed.log is).0 ∙ c.requires.taken.step.whole),
@@ -115,8 +115,8 @@ returns-in-Err-clause-behind g c =
 
 pub returns-in-Err-clause-left : goal.returns-in-Err-clause-left
 returns-in-Err-clause-left g c =
-    let old = g.S.Keeper.kept c.args.keeper.now in
-    let new = g.S.Keeper.kept c.append_taken.new.keeper in
+    let old = g.S.BatchKeeper.kept c.args.keeper.now in
+    let new = g.S.BatchKeeper.kept c.append_taken.new.keeper in
     let small = batch_small c.args.batch.workers c.args.batch.real c.args.batch.first c.args.batch.records.items c.args.batch.fits in
     missed_shown g.J.Job.kind g.B.Named.start g.B.Charted.failures g.B.Charted.clock c.args.share.now c.args.batch old.file.broken new.file.broken
     old.state new.state (g.D.Disk.view old.file.disk) (g.D.Disk.view new.file.disk) c.requires.taken small

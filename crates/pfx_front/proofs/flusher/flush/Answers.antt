@@ -16,12 +16,12 @@ pub home-requires : goal.home-requires
 home-requires g c =
     let K = g.J.Job.kind in
     let start = g.B.Named.start in
-    let store = g.S.Keeper.kept c.loop.keeper in
+    let store = g.S.BatchKeeper.kept c.loop.keeper in
     record {
       behind =
-          subst (λ n. Behind K start g.B.Charted.failures g.B.Charted.clock n (g.S.Keeper.failed c.loop.keeper) store.file.broken store.state (g.D.Disk.view store.file.disk))
+          subst (λ n. Behind K start g.B.Charted.failures g.B.Charted.clock n (g.S.BatchKeeper.failed c.loop.keeper) store.file.broken store.state (g.D.Disk.view store.file.disk))
           (sym c.in-End.ensures)
-          (step_behind K start g.B.Charted.failures g.B.Charted.clock c.loop.share (g.S.Keeper.failed c.loop.keeper) store.file.broken store.state (g.D.Disk.view store.file.disk)
+          (step_behind K start g.B.Charted.failures g.B.Charted.clock c.loop.share (g.S.BatchKeeper.failed c.loop.keeper) store.file.broken store.state (g.D.Disk.view store.file.disk)
           c.loop.invariant.0);
       shown =
           subst (λ n. IsShown K start n c.loop.publisher.batches store.state) (sym c.in-End.ensures)
@@ -42,23 +42,23 @@ pub tend-requires : goal.tend-requires
 tend-requires g c =
     let K = g.J.Job.kind in
     let start = g.B.Named.start in
-    let store = g.S.Keeper.kept c.match-next_work.keeper in
+    let store = g.S.BatchKeeper.kept c.match-next_work.keeper in
     record {
       step = elim c.match-next_work.branch [
         | in-Tend w ↦
             subst (λ n. InStep K start g.B.Charted.failures g.B.Charted.clock n store.file.broken store.state (g.D.Disk.view store.file.disk))
             (sym (w.share-is ∙ w.in-Tend.ensures.0))
-            (subst (λ k. InStep K start g.B.Charted.failures g.B.Charted.clock c.loop.share (g.S.Keeper.kept k).file.broken (g.S.Keeper.kept k).state
-            (g.D.Disk.view (g.S.Keeper.kept k).file.disk)) (sym w.keeper-is) c.loop.invariant.0)
+            (subst (λ k. InStep K start g.B.Charted.failures g.B.Charted.clock c.loop.share (g.S.BatchKeeper.kept k).file.broken (g.S.BatchKeeper.kept k).state
+            (g.D.Disk.view (g.S.BatchKeeper.kept k).file.disk)) (sym w.keeper-is) c.loop.invariant.0)
         | in-Append+in-Some-commit w ↦
             subst (λ n. InStep K start g.B.Charted.failures g.B.Charted.clock n store.file.broken store.state (g.D.Disk.view store.file.disk))
             (sym w.share-is)
-            (subst (λ k. InStep K start g.B.Charted.failures g.B.Charted.clock w.commit.new.share (g.S.Keeper.kept k).file.broken (g.S.Keeper.kept k).state
-            (g.D.Disk.view (g.S.Keeper.kept k).file.disk)) (sym w.keeper-is) w.in-Some-commit.ensures.step)
+            (subst (λ k. InStep K start g.B.Charted.failures g.B.Charted.clock w.commit.new.share (g.S.BatchKeeper.kept k).file.broken (g.S.BatchKeeper.kept k).state
+            (g.D.Disk.view (g.S.BatchKeeper.kept k).file.disk)) (sym w.keeper-is) w.in-Some-commit.ensures.step)
       ];
       goes_on = elim c.match-next_work.branch [
-        | in-Tend w ↦ ap g.S.Keeper.failed w.keeper-is ∙ c.loop.invariant.6
-        | in-Append+in-Some-commit w ↦ ap g.S.Keeper.failed w.keeper-is ∙ w.in-Some-commit.ensures.goes_on
+        | in-Tend w ↦ ap g.S.BatchKeeper.failed w.keeper-is ∙ c.loop.invariant.6
+        | in-Append+in-Some-commit w ↦ ap g.S.BatchKeeper.failed w.keeper-is ∙ w.in-Some-commit.ensures.goes_on
       ];
     }
 
@@ -73,7 +73,7 @@ home-requires-then-not-tend-clause-shown g c =
       | in-Append+in-Some-commit w ↦
           ap (λ (p : Published g.row.J.Denot). records_of p.batches) w.publisher-is ∙ w.in-Some-commit.ensures.shown ∙ ap records_in (sym w.share-is)
     ] in
-    step_shown g.J.Job.kind g.B.Named.start c.tend.new.share c.match-next_work.publisher.batches (g.S.Keeper.kept c.tend.new.keeper).state (shown ∙ sym c.tend.ensures.notes) c.tend.ensures.leads
+    step_shown g.J.Job.kind g.B.Named.start c.tend.new.share c.match-next_work.publisher.batches (g.S.BatchKeeper.kept c.tend.new.keeper).state (shown ∙ sym c.tend.ensures.notes) c.tend.ensures.leads
 
 pub loop-preserved : goal.loop-preserved
 loop-preserved g c =

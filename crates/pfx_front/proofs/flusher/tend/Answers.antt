@@ -7,8 +7,8 @@ use Rattle.pfx_front.proofs.flusher.tend.Goals as goal
 
 pub returns-in-Ok-clause-step : goal.returns-in-Ok-clause-step
 returns-in-Ok-clause-step g c = λ _.
-    let old = g.S.Keeper.kept c.args.keeper.now in
-    let new = g.S.Keeper.kept c.tend_on-tended.new.self in
+    let old = g.S.BatchKeeper.kept c.args.keeper.now in
+    let new = g.S.BatchKeeper.kept c.tend_on-tended.new.self in
     step_tended g.J.Job.kind g.B.Named.start g.B.Charted.failures g.B.Charted.clock c.args.share.now old.file.broken new.file.broken
     old.state new.state (g.D.Disk.view old.file.disk) (g.D.Disk.view new.file.disk) c.requires.step
     c.tend_on-tended.ensures.state (c.failure-failure.ensures.whole (c.in-Ok.ensures.call.whole.1)) c.tend_on-tended.ensures.call.takes.no_fewer c.tend_on-tended.ensures.call.honest.1
@@ -16,12 +16,12 @@ returns-in-Ok-clause-step g c = λ _.
 
 pub returns-in-Err-clause-behind : goal.returns-in-Err-clause-behind
 returns-in-Err-clause-behind g c = λ _.
-    let old = g.S.Keeper.kept c.args.keeper.now in
-    let new = g.S.Keeper.kept c.tend_on-tended.new.self in
-    failed_behind g.J.Job.kind g.B.Named.start g.B.Charted.failures g.B.Charted.clock c.args.share.now c.fail_in.new.share c.in-Err.cause (g.S.Keeper.failed c.tend_on-tended.new.self)
+    let old = g.S.BatchKeeper.kept c.args.keeper.now in
+    let new = g.S.BatchKeeper.kept c.tend_on-tended.new.self in
+    failed_behind g.J.Job.kind g.B.Named.start g.B.Charted.failures g.B.Charted.clock c.args.share.now c.fail_in.new.share c.in-Err.cause (g.S.BatchKeeper.failed c.tend_on-tended.new.self)
     old.file.broken new.file.broken old.state new.state (g.D.Disk.view old.file.disk) (g.D.Disk.view new.file.disk) c.requires.step
     c.fail_in.ensures c.tend_on-tended.ensures.state
-    (missed_by g.D.Disk.view old new (g.S.Keeper.failed c.args.keeper.now) (g.S.Keeper.failed c.tend_on-tended.new.self) c.tend_on-tended.result _ c.in-Err.cause
+    (missed_by g.D.Disk.view old new (g.S.BatchKeeper.failed c.args.keeper.now) (g.S.BatchKeeper.failed c.tend_on-tended.new.self) c.tend_on-tended.result _ c.in-Err.cause
     c.tend_on-tended.ensures.call c.in-Err.is c.requires.goes_on c.requires.step.whole)
     (λ honest.
     let before = c.tend_on-tended.ensures.call.honest.1 honest in

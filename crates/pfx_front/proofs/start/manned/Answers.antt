@@ -9,8 +9,8 @@ use Rattle.pfx_front.proofs.start.manned.Goals as goal
 
 pub invariant_of-owned : goal.invariant_of-owned
 invariant_of-owned g c = (
-  begins_in_step g.J.Job.kind g.B.Named.start g.B.Charted.failures g.B.Charted.clock c.in-Ok.outfit.share (g.S.Keeper.kept c.args.keeper).file.broken
-      (g.S.Keeper.kept c.args.keeper).state (g.D.Disk.view (g.S.Keeper.kept c.args.keeper).file.disk) c.requires.fresh
+  begins_in_step g.J.Job.kind g.B.Named.start g.B.Charted.failures g.B.Charted.clock c.in-Ok.outfit.share (g.S.BatchKeeper.kept c.args.keeper).file.broken
+      (g.S.BatchKeeper.kept c.args.keeper).state (g.D.Disk.view (g.S.BatchKeeper.kept c.args.keeper).file.disk) c.requires.fresh
       (c.in-Ok.ensures.share
       ∙ ap (λ (s : PlainStore g.row.D.Denot g.row.J.Denot). Marked g.B.Named.start.number (g.D.Disk.view s.file.disk).clock ∷ []) c.stored-2.ensures),
   ap (λ (p : Published g.row.J.Denot). records_of p.batches) c.in-Ok.ensures.publisher ∙ sym (ap records_in c.in-Ok.ensures.share),

@@ -33,8 +33,8 @@ returns-in_err-put_reply-in-Ok-clause-err g c =
     let done = c.in-Ok.ensures.done in
     let accepted = done.accepted in
     let step : command_step (run_of P c.args.form c.args.engine.now c.args.accepted.now) c.args.command ≡ carried (reply_line c.args.form ((P.state c.args.engine.now).number + 1) c.in-Ok.said) c.args.command = search rules in
-    rw is (subst (λ (x : Step). Stopped P 1 ⊥ (x ∷ []) c.args.engine.now c.call.new.self (g.W.Printer.contents c.args.output.now) (g.W.Printer.contents c.put_reply.new.output) c.in_err-put_reply-in-Ok.field-0.0) (sym step)
-    (done_stopped P g.met.E.Engine.laws c.args.form c.args.command c.in-Ok.number c.in-Ok.said c.args.engine.now c.call.new.self (g.W.Printer.contents c.args.output.now) (g.W.Printer.contents c.put_reply.new.output)
+    rw is (subst (λ (x : Step). Stopped P 1 ⊥ (x ∷ []) c.args.engine.now c.ask.new.self (g.W.Printer.contents c.args.output.now) (g.W.Printer.contents c.put_reply.new.output) c.in_err-put_reply-in-Ok.field-0.0) (sym step)
+    (done_stopped P g.met.E.Engine.laws c.args.form c.args.command c.in-Ok.number c.in-Ok.said c.args.engine.now c.ask.new.self (g.W.Printer.contents c.args.output.now) (g.W.Printer.contents c.put_reply.new.output)
     c.in_err-put_reply-in-Ok.field-0.0 done c.in_err-put_reply-in-Ok.ensures.err))
 
 pub returns-in_err-put_refused-in-Err-Refused-clause-err : goal.returns-in_err-put_refused-in-Err-Refused-clause-err
@@ -43,8 +43,8 @@ returns-in_err-put_refused-in-Err-Refused-clause-err g c =
     let is : c.from_residual-in_err-put_refused-in-Err-Refused.result ≡ Err c.in_err-put_refused-in-Err-Refused.field-0.0 = search rules in
     let (why, kept, settled) = rw c.in-Err-Refused.field-0-is at c.in-Err-Refused.ensures.not_done in
     let step : command_step (run_of P c.args.form c.args.engine.now c.args.accepted.now) c.args.command ≡ refused c.args.form (fault_of_machine c.in-Err-Refused.fault) = search rules in
-    rw is (subst (λ (x : Step). Stopped P 1 ⊥ (x ∷ []) c.args.engine.now c.call.new.self (g.W.Printer.contents c.args.output.now) (g.W.Printer.contents c.put_refused-in-Err-Refused.new.output) c.in_err-put_refused-in-Err-Refused.field-0.0)
-    (sym step) (shown_stopped P g.met.E.Engine.laws (refused c.args.form (fault_of_machine c.in-Err-Refused.fault)).text c.args.engine.now c.call.new.self (g.W.Printer.contents c.args.output.now)
+    rw is (subst (λ (x : Step). Stopped P 1 ⊥ (x ∷ []) c.args.engine.now c.ask.new.self (g.W.Printer.contents c.args.output.now) (g.W.Printer.contents c.put_refused-in-Err-Refused.new.output) c.in_err-put_refused-in-Err-Refused.field-0.0)
+    (sym step) (shown_stopped P g.met.E.Engine.laws (refused c.args.form (fault_of_machine c.in-Err-Refused.fault)).text c.args.engine.now c.ask.new.self (g.W.Printer.contents c.args.output.now)
     (g.W.Printer.contents c.put_refused-in-Err-Refused.new.output) c.in_err-put_refused-in-Err-Refused.field-0.0 kept (rw c.machine_fault-fault.ensures at c.in_err-put_refused-in-Err-Refused.ensures.err)))
 
 pub returns-in_ok-put_refused-in-Err-Refused-clause-ok : goal.returns-in_ok-put_refused-in-Err-Refused-clause-ok
@@ -52,8 +52,8 @@ returns-in_ok-put_refused-in-Err-Refused-clause-ok g c =
     let P = g.E.Engine.promise in
     let (why, kept, settled) = rw c.in-Err-Refused.field-0-is at c.in-Err-Refused.ensures.not_done in
     let step : command_step (run_of P c.args.form c.args.engine.now c.args.accepted.now) c.args.command ≡ refused c.args.form (fault_of_machine c.in-Err-Refused.fault) = search rules in
-    subst (λ (x : Step). Carried P (x ∷ []) c.args.engine.now c.call.new.self (g.W.Printer.contents c.args.output.now) (g.W.Printer.contents c.put_refused-in-Err-Refused.new.output)) (sym step)
-    (shown_carried P g.met.E.Engine.laws (refused c.args.form (fault_of_machine c.in-Err-Refused.fault)).text c.args.engine.now c.call.new.self (g.W.Printer.contents c.args.output.now)
+    subst (λ (x : Step). Carried P (x ∷ []) c.args.engine.now c.ask.new.self (g.W.Printer.contents c.args.output.now) (g.W.Printer.contents c.put_refused-in-Err-Refused.new.output)) (sym step)
+    (shown_carried P g.met.E.Engine.laws (refused c.args.form (fault_of_machine c.in-Err-Refused.fault)).text c.args.engine.now c.ask.new.self (g.W.Printer.contents c.args.output.now)
     (g.W.Printer.contents c.put_refused-in-Err-Refused.new.output) kept settled (rw c.machine_fault-fault.ensures at c.in_ok-put_refused-in-Err-Refused.ensures.ok))
 
 pub returns-in-Err-Failed-clause-err : goal.returns-in-Err-Failed-clause-err
@@ -61,7 +61,7 @@ returns-in-Err-Failed-clause-err g c =
     let P = g.E.Engine.promise in
     let (why, left) = rw c.in-Err-Failed.field-0-is at c.in-Err-Failed.ensures.not_done in
     doubt_stopped P g.met.E.Engine.laws (λ reply. carried (reply_line c.args.form ((P.state c.args.engine.now).number + 1) reply) c.args.command)
-    (command_step (run_of P c.args.form c.args.engine.now c.args.accepted.now) c.args.command) c.args.command c.args.engine.now c.call.new.self (g.W.Printer.contents c.args.output.now) c.in-Err-Failed.fault
+    (command_step (run_of P c.args.form c.args.engine.now c.args.accepted.now) c.args.command) c.args.command c.args.engine.now c.ask.new.self (g.W.Printer.contents c.args.output.now) c.in-Err-Failed.fault
     (λ reply accepted. (search rules, refl)) why left
 
 pub put_refused-requires : goal.put_refused-requires
@@ -86,11 +86,11 @@ put_reply-requires g c =
     let accepted = done.accepted in
     let x : Step = command_step (run_of P c.args.form c.args.engine.now c.args.accepted.now) c.args.command in
     let step : x ≡ carried (reply_line c.args.form ((P.state c.args.engine.now).number + 1) c.in-Ok.said) c.args.command = search rules in
-    let kept : P.keeps c.args.engine.now (commands_of (x ∷ [])) (length (commands_of (x ∷ []))) c.call.new.self =
-    subst (λ (y : Step). P.keeps c.args.engine.now (commands_of (y ∷ [])) (length (commands_of (y ∷ []))) c.call.new.self) (sym step) done.keeps in
+    let kept : P.keeps c.args.engine.now (commands_of (x ∷ [])) (length (commands_of (x ∷ []))) c.ask.new.self =
+    subst (λ (y : Step). P.keeps c.args.engine.now (commands_of (y ∷ [])) (length (commands_of (y ∷ []))) c.ask.new.self) (sym step) done.keeps in
     record {
-      allowed = subst (λ (n : ℕ). allows c.call.new.self was (reply_line c.args.form n c.in-Ok.said)) (sym done.next)
-          (subst (λ (y : Step). allows c.call.new.self was y.text) step (may_show P L allows c.args.engine.now c.call.new.self was x [] c.requires.may kept));
+      allowed = subst (λ (n : ℕ). allows c.ask.new.self was (reply_line c.args.form n c.in-Ok.said)) (sym done.next)
+          (subst (λ (y : Step). allows c.ask.new.self was y.text) step (may_show P L allows c.args.engine.now c.ask.new.self was x [] c.requires.may kept));
     }
 
 pub put_refused-requires-in-Err-Refused : goal.put_refused-requires-in-Err-Refused
@@ -102,7 +102,7 @@ put_refused-requires-in-Err-Refused g c =
     let (why, kept, settled) = rw c.in-Err-Refused.field-0-is at c.in-Err-Refused.ensures.not_done in
     let step : command_step (run_of P c.args.form c.args.engine.now c.args.accepted.now) c.args.command ≡ refused c.args.form (fault_of_machine c.in-Err-Refused.fault) = search rules in
     record {
-      allowed = subst (λ (f : Fault). allows c.call.new.self was (refused_line c.args.form f)) (sym c.machine_fault-fault.ensures)
-          (may_show_text P L allows c.args.engine.now c.call.new.self was (command_step (run_of P c.args.form c.args.engine.now c.args.accepted.now) c.args.command) (refused_line c.args.form (fault_of_machine c.in-Err-Refused.fault)) []
+      allowed = subst (λ (f : Fault). allows c.ask.new.self was (refused_line c.args.form f)) (sym c.machine_fault-fault.ensures)
+          (may_show_text P L allows c.args.engine.now c.ask.new.self was (command_step (run_of P c.args.form c.args.engine.now c.args.accepted.now) c.args.command) (refused_line c.args.form (fault_of_machine c.in-Err-Refused.fault)) []
           c.requires.may step kept.keeps);
     }

@@ -13,7 +13,7 @@ use Rattle.pfx_program_store.proofs.kept.serve_kept.Goals as goal
 pub returns-in_default : goal.returns-in_default
 returns-in_default g c =
     let B = g.B.Named.start in
-    let store = g.S.Keeper.kept c.args.keeper in
+    let store = g.S.BatchKeeper.kept c.args.keeper in
     let disk = g.D.Disk.view store.file.disk in
     unserved c.args.run.form c.args.run.at_refusal B disk c.args.script.now c.args.script.now.failed (g.W.Write.contents c.args.output.now) NoMemory (inr refl)
     (fresh_images B store.state g.B.Charted.failures g.B.Charted.clock store.file.broken disk c.requires.fresh)
@@ -29,7 +29,7 @@ returns-in-Ok-close_kept g c =
     one_pass pass left.given.passes.items (subst (λ (l : List (ℕ × List (Note AnyJob))). IsPermutation l left.given.passes.items) given c.in-Ok-close_kept.ensures.passes) in
     let session : IsSession any_kind B left.book (pass ∷ []) =
     subst (λ (l : List (ℕ × List (Note AnyJob))). IsSession any_kind B left.book l) only c.in-Ok-close_kept.ensures.session in
-    served c.args.run.form c.args.run.at_refusal B left.book (g.D.Disk.view (g.S.Keeper.kept left.keeper).file.disk) _ pass.1 (session_alone any_kind B left.book pass.0 pass.1 session) session.commands
+    served c.args.run.form c.args.run.at_refusal B left.book (g.D.Disk.view (g.S.BatchKeeper.kept left.keeper).file.disk) _ pass.1 (session_alone any_kind B left.book pass.0 pass.1 session) session.commands
     {E = FrontEngine AnyJob g.row.B.Denot g.row.K.Denot g.row.R.Denot g.row.K-Seat.Denot _ g.B.Since g.B.Named g.B.Room g.B.Begun g.B.Naming g.B.Charted} (λ e. e.client) (max c.args.run.batch c.args.run.group) _ c.run_script-result.new.engine c.new-client.ensures (sym c.into_pass.ensures) c.in-Ok-close_kept.ensures.images c.args.script.now
     c.run_script-result.new.script.failed (g.W.Write.contents c.args.output.now) (g.W.Write.contents c.run_script-result.new.output) c.run_script-result.result c.run_script-result.ensures
 
@@ -39,8 +39,8 @@ returns-after-pass g c = absurd c.never.ensures
 pub returns-in-Err : goal.returns-in-Err
 returns-in-Err g c =
     let B = g.B.Named.start in
-    let store = g.S.Keeper.kept c.args.keeper in
+    let store = g.S.BatchKeeper.kept c.args.keeper in
     let disk = g.D.Disk.view store.file.disk in
-    subst (λ keeper. IsServedRun c.args.run.form c.args.run.at_refusal B c.args.script.now c.args.script.now.failed (g.W.Write.contents c.args.output.now) (g.W.Write.contents c.args.output.now) (g.D.Disk.view (g.S.Keeper.kept keeper).file.disk) (Err c.start_fault.result)) (sym c.in-Err.ensures.given_back)
+    subst (λ keeper. IsServedRun c.args.run.form c.args.run.at_refusal B c.args.script.now c.args.script.now.failed (g.W.Write.contents c.args.output.now) (g.W.Write.contents c.args.output.now) (g.D.Disk.view (g.S.BatchKeeper.kept keeper).file.disk) (Err c.start_fault.result)) (sym c.in-Err.ensures.given_back)
     (unserved c.args.run.form c.args.run.at_refusal B disk c.args.script.now c.args.script.now.failed (g.W.Write.contents c.args.output.now) c.start_fault.result c.start_fault.ensures
     (fresh_images B store.state g.B.Charted.failures g.B.Charted.clock store.file.broken disk c.requires.fresh))

@@ -16,19 +16,19 @@ use Rattle.pfx_store_engine.proofs.keeping.commit.Goals as goal
 
 pub returns-in_err-_tended-clause-keeps : goal.returns-in_err-_tended-clause-keeps
 returns-in_err-_tended-clause-keeps g c honest start H done h all at given =
-    let kept = g.K.Keeper.kept in
+    let kept = g.K.BatchKeeper.kept in
     let V = g.D.Disk.view in
     keeps_behind g.J.Job.kind g.met.J.Job.laws start H (H ++ done) (V (kept c.args.keeper.now).file.disk) (V (kept c.tend_on.new.self).file.disk) (V (kept c.tend_on.new.self).file.disk) h all c.tend_on.ensures.call.takes.later
     (c.tend_on.ensures.keeps honest start (frames_of g.J.Job.kind start H) (replays_to g.J.Job.kind g.met.J.Job.laws start (kept c.args.keeper.now).state H h all at)) (keeps_more g.J.Job.kind start H done (V (kept c.tend_on.new.self).file.disk))
 
 pub put-requires-clause-right : goal.put-requires-clause-right
 put-requires-clause-right g c =
-    let kept = g.K.Keeper.kept in
+    let kept = g.K.BatchKeeper.kept in
     subst (λ (t : Plain g.row.J.Denot). IsKeepable g.J.Job.kind t (map plain c.args.records.items) c.args.renewal) (sym c.tend_on.ensures.state) c.requires.right
 
 pub returns-clause-state : goal.returns-clause-state
 returns-clause-state g c done given =
-    let kept = g.K.Keeper.kept in
+    let kept = g.K.BatchKeeper.kept in
     let s = (kept c.tend_on.new.self).state in
     let same : s ≡ (kept c.args.keeper.now).state = c.tend_on.ensures.state in
     let put = c.put.ensures.put done (subst (λ (t : Plain g.row.J.Denot). AreKeptAs g.J.Job.kind t done (map plain c.args.records.items)) (sym same) given) in
@@ -36,7 +36,7 @@ returns-clause-state g c done given =
 
 pub returns-clause-keeps : goal.returns-clause-keeps
 returns-clause-keeps g c honest start H done h all at given =
-    let kept = g.K.Keeper.kept in
+    let kept = g.K.BatchKeeper.kept in
     let V = g.D.Disk.view in
     let s = (kept c.tend_on.new.self).state in
     let same : s ≡ (kept c.args.keeper.now).state = c.tend_on.ensures.state in
@@ -51,7 +51,7 @@ returns-clause-keeps g c honest start H done h all at given =
 
 pub returns-clause-acknowledged : goal.returns-clause-acknowledged
 returns-clause-acknowledged g c honest =
-    let kept = g.K.Keeper.kept in
+    let kept = g.K.BatchKeeper.kept in
     let s = (kept c.tend_on.new.self).state in
     let t = (kept c.put.new.keeper).state in
     let keepable = subst (λ (u : Plain g.row.J.Denot). IsKeepable g.J.Job.kind u (map plain c.args.records.items) c.args.renewal) (sym c.tend_on.ensures.state) c.requires.right in
@@ -66,14 +66,14 @@ returns-clause-acknowledged g c honest =
 
 pub returns-in_err-_tended-clause-calls : goal.returns-in_err-_tended-clause-calls
 returns-in_err-_tended-clause-calls g c =
-    let kept = g.K.Keeper.kept in
+    let kept = g.K.BatchKeeper.kept in
     λ done given.
     (let V = g.D.Disk.view in
     takes_step_alone (frame_len g.J.Job.kind (kept c.args.keeper.now).state done) (kept c.args.keeper.now).file.places (V (kept c.args.keeper.now).file.disk) (V (kept c.tend_on.new.self).file.disk) c.tend_on.result c.from_residual.result _ c.from_residual.ensures.1 c.tend_on.ensures.call.takes)
 
 pub returns-clause-calls : goal.returns-clause-calls
 returns-clause-calls g c =
-    let kept = g.K.Keeper.kept in
+    let kept = g.K.BatchKeeper.kept in
     λ done given.
     (let V = g.D.Disk.view in
     let old = (kept c.args.keeper.now).state in
@@ -88,7 +88,7 @@ returns-in_err-_tended-clause-call g c =
 
 pub returns-clause-call : goal.returns-clause-call
 returns-clause-call g c =
-    let kept = g.K.Keeper.kept in
+    let kept = g.K.BatchKeeper.kept in
     let keepable = subst (λ (u : Plain g.row.J.Denot). IsKeepable g.J.Job.kind u (map plain c.args.records.items) c.args.renewal) (sym c.tend_on.ensures.state) c.requires.right in
     let (done, is) = keepable_kept g.J.Job.kind (kept c.tend_on.new.self).state (map plain c.args.records.items) c.args.renewal keepable in
     let put = c.put.ensures.put done is in

@@ -12,7 +12,7 @@ use Rattle.pfx_store_engine.proofs.keeping.put.Goals as goal
 
 pub keep_reweigh-requires : goal.keep_reweigh-requires
 keep_reweigh-requires g c =
-    let s = (g.K.Keeper.kept c.args.keeper.now).state in
+    let s = (g.K.BatchKeeper.kept c.args.keeper.now).state in
     let batch = c.reweigh_of-batch.result in
     let records = map plain c.args.records.items in
     let (m, weights, are, new) = subst (λ r. IsKeepable g.J.Job.kind s records r) c.in-Some.is c.requires.right in
@@ -23,7 +23,7 @@ keep_reweigh-requires g c =
 
 pub returns-in-Some-clause-put : goal.returns-in-Some-clause-put
 returns-in-Some-clause-put g c G kept =
-    let old = g.K.Keeper.kept c.args.keeper.now in
+    let old = g.K.BatchKeeper.kept c.args.keeper.now in
     let batch = c.reweigh_of-batch.result in
     let records = map plain c.args.records.items in
     let (m, weights, are, new) = subst (λ r. IsKeepable g.J.Job.kind old.state records r) c.in-Some.is c.requires.right in
@@ -36,7 +36,7 @@ returns-in-Some-clause-put g c G kept =
 
 pub returns-in-None-clause-put : goal.returns-in-None-clause-put
 returns-in-None-clause-put g c G kept =
-    let old = g.K.Keeper.kept c.args.keeper.now in
+    let old = g.K.BatchKeeper.kept c.args.keeper.now in
     let batch = c.batch_of-batch.result in
     let read : c.state.result.now ≡ old.state = c.state.ensures ∙ ap (λ k. k.state) c.stored.ensures in
     let h : IsState old.state = subst (λ (t : Plain g.row.J.Denot). IsState t) read c.batch_of-batch.ensures.state in

@@ -40,7 +40,7 @@ loop-command-preserved-in-Ok g c =
     let change = change_next c.args.commands.items gone command c.loop-command.command-iterator.rest.items c.next.new.self.rest.items c.requires.changes kept.split c.in-Some.ensures.steps.0 in
     let accepted : answer g.J.Job.kind c.loop-command.state command ≡ Ok x.1 = search rules in
     let next : x.0 ≡ c.loop-command.state.number + 1 = ap (λ (n : ℕ). n + 1) c.number-last.ensures.number in
-    let both = ran_ok g.J.Job.kind g.met.J.Job.laws s c.loop-command.state c.run_recorded.new.state gone told command x kept.told kept.state accepted next done.outcome in
+    let both = ran_ok g.J.Job.kind g.met.J.Job.laws s c.loop-command.state c.apply_recorded.new.state gone told command x kept.told kept.state accepted next done.outcome in
     let records = map (plain {J = g.row.J.Denot}) c.loop-command.records.items in
     let pushed : map (plain {J = g.row.J.Denot}) c.push_reserved-in-Ok.new.self.items ≡ records ++ plain c.in-Ok.field-0.entry ∷ [] =
     ap (map plain) c.push_reserved-in-Ok.ensures.items ∙ map_push plain c.loop-command.records.items c.in-Ok.field-0.entry in
@@ -70,7 +70,7 @@ loop-command-preserved g c =
     let left = c.next.new.self.rest.items in
     let change = change_next c.args.commands.items gone command rest left c.requires.changes kept.split c.in-Some.ensures.steps.0 in
     let why : answer g.J.Job.kind c.loop-command.state command ≡ Err c.in-Err.fault = change_refused g.J.Job.kind c.loop-command.state command c.in-Err.fault change c.in-Err.ensures.exact in
-    let both = ran_err g.J.Job.kind g.met.J.Job.laws s c.loop-command.state c.run_recorded.new.state gone told command c.in-Err.fault kept.told kept.state why c.in-Err.ensures.kept in
+    let both = ran_err g.J.Job.kind g.met.J.Job.laws s c.loop-command.state c.apply_recorded.new.state gone told command c.in-Err.fault kept.told kept.state why c.in-Err.ensures.kept in
     let more = length_push gone command in
     record {
       long = omega (arith, c.push_reserved-in-Err.ensures.len, kept.long, more);

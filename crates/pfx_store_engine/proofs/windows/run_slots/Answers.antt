@@ -31,8 +31,8 @@ loop-init g c = record {
 pub push_reserved-requires : goal.push_reserved-requires
 push_reserved-requires g c = omega (arith, c.loop.invariant.long, c.loop.invariant.room, c.loop-test.true)
 
-pub push_reserved-requires-in-Ok-run_recorded : goal.push_reserved-requires-in-Ok-run_recorded
-push_reserved-requires-in-Ok-run_recorded g c = omega (arith, c.loop.invariant.records, c.loop.invariant.records_room, c.loop-test.true)
+pub push_reserved-requires-in-Ok-apply_recorded : goal.push_reserved-requires-in-Ok-apply_recorded
+push_reserved-requires-in-Ok-apply_recorded g c = omega (arith, c.loop.invariant.records, c.loop.invariant.records_room, c.loop-test.true)
 
 pub returns-in-Err-clause-ran : goal.returns-in-Err-clause-ran
 returns-in-Err-clause-ran g c =
@@ -78,21 +78,21 @@ loop-preserved g c =
     let s = c.args.state.now in
     let said = c.loop.said.items in
     let at = c.loop.invariant.state in
-    let done = c.in-Ok-run_recorded.ensures in
-    let x : ℕ × Reply = (c.number-before.result + 1, c.in-Ok-run_recorded.field-0.reply) in
+    let done = c.in-Ok-apply_recorded.ensures in
+    let x : ℕ × Reply = (c.number-before.result + 1, c.in-Ok-apply_recorded.field-0.reply) in
     let accepted : answer g.J.Job.kind c.loop.state Slot ≡ Ok x.1 = search rules in
     let next : x.0 ≡ c.loop.state.number + 1 = ap (λ (n : ℕ). n + 1) c.number-before.ensures.number in
-    let pushed : map (plain {J = g.row.J.Denot}) c.push_reserved-in-Ok-run_recorded.new.self.items ≡ map plain c.loop.records.items ++ plain c.in-Ok-run_recorded.field-0.entry ∷ [] =
-    ap (map plain) c.push_reserved-in-Ok-run_recorded.ensures.items ∙ map_push plain c.loop.records.items c.in-Ok-run_recorded.field-0.entry in
+    let pushed : map (plain {J = g.row.J.Denot}) c.push_reserved-in-Ok-apply_recorded.new.self.items ≡ map plain c.loop.records.items ++ plain c.in-Ok-apply_recorded.field-0.entry ∷ [] =
+    ap (map plain) c.push_reserved-in-Ok-apply_recorded.ensures.items ∙ map_push plain c.loop.records.items c.in-Ok-apply_recorded.field-0.entry in
     record {
       long = omega (arith, c.push_reserved.ensures.len, c.loop.invariant.long);
-      records = omega (arith, c.push_reserved-in-Ok-run_recorded.ensures.len, c.loop.invariant.records);
+      records = omega (arith, c.push_reserved-in-Ok-apply_recorded.ensures.len, c.loop.invariant.records);
       room = omega (arith, c.push_reserved.ensures.capacity, c.loop.invariant.room);
-      records_room = omega (arith, c.push_reserved-in-Ok-run_recorded.ensures.capacity, c.loop.invariant.records_room);
+      records_room = omega (arith, c.push_reserved-in-Ok-apply_recorded.ensures.capacity, c.loop.invariant.records_room);
       answered = rw c.push_reserved.ensures.items (answered_more g.J.Job.kind g.met.J.Job.laws s said x c.loop.invariant.answered (subst (λ (t : Plain g.row.J.Denot). answer g.J.Job.kind t Slot ≡ Ok x.1) at accepted)
           (subst (λ (t : Plain g.row.J.Denot). x.0 ≡ t.number + 1) at next));
       recorded = rw c.push_reserved.ensures.items (subst (λ (l : List (recorded.Recorded g.row.J.Denot)). AreRecordsOf g.J.Job.kind s (slots_for (said ++ x ∷ [])) l) (sym pushed)
-          (recorded_more g.J.Job.kind g.met.J.Job.laws s said x (map plain c.loop.records.items) (plain c.in-Ok-run_recorded.field-0.entry) c.loop.invariant.recorded (subst (λ (t : Plain g.row.J.Denot). refusal g.J.Job.kind t Slot ≡ None) at done.exact)
+          (recorded_more g.J.Job.kind g.met.J.Job.laws s said x (map plain c.loop.records.items) (plain c.in-Ok-apply_recorded.field-0.entry) c.loop.invariant.recorded (subst (λ (t : Plain g.row.J.Denot). refusal g.J.Job.kind t Slot ≡ None) at done.exact)
           (done.kept_as ∙ ap (λ (t : Plain g.row.J.Denot). record_of g.J.Job.kind t Slot) at)));
       state = rw c.push_reserved.ensures.items (done.outcome s (slots_for said) at ∙ ap (outcome g.J.Job.kind s) (sym (slots_more said x)));
     }

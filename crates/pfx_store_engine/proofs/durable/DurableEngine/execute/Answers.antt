@@ -11,7 +11,7 @@ use Rattle.pfx_store.specs.Groups.{AreKeptAs}
 use Rattle.pfx_store_engine.proofs.Commands.{keepable_one, one_kept}
 use Rattle.pfx_store_engine.specs.Failing.{IsInDoubt}
 use Rattle.pfx_store_engine.specs.Renewing.{IsRenewalFor}
-use Rattle.pfx_store_engine.specs.declared.engine.CallFault.TheVariants.{Failed}
+use Rattle.pfx_store_engine.specs.declared.engine.EngineFault.TheVariants.{Failed}
 use Rattle.pfx_store_engine.proofs.Keeps.{keeps_more, worked}
 use Rattle.pfx_store_engine.specs.Stepping.{command_calls, frame_len}
 use Rattle.pfx_store_engine.proofs.Serving.{endless_after, limits_refuse}
@@ -24,27 +24,27 @@ use Rattle.pfx_store_engine.proofs.durable.DurableEngine.execute.Goals as goal
 
 pub returns-in-Some-clause-commits : goal.returns-in-Some-clause-commits
 returns-in-Some-clause-commits g c =
-    let kept = g.K.Keeper.kept in
+    let kept = g.K.BatchKeeper.kept in
     λ honest. record { keeps = λ start H h all at. keeps_more g.J.Job.kind start H (c.args.command ∷ []) (g.D.Disk.view (kept c.args.self.now.keeper).file.disk); acknowledged = tt }
 
 pub returns-in_default-with_capacity-clause-commits : goal.returns-in_default-with_capacity-clause-commits
 returns-in_default-with_capacity-clause-commits g c =
-    let kept = g.K.Keeper.kept in
+    let kept = g.K.BatchKeeper.kept in
     λ honest. record { keeps = λ start H h all at. keeps_more g.J.Job.kind start H (c.args.command ∷ []) (g.D.Disk.view (kept c.args.self.now.keeper).file.disk); acknowledged = tt }
 
 pub returns-in-Err-clause-commits : goal.returns-in-Err-clause-commits
 returns-in-Err-clause-commits g c =
-    let kept = g.K.Keeper.kept in
+    let kept = g.K.BatchKeeper.kept in
     λ honest. record { keeps = λ start H h all at. keeps_more g.J.Job.kind start H (c.args.command ∷ []) (g.D.Disk.view (kept c.args.self.now.keeper).file.disk); acknowledged = tt }
 
 pub returns-in-Err-2-clause-commits : goal.returns-in-Err-2-clause-commits
 returns-in-Err-2-clause-commits g c =
-    let kept = g.K.Keeper.kept in
+    let kept = g.K.BatchKeeper.kept in
     λ honest. record { keeps = λ start H h all at. keeps_more g.J.Job.kind start H (c.args.command ∷ []) (g.D.Disk.view (kept c.args.self.now.keeper).file.disk); acknowledged = tt }
 
 pub invariant_of-self-in-Ok-run_prepared : goal.invariant_of-self-in-Ok-run_prepared
 invariant_of-self-in-Ok-run_prepared g c =
-    let kept = g.K.Keeper.kept in
+    let kept = g.K.BatchKeeper.kept in
     record {
       same = λ whole.
           let before = sym c.in_default.ensures.answer in
@@ -60,7 +60,7 @@ invariant_of-self-in-Ok-run_prepared g c =
 
 pub returns-in-Ok-commit-clause-commits : goal.returns-in-Ok-commit-clause-commits
 returns-in-Ok-commit-clause-commits g c =
-    let kept = g.K.Keeper.kept in
+    let kept = g.K.BatchKeeper.kept in
     λ honest.
     (let V = g.D.Disk.view in
     let at = c.args.self.now.same (sym c.in_default.ensures.answer) in
@@ -77,7 +77,7 @@ returns-in-Ok-commit-clause-commits g c =
 
 pub returns-clause-commits : goal.returns-clause-commits
 returns-clause-commits g c =
-    let kept = g.K.Keeper.kept in
+    let kept = g.K.BatchKeeper.kept in
     λ honest.
     (let at = c.args.self.now.same (sym c.in_default.ensures.answer) in
     let done = c.in-Ok-run_prepared.ensures in
@@ -106,27 +106,27 @@ returns-in-Err-2-clause-serves g c = λ endless. (
 
 pub returns-in-Some-clause-calls : goal.returns-in-Some-clause-calls
 returns-in-Some-clause-calls g c =
-    let kept = g.K.Keeper.kept in
+    let kept = g.K.BatchKeeper.kept in
     record { takes = takes_no_call (command_calls (frame_len g.J.Job.kind c.args.self.now.state (c.args.command ∷ [])) (kept c.args.self.now.keeper).file.places) (g.D.Disk.view (kept c.args.self.now.keeper).file.disk) _; honest = (λ h. h, λ h. h) }
 
 pub returns-in_default-with_capacity-clause-calls : goal.returns-in_default-with_capacity-clause-calls
 returns-in_default-with_capacity-clause-calls g c =
-    let kept = g.K.Keeper.kept in
+    let kept = g.K.BatchKeeper.kept in
     record { takes = takes_no_call (command_calls (frame_len g.J.Job.kind c.args.self.now.state (c.args.command ∷ [])) (kept c.args.self.now.keeper).file.places) (g.D.Disk.view (kept c.args.self.now.keeper).file.disk) _; honest = (λ h. h, λ h. h) }
 
 pub returns-in-Err-clause-calls : goal.returns-in-Err-clause-calls
 returns-in-Err-clause-calls g c =
-    let kept = g.K.Keeper.kept in
+    let kept = g.K.BatchKeeper.kept in
     record { takes = takes_no_call (command_calls (frame_len g.J.Job.kind c.args.self.now.state (c.args.command ∷ [])) (kept c.args.self.now.keeper).file.places) (g.D.Disk.view (kept c.args.self.now.keeper).file.disk) _; honest = (λ h. h, λ h. h) }
 
 pub returns-in-Err-2-clause-calls : goal.returns-in-Err-2-clause-calls
 returns-in-Err-2-clause-calls g c =
-    let kept = g.K.Keeper.kept in
+    let kept = g.K.BatchKeeper.kept in
     record { takes = takes_no_call (command_calls (frame_len g.J.Job.kind c.args.self.now.state (c.args.command ∷ [])) (kept c.args.self.now.keeper).file.places) (g.D.Disk.view (kept c.args.self.now.keeper).file.disk) _; honest = (λ h. h, λ h. h) }
 
 pub returns-in-Ok-commit-clause-calls : goal.returns-in-Ok-commit-clause-calls
 returns-in-Ok-commit-clause-calls g c =
-    let kept = g.K.Keeper.kept in
+    let kept = g.K.BatchKeeper.kept in
     let V = g.D.Disk.view in
     let at = c.args.self.now.same (sym c.in_default.ensures.answer) in
     let done = c.in-Ok-run_prepared.ensures in
@@ -141,7 +141,7 @@ returns-in-Ok-commit-clause-calls g c =
 
 pub returns-clause-calls : goal.returns-clause-calls
 returns-clause-calls g c =
-    let kept = g.K.Keeper.kept in
+    let kept = g.K.BatchKeeper.kept in
     let V = g.D.Disk.view in
     let at = c.args.self.now.same (sym c.in_default.ensures.answer) in
     let done = c.in-Ok-run_prepared.ensures in
@@ -156,7 +156,7 @@ returns-clause-calls g c =
 
 pub commit-requires-clause-right : goal.commit-requires-clause-right
 commit-requires-clause-right g c =
-    let kept = g.K.Keeper.kept in
+    let kept = g.K.BatchKeeper.kept in
     let at = c.args.self.now.same (sym c.in_default.ensures.answer) in
     let done = c.in-Ok-run_prepared.ensures in
     let renewal = c.in-Ok-run_prepared.field-0.renewal in
@@ -171,7 +171,7 @@ returns-clause-doubt g c = λ whole.
 
 pub returns-in-Ok-commit-clause-done : goal.returns-in-Ok-commit-clause-done
 returns-in-Ok-commit-clause-done g c =
-    let kept = g.K.Keeper.kept in
+    let kept = g.K.BatchKeeper.kept in
     let at = c.args.self.now.same (sym c.in_default.ensures.answer) in
     let done = c.in-Ok-run_prepared.ensures in
     let mine : AreKeptAs g.J.Job.kind (kept c.args.self.now.keeper).state (c.args.command ∷ []) (map plain c.push_reserved.new.self.items) =
@@ -190,8 +190,8 @@ returns-in-Some-clause-doubt g c = λ none. absurd (let e = c.in-Some.ensures.an
 
 pub returns-in-Some-clause-stops : goal.returns-in-Some-clause-stops
 returns-in-Some-clause-stops g c =
-    let kept = g.K.Keeper.kept in
-    let failed = g.K.Keeper.failed in
+    let kept = g.K.BatchKeeper.kept in
+    let failed = g.K.BatchKeeper.failed in
     let old = c.args.self.now in
     let was = failed old.keeper in
     let n = (kept old.keeper).state.number in
@@ -199,8 +199,8 @@ returns-in-Some-clause-stops g c =
 
 pub returns-in-Ok-commit-clause-stops : goal.returns-in-Ok-commit-clause-stops
 returns-in-Ok-commit-clause-stops g c =
-    let kept = g.K.Keeper.kept in
-    let failed = g.K.Keeper.failed in
+    let kept = g.K.BatchKeeper.kept in
+    let failed = g.K.BatchKeeper.failed in
     let old = c.args.self.now in
     let was = failed old.keeper in
     let n = (kept old.keeper).state.number in
@@ -208,8 +208,8 @@ returns-in-Ok-commit-clause-stops g c =
 
 pub returns-clause-stops : goal.returns-clause-stops
 returns-clause-stops g c =
-    let kept = g.K.Keeper.kept in
-    let failed = g.K.Keeper.failed in
+    let kept = g.K.BatchKeeper.kept in
+    let failed = g.K.BatchKeeper.failed in
     let old = c.args.self.now in
     let was = failed old.keeper in
     let n = (kept old.keeper).state.number in

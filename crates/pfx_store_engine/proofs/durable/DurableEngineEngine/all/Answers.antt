@@ -18,8 +18,8 @@ use Rattle.pfx_store_engine.proofs.durable.DurableEngineEngine.all.Goals as goal
 
 pub returns-in-Some-clause-left : goal.returns-in-Some-clause-left
 returns-in-Some-clause-left g c =
-    let kept = g.K.Keeper.kept in
-    let failed = g.K.Keeper.failed in
+    let kept = g.K.BatchKeeper.kept in
+    let failed = g.K.BatchKeeper.failed in
     let old = c.args.self.now in
     record {
       took = [];
@@ -33,8 +33,8 @@ returns-in-Some-clause-left g c =
 
 pub returns-in_default-run_changes-clause-left : goal.returns-in_default-run_changes-clause-left
 returns-in_default-run_changes-clause-left g c =
-    let kept = g.K.Keeper.kept in
-    let failed = g.K.Keeper.failed in
+    let kept = g.K.BatchKeeper.kept in
+    let failed = g.K.BatchKeeper.failed in
     let old = c.args.self.now in
     record {
       took = [];
@@ -48,8 +48,8 @@ returns-in_default-run_changes-clause-left g c =
 
 pub returns-then-is_empty-clause-done : goal.returns-then-is_empty-clause-done
 returns-then-is_empty-clause-done g c =
-    let kept = g.K.Keeper.kept in
-    let failed = g.K.Keeper.failed in
+    let kept = g.K.BatchKeeper.kept in
+    let failed = g.K.BatchKeeper.failed in
     let V = g.D.Disk.view in
     let old = c.args.self.now in
     let at = old.same (sym c.in_default.ensures.answer) in
@@ -76,8 +76,8 @@ commit-requires-clause-few g c =
 
 pub returns-in-Ok-commit-clause-done : goal.returns-in-Ok-commit-clause-done
 returns-in-Ok-commit-clause-done g c =
-    let kept = g.K.Keeper.kept in
-    let failed = g.K.Keeper.failed in
+    let kept = g.K.BatchKeeper.kept in
+    let failed = g.K.BatchKeeper.failed in
     let V = g.D.Disk.view in
     let old = c.args.self.now in
     let at = old.same (sym c.in_default.ensures.answer) in
@@ -95,8 +95,8 @@ returns-in-Ok-commit-clause-done g c =
 
 pub returns-in-Err-clause-left : goal.returns-in-Err-clause-left
 returns-in-Err-clause-left g c =
-    let kept = g.K.Keeper.kept in
-    let failed = g.K.Keeper.failed in
+    let kept = g.K.BatchKeeper.kept in
+    let failed = g.K.BatchKeeper.failed in
     let V = g.D.Disk.view in
     let old = c.args.self.now in
     let at = old.same (sym c.in_default.ensures.answer) in
@@ -137,7 +137,7 @@ returns-in-Err-clause-fails g c =
 pub invariant_of-self-2 : goal.invariant_of-self-2
 invariant_of-self-2 g c = record {
   same = λ whole.
-      let kept = g.K.Keeper.kept in
+      let kept = g.K.BatchKeeper.kept in
       let old = c.args.self.now in
       let at = old.same (sym c.in_default.ensures.answer) in
       let ran = c.in-Ok.ensures in

@@ -6,8 +6,8 @@ use Rattle.pfx_store_engine.proofs.durable.DurableEngineEngine.settled.Goals as 
 
 pub returns-clause-same : goal.returns-clause-same
 returns-clause-same g c =
-    let kept = g.K.Keeper.kept in
-    let failed = g.K.Keeper.failed in
+    let kept = g.K.BatchKeeper.kept in
+    let failed = g.K.BatchKeeper.failed in
     record {
       state = refl;
       keeps = keeps_none g.J.Job.kind (g.D.Disk.view (kept c.args.self.now.keeper).file.disk) (failed c.args.self.now.keeper) (kept c.args.self.now.keeper).state;
@@ -15,8 +15,8 @@ returns-clause-same g c =
 
 pub returns-clause-fails : goal.returns-clause-fails
 returns-clause-fails g c =
-    let kept = g.K.Keeper.kept in
-    let failed = g.K.Keeper.failed in
+    let kept = g.K.BatchKeeper.kept in
+    let failed = g.K.BatchKeeper.failed in
     let old = c.args.self.now in
     let was = failed old.keeper in
     let s = (kept old.keeper).state in
@@ -24,8 +24,8 @@ returns-clause-fails g c =
 
 pub returns-clause-settled : goal.returns-clause-settled
 returns-clause-settled g c =
-    let kept = g.K.Keeper.kept in
-    let failed = g.K.Keeper.failed in
+    let kept = g.K.BatchKeeper.kept in
+    let failed = g.K.BatchKeeper.failed in
     let old = c.args.self.now in
     let was = failed old.keeper in
     let s = (kept old.keeper).state in
@@ -33,8 +33,8 @@ returns-clause-settled g c =
 
 pub returns-clause-number : goal.returns-clause-number
 returns-clause-number g c =
-    let kept = g.K.Keeper.kept in
-    let failed = g.K.Keeper.failed in
+    let kept = g.K.BatchKeeper.kept in
+    let failed = g.K.BatchKeeper.failed in
     let old = c.args.self.now in
     let was = failed old.keeper in
     let s = (kept old.keeper).state in

@@ -5,7 +5,7 @@ use Rattle.pfx_machine.specs.Plain.{Plain, IsState}
 use Rattle.pfx_machine.specs.Outcome.{outcome}
 use Rattle.pfx_machine.specs.declared.command.Command.{Command}
 use Rattle.pfx_fault.specs.declared.refusals.Fault.TheVariants as fault
-use Rattle.pfx_store_engine.specs.declared.engine.CallFault.TheVariants as callfault
+use Rattle.pfx_store_engine.specs.declared.engine.EngineFault.TheVariants as enginefault
 use Rattle.std.proofs.lemmas.Bool.{true≢false}
 use Rattle.pfx_store_engine.specs.Promises.{AreAnswered, slots_for}
 use Rattle.pfx_store_engine.proofs.Slots.{length_slots}
@@ -20,15 +20,15 @@ use Rattle.pfx_store_engine.proofs.durable.DurableEngineEngine.slots.Goals as go
 
 pub returns-in-Some-clause-not_done : goal.returns-in-Some-clause-not_done
 returns-in-Some-clause-not_done g c =
-    let kept = g.K.Keeper.kept in
-    let failed = g.K.Keeper.failed in
+    let kept = g.K.BatchKeeper.kept in
+    let failed = g.K.BatchKeeper.failed in
     let old = c.args.self.now in
     rw c.stopped.ensures ((c.in-Some.cause, (old.keeper, sym c.in-Some.ensures.answer), refl), inl (record { state = refl; keeps = keeps_none g.J.Job.kind (g.D.Disk.view (kept old.keeper).file.disk) (failed old.keeper) (kept old.keeper).state }))
 
 pub returns-then-self-clause-not_done : goal.returns-then-self-clause-not_done
 returns-then-self-clause-not_done g c =
-    let kept = g.K.Keeper.kept in
-    let failed = g.K.Keeper.failed in
+    let kept = g.K.BatchKeeper.kept in
+    let failed = g.K.BatchKeeper.failed in
     let old = c.args.self.now in
     (tt, record { state = refl; keeps = keeps_none g.J.Job.kind (g.D.Disk.view (kept old.keeper).file.disk) (failed old.keeper) (kept old.keeper).state })
 
@@ -51,8 +51,8 @@ commit-requires-clause-few g c =
 
 pub returns-in-Err-clause-not_done : goal.returns-in-Err-clause-not_done
 returns-in-Err-clause-not_done g c =
-    let kept = g.K.Keeper.kept in
-    let failed = g.K.Keeper.failed in
+    let kept = g.K.BatchKeeper.kept in
+    let failed = g.K.BatchKeeper.failed in
     let V = g.D.Disk.view in
     let old = c.args.self.now in
     let whole : failed old.keeper ≡ None = sym c.in_default.ensures.answer in
@@ -61,8 +61,8 @@ returns-in-Err-clause-not_done g c =
 
 pub returns-in-Ok-commit-clause-done : goal.returns-in-Ok-commit-clause-done
 returns-in-Ok-commit-clause-done g c =
-    let kept = g.K.Keeper.kept in
-    let failed = g.K.Keeper.failed in
+    let kept = g.K.BatchKeeper.kept in
+    let failed = g.K.BatchKeeper.failed in
     let V = g.D.Disk.view in
     let old = c.args.self.now in
     let at = old.same (sym c.in_default.ensures.answer) in
@@ -84,8 +84,8 @@ returns-in-Ok-commit-clause-done g c =
 
 pub returns-in-Err-commit-clause-not_done : goal.returns-in-Err-commit-clause-not_done
 returns-in-Err-commit-clause-not_done g c =
-    let kept = g.K.Keeper.kept in
-    let failed = g.K.Keeper.failed in
+    let kept = g.K.BatchKeeper.kept in
+    let failed = g.K.BatchKeeper.failed in
     let V = g.D.Disk.view in
     let old = c.args.self.now in
     let at = old.same (sym c.in_default.ensures.answer) in
@@ -110,8 +110,8 @@ returns-in-Err-commit-clause-not_done g c =
 
 pub returns-in-Some-clause-stops : goal.returns-in-Some-clause-stops
 returns-in-Some-clause-stops g c =
-    let kept = g.K.Keeper.kept in
-    let failed = g.K.Keeper.failed in
+    let kept = g.K.BatchKeeper.kept in
+    let failed = g.K.BatchKeeper.failed in
     let old = c.args.self.now in
     let was = failed old.keeper in
     let n = (kept old.keeper).state.number in
@@ -122,17 +122,17 @@ returns-in-Some-clause-stops g c =
 
 pub returns-then-self-clause-stops : goal.returns-then-self-clause-stops
 returns-then-self-clause-stops g c =
-    let kept = g.K.Keeper.kept in
-    let failed = g.K.Keeper.failed in
+    let kept = g.K.BatchKeeper.kept in
+    let failed = g.K.BatchKeeper.failed in
     let old = c.args.self.now in
     let was = failed old.keeper in
     let n = (kept old.keeper).state.number in
-    record { stops = stops_refused n was _ _ (callfault.Failed fault.NoMemory) c.in_default.ensures.answer (refl, refl); starved = λ none starved. (refl, (refl, refl)) }
+    record { stops = stops_refused n was _ _ (enginefault.Failed fault.NoMemory) c.in_default.ensures.answer (refl, refl); starved = λ none starved. (refl, (refl, refl)) }
 
 pub returns-in-Err-clause-stops : goal.returns-in-Err-clause-stops
 returns-in-Err-clause-stops g c =
-    let kept = g.K.Keeper.kept in
-    let failed = g.K.Keeper.failed in
+    let kept = g.K.BatchKeeper.kept in
+    let failed = g.K.BatchKeeper.failed in
     let old = c.args.self.now in
     let was = failed old.keeper in
     let n = (kept old.keeper).state.number in
@@ -143,8 +143,8 @@ returns-in-Err-clause-stops g c =
 
 pub returns-in-Ok-commit-clause-stops : goal.returns-in-Ok-commit-clause-stops
 returns-in-Ok-commit-clause-stops g c =
-    let kept = g.K.Keeper.kept in
-    let failed = g.K.Keeper.failed in
+    let kept = g.K.BatchKeeper.kept in
+    let failed = g.K.BatchKeeper.failed in
     let old = c.args.self.now in
     let was = failed old.keeper in
     let n = (kept old.keeper).state.number in
@@ -152,8 +152,8 @@ returns-in-Ok-commit-clause-stops g c =
 
 pub returns-in-Err-commit-clause-stops : goal.returns-in-Err-commit-clause-stops
 returns-in-Err-commit-clause-stops g c =
-    let kept = g.K.Keeper.kept in
-    let failed = g.K.Keeper.failed in
+    let kept = g.K.BatchKeeper.kept in
+    let failed = g.K.BatchKeeper.failed in
     let old = c.args.self.now in
     let was = failed old.keeper in
     let n = (kept old.keeper).state.number in
@@ -167,7 +167,7 @@ returns-in-Err-commit-clause-stops g c =
 pub invariant_of-self-in-Ok : goal.invariant_of-self-in-Ok
 invariant_of-self-in-Ok g c = record {
   same = λ whole.
-      let kept = g.K.Keeper.kept in
+      let kept = g.K.BatchKeeper.kept in
       let old = c.args.self.now in
       let at = old.same (sym c.in_default.ensures.answer) in
       let ran = c.in-Ok.ensures.ran in

@@ -6,8 +6,8 @@ use Rattle.pfx_store_engine.proofs.durable.DurableEngineEngine.state.Goals as go
 
 pub returns-in_err-_number-clause-same : goal.returns-in_err-_number-clause-same
 returns-in_err-_number-clause-same g c =
-    let kept = g.K.Keeper.kept in
-    let failed = g.K.Keeper.failed in
+    let kept = g.K.BatchKeeper.kept in
+    let failed = g.K.BatchKeeper.failed in
     record {
       state = refl;
       keeps = keeps_none g.J.Job.kind (g.D.Disk.view (kept c.args.self.now.keeper).file.disk) (failed c.args.self.now.keeper) (kept c.args.self.now.keeper).state;
@@ -15,8 +15,8 @@ returns-in_err-_number-clause-same g c =
 
 pub returns-in-Ok-clause-same : goal.returns-in-Ok-clause-same
 returns-in-Ok-clause-same g c =
-    let kept = g.K.Keeper.kept in
-    let failed = g.K.Keeper.failed in
+    let kept = g.K.BatchKeeper.kept in
+    let failed = g.K.BatchKeeper.failed in
     record {
       state = refl;
       keeps = keeps_none g.J.Job.kind (g.D.Disk.view (kept c.args.self.now.keeper).file.disk) (failed c.args.self.now.keeper) (kept c.args.self.now.keeper).state;
@@ -24,8 +24,8 @@ returns-in-Ok-clause-same g c =
 
 pub returns-in-Err-clause-same : goal.returns-in-Err-clause-same
 returns-in-Err-clause-same g c =
-    let kept = g.K.Keeper.kept in
-    let failed = g.K.Keeper.failed in
+    let kept = g.K.BatchKeeper.kept in
+    let failed = g.K.BatchKeeper.failed in
     record {
       state = refl;
       keeps = keeps_none g.J.Job.kind (g.D.Disk.view (kept c.args.self.now.keeper).file.disk) (failed c.args.self.now.keeper) (kept c.args.self.now.keeper).state;
@@ -33,8 +33,8 @@ returns-in-Err-clause-same g c =
 
 pub returns-in_err-_number-clause-fails : goal.returns-in_err-_number-clause-fails
 returns-in_err-_number-clause-fails g c =
-    let kept = g.K.Keeper.kept in
-    let failed = g.K.Keeper.failed in
+    let kept = g.K.BatchKeeper.kept in
+    let failed = g.K.BatchKeeper.failed in
     let old = c.args.self.now in
     let was = failed old.keeper in
     let s = (kept old.keeper).state in
@@ -42,8 +42,8 @@ returns-in_err-_number-clause-fails g c =
 
 pub returns-in_err-_number-clause-look : goal.returns-in_err-_number-clause-look
 returns-in_err-_number-clause-look g c =
-    let kept = g.K.Keeper.kept in
-    let failed = g.K.Keeper.failed in
+    let kept = g.K.BatchKeeper.kept in
+    let failed = g.K.BatchKeeper.failed in
     let old = c.args.self.now in
     let was = failed old.keeper in
     let s = (kept old.keeper).state in
@@ -51,8 +51,8 @@ returns-in_err-_number-clause-look g c =
 
 pub returns-in-Ok-clause-settled : goal.returns-in-Ok-clause-settled
 returns-in-Ok-clause-settled g c =
-    let kept = g.K.Keeper.kept in
-    let failed = g.K.Keeper.failed in
+    let kept = g.K.BatchKeeper.kept in
+    let failed = g.K.BatchKeeper.failed in
     let old = c.args.self.now in
     let was = failed old.keeper in
     let s = (kept old.keeper).state in
@@ -60,8 +60,8 @@ returns-in-Ok-clause-settled g c =
 
 pub returns-in-Ok-clause-look : goal.returns-in-Ok-clause-look
 returns-in-Ok-clause-look g c =
-    let kept = g.K.Keeper.kept in
-    let failed = g.K.Keeper.failed in
+    let kept = g.K.BatchKeeper.kept in
+    let failed = g.K.BatchKeeper.failed in
     let old = c.args.self.now in
     let was = failed old.keeper in
     let s = (kept old.keeper).state in
@@ -69,8 +69,8 @@ returns-in-Ok-clause-look g c =
 
 pub returns-in-Err-clause-look : goal.returns-in-Err-clause-look
 returns-in-Err-clause-look g c =
-    let kept = g.K.Keeper.kept in
-    let failed = g.K.Keeper.failed in
+    let kept = g.K.BatchKeeper.kept in
+    let failed = g.K.BatchKeeper.failed in
     let old = c.args.self.now in
     let was = failed old.keeper in
     let s = (kept old.keeper).state in

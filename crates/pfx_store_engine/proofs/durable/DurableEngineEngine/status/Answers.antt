@@ -8,8 +8,8 @@ use Rattle.pfx_store_engine.proofs.durable.DurableEngineEngine.status.Goals as g
 
 pub returns-in-Err-clause-same : goal.returns-in-Err-clause-same
 returns-in-Err-clause-same g c =
-    let kept = g.K.Keeper.kept in
-    let failed = g.K.Keeper.failed in
+    let kept = g.K.BatchKeeper.kept in
+    let failed = g.K.BatchKeeper.failed in
     record {
       state = refl;
       keeps = keeps_none g.J.Job.kind (g.D.Disk.view (kept c.args.self.now.keeper).file.disk) (failed c.args.self.now.keeper) (kept c.args.self.now.keeper).state;
@@ -17,15 +17,15 @@ returns-in-Err-clause-same g c =
 
 pub returns-in-Ok-clause-shows : goal.returns-in-Ok-clause-shows
 returns-in-Ok-clause-shows g c =
-    let kept = g.K.Keeper.kept in
-    let failed = g.K.Keeper.failed in
+    let kept = g.K.BatchKeeper.kept in
+    let failed = g.K.BatchKeeper.failed in
     let whole = kept_whole (failed c.args.self.now.keeper) (kept c.args.self.now.keeper).state.number c.in_default.field-0 (sym c.in_default.ensures.answer) in
     subst (λ (s : Plain g.row.J.Denot). Shows g.J.Job.kind s c.in-Ok.board) (c.args.self.now.same whole) (record { number = c.in-Ok.ensures.number; slot = c.in-Ok.ensures.slot; from = c.in-Ok.ensures.from; lines = c.in-Ok.ensures.lines })
 
 pub returns-in-Ok-clause-same : goal.returns-in-Ok-clause-same
 returns-in-Ok-clause-same g c =
-    let kept = g.K.Keeper.kept in
-    let failed = g.K.Keeper.failed in
+    let kept = g.K.BatchKeeper.kept in
+    let failed = g.K.BatchKeeper.failed in
     record {
       state = refl;
       keeps = keeps_none g.J.Job.kind (g.D.Disk.view (kept c.args.self.now.keeper).file.disk) (failed c.args.self.now.keeper) (kept c.args.self.now.keeper).state;
@@ -33,8 +33,8 @@ returns-in-Ok-clause-same g c =
 
 pub returns-in-Err-board-clause-same : goal.returns-in-Err-board-clause-same
 returns-in-Err-board-clause-same g c =
-    let kept = g.K.Keeper.kept in
-    let failed = g.K.Keeper.failed in
+    let kept = g.K.BatchKeeper.kept in
+    let failed = g.K.BatchKeeper.failed in
     record {
       state = refl;
       keeps = keeps_none g.J.Job.kind (g.D.Disk.view (kept c.args.self.now.keeper).file.disk) (failed c.args.self.now.keeper) (kept c.args.self.now.keeper).state;
@@ -42,8 +42,8 @@ returns-in-Err-board-clause-same g c =
 
 pub returns-in-Err-clause-fails : goal.returns-in-Err-clause-fails
 returns-in-Err-clause-fails g c =
-    let kept = g.K.Keeper.kept in
-    let failed = g.K.Keeper.failed in
+    let kept = g.K.BatchKeeper.kept in
+    let failed = g.K.BatchKeeper.failed in
     let old = c.args.self.now in
     let was = failed old.keeper in
     let s = (kept old.keeper).state in
@@ -51,8 +51,8 @@ returns-in-Err-clause-fails g c =
 
 pub returns-in-Err-clause-look : goal.returns-in-Err-clause-look
 returns-in-Err-clause-look g c =
-    let kept = g.K.Keeper.kept in
-    let failed = g.K.Keeper.failed in
+    let kept = g.K.BatchKeeper.kept in
+    let failed = g.K.BatchKeeper.failed in
     let old = c.args.self.now in
     let was = failed old.keeper in
     let s = (kept old.keeper).state in
@@ -60,8 +60,8 @@ returns-in-Err-clause-look g c =
 
 pub returns-in-Ok-clause-settled : goal.returns-in-Ok-clause-settled
 returns-in-Ok-clause-settled g c =
-    let kept = g.K.Keeper.kept in
-    let failed = g.K.Keeper.failed in
+    let kept = g.K.BatchKeeper.kept in
+    let failed = g.K.BatchKeeper.failed in
     let old = c.args.self.now in
     let was = failed old.keeper in
     let s = (kept old.keeper).state in
@@ -69,8 +69,8 @@ returns-in-Ok-clause-settled g c =
 
 pub returns-in-Ok-clause-look : goal.returns-in-Ok-clause-look
 returns-in-Ok-clause-look g c =
-    let kept = g.K.Keeper.kept in
-    let failed = g.K.Keeper.failed in
+    let kept = g.K.BatchKeeper.kept in
+    let failed = g.K.BatchKeeper.failed in
     let old = c.args.self.now in
     let was = failed old.keeper in
     let s = (kept old.keeper).state in
@@ -78,8 +78,8 @@ returns-in-Ok-clause-look g c =
 
 pub returns-in-Err-board-clause-look : goal.returns-in-Err-board-clause-look
 returns-in-Err-board-clause-look g c =
-    let kept = g.K.Keeper.kept in
-    let failed = g.K.Keeper.failed in
+    let kept = g.K.BatchKeeper.kept in
+    let failed = g.K.BatchKeeper.failed in
     let old = c.args.self.now in
     let was = failed old.keeper in
     let s = (kept old.keeper).state in

@@ -1,6 +1,6 @@
 use Rattle.std.proofs.Common.{rules, [], sym}
 use Rattle.pfx_machine.proofs.Compose.{outcome-none}
-use Rattle.pfx_store_engine.proofs.memory.StateEngine.call.Goals as goal
+use Rattle.pfx_store_engine.proofs.memory.StateEngine.ask.Goals as goal
 
 pub returns-in-Ok-clause-done : goal.returns-in-Ok-clause-done
 returns-in-Ok-clause-done g c = record {

@@ -6,12 +6,12 @@ use Rattle.pfx_store.specs.Stores.{PlainStore}
 use Rattle.pfx_store_engine.specs.Failing.{MayFail}
 use Rattle.pfx_store_engine.specs.KeepingLaws.{keeps_none}
 use Rattle.pfx_store_engine.proofs.Promising.{keeps_one, keeps_doubt, not_done, not_failed, err_is, fails_known}
-use Rattle.pfx_store_engine.proofs.durable.DurableEngineEngine.call.Goals as goal
+use Rattle.pfx_store_engine.proofs.durable.DurableEngineEngine.ask.Goals as goal
 
 pub returns-in-Ok-clause-done : goal.returns-in-Ok-clause-done
 returns-in-Ok-clause-done g c =
-    let kept = g.K.Keeper.kept in
-    let failed = g.K.Keeper.failed in
+    let kept = g.K.BatchKeeper.kept in
+    let failed = g.K.BatchKeeper.failed in
     let V = g.D.Disk.view in
     let old = c.args.self.now in
     let new = c.execute.new.self in
@@ -32,8 +32,8 @@ returns-in-Ok-clause-done g c =
 
 pub returns-in-Err-clause-not_done : goal.returns-in-Err-clause-not_done
 returns-in-Err-clause-not_done g c =
-    let kept = g.K.Keeper.kept in
-    let failed = g.K.Keeper.failed in
+    let kept = g.K.BatchKeeper.kept in
+    let failed = g.K.BatchKeeper.failed in
     let V = g.D.Disk.view in
     let old = c.args.self.now in
     let new = c.execute.new.self in
@@ -46,7 +46,7 @@ returns-in-Err-clause-not_done g c =
 
 pub returns-in-Ok-clause-commits : goal.returns-in-Ok-clause-commits
 returns-in-Ok-clause-commits g c =
-    let kept = g.K.Keeper.kept in
+    let kept = g.K.BatchKeeper.kept in
     λ honest.
     (let V = g.D.Disk.view in
     let h = c.in-Ok.ensures in
@@ -72,7 +72,7 @@ returns-in-Ok-clause-stops g c = record {
 
 pub returns-in-Err-clause-stops : goal.returns-in-Err-clause-stops
 returns-in-Err-clause-stops g c =
-    let kept = g.K.Keeper.kept in
+    let kept = g.K.BatchKeeper.kept in
     let n = (kept c.args.self.now.keeper).state.number in
     record {
       fails = fails_known n _ _ _ c.in-Err.fault (λ cause known. known.0) c.in-Err.ensures.stops.fails;

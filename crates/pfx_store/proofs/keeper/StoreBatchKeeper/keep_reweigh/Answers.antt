@@ -1,5 +1,5 @@
 use Rattle.pfx_store.proofs.Keeping.{went_well, failed}
-use Rattle.pfx_store.proofs.keeper.StoreKeeper.keep_reweigh.Goals as goal
+use Rattle.pfx_store.proofs.keeper.StoreBatchKeeper.keep_reweigh.Goals as goal
 
 pub returns-in-Ok : goal.returns-in-Ok
 returns-in-Ok g c =

@@ -1,6 +1,6 @@
 use Rattle.std.proofs.Common.{sym, ◌∙◌, ap}
 use Rattle.pfx_disk_chronicle.proofs.Adding.{adds_moves}
-use Rattle.pfx_disk_chronicle.proofs.list.End.extend.Goals as goal
+use Rattle.pfx_disk_chronicle.proofs.list.CallsEnd.extend.Goals as goal
 
 pub compare_exchange-found-requires : goal.compare_exchange-found-requires
 compare_exchange-found-requires g c =

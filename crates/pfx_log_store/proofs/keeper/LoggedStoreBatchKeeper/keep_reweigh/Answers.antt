@@ -7,7 +7,7 @@ use Rattle.pfx_log.specs.Logs.{Log}
 use Rattle.pfx_store.specs.Groups.{frame_of}
 use Rattle.pfx_log_store.specs.Working.{Covers, IsBatchOf, IsLogged, failure_beside}
 use Rattle.pfx_log_store.proofs.Keepings.{batch_failed, batch_kept, batch_left, log_whole, no_memory, none_failed, store_failed, store_whole}
-use Rattle.pfx_log_store.proofs.keeper.LoggedStoreKeeper.keep_reweigh.Goals as goal
+use Rattle.pfx_log_store.proofs.keeper.LoggedStoreBatchKeeper.keep_reweigh.Goals as goal
 
 pub returns-in-Err-clause-kept : goal.returns-in-Err-clause-kept
 returns-in-Err-clause-kept g c =

@@ -2,7 +2,7 @@ use Rattle.std.proofs.Common.{◌≡◌, None, refl, sym, ap, ◌∙◌}
 use Rattle.pfx_log_store.specs.Working.{failure_beside}
 use Rattle.pfx_log_store.proofs.Keepings.{log_whole, no_memory, none_failed, step_failed, step_left, step_taken, store_failed, store_whole}
 use Rattle.pfx_log_store.proofs.Logging.{covers_still}
-use Rattle.pfx_log_store.proofs.keeper.LoggedStoreKeeper.tend_on.Goals as goal
+use Rattle.pfx_log_store.proofs.keeper.LoggedStoreBatchKeeper.tend_on.Goals as goal
 
 pub returns-in-Some-clause-kept : goal.returns-in-Some-clause-kept
 returns-in-Some-clause-kept g c =
