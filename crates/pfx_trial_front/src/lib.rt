@@ -1,4 +1,4 @@
-//! Tests of the front, in a crate of their own so that it is proved once, without them.
+//! Tests of the front and of its board, in a crate of their own so that they are proved once, without them.
 //!
 //! | Module | Tests |
 //! |---|---|
@@ -14,10 +14,13 @@
 //! | `clients` | clients in threads of their own: what was answered is in the store |
 //! | `held` | a flusher that is held in its first sync: calls are answered meanwhile |
 //! | `lost` | a device that fails: who is told, and what is left |
+//! | `board` | the board by itself: what its readers see, also beside a thread that publishes |
 #![tactic(auto)]
 
 #[cfg(test)]
 mod answers;
+#[cfg(test)]
+mod board;
 #[cfg(test)]
 mod clients;
 #[cfg(test)]

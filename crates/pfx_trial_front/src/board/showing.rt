@@ -1,6 +1,6 @@
 ghost use Rattle.std.specs.Prelude.{◌≡◌};
 
-use crate::line::{Held, Line, Listed, begin, keep_count, keep_row, thirds};
+use crate::board::line::{Held, Line, Listed, begin, keep_count, keep_row, thirds};
 use pfx_disk_chronicle::list;
 use pfx_front_board::name::Begun;
 use pfx_front_board::reader::{Reader, StatusFault};

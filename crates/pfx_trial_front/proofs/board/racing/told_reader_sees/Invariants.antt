@@ -1,5 +1,5 @@
 use Rattle.std.specs.Prelude.{[]}
-use Rattle.pfx_trial_front_board.proofs.racing.told_reader_sees.Given as goal
+use Rattle.pfx_trial_front.proofs.board.racing.told_reader_sees.Given as goal
 
 abbrev pub ghosts-race-B-Naming : goal.ghosts-race-B-Naming
 ghosts-race-B-Naming g a = record { book = a.opened.seen.book }

@@ -1,5 +1,5 @@
 use Rattle.std.specs.Prelude.{[]}
-use Rattle.pfx_trial_front_board.proofs.showing.readers_see.Given as goal
+use Rattle.pfx_trial_front.proofs.board.showing.readers_see.Given as goal
 
 abbrev pub ghosts-serve-B-Naming : goal.ghosts-serve-B-Naming
 ghosts-serve-B-Naming g a = record { book = a.opened.seen.book }

@@ -3,8 +3,8 @@ use Rattle.std.specs.Bool.{IsTrue}
 use Rattle.pfx_record.specs.Records.{plain}
 use Rattle.pfx_record_redo.specs.Applying.{after_record, applied, is_right}
 use Rattle.pfx_front_board.specs.Word.{records_of}
-use Rattle.pfx_trial_front_board.proofs.Lines.{batch_more}
-use Rattle.pfx_trial_front_board.proofs.line.Line.keep.Goals as goal
+use Rattle.pfx_trial_front.proofs.Lines.{batch_more}
+use Rattle.pfx_trial_front.proofs.board.line.Line.keep.Goals as goal
 
 pub publish-requires-clause-leads : goal.publish-requires-clause-leads
 publish-requires-clause-leads g c =
