@@ -25,7 +25,7 @@ pub enum Tried<J> {
 }
 
 /// Whether this is the refusal of a growth of memory.
-pub fn is_no_memory(fault: BookFault) -> bool
+pub(crate) fn is_no_memory(fault: BookFault) -> bool
     ensures yes { IsTrue result → fault ≡ BookFault.NoMemory }
     ensures no { IsFalse result → fault ≢ BookFault.NoMemory }
 {

@@ -5,8 +5,9 @@
 //!
 //! Why it is so:
 //! - **The machine's faults hold the choice's, and the book's the machine's** (`MachineFault::NoRow`, `BookFault::Machine`), and copy
-//!   none of their cases. What the refusal of a set, a ledger or a slot is to the program stands once, in `pfx_choice_refusals`, for the program
-//!   and for the calls from other languages.
+//!   none of their cases but one: that memory doesn't suffice is a fault of the book's own, since it refuses no command for good. What the
+//!   refusal of a set, a ledger or a slot is to the program stands once, in `pfx_choice_refusals`, for the program and for the calls from
+//!   other languages.
 #![tactic(auto)]
 
 mod faults;
