@@ -2,7 +2,7 @@
 
 use crate::files::{begins_as_store, fault_of, shared_disk};
 use crate::log::log_fault;
-use crate::traces::{Traces, output_of};
+use crate::process::Process;
 use crate::watcher::{Sought, Watcher};
 use pfx_disk::{Disk, FileDisk};
 use pfx_fault::Fault;
@@ -34,27 +34,22 @@ pub(crate) enum Found {
 const VERSION_AT: u64 = 10;
 
 // Whether the last of these paths is a store's file behind logs.
-fn ends_with_store(rt: &HostRuntime, paths: &[&str], traces: &Traces) -> Result<bool, Fault> {
+fn ends_with_store(process: Process<'_>, paths: &[&str]) -> Result<bool, Fault> {
     match paths {
         [] | [_] => Ok(false),
         [before @ .., last] => {
-            traces.at_part.set(before.len());
-            begins_as_store(rt, last)
+            process.traces.at_part.set(before.len());
+            begins_as_store(process.rt, last)
         }
     }
 }
 
 // The logs of a history, each for a reader.
-fn logs_of(
-    rt: &HostRuntime,
-    alloc: Global,
-    paths: &[&str],
-    traces: &Traces,
-) -> Result<Vec<FileDisk>, Fault> {
-    let mut logs = Vec::new(alloc);
+fn logs_of(process: Process<'_>, paths: &[&str]) -> Result<Vec<FileDisk>, Fault> {
+    let mut logs = Vec::new(process.alloc);
     for (part, path) in paths.iter().enumerate() {
-        traces.at_part.set(part);
-        if logs.push(shared_disk(rt, path)?).is_err() {
+        process.traces.at_part.set(part);
+        if logs.push(shared_disk(process.rt, path)?).is_err() {
             return Err(Fault::NoMemory);
         }
     }
@@ -62,16 +57,11 @@ fn logs_of(
 }
 
 // What a store's file has of a history.
-fn file_of(
-    rt: &HostRuntime,
-    alloc: Global,
-    path: &str,
-    traces: &Traces,
-) -> Result<FileHistory<AnyJob>, Fault> {
-    match read_file(alloc, shared_disk(rt, path)?) {
+fn file_of(process: Process<'_>, path: &str) -> Result<FileHistory<AnyJob>, Fault> {
+    match read_file(process.alloc, shared_disk(process.rt, path)?) {
         Ok((history, _disk)) => Ok(history),
         Err((fault, disk)) => {
-            traces.keep_said(&disk);
+            process.traces.keep_said(&disk);
             Err(open_fault(fault))
         }
     }
@@ -195,22 +185,16 @@ fn end_lines(alloc: Global, json: bool, end: HistoryEnd) -> Result<Vec<u8>, Allo
 }
 
 // Prints how a history ends: with CSV on standard error, so that the output is CSV alone.
-fn tell_end(
-    rt: &HostRuntime,
-    alloc: Global,
-    form: AuditForm,
-    end: HistoryEnd,
-    traces: &Traces,
-) -> Result<(), Fault> {
-    let Ok(lines) = end_lines(alloc, form == AuditForm::Json, end) else {
+fn tell_end(process: Process<'_>, form: AuditForm, end: HistoryEnd) -> Result<(), Fault> {
+    let Ok(lines) = end_lines(process.alloc, form == AuditForm::Json, end) else {
         return Err(Fault::NoMemory);
     };
     let written = match form {
         AuditForm::Csv => {
-            let _ = rt.stderr().write_all(&lines);
+            let _ = process.rt.stderr().write_all(&lines);
             return Ok(());
         }
-        AuditForm::Text | AuditForm::Json => output_of(rt, &traces.failed).write_all(&lines),
+        AuditForm::Text | AuditForm::Json => process.output().write_all(&lines),
     };
     match written {
         Ok(()) => Ok(()),
@@ -220,23 +204,21 @@ fn tell_end(
 
 // Prints in which block of a log a record is, and the head behind it: nothing, if it is in none.
 fn tell_block(
-    rt: &HostRuntime,
-    alloc: Global,
+    process: Process<'_>,
     logs: &mut Vec<FileDisk>,
     number: u64,
     json: bool,
-    traces: &Traces,
 ) -> Result<(), Fault> {
     for part in 0..logs.len() {
-        traces.at_part.set(part);
-        match find_block(alloc, &mut logs[part], number) {
+        process.traces.at_part.set(part);
+        match find_block(process.alloc, &mut logs[part], number) {
             Err(fault) => return Err(log_fault(fault)),
             Ok(None) => {}
             Ok(Some((block, place))) => {
-                let Ok(line) = block_line(alloc, json, block.first, place) else {
+                let Ok(line) = block_line(process.alloc, json, block.first, place) else {
                     return Err(Fault::NoMemory);
                 };
-                return match output_of(rt, &traces.failed).write_all(line.as_bytes()) {
+                return match process.output().write_all(line.as_bytes()) {
                     Ok(()) => Ok(()),
                     Err(error) => Err(fault_of(&error, Fault::OutputFailed)),
                 };
@@ -248,44 +230,45 @@ fn tell_block(
 
 // Why an audit came to no answer, and which part is to blame.
 fn audit_fault(
-    rt: &HostRuntime,
-    alloc: Global,
+    process: Process<'_>,
     paths: &[&str],
     logs: &[FileDisk],
     fault: AuditFault,
-    traces: &Traces,
 ) -> Fault {
     match fault {
         AuditFault::Log { index, fault } => {
-            traces.at_part.set(index);
+            process.traces.at_part.set(index);
             if let Some(disk) = logs.get(index) {
-                traces.keep_said(disk);
+                process.traces.keep_said(disk);
             }
-            part_fault(rt, alloc, paths, index, fault)
+            part_fault(process.rt, process.alloc, paths, index, fault)
         }
         AuditFault::File(fault) => {
-            traces.at_part.set(logs.len());
-            end_fault(rt, alloc, &paths[..logs.len().min(paths.len())], fault)
+            process.traces.at_part.set(logs.len());
+            end_fault(
+                process.rt,
+                process.alloc,
+                &paths[..logs.len().min(paths.len())],
+                fault,
+            )
         }
     }
 }
 
 // Audits a history whose parts are these, and prints what was sought in it.
 fn audited(
-    rt: &HostRuntime,
-    alloc: Global,
+    process: Process<'_>,
     paths: &[&str],
     logs: &mut Vec<FileDisk>,
     file: Option<&FileHistory<AnyJob>>,
     asked: Sought,
-    traces: &Traces,
 ) -> Result<(HistoryEnd, bool), Fault> {
     if logs.is_empty() {
         return Err(Fault::NotALog);
     }
-    let mut watcher = Watcher::new(rt, alloc, asked, output_of(rt, &traces.failed));
+    let mut watcher = Watcher::new(process.rt, process.alloc, asked, process.output());
     watcher.begin()?;
-    let found = pfx_replay_audit::audit(alloc, logs, file, &mut watcher);
+    let found = pfx_replay_audit::audit(process.alloc, logs, file, &mut watcher);
     watcher.clear();
     match found {
         Ok(HistoryEnd::Agrees { number, log }) => {
@@ -294,7 +277,7 @@ fn audited(
                 && watcher.is_found()
             {
                 let json = asked.form == AuditForm::Json;
-                tell_block(rt, alloc, logs, sought, json, traces)?;
+                tell_block(process, logs, sought, json)?;
             }
             let end = HistoryEnd::Agrees { number, log };
             Ok((end, watcher.is_found()))
@@ -302,35 +285,29 @@ fn audited(
         Ok(differs) => Ok((differs, true)),
         Err(fault) => Err(match watcher.failed() {
             Some(failed) => failed,
-            None => audit_fault(rt, alloc, paths, logs, fault, traces),
+            None => audit_fault(process, paths, logs, fault),
         }),
     }
 }
 
 /// Audits a history: logs in their order, and the store's file behind them, if it is the last of the paths. It prints the totals of windows, or the
 /// one record that is sought, and how the history ends. Nothing is written to the files.
-pub(crate) fn audit(
-    rt: &HostRuntime,
-    alloc: Global,
-    paths: &[&str],
-    asked: Sought,
-    traces: &Traces,
-) -> Result<Found, Fault> {
+pub(crate) fn audit(process: Process<'_>, paths: &[&str], asked: Sought) -> Result<Found, Fault> {
     let mut file = None;
     let mut logged = paths;
-    if ends_with_store(rt, paths, traces)?
+    if ends_with_store(process, paths)?
         && let [before @ .., last] = paths
     {
-        traces.at_part.set(before.len());
-        file = Some(file_of(rt, alloc, last, traces)?);
+        process.traces.at_part.set(before.len());
+        file = Some(file_of(process, last)?);
         logged = before;
     }
-    let mut logs = logs_of(rt, alloc, logged, traces)?;
-    let (end, is_found) = audited(rt, alloc, paths, &mut logs, file.as_ref(), asked, traces)?;
+    let mut logs = logs_of(process, logged)?;
+    let (end, is_found) = audited(process, paths, &mut logs, file.as_ref(), asked)?;
     if !is_found {
         return Ok(Found::Nothing);
     }
-    tell_end(rt, alloc, asked.form, end, traces)?;
+    tell_end(process, asked.form, end)?;
     Ok(match end {
         HistoryEnd::Agrees { .. } => Found::Agrees,
         HistoryEnd::Differs { .. } => Found::Differs,

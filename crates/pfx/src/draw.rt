@@ -1,7 +1,8 @@
 //! `pfx draw SET SLOTS --at LEDGER`.
 
 use crate::files::{fault_of, input};
-use crate::traces::{Traces, output_of, set_source};
+use crate::process::Process;
+use crate::traces::KeptSource;
 use pfx_fault::Fault;
 use pfx_program_draw::run_draw;
 use std::alloc::Global;
@@ -21,18 +22,24 @@ fn name_of(path: &str) -> &str {
 
 /// Prints the picture; `false` if it would be too large, with nothing printed.
 pub(crate) fn draw(
-    rt: &HostRuntime,
-    alloc: Global,
+    process: Process<'_>,
     set: &str,
     at: Option<&str>,
     slots: u32,
-    traces: &mut Traces,
 ) -> Result<bool, Fault> {
-    let mut input = set_source(input(rt, set)?, &mut traces.set);
-    let Some(text) = run_draw(alloc, &mut input, at, name_of(set), u64::from(slots))? else {
+    let mut input = KeptSource::new(process.alloc, input(process.rt, set)?);
+    let drawn = run_draw(
+        process.alloc,
+        &mut input,
+        at,
+        name_of(set),
+        u64::from(slots),
+    );
+    process.traces.keep_set(input.into_read());
+    let Some(text) = drawn? else {
         return Ok(false);
     };
-    match output_of(rt, &traces.failed).write_all(text.as_slice()) {
+    match process.output().write_all(text.as_slice()) {
         Ok(()) => Ok(true),
         Err(error) => Err(fault_of(&error, Fault::OutputFailed)),
     }

@@ -1,7 +1,7 @@
 //! `pfx explain FAULT --json`.
 
 use crate::files::fault_of;
-use crate::traces::{Traces, output_of};
+use crate::process::Process;
 use pfx_fault::Fault;
 use pfx_program::OutputForm;
 use pfx_program_explain::{entry_named, put_entry};
@@ -10,20 +10,14 @@ use std::alloc::Global;
 use std::io::Write;
 
 /// Prints what is to be known of the fault that a word names; `false` if it names none, with nothing printed.
-pub(crate) fn explain(
-    rt: &HostRuntime,
-    alloc: Global,
-    word: &str,
-    form: OutputForm,
-    traces: &Traces,
-) -> Result<bool, Fault> {
+pub(crate) fn explain(process: Process<'_>, word: &str, form: OutputForm) -> Result<bool, Fault> {
     let Some(entry) = entry_named(word) else {
         return Ok(false);
     };
-    let mut output = output_of(rt, &traces.failed);
+    let mut output = process.output();
     let put = match form {
         OutputForm::Text => put_entry(&mut output, entry),
-        OutputForm::Json => match entry_line(alloc, entry) {
+        OutputForm::Json => match entry_line(process.alloc, entry) {
             Ok(line) => output.write_all(line.as_bytes()),
             Err(_) => return Err(Fault::NoMemory),
         },

@@ -107,7 +107,7 @@ pub(crate) fn disk(rt: &HostRuntime, path: &str) -> Result<FileDisk, Fault> {
 pub(crate) fn new_disk(
     rt: &HostRuntime,
     path: &str,
-    unopened: &mut Option<io::ErrorKind>,
+    unopened: &Cell<Option<io::ErrorKind>>,
 ) -> Result<(FileDisk, bool), Fault> {
     let mut options = OpenOptions::new();
     options.read(true).write(true).create_new(true);
@@ -119,7 +119,7 @@ pub(crate) fn new_disk(
     match options.open(rt, path) {
         Ok(file) => Ok((locked(file)?, false)),
         Err(error) => {
-            *unopened = Some(error.kind());
+            unopened.set(Some(error.kind()));
             Err(fault_of(&error, Fault::InputFailed))
         }
     }

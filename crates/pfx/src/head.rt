@@ -2,7 +2,7 @@
 
 use crate::files::{fault_of, growing_disk};
 use crate::log::log_fault;
-use crate::traces::{Traces, output_of};
+use crate::process::Process;
 use pfx_disk::FileDisk;
 use pfx_fault::Fault;
 use pfx_log::{LogFault, LogFile, LogPlace};
@@ -19,11 +19,11 @@ const READS: u32 = 4;
 const PAUSE_MILLIS: u64 = 20;
 
 // Where the log on a disk ends.
-fn end_on(alloc: Global, disk: FileDisk, traces: &Traces) -> Result<LogPlace, LogFault> {
-    match LogFile::open(alloc, disk) {
+fn end_on(process: Process<'_>, disk: FileDisk) -> Result<LogPlace, LogFault> {
+    match LogFile::open(process.alloc, disk) {
         Ok(log) => Ok(log.place),
         Err((fault, disk)) => {
-            traces.keep_said(&disk);
+            process.traces.keep_said(&disk);
             Err(fault)
         }
     }
@@ -38,16 +38,22 @@ fn told(read: Result<LogPlace, LogFault>) -> Result<LogPlace, Fault> {
 
 // Where the log of a file ends. A run that has it doesn't keep it from being read: what is read is a log as it was at some moment, or
 // it is cut, and then it is read again.
-fn end_of(rt: &HostRuntime, alloc: Global, path: &str, traces: &Traces) -> Result<LogPlace, Fault> {
-    traces.at_log.set(true);
+fn end_of(process: Process<'_>, path: &str) -> Result<LogPlace, Fault> {
+    process.traces.at_log.set(true);
     for _ in 1..READS {
-        let disk = growing_disk(rt, path, &traces.unopened_log)?;
-        match end_on(alloc, disk, traces) {
-            Err(LogFault::Damaged { .. }) => thread::sleep(rt, Duration::from_millis(PAUSE_MILLIS)),
+        let disk = growing_disk(process.rt, path, &process.traces.unopened_log)?;
+        match end_on(process, disk) {
+            Err(LogFault::Damaged { .. }) => thread::sleep(
+                process.rt,
+                Duration::from_millis(PAUSE_MILLIS),
+            ),
             read => return told(read),
         }
     }
-    told(end_on(alloc, growing_disk(rt, path, &traces.unopened_log)?, traces))
+    told(end_on(
+        process,
+        growing_disk(process.rt, path, &process.traces.unopened_log)?,
+    ))
 }
 
 // The line of a log's last head.
@@ -62,18 +68,12 @@ fn line_of(alloc: Global, form: OutputForm, place: LogPlace) -> Result<String, A
 }
 
 /// Prints the last number of the log of a file and its last head. Nothing is written to the file, and a run that has it goes on.
-pub(crate) fn head(
-    rt: &HostRuntime,
-    alloc: Global,
-    log: &str,
-    form: OutputForm,
-    traces: &Traces,
-) -> Result<(), Fault> {
-    let place = end_of(rt, alloc, log, traces)?;
-    let Ok(line) = line_of(alloc, form, place) else {
+pub(crate) fn head(process: Process<'_>, log: &str, form: OutputForm) -> Result<(), Fault> {
+    let place = end_of(process, log)?;
+    let Ok(line) = line_of(process.alloc, form, place) else {
         return Err(Fault::NoMemory);
     };
-    match output_of(rt, &traces.failed).write_all(line.as_bytes()) {
+    match process.output().write_all(line.as_bytes()) {
         Ok(()) => Ok(()),
         Err(error) => Err(fault_of(&error, Fault::OutputFailed)),
     }

@@ -9,6 +9,7 @@ ghost use Rattle.pfx_log_store.specs.Fitting.{FitsIn};
 ghost use Rattle.pfx_log_store.specs.Working.{failure_beside};
 
 use crate::files::{disk, new_disk, sync_directory};
+use crate::process::Process;
 use crate::traces::Traces;
 use pfx_checkpoint::{freeze_whole, whole_len};
 use pfx_disk::{Disk, FileDisk};
@@ -67,35 +68,33 @@ fn spelled(alloc: Global, state: &State<AnyJob>) -> Result<Vec<u8>, AllocError>
 
 // A new log in an empty file, at this state, which names the head of the log before, or zeros.
 fn begun(
-    rt: &HostRuntime,
-    alloc: Global,
+    process: Process<'_>,
     disk: FileDisk,
     path: &str,
     state: &State<AnyJob>,
     before: [u8; 32],
-    traces: &Traces,
 ) -> Result<LogFile<FileDisk>, Fault> {
-    let Ok(bytes) = spelled(alloc, state) else {
+    let Ok(bytes) = spelled(process.alloc, state) else {
         return Err(Fault::NoMemory);
     };
-    match LogFile::create(alloc, disk, STORES, &bytes, before) {
+    match LogFile::create(process.alloc, disk, STORES, &bytes, before) {
         Ok(log) => {
-            sync_directory(rt, path, &traces.device)?;
+            sync_directory(process.rt, path, &process.traces.device)?;
             Ok(log)
         }
         Err((fault, disk)) => {
-            traces.keep_said(&disk);
+            process.traces.keep_said(&disk);
             Err(create_fault(fault))
         }
     }
 }
 
 // The log that a file holds.
-fn opened(alloc: Global, disk: FileDisk, traces: &Traces) -> Result<LogFile<FileDisk>, Fault> {
-    match LogFile::open(alloc, disk) {
+fn opened(process: Process<'_>, disk: FileDisk) -> Result<LogFile<FileDisk>, Fault> {
+    match LogFile::open(process.alloc, disk) {
         Ok(log) => Ok(log),
         Err((fault, disk)) => {
-            traces.keep_said(&disk);
+            process.traces.keep_said(&disk);
             Err(log_fault(fault))
         }
     }
@@ -113,27 +112,22 @@ fn is_empty(disk: &mut FileDisk, traces: &Traces) -> Result<bool, Fault> {
 }
 
 // The file of a log, which is made if it is missing.
-fn log_disk(rt: &HostRuntime, path: &str, traces: &Traces) -> Result<FileDisk, Fault> {
-    let mut unopened = None;
-    let found = new_disk(rt, path, &mut unopened);
-    traces.unopened_log.set(unopened);
-    let (disk, _) = found?;
+fn log_disk(process: Process<'_>, path: &str) -> Result<FileDisk, Fault> {
+    let (disk, _) = new_disk(process.rt, path, &process.traces.unopened_log)?;
     Ok(disk)
 }
 
 // The log of this path: the one that is there, or a new one at this state where the file is missing or empty.
 fn log_at(
-    rt: &HostRuntime,
-    alloc: Global,
+    process: Process<'_>,
     path: &str,
     state: &State<AnyJob>,
-    traces: &Traces,
 ) -> Result<LogFile<FileDisk>, Fault> {
-    let mut disk = log_disk(rt, path, traces)?;
-    if is_empty(&mut disk, traces)? {
-        return begun(rt, alloc, disk, path, state, [0; 32], traces);
+    let mut disk = log_disk(process, path)?;
+    if is_empty(&mut disk, process.traces)? {
+        return begun(process, disk, path, state, [0; 32]);
     }
-    opened(alloc, disk, traces)
+    opened(process, disk)
 }
 
 // What was opened, if nothing has failed of it.
@@ -152,17 +146,18 @@ fn whole(
 
 // A store beside a log that is open.
 fn joined(
-    alloc: Global,
+    process: Process<'_>,
     store: Store<FileDisk, AnyJob>,
     log: LogFile<FileDisk>,
-    traces: &Traces,
 ) -> Result<LoggedStore<FileDisk, FileDisk, AnyJob>, Fault> {
-    match LoggedStore::open(alloc, store.into_disk(), log) {
+    match LoggedStore::open(process.alloc, store.into_disk(), log) {
         Ok(beside) => Ok(beside),
         Err((fault, disk, log)) => {
             let is_file = matches!(fault, JoinFault::File(_));
-            traces.at_log.set(!is_file);
-            traces.keep_said(if is_file { &disk } else { &log.disk });
+            process.traces.at_log.set(!is_file);
+            process
+                .traces
+                .keep_said(if is_file { &disk } else { &log.disk });
             Err(join_fault(fault))
         }
     }
@@ -170,32 +165,29 @@ fn joined(
 
 // The empty file of a new log, and the log that it goes on from.
 fn both_logs(
-    rt: &HostRuntime,
-    alloc: Global,
+    process: Process<'_>,
     path: &str,
     older: &str,
-    traces: &Traces,
 ) -> Result<(FileDisk, LogFile<FileDisk>), Fault> {
-    let mut fresh = log_disk(rt, path, traces)?;
-    if !is_empty(&mut fresh, traces)? {
+    let mut fresh = log_disk(process, path)?;
+    if !is_empty(&mut fresh, process.traces)? {
         return Err(Fault::NotEmpty);
     }
-    let old = opened(alloc, disk(rt, older)?, traces)?;
+    let old = opened(process, disk(process.rt, older)?)?;
     Ok((fresh, old))
 }
 
 // A store whose log was brought up to it, and the log's head.
 fn brought_up(
-    alloc: Global,
+    process: Process<'_>,
     store: Store<FileDisk, AnyJob>,
     log: LogFile<FileDisk>,
-    traces: &Traces,
 ) -> Result<(Store<FileDisk, AnyJob>, [u8; 32]), Fault>
     ensures { IfOk result (λ brought. FitsIn 0 brought.0.file.places) }
 {
-    let mut beside = joined(alloc, store, log, traces)?;
+    let mut beside = joined(process, store, log)?;
     if beside.keep_up().is_err() {
-        traces.keep_said(&beside.log.disk);
+        process.traces.keep_said(&beside.log.disk);
         return Err(Fault::Device);
     }
     let (store, log, _) = beside.into_parts();
@@ -208,18 +200,16 @@ fn brought_up(
 
 // A store beside a new log that begins at its state, behind the log with this head.
 fn followed(
-    rt: &HostRuntime,
-    alloc: Global,
+    process: Process<'_>,
     store: Store<FileDisk, AnyJob>,
     fresh: FileDisk,
     path: &str,
     head: [u8; 32],
-    traces: &Traces,
 ) -> Result<LoggedStore<FileDisk, FileDisk, AnyJob>, Fault>
     requires { FitsIn 0 store.file.places }
 {
-    let log = begun(rt, alloc, fresh, path, store.state(), head, traces)?;
-    match LoggedStore::new(alloc, store, log, &[]) {
+    let log = begun(process, fresh, path, store.state(), head)?;
+    match LoggedStore::new(process.alloc, store, log, &[]) {
         Ok(beside) => Ok(beside),
         Err(_) => Err(Fault::NoMemory),
     }
@@ -228,41 +218,37 @@ fn followed(
 // A store beside a new log of this path, which goes on from an older one: that is brought up to the store first, so that the new one begins
 // where it ends.
 fn gone_on(
-    rt: &HostRuntime,
-    alloc: Global,
+    process: Process<'_>,
     store: Store<FileDisk, AnyJob>,
     path: &str,
     older: &str,
-    traces: &Traces,
 ) -> Result<LoggedStore<FileDisk, FileDisk, AnyJob>, Fault> {
-    let (fresh, old) = both_logs(rt, alloc, path, older, traces)?;
-    let (store, head) = brought_up(alloc, store, old, traces)?;
-    followed(rt, alloc, store, fresh, path, head, traces)
+    let (fresh, old) = both_logs(process, path, older)?;
+    let (store, head) = brought_up(process, store, old)?;
+    followed(process, store, fresh, path, head)
 }
 
 /// A store beside the log of this path, which is made at the store's state where it is missing; with an older log the new one goes on from
 /// that. Whatever bytes the store's file is said to hold, that they stand for the store is the premise. Where it fails `traces` has whether it
 /// is the log that failed.
 pub(crate) fn beside(
-    rt: &HostRuntime,
-    alloc: Global,
+    process: Process<'_>,
     store: Store<FileDisk, AnyJob>,
     path: &str,
     older: Option<&str>,
-    traces: &Traces,
 ) -> Result<LoggedStore<FileDisk, FileDisk, AnyJob>, Fault>
     ensures whole { IfOk result (λ b. failure_beside b ≡ None) }
     ensures begins { IfOk result (λ b. (image : List ℕ) → Begins any_kind b.store.state (file_view b.store.file.disk).failures
         (file_view b.store.file.disk).clock (IsHeldBy any_kind b.store image) image b.store (file_view b.store.file.disk)) }
 {
-    traces.at_log.set(true);
+    process.traces.at_log.set(true);
     let beside = match older {
-        Some(older) => gone_on(rt, alloc, store, path, older, traces)?,
+        Some(older) => gone_on(process, store, path, older)?,
         None => {
-            let log = log_at(rt, alloc, path, store.state(), traces)?;
-            joined(alloc, store, log, traces)?
+            let log = log_at(process, path, store.state())?;
+            joined(process, store, log)?
         }
     };
-    traces.at_log.set(false);
+    process.traces.at_log.set(false);
     whole(beside)
 }

@@ -30,6 +30,7 @@ mod log;
 mod migrate;
 mod notes;
 mod plan;
+mod process;
 mod progress;
 mod replay;
 mod run;
@@ -47,6 +48,7 @@ use crate::files::taken_streams;
 use crate::head::head;
 use crate::migrate::migrate_store;
 use crate::plan::plan;
+use crate::process::Process;
 use crate::replay::replay;
 use crate::run::{Asked, run};
 use crate::store::{init, show, status};
@@ -142,11 +144,9 @@ fn answered(rt: &HostRuntime, alloc: Global, words: &[&str], error: &Error) -> u
 
 // Runs a script, if that is asked for, and answers the exit status if nothing fails; `None` if it isn't.
 fn ran<R: Threads + Wait + Clock + Copy + Drop + Send + Sync + 'static>(
-    rt: &HostRuntime,
+    process: Process<'_>,
     threads: R,
-    alloc: Global,
     request: &Request<'_>,
-    traces: &Traces,
 ) -> Result<Option<u8>, Fault> {
     let Request::Run {
         file,
@@ -162,7 +162,7 @@ fn ran<R: Threads + Wait + Clock + Copy + Drop + Send + Sync + 'static>(
         return Ok(None);
     };
     if after.is_some() && log.is_none() {
-        return Ok(Some(refused(rt, alloc, NO_NEW_LOG)));
+        return Ok(Some(refused(process.rt, process.alloc, NO_NEW_LOG)));
     }
     let asked = Asked {
         workers: *workers,
@@ -172,8 +172,8 @@ fn ran<R: Threads + Wait + Clock + Copy + Drop + Send + Sync + 'static>(
         strict: *strict,
         form: form_of(request),
     };
-    run(rt, threads, alloc, file, script, asked, traces)?;
-    let is_refused = *strict && traces.has_refused();
+    run(process, threads, file, script, asked)?;
+    let is_refused = *strict && process.traces.has_refused();
     Ok(Some(if is_refused { REFUSED } else { 0 }))
 }
 
@@ -183,16 +183,11 @@ fn compared(agrees: bool) -> u8 {
 }
 
 // Does what is asked for of a history, and answers the exit status if nothing fails; `None` if nothing is asked of one.
-fn looked_back(
-    rt: &HostRuntime,
-    alloc: Global,
-    request: &Request<'_>,
-    traces: &Traces,
-) -> Result<Option<u8>, Fault> {
+fn looked_back(process: Process<'_>, request: &Request<'_>) -> Result<Option<u8>, Fault> {
     let form = form_of(request);
     match request {
         Request::Replay { file, .. } => {
-            let agrees = replay(rt, alloc, file, form, traces)?;
+            let agrees = replay(process, file, form)?;
             Ok(Some(compared(agrees)))
         }
         Request::Audit {
@@ -210,14 +205,14 @@ fn looked_back(
                 number: *number,
                 form: *form,
             };
-            Ok(Some(match audit(rt, alloc, logs, asked, traces)? {
+            Ok(Some(match audit(process, logs, asked)? {
                 Found::Agrees => 0,
                 Found::Differs => DIFFERS,
-                Found::Nothing => refused(rt, alloc, NO_RECORD),
+                Found::Nothing => refused(process.rt, process.alloc, NO_RECORD),
             }))
         }
         Request::Head { log, .. } => {
-            head(rt, alloc, log, form, traces)?;
+            head(process, log, form)?;
             Ok(Some(0))
         }
         _ => Ok(None),
@@ -226,16 +221,14 @@ fn looked_back(
 
 // Does what is asked for, and answers the exit status if nothing fails.
 fn carried_out<R: Threads + Wait + Clock + Copy + Drop + Send + Sync + 'static>(
-    rt: &HostRuntime,
+    process: Process<'_>,
     threads: R,
-    alloc: Global,
     request: &Request<'_>,
-    traces: &mut Traces,
 ) -> Result<u8, Fault> {
-    if let Some(status) = looked_back(rt, alloc, request, traces)? {
+    if let Some(status) = looked_back(process, request)? {
         return Ok(status);
     }
-    if let Some(status) = ran(rt, threads, alloc, request, traces)? {
+    if let Some(status) = ran(process, threads, request)? {
         return Ok(status);
     }
     let form = form_of(request);
@@ -246,26 +239,26 @@ fn carried_out<R: Threads + Wait + Clock + Copy + Drop + Send + Sync + 'static>(
             at,
             ledger,
             ..
-        } => plan(rt, alloc, set, *at, *slots, *ledger, form, traces)?,
-        Request::Init { set, file, at, .. } => init(rt, alloc, set, file, *at, form, traces)?,
-        Request::Status { file, .. } => status(rt, alloc, file, form, traces)?,
-        Request::Show { file, task, .. } => show(rt, alloc, file, *task, form, traces)?,
+        } => plan(process, set, *at, *slots, *ledger, form)?,
+        Request::Init { set, file, at, .. } => init(process, set, file, *at, form)?,
+        Request::Status { file, .. } => status(process, file, form)?,
+        Request::Show { file, task, .. } => show(process, file, *task, form)?,
         Request::Draw { set, slots, at } => {
-            if !draw(rt, alloc, set, *at, *slots, traces)? {
-                return Ok(refused(rt, alloc, TOO_LARGE));
+            if !draw(process, set, *at, *slots)? {
+                return Ok(refused(process.rt, process.alloc, TOO_LARGE));
             }
         }
         Request::Check { set, .. } => {
-            if let Err(refusal) = check(rt, alloc, set, form, traces) {
-                return Ok(refused_by_all(rt, alloc, request, traces, &refusal));
+            if let Err(refusal) = check(process, set, form) {
+                return Ok(refused_by_all(process, request, &refusal));
             }
         }
         Request::Explain { fault, .. } => {
-            if !explain(rt, alloc, fault, form, traces)? {
-                return Ok(unexplained(rt, alloc, fault));
+            if !explain(process, fault, form)? {
+                return Ok(unexplained(process.rt, process.alloc, fault));
             }
         }
-        Request::Migrate { old, new, .. } => migrate_store(rt, alloc, old, new, form, traces)?,
+        Request::Migrate { old, new, .. } => migrate_store(process, old, new, form)?,
         Request::Run { .. }
         | Request::Replay { .. }
         | Request::Audit { .. }
@@ -285,17 +278,22 @@ fn done<R: Threads + Wait + Clock + Copy + Drop + Send + Sync + 'static>(
         Ok(None) => return refused(rt, alloc, "the words ask for nothing"),
         Err(error) => return answered(rt, alloc, words, &error),
     };
-    let mut traces = Traces::new(alloc);
-    match carried_out(rt, threads, alloc, &request, &mut traces) {
+    let traces = Traces::new();
+    let process = Process {
+        rt,
+        alloc,
+        traces: &traces,
+    };
+    match carried_out(process, threads, &request) {
         Ok(status) => {
             if status == 0 || status == REFUSED {
-                warn(rt, alloc, &request, &traces);
+                warn(process, &request);
             }
             status
         }
         Err(fault) if is_closed(&traces, fault) => fault.status(),
         Err(fault) => {
-            tell(rt, alloc, &request, &traces, fault);
+            tell(process, &request, fault);
             fault.status()
         }
     }

@@ -1,7 +1,8 @@
 //! What is said below the line of a fault.
 
 use crate::files::begins_as_store;
-use crate::traces::{Traces, Unmade};
+use crate::process::Process;
+use crate::traces::Unmade;
 use pfx_fault::{Cause, Fault};
 use pfx_program_args::Request;
 use pfx_program_explain::NoteLines;
@@ -261,56 +262,62 @@ fn log_device_note(
 
 // The note of a fault that comes of the log beside a store, if it does.
 fn beside_note(
-    rt: &HostRuntime,
-    alloc: Global,
+    process: Process<'_>,
     log: &str,
-    traces: &Traces,
     fault: Fault,
 ) -> Result<Option<NoteLines>, AllocError> {
     match fault {
         Fault::StoreFailed {
             cause: Cause::Log,
             ..
-        } => log_device_note(rt, alloc, log, traces.device.get()),
-        Fault::Device if traces.at_log.get() => log_device_note(
-            rt,
-            alloc,
+        } => log_device_note(process.rt, process.alloc, log, process.traces.device.get()),
+        Fault::Device if process.traces.at_log.get() => log_device_note(
+            process.rt,
+            process.alloc,
             log,
-            traces.device.get(),
+            process.traces.device.get(),
         ),
-        Fault::Busy if traces.at_log.get() => log_note(alloc, log, fault),
-        Fault::InputFailed if traces.at_log.get() => match traces.unopened_log.get() {
-            Some(kind) => input_note(alloc, NamedFile::Log, log, why(kind), false),
+        Fault::Busy if process.traces.at_log.get() => log_note(process.alloc, log, fault),
+        Fault::InputFailed if process.traces.at_log.get() => match process
+            .traces
+            .unopened_log
+            .get()
+        {
+            Some(kind) => input_note(process.alloc, NamedFile::Log, log, why(kind), false),
             None => Ok(None),
         },
-        Fault::Busy | Fault::NotEmpty if !traces.at_log.get() => Ok(None),
-        _ => log_note(alloc, log, fault),
+        Fault::Busy | Fault::NotEmpty if !process.traces.at_log.get() => Ok(None),
+        _ => log_note(process.alloc, log, fault),
     }
 }
 
 // The note of a fault of a part of a history.
 fn history_part_note(
-    rt: &HostRuntime,
-    alloc: Global,
+    process: Process<'_>,
     parts: &[&str],
-    traces: &Traces,
     fault: Fault,
 ) -> Result<Option<NoteLines>, AllocError> {
-    let Some(path) = parts.get(traces.at_part.get()) else {
+    let Some(path) = parts.get(process.traces.at_part.get()) else {
         return Ok(None);
     };
     match fault {
-        Fault::Device => device_note(rt, alloc, path, ANY_CALL, traces.device.get()),
-        Fault::InputFailed => match unread(rt, path) {
-            Some(kind) => input_note(alloc, NamedFile::Log, path, why(kind), false),
+        Fault::Device => device_note(
+            process.rt,
+            process.alloc,
+            path,
+            ANY_CALL,
+            process.traces.device.get(),
+        ),
+        Fault::InputFailed => match unread(process.rt, path) {
+            Some(kind) => input_note(process.alloc, NamedFile::Log, path, why(kind), false),
             None => Ok(None),
         },
         Fault::LogGap { .. }
         | Fault::NotALog
         | Fault::LogDamaged { .. }
         | Fault::WrongLogVersion { .. }
-        | Fault::Busy => history_note(alloc, path, fault),
-        _ => store_note(alloc, path, None, fault),
+        | Fault::Busy => history_note(process.alloc, path, fault),
+        _ => store_note(process.alloc, path, None, fault),
     }
 }
 
@@ -332,36 +339,53 @@ fn unread(rt: &HostRuntime, path: &str) -> Option<ErrorKind> {
 }
 
 fn input_failed(
-    rt: &HostRuntime,
-    alloc: Global,
+    process: Process<'_>,
     request: &Request<'_>,
-    traces: &Traces,
 ) -> Result<Option<NoteLines>, AllocError> {
     match request {
         Request::Plan { set, .. }
         | Request::Draw { set, .. }
         | Request::Check { set, .. }
         | Request::Init { set, .. }
-            if traces.set.is_long => { trouble_note(alloc, set, Trouble::Long) }
+            if process.traces.is_set_long() => { trouble_note(process.alloc, set, Trouble::Long) }
         Request::Plan { set, .. } | Request::Draw { set, .. } | Request::Check { set, .. } => {
-            let note = word_note(rt, alloc, NamedFile::Set, set)?;
-            first_of(note, unread_note(alloc, NamedFile::Set, set))
+            let note = word_note(process.rt, process.alloc, NamedFile::Set, set)?;
+            first_of(note, unread_note(process.alloc, NamedFile::Set, set))
         }
         Request::Init { set, file, .. } => {
-            let note = word_note(rt, alloc, NamedFile::Set, set)?;
-            let note = first_of(note, made_note(rt, alloc, file, traces.unopened))?;
-            first_of(note, unread_note(alloc, NamedFile::Set, set))
+            let note = word_note(process.rt, process.alloc, NamedFile::Set, set)?;
+            let note = first_of(
+                note,
+                made_note(
+                    process.rt,
+                    process.alloc,
+                    file,
+                    process.traces.unopened.get(),
+                ),
+            )?;
+            first_of(note, unread_note(process.alloc, NamedFile::Set, set))
         }
         Request::Run { file, script, .. } => {
-            let note = word_note(rt, alloc, NamedFile::Script, script)?;
-            let note = first_of(note, word_note(rt, alloc, NamedFile::Store, file))?;
-            first_of(note, unread_note(alloc, NamedFile::Script, script))
+            let note = word_note(process.rt, process.alloc, NamedFile::Script, script)?;
+            let note = first_of(
+                note,
+                word_note(process.rt, process.alloc, NamedFile::Store, file),
+            )?;
+            first_of(note, unread_note(process.alloc, NamedFile::Script, script))
         }
         Request::Status { file, .. } | Request::Replay { file, .. } | Request::Show { file, .. } =>
-            { store_word_note(rt, alloc, file) }
+            { store_word_note(process.rt, process.alloc, file) }
         Request::Migrate { old, new, .. } => {
-            let note = store_word_note(rt, alloc, old)?;
-            first_of(note, made_note(rt, alloc, new, traces.unopened))
+            let note = store_word_note(process.rt, process.alloc, old)?;
+            first_of(
+                note,
+                made_note(
+                    process.rt,
+                    process.alloc,
+                    new,
+                    process.traces.unopened.get(),
+                ),
+            )
         }
         Request::Audit { .. } | Request::Head { .. } | Request::Explain { .. } => Ok(None),
     }
@@ -417,43 +441,69 @@ fn stands_of(request: &Request<'_>) -> Stands {
 
 // What is said of the fault of a request, that of its output or of its threads left out.
 fn request_note(
-    rt: &HostRuntime,
-    alloc: Global,
+    process: Process<'_>,
     request: &Request<'_>,
-    traces: &Traces,
     fault: Fault,
 ) -> Result<Option<NoteLines>, AllocError> {
-    let text = traces.set.text.as_slice();
-    let said = traces.device.get();
+    let text = process.traces.set_text();
+    let said = process.traces.device.get();
     match request {
         Request::Plan { set, at, .. } | Request::Draw { set, at, .. } => {
-            set_note(alloc, set, text, *at, fault)
+            set_note(process.alloc, set, text, *at, fault)
         }
-        Request::Check { set, .. } => set_note(alloc, set, text, None, fault),
-        Request::Init { set, file, at, .. } => match set_note(alloc, set, text, *at, fault)? {
+        Request::Check { set, .. } => set_note(process.alloc, set, text, None, fault),
+        Request::Init { set, file, at, .. } => match set_note(
+            process.alloc,
+            set,
+            text,
+            *at,
+            fault,
+        )? {
             Some(note) => Ok(Some(note)),
-            None => match traces.unmade {
-                Some(unmade) if fault == Fault::Device => unmade_note(alloc, file, unmade, said),
-                _ if fault == Fault::Device => device_note(rt, alloc, file, ANY_CALL, said),
-                _ => store_note(alloc, file, None, fault),
+            None => match process.traces.unmade.get() {
+                Some(unmade) if fault == Fault::Device => unmade_note(
+                    process.alloc,
+                    file,
+                    unmade,
+                    said,
+                ),
+                _ if fault == Fault::Device => device_note(
+                    process.rt,
+                    process.alloc,
+                    file,
+                    ANY_CALL,
+                    said,
+                ),
+                _ => store_note(process.alloc, file, None, fault),
             },
         },
-        Request::Run { file, script, .. } => run_note(rt, alloc, file, script, fault, said),
+        Request::Run { file, script, .. } => run_note(
+            process.rt,
+            process.alloc,
+            file,
+            script,
+            fault,
+            said,
+        ),
         Request::Status { file, .. } | Request::Replay { file, .. } | Request::Show { file, .. } =>
             {
                 match fault {
-                    Fault::Busy => trouble_note(alloc, file, Trouble::Held),
-                    Fault::Device => device_note(rt, alloc, file, ANY_CALL, said),
-                    _ => store_note(alloc, file, None, fault),
+                    Fault::Busy => trouble_note(process.alloc, file, Trouble::Held),
+                    Fault::Device => device_note(process.rt, process.alloc, file, ANY_CALL, said),
+                    _ => store_note(process.alloc, file, None, fault),
                 }
             }
-        Request::Migrate { old, new, .. } => match (fault, traces.unmade) {
-            (Fault::NotEmpty, _) => store_note(alloc, new, None, fault),
-            (Fault::Busy, _) => trouble_note(alloc, old, Trouble::Held),
-            (Fault::WrongVersion { version: 2 }, _) => trouble_note(alloc, old, Trouble::Current),
-            (Fault::Device, Some(unmade)) => unmade_note(alloc, new, unmade, said),
-            (Fault::Device, None) => device_note(rt, alloc, old, ANY_CALL, said),
-            _ => store_note(alloc, old, None, fault),
+        Request::Migrate { old, new, .. } => match (fault, process.traces.unmade.get()) {
+            (Fault::NotEmpty, _) => store_note(process.alloc, new, None, fault),
+            (Fault::Busy, _) => trouble_note(process.alloc, old, Trouble::Held),
+            (Fault::WrongVersion { version: 2 }, _) => trouble_note(
+                process.alloc,
+                old,
+                Trouble::Current,
+            ),
+            (Fault::Device, Some(unmade)) => unmade_note(process.alloc, new, unmade, said),
+            (Fault::Device, None) => device_note(process.rt, process.alloc, old, ANY_CALL, said),
+            _ => store_note(process.alloc, old, None, fault),
         },
         Request::Audit { .. } | Request::Head { .. } | Request::Explain { .. } => Ok(None),
     }
@@ -461,31 +511,29 @@ fn request_note(
 
 /// What is said below the line of a fault, if anything is known beside it. Fails only if memory runs out.
 pub(crate) fn note_of(
-    rt: &HostRuntime,
-    alloc: Global,
+    process: Process<'_>,
     request: &Request<'_>,
-    traces: &Traces,
     fault: Fault,
 ) -> Result<Option<NoteLines>, AllocError> {
     match request {
         Request::Run { log: Some(log), .. } | Request::Head { log, .. } => {
-            let note = beside_note(rt, alloc, log, traces, fault)?;
+            let note = beside_note(process, log, fault)?;
             if note.is_some() {
                 return Ok(note);
             }
         }
         Request::Audit { logs, .. } if fault != Fault::OutputFailed => {
-            return history_part_note(rt, alloc, logs.as_slice(), traces, fault);
+            return history_part_note(process, logs.as_slice(), fault);
         }
         _ => {}
     }
     match fault {
-        Fault::InputFailed => input_failed(rt, alloc, request, traces),
-        Fault::OutputFailed => match traces.failed.get() {
-            Some(kind) => output_note(alloc, why(kind), stands_of(request)),
+        Fault::InputFailed => input_failed(process, request),
+        Fault::OutputFailed => match process.traces.failed.get() {
+            Some(kind) => output_note(process.alloc, why(kind), stands_of(request)),
             None => Ok(None),
         },
-        Fault::NoThread => trouble_note(alloc, "", Trouble::Threads),
-        _ => request_note(rt, alloc, request, traces, fault),
+        Fault::NoThread => trouble_note(process.alloc, "", Trouble::Threads),
+        _ => request_note(process, request, fault),
     }
 }

@@ -1,7 +1,7 @@
 //! `pfx replay FILE --json`.
 
 use crate::files::{fault_of, shared_disk};
-use crate::traces::{Traces, output_of};
+use crate::process::Process;
 use pfx_disk::FileDisk;
 use pfx_fault::Fault;
 use pfx_kinds::any::AnyJob;
@@ -12,17 +12,12 @@ use std::alloc::{AllocError, Global};
 use std::io::Write;
 
 // What a replay of the store of a file finds.
-fn verdict_of(
-    rt: &HostRuntime,
-    alloc: Global,
-    file: &str,
-    traces: &Traces,
-) -> Result<Verdict, Fault> {
-    let disk = shared_disk(rt, file)?;
-    match pfx_replay::replay::<AnyJob, FileDisk>(alloc, disk) {
+fn verdict_of(process: Process<'_>, file: &str) -> Result<Verdict, Fault> {
+    let disk = shared_disk(process.rt, file)?;
+    match pfx_replay::replay::<AnyJob, FileDisk>(process.alloc, disk) {
         Ok((verdict, _disk)) => Ok(verdict),
         Err((fault, disk)) => {
-            traces.keep_said(&disk);
+            process.traces.keep_said(&disk);
             Err(open_fault(fault))
         }
     }
@@ -46,18 +41,12 @@ fn line_of(alloc: Global, form: OutputForm, verdict: Verdict) -> Result<Vec<u8>,
 }
 
 /// Prints what a replay of the store of a file finds, and answers whether all agrees. Nothing is written to the file.
-pub(crate) fn replay(
-    rt: &HostRuntime,
-    alloc: Global,
-    file: &str,
-    form: OutputForm,
-    traces: &Traces,
-) -> Result<bool, Fault> {
-    let verdict = verdict_of(rt, alloc, file, traces)?;
-    let Ok(line) = line_of(alloc, form, verdict) else {
+pub(crate) fn replay(process: Process<'_>, file: &str, form: OutputForm) -> Result<bool, Fault> {
+    let verdict = verdict_of(process, file)?;
+    let Ok(line) = line_of(process.alloc, form, verdict) else {
         return Err(Fault::NoMemory);
     };
-    match output_of(rt, &traces.failed).write_all(line.as_slice()) {
+    match process.output().write_all(line.as_slice()) {
         Ok(()) => Ok(matches!(verdict, Verdict::Agrees { .. })),
         Err(error) => Err(fault_of(&error, Fault::OutputFailed)),
     }

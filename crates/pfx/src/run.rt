@@ -9,9 +9,10 @@ ghost use Rattle.pfx_store.specs.Noting.{IsHeldBy};
 
 use crate::files::{Source, disk, input};
 use crate::log::beside;
+use crate::process::Process;
 use crate::progress::Told;
 use crate::store::opened;
-use crate::traces::{Traces, output_of};
+use crate::traces::Traces;
 use pfx_crew::channel::ChannelDesk;
 use pfx_disk::FileDisk;
 use pfx_disk_chronicle::list::UnnamedCalls;
@@ -23,7 +24,7 @@ use pfx_kinds::any::AnyJob;
 use pfx_log_store::LoggedStore;
 use pfx_program::{AtRefusal, OutputForm, Report, Run, level_slot};
 use pfx_program_script::{Script, Whole};
-use pfx_program_store::{run_logged, run_logged_served, run_noted, run_served};
+use pfx_program_store::{Workforce, run_logged, run_logged_served, run_noted, run_served};
 use pfx_store::Store;
 use std::alloc::Global;
 use std::marker::Brand;
@@ -40,23 +41,24 @@ const GROUP: u32 = 16;
 // Runs a script on a store by one thread. The name says which bytes the file held when it was opened: that they stand for the store is
 // the premise of each printed line.
 fn run_alone<N: Charted>(
-    rt: &HostRuntime,
-    alloc: Global,
+    process: Process<'_>,
     list: UnnamedCalls,
     store: Store<FileDisk, AnyJob>,
     script: &mut Script<Whole<Source>>,
     run: Run,
-    traces: &Traces,
 ) -> Result<(), Fault>
     requires list { list.seen.book ≡ N.calls }
     requires begins { Begins any_kind store.state N.failures N.clock N.held N.image store (file_view store.file.disk) }
 {
-    let mut output = Told::new(rt, alloc, output_of(rt, &traces.failed), "lines", None);
-    let ran = run_noted::<_, _, FileDisk, N>(alloc, list, store, script, run, &mut output);
+    let mut output = Told::new(process.rt, process.alloc, process.output(), "lines", None);
+    let ran = run_noted::<_, _, FileDisk, N>(process.alloc, list, store, script, run, &mut output);
     output.clear();
-    traces.keep_said(ran.store.disk());
-    traces.level.set(Some(level_slot(ran.store.state())));
-    traces.keep_report(ran.result)
+    process.traces.keep_said(ran.store.disk());
+    process
+        .traces
+        .level
+        .set(Some(level_slot(ran.store.state())));
+    process.traces.keep_report(ran.result)
 }
 
 // Whether it is the log that ended a run.
@@ -86,21 +88,19 @@ fn leave_beside(
 
 // Runs a script on a store beside its log by one thread, as `run_alone` does on a store.
 fn run_beside<N: Charted>(
-    rt: &HostRuntime,
-    alloc: Global,
+    process: Process<'_>,
     list: UnnamedCalls,
     beside: LoggedStore<FileDisk, FileDisk, AnyJob>,
     script: &mut Script<Whole<Source>>,
     run: Run,
-    traces: &Traces,
 ) -> Result<(), Fault>
     requires list { list.seen.book ≡ N.calls }
     requires whole { failure_beside beside ≡ None }
     requires begins { Begins any_kind beside.store.state N.failures N.clock N.held N.image beside.store (file_view beside.store.file.disk) }
 {
-    let mut output = Told::new(rt, alloc, output_of(rt, &traces.failed), "lines", None);
+    let mut output = Told::new(process.rt, process.alloc, process.output(), "lines", None);
     let ran = run_logged::<_, _, FileDisk, FileDisk, N>(
-        alloc,
+        process.alloc,
         list,
         beside,
         script,
@@ -108,75 +108,80 @@ fn run_beside<N: Charted>(
         &mut output,
     );
     output.clear();
-    leave_beside(&ran.beside, ran.result, traces)
+    leave_beside(&ran.beside, ran.result, process.traces)
 }
 
 // Runs a script on a store by so many workers. The name says which bytes the file held when it was opened: that they stand for the
 // store is the premise of each receipt.
 fn run_by<N: Charted, R: Threads + Wait + Clock + Copy + Drop + Send + Sync + 'static>(
-    rt: &HostRuntime,
+    process: Process<'_>,
     threads: R,
-    alloc: Global,
     store: Store<FileDisk, AnyJob>,
     workers: u32,
     script: &mut Script<Whole<Source>>,
     run: Run,
-    traces: &Traces,
 ) -> Result<(), Fault>
     requires begins { Begins any_kind store.state (file_view store.file.disk).failures
         (file_view store.file.disk).clock N.held N.image store (file_view store.file.disk) }
 {
-    let Ok(desk) = JobDesk::new(alloc) else {
+    let Ok(desk) = JobDesk::new(process.alloc) else {
         return Err(Fault::NoMemory);
     };
-    let mut output = Told::new(rt, alloc, output_of(rt, &traces.failed), "lines", None);
-    let served = run_served::<_, _, FileDisk, N, JobDesk, R>(
+    let mut output = Told::new(process.rt, process.alloc, process.output(), "lines", None);
+    let workforce = Workforce {
         threads,
-        alloc,
-        store,
         desk,
         workers,
+    };
+    let served = run_served::<_, _, FileDisk, N, JobDesk, R>(
+        process.alloc,
+        store,
+        workforce,
         script,
         run,
         &mut output,
     );
     output.clear();
-    traces.keep_said(served.store.disk());
-    traces.level.set(Some(level_slot(served.store.state())));
-    traces.keep_report(served.result)
+    process.traces.keep_said(served.store.disk());
+    process
+        .traces
+        .level
+        .set(Some(level_slot(served.store.state())));
+    process.traces.keep_report(served.result)
 }
 
 // Runs a script on a store beside its log by so many workers, as `run_by` does on a store.
 fn run_beside_by<N: Charted, R: Threads + Wait + Clock + Copy + Drop + Send + Sync + 'static>(
-    rt: &HostRuntime,
+    process: Process<'_>,
     threads: R,
-    alloc: Global,
     beside: LoggedStore<FileDisk, FileDisk, AnyJob>,
     workers: u32,
     script: &mut Script<Whole<Source>>,
     run: Run,
-    traces: &Traces,
 ) -> Result<(), Fault>
     requires whole { failure_beside beside ≡ None }
     requires begins { Begins any_kind beside.store.state (file_view beside.store.file.disk).failures
         (file_view beside.store.file.disk).clock N.held N.image beside.store (file_view beside.store.file.disk) }
 {
-    let Ok(desk) = JobDesk::new(alloc) else {
+    let Ok(desk) = JobDesk::new(process.alloc) else {
         return Err(Fault::NoMemory);
     };
-    let mut output = Told::new(rt, alloc, output_of(rt, &traces.failed), "lines", None);
-    let served = run_logged_served::<_, _, FileDisk, FileDisk, N, JobDesk, R>(
+    let mut output = Told::new(process.rt, process.alloc, process.output(), "lines", None);
+    let workforce = Workforce {
         threads,
-        alloc,
-        beside,
         desk,
         workers,
+    };
+    let served = run_logged_served::<_, _, FileDisk, FileDisk, N, JobDesk, R>(
+        process.alloc,
+        beside,
+        workforce,
         script,
         run,
         &mut output,
     );
     output.clear();
-    leave_beside(&served.beside, served.result, traces)
+    leave_beside(&served.beside, served.result, process.traces)
 }
 
 // By how many workers a store is run: those that are said, or else as many as the weights in force have, which need not be those of
@@ -222,14 +227,12 @@ fn run_of(asked: Asked<'_>, batch: u32) -> Run {
 // Runs a script on a store by so many workers, or for 0 by one thread. Whatever bytes its file is said to hold, that they stand for the
 // store is the premise.
 fn run_on<R: Threads + Wait + Clock + Copy + Drop + Send + Sync + 'static>(
-    rt: &HostRuntime,
+    process: Process<'_>,
     threads: R,
-    alloc: Global,
     store: Store<FileDisk, AnyJob>,
     workers: u32,
     script: &mut Script<Whole<Source>>,
     asked: Asked<'_>,
-    traces: &Traces,
 ) -> Result<(), Fault>
     requires begins { (image : List ℕ) → Begins any_kind store.state (file_view store.file.disk).failures (file_view store.file.disk).clock
         (IsHeldBy any_kind store image) image store (file_view store.file.disk) }
@@ -237,22 +240,20 @@ fn run_on<R: Threads + Wait + Clock + Copy + Drop + Send + Sync + 'static>(
     if workers == 0 {
         let list = UnnamedCalls::new();
         let run = run_of(asked, 1);
-        return run_alone::<Brand>(rt, alloc, list, store, script, run, traces);
+        return run_alone::<Brand>(process, list, store, script, run);
     }
     let run = run_of(asked, WINDOW);
-    run_by::<Brand, R>(rt, threads, alloc, store, workers, script, run, traces)
+    run_by::<Brand, R>(process, threads, store, workers, script, run)
 }
 
 // The same beside its log.
 fn run_at_log<R: Threads + Wait + Clock + Copy + Drop + Send + Sync + 'static>(
-    rt: &HostRuntime,
+    process: Process<'_>,
     threads: R,
-    alloc: Global,
     beside: LoggedStore<FileDisk, FileDisk, AnyJob>,
     workers: u32,
     script: &mut Script<Whole<Source>>,
     asked: Asked<'_>,
-    traces: &Traces,
 ) -> Result<(), Fault>
     requires whole { failure_beside beside ≡ None }
     requires begins { (image : List ℕ) → Begins any_kind beside.store.state (file_view beside.store.file.disk).failures
@@ -261,10 +262,10 @@ fn run_at_log<R: Threads + Wait + Clock + Copy + Drop + Send + Sync + 'static>(
     if workers == 0 {
         let list = UnnamedCalls::new();
         let run = run_of(asked, 1);
-        return run_beside::<Brand>(rt, alloc, list, beside, script, run, traces);
+        return run_beside::<Brand>(process, list, beside, script, run);
     }
     let run = run_of(asked, WINDOW);
-    run_beside_by::<Brand, R>(rt, threads, alloc, beside, workers, script, run, traces)
+    run_beside_by::<Brand, R>(process, threads, beside, workers, script, run)
 }
 
 /// Runs a script on the store of a file by so many workers, as many as its weights have if none are said, or for 0 by one thread. Up
@@ -272,40 +273,20 @@ fn run_at_log<R: Threads + Wait + Clock + Copy + Drop + Send + Sync + 'static>(
 /// are kept at once too, up to 16. Lines are printed as they come. Behind a refused record the script goes on, or ends if it is strict.
 /// Beside a log each segment of the file is in the log before it is used again.
 pub(crate) fn run<R: Threads + Wait + Clock + Copy + Drop + Send + Sync + 'static>(
-    rt: &HostRuntime,
+    process: Process<'_>,
     threads: R,
-    alloc: Global,
     file: &str,
     script: &str,
     asked: Asked<'_>,
-    traces: &Traces,
 ) -> Result<(), Fault> {
-    let mut script = Script::new(alloc, Whole::new(input(rt, script)?));
-    let store = opened(alloc, disk(rt, file)?, traces)?;
+    let mut script = Script::new(process.alloc, Whole::new(input(process.rt, script)?));
+    let store = opened(process, disk(process.rt, file)?)?;
     let workers = workers_of(asked.workers, &store);
     match asked.log {
         Some(log) => {
-            let beside = beside(rt, alloc, store, log, asked.after, traces)?;
-            run_at_log::<R>(
-                rt,
-                threads,
-                alloc,
-                beside,
-                workers,
-                &mut script,
-                asked,
-                traces,
-            )
+            let beside = beside(process, store, log, asked.after)?;
+            run_at_log::<R>(process, threads, beside, workers, &mut script, asked)
         }
-        None => run_on::<R>(
-            rt,
-            threads,
-            alloc,
-            store,
-            workers,
-            &mut script,
-            asked,
-            traces,
-        ),
+        None => run_on::<R>(process, threads, store, workers, &mut script, asked),
     }
 }

@@ -8,7 +8,8 @@ ghost use Rattle.pfx_kinds.specs.AnyKind.{any_kind};
 ghost use Rattle.pfx_store.specs.Noting.{IsHeldBy};
 
 use crate::files::{fault_of, input, new_disk, shared_disk, sync_directory};
-use crate::traces::{SetRead, Traces, Unmade, output_of, set_source};
+use crate::process::Process;
+use crate::traces::{KeptSource, Unmade};
 use pfx_disk::FileDisk;
 use pfx_fault::Fault;
 use pfx_kinds::any::AnyJob;
@@ -40,51 +41,55 @@ pub(crate) fn taken_away(
 
 // The set of a file, and the state that a store of it begins with: at slot 0, or with the ledger that is given.
 fn begun(
-    rt: &HostRuntime,
-    alloc: Global,
+    process: Process<'_>,
     set: &str,
     at: Option<&str>,
-    read: &mut SetRead,
 ) -> Result<(TaskSet, State<AnyJob>), Fault>
     ensures set { IfOk result (λ begun. begun.1.ledger.set ≡ begun.0) }
     ensures size { IfOk result (λ begun. IsSegmentSize begun.0.workers begun.1.segment) }
 {
-    let mut input = set_source(input(rt, set)?, read);
-    let (set, segment) = read_task_set(alloc, &mut input)?;
+    let mut input = KeptSource::new(process.alloc, input(process.rt, set)?);
+    let read = read_task_set(process.alloc, &mut input);
+    process.traces.keep_set(input.into_read());
+    let (set, segment) = read?;
     if let Err(fault) = check_segment(&set, segment) {
         return Err(size_fault(fault));
     }
-    let state = first_state(alloc, &set, segment, at)?;
+    let state = first_state(process.alloc, &set, segment, at)?;
     Ok((set, state))
 }
 
 // Makes a store on a disk, and syncs its file's directory. The answer is how many bytes the file has. Where none is made a new file is
 // taken away while its disk is still held, so that it isn't another's by then.
 fn made(
-    rt: &HostRuntime,
-    alloc: Global,
+    process: Process<'_>,
     disk: FileDisk,
     file: &str,
     is_new: bool,
     set: &TaskSet,
     state: State<AnyJob>,
-    traces: &mut Traces,
 ) -> Result<usize, Fault>
     requires set { state.ledger.set ≡ set.now }
     requires size { IsSegmentSize set.now.workers state.segment }
 {
     let needed = store_len(set, state.segment());
-    match Store::<FileDisk, AnyJob>::begin(alloc, disk, set, state) {
+    match Store::<FileDisk, AnyJob>::begin(process.alloc, disk, set, state) {
         Ok(store) => {
-            if let Err(fault) = sync_directory(rt, file, &traces.device) {
-                traces.unmade = taken_away(rt, file, is_new, needed);
+            if let Err(fault) = sync_directory(process.rt, file, &process.traces.device) {
+                process
+                    .traces
+                    .unmade
+                    .set(taken_away(process.rt, file, is_new, needed));
                 return Err(fault);
             }
             Ok(store.places().sizes.file_len())
         }
         Err((fault, disk)) => {
-            traces.device.set(disk.said());
-            traces.unmade = taken_away(rt, file, is_new, needed);
+            process.traces.device.set(disk.said());
+            process
+                .traces
+                .unmade
+                .set(taken_away(process.rt, file, is_new, needed));
             Err(init_fault(fault))
         }
     }
@@ -92,17 +97,15 @@ fn made(
 
 // Prints the line of a store that was made.
 fn print_created(
-    rt: &HostRuntime,
-    alloc: Global,
+    process: Process<'_>,
     form: OutputForm,
     set: &TaskSet,
     len: usize,
-    traces: &Traces,
 ) -> Result<(), Fault> {
-    let Ok(line) = created_line(alloc, form, set, len) else {
+    let Ok(line) = created_line(process.alloc, form, set, len) else {
         return Err(Fault::NoMemory);
     };
-    match output_of(rt, &traces.failed).write_all(line.as_bytes()) {
+    match process.output().write_all(line.as_bytes()) {
         Ok(()) => Ok(()),
         Err(error) => Err(fault_of(&error, Fault::OutputFailed)),
     }
@@ -112,35 +115,29 @@ fn print_created(
 /// ledger that is given. The refusals of the set, of its segments and of the ledger come before the file is touched. The file's directory is
 /// synced before the line is printed. A new file is taken away if no store is made in it.
 pub(crate) fn init(
-    rt: &HostRuntime,
-    alloc: Global,
+    process: Process<'_>,
     set: &str,
     file: &str,
     at: Option<&str>,
     form: OutputForm,
-    traces: &mut Traces,
 ) -> Result<(), Fault> {
-    let (set, state) = begun(rt, alloc, set, at, &mut traces.set)?;
-    let (disk, is_new) = new_disk(rt, file, &mut traces.unopened)?;
-    let len = made(rt, alloc, disk, file, is_new, &set, state, traces)?;
-    print_created(rt, alloc, form, &set, len, traces)
+    let (set, state) = begun(process, set, at)?;
+    let (disk, is_new) = new_disk(process.rt, file, &process.traces.unopened)?;
+    let len = made(process, disk, file, is_new, &set, state)?;
+    print_created(process, form, &set, len)
 }
 
 /// The store on a disk. Whatever bytes the file is said to hold, that they stand for the store is the premise. If the disk fails, what the
 /// system said is kept.
-pub(crate) fn opened(
-    alloc: Global,
-    disk: FileDisk,
-    traces: &Traces,
-) -> Result<Store<FileDisk, AnyJob>, Fault>
+pub(crate) fn opened(process: Process<'_>, disk: FileDisk) -> Result<Store<FileDisk, AnyJob>, Fault>
     ensures { IfOk result
         (λ s. (image : List ℕ) → Begins any_kind s.state (file_view s.file.disk).failures (file_view s.file.disk).clock
         (IsHeldBy any_kind s image) image s (file_view s.file.disk)) }
 {
-    match Store::open(alloc, disk) {
+    match Store::open(process.alloc, disk) {
         Ok(store) => Ok(store),
         Err((fault, disk)) => {
-            traces.keep_said(&disk);
+            process.traces.keep_said(&disk);
             Err(open_fault(fault))
         }
     }
@@ -159,16 +156,14 @@ fn engine(
 
 // Prints an engine's board.
 fn print_board(
-    rt: &HostRuntime,
-    alloc: Global,
+    process: Process<'_>,
     form: OutputForm,
     engine: &mut StoreEngine<FileDisk, AnyJob>,
-    traces: &Traces,
 ) -> Result<(), Fault> {
-    let Ok(mut output) = BufWriter::new(alloc, output_of(rt, &traces.failed)) else {
+    let Ok(mut output) = BufWriter::new(process.alloc, process.output()) else {
         return Err(Fault::NoMemory);
     };
-    let shown = run_status(alloc, form, &mut output, engine);
+    let shown = run_status(process.alloc, form, &mut output, engine);
     let flushed = output.flush();
     shown?;
     match flushed {
@@ -178,15 +173,9 @@ fn print_board(
 }
 
 /// Prints the board of the store of a file.
-pub(crate) fn status(
-    rt: &HostRuntime,
-    alloc: Global,
-    file: &str,
-    form: OutputForm,
-    traces: &Traces,
-) -> Result<(), Fault> {
-    let store = opened(alloc, shared_disk(rt, file)?, traces)?;
-    print_board(rt, alloc, form, &mut engine(alloc, store)?, traces)
+pub(crate) fn status(process: Process<'_>, file: &str, form: OutputForm) -> Result<(), Fault> {
+    let store = opened(process, shared_disk(process.rt, file)?)?;
+    print_board(process, form, &mut engine(process.alloc, store)?)
 }
 
 // The number of a task; one that is greater than any is no task's.
@@ -196,22 +185,20 @@ fn task_of(task: u32) -> u16 {
 
 /// Prints what the jobs of the store of a file have computed, or the one of a task.
 pub(crate) fn show(
-    rt: &HostRuntime,
-    alloc: Global,
+    process: Process<'_>,
     file: &str,
     task: Option<u32>,
     form: OutputForm,
-    traces: &Traces,
 ) -> Result<(), Fault> {
-    let store = opened(alloc, shared_disk(rt, file)?, traces)?;
+    let store = opened(process, shared_disk(process.rt, file)?)?;
     let task = match task {
         Some(task) => Some(task_of(task)),
         None => None,
     };
     run_show(
-        alloc,
+        process.alloc,
         form,
-        &mut output_of(rt, &traces.failed),
+        &mut process.output(),
         store.state(),
         task,
     )

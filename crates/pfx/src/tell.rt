@@ -1,6 +1,7 @@
 //! What is said on standard error: refusals, further faults of a set, and warnings, each by one write.
 
 use crate::notes::{note_of, text_of};
+use crate::process::Process;
 use crate::traces::Traces;
 use pfx_fault::{Fault, put_fault};
 use pfx_program::{OutputForm, RefusedRecord, Report};
@@ -114,27 +115,21 @@ fn print(rt: &HostRuntime, text: &Vec<u8>) {
 
 /// Prints the line of a fault, and below it where the mistake stands, what is wrong and what to change, as far as that is known; or an
 /// object of the same.
-pub(crate) fn tell(
-    rt: &HostRuntime,
-    alloc: Global,
-    request: &Request<'_>,
-    traces: &Traces,
-    fault: Fault,
-) {
+pub(crate) fn tell(process: Process<'_>, request: &Request<'_>, fault: Fault) {
     let form = form_of(request);
     if fault == Fault::NoMemory {
-        let _ = rt.stderr().write_all(match form {
+        let _ = process.rt.stderr().write_all(match form {
             OutputForm::Text => NO_MEMORY,
             OutputForm::Json => NO_MEMORY_OBJECT,
         });
         return;
     }
-    let note = note_of(rt, alloc, request, traces, fault);
-    let mut text = Vec::new(alloc);
-    if put(alloc, form, &mut text, Line::Error(fault), note) {
-        print(rt, &text);
+    let note = note_of(process, request, fault);
+    let mut text = Vec::new(process.alloc);
+    if put(process.alloc, form, &mut text, Line::Error(fault), note) {
+        print(process.rt, &text);
     } else {
-        let _ = put_fault(&mut rt.stderr(), fault);
+        let _ = put_fault(&mut process.rt.stderr(), fault);
     }
 }
 
@@ -148,30 +143,28 @@ fn task_in(fault: Fault) -> Option<u16> {
 
 /// Prints the line of the first fault of a set and those of the further ones, each with what is said below it.
 pub(crate) fn tell_all(
-    rt: &HostRuntime,
-    alloc: Global,
+    process: Process<'_>,
     form: OutputForm,
     set: &str,
-    traces: &Traces,
     first: Fault,
     further: &[Fault],
 ) {
-    let set_text = traces.set.text.as_slice();
-    let mut text = Vec::new(alloc);
-    let mut out = Vec::new(alloc);
-    let note = set_note(alloc, set, set_text, None, first);
-    let _ = put(alloc, form, &mut text, Line::Error(first), note);
+    let set_text = process.traces.set_text();
+    let mut text = Vec::new(process.alloc);
+    let mut out = Vec::new(process.alloc);
+    let note = set_note(process.alloc, set, set_text, None, first);
+    let _ = put(process.alloc, form, &mut text, Line::Error(first), note);
     if let Some(task) = task_in(first) {
         let _ = out.push(task);
     }
     for fault in further {
-        let note = further_note(alloc, set, set_text, out.as_slice(), *fault);
-        let _ = put(alloc, form, &mut text, Line::Also(*fault), note);
+        let note = further_note(process.alloc, set, set_text, out.as_slice(), *fault);
+        let _ = put(process.alloc, form, &mut text, Line::Also(*fault), note);
         if let Some(task) = task_in(*fault) {
             let _ = out.push(task);
         }
     }
-    print(rt, &text);
+    print(process.rt, &text);
 }
 
 /// Whether an output failed because its reader has gone.
@@ -232,16 +225,20 @@ fn warn_refused(
 }
 
 /// Warns of what a command that went well has passed over: keys of a set, refused records of a script.
-pub(crate) fn warn(rt: &HostRuntime, alloc: Global, request: &Request<'_>, traces: &Traces) {
+pub(crate) fn warn(process: Process<'_>, request: &Request<'_>) {
     let form = form_of(request);
     match request {
         Request::Plan { set, .. }
         | Request::Draw { set, .. }
         | Request::Init { set, .. }
         | Request::Check { set, .. } => {
-            if let Ok(Some(note)) = passed_over_note(alloc, set, traces.set.text.as_slice()) {
+            if let Ok(Some(note)) = passed_over_note(
+                process.alloc,
+                set,
+                process.traces.set_text(),
+            ) {
                 let words = "the set has a key that is passed over";
-                warn_of(rt, alloc, form, words, note);
+                warn_of(process.rt, process.alloc, form, words, note);
             }
         }
         Request::Run { script, .. } => {
@@ -251,10 +248,17 @@ pub(crate) fn warn(rt: &HostRuntime, alloc: Global, request: &Request<'_>, trace
                     first: Some(RefusedRecord { at, fault }),
                     ..
                 },
-            ) = traces.report.get()
+            ) = process.traces.report.get()
             {
                 let first = FirstRefusal { at, fault, refused };
-                warn_refused(rt, alloc, form, script, first, traces.level.get());
+                warn_refused(
+                    process.rt,
+                    process.alloc,
+                    form,
+                    script,
+                    first,
+                    process.traces.level.get(),
+                );
             }
         }
         _ => {}

@@ -5,7 +5,7 @@ use pfx_disk::FileDisk;
 use pfx_fault::Fault;
 use pfx_program::Report;
 use std::alloc::Global;
-use std::cell::Cell;
+use std::cell::{Cell, OnceCell};
 use std::io;
 use std::io::{Error, ErrorKind, Printer, Read, Write};
 
@@ -25,20 +25,20 @@ pub(crate) struct Unmade {
 #[derive(Drop)]
 pub(crate) struct SetRead {
     /// Its text; empty if there was no room for it.
-    pub(crate) text: Vec<u8>,
+    text: Vec<u8>,
     /// Whether it is longer than sets are.
-    pub(crate) is_long: bool,
+    is_long: bool,
 }
 
 /// What a command leaves.
 #[derive(Drop)]
 pub(crate) struct Traces {
-    /// What was read of its set.
-    pub(crate) set: SetRead,
+    /// What was read of its set, once that was read.
+    set: OnceCell<SetRead>,
     /// The store that wasn't made.
-    pub(crate) unmade: Option<Unmade>,
+    pub(crate) unmade: Cell<Option<Unmade>>,
     /// Why the file of a new store couldn't be opened or made.
-    pub(crate) unopened: Option<ErrorKind>,
+    pub(crate) unopened: Cell<Option<ErrorKind>>,
     /// Why the log beside a store couldn't be opened or made.
     pub(crate) unopened_log: Cell<Option<ErrorKind>>,
     /// Whether what failed is the log beside a store.
@@ -56,14 +56,11 @@ pub(crate) struct Traces {
 }
 
 impl Traces {
-    pub(crate) fn new(alloc: Global) -> Traces {
+    pub(crate) fn new() -> Traces {
         Traces {
-            set: SetRead {
-                text: Vec::new(alloc),
-                is_long: false,
-            },
-            unmade: None,
-            unopened: None,
+            set: OnceCell::new(),
+            unmade: Cell::new(None),
+            unopened: Cell::new(None),
             unopened_log: Cell::new(None),
             at_log: Cell::new(false),
             at_part: Cell::new(0),
@@ -71,6 +68,27 @@ impl Traces {
             failed: Cell::new(None),
             report: Cell::new(None),
             level: Cell::new(None),
+        }
+    }
+
+    /// Keeps what was read of a set. A command reads one set at the most.
+    pub(crate) fn keep_set(&self, read: SetRead) {
+        let _ = self.set.set(read);
+    }
+
+    /// The text of the set that was read; empty if there is none.
+    pub(crate) fn set_text(&self) -> &[u8] {
+        match self.set.get() {
+            Some(read) => read.text.as_slice(),
+            None => b"",
+        }
+    }
+
+    /// Whether the set is longer than sets are.
+    pub(crate) fn is_set_long(&self) -> bool {
+        match self.set.get() {
+            Some(read) => read.is_long,
+            None => false,
         }
     }
 
@@ -128,24 +146,35 @@ impl Write for Watched<'_> {
 
 /// A set's source, whose bytes are kept as they are read. If there is no room for all of them, none are. One that is too long fails.
 #[derive(Drop)]
-pub(crate) struct Kept<'a> {
+pub(crate) struct KeptSource {
     source: Source,
-    read: &'a mut SetRead,
+    read: SetRead,
     len: u64,
     whole: bool,
 }
 
-/// A source whose bytes come to stand there.
-pub(crate) fn set_source(source: Source, read: &mut SetRead) -> Kept<'_> {
-    Kept {
-        source,
-        read,
-        len: 0,
-        whole: true,
+impl KeptSource {
+    /// The set of this source, of which nothing is read yet.
+    pub(crate) fn new(alloc: Global, source: Source) -> KeptSource {
+        KeptSource {
+            source,
+            read: SetRead {
+                text: Vec::new(alloc),
+                is_long: false,
+            },
+            len: 0,
+            whole: true,
+        }
+    }
+
+    /// What was read of it.
+    pub(crate) fn into_read(self) -> SetRead {
+        let KeptSource { read, .. } = self;
+        read
     }
 }
 
-impl Read for Kept<'_> {
+impl Read for KeptSource {
     fn read(&mut self, bytes: &mut [u8]) -> io::Result<usize> {
         let count = self.source.read(bytes)?;
         self.len = self.len.saturating_add(count as u64);

@@ -183,8 +183,7 @@ fn furnish<J: Job, B: Since<J>, D: Disk + Logged<B>, K: Desk<Quantum<J>, Done<J>
     alloc: Global,
     tokens: UnnamedKeeper<Note<J>>,
     store: &Store<D, J>,
-    word: Word<J, B>,
-    marking: &Marking<J, B>,
+    durable: Durable<J, B>,
     desk: K,
     workers: u32,
 ) -> Result<(Arc<Shared<J, B, K>, Global>, Share<J, B>, Vec<Record<J>>), AllocError>
@@ -192,17 +191,12 @@ where
     K::Seat: Drop,
     requires table { tokens.table.shared.table_id ≡ B.table }
     requires start { store.now.state ≡ B.start }
-    requires whole { store.now.file.broken ≡ false }
-    requires none { records_of word ≡ [] }
-    requires unmarked { marking.now ≡ [] }
-    requires leads { applied J.kind B.origin (records_of word) ≡ Some store.now.state }
     ensures share { IfOk result (λ r. r.1 ≡ Marked B.start.number (D.view store.now.file.disk).clock ∷ []) }
     ensures room { IfOk result (λ r. (r.2.items ≡ []) × (16 ≤ vec_capacity r.2)) }
 {
     let room = Vec::with_capacity(alloc, 16)?;
     let seat = desk.seat(rt)?;
     let (book, share) = Book::new(alloc, tokens, store.state(), store.disk().clock())?;
-    let durable = Durable::new(word, moment_of(store), marking.marked(), None);
     let shared = Arc::new(
         alloc,
         Shared {
@@ -287,8 +281,9 @@ where
     let (publisher, given, looked) = show_first::<J, B, D, R>(rt, alloc, list, store, readers)?;
     let word = publisher.published().again();
     let marking = Marking::new(marks);
+    let durable = Durable::new(word, moment_of(store), marking.marked(), None);
     let (shared, share, room) = furnish::<J, B, D, K, R>(
-        &rt, alloc, tokens, store, word, &marking, desk, workers,
+        &rt, alloc, tokens, store, durable, desk, workers,
     )?;
     Ok(Outfit {
         shared,
@@ -393,6 +388,52 @@ where
     }
 }
 
+/// Puts what the flusher owns into its mailbox, with what keeps the store. What is left of the outfit: what the threads share, the readers, and
+/// room for an answer of each at the end.
+fn hand_over<
+    J: Job,
+    B: Since<J>,
+    D: Disk,
+    S: BatchKeeper<D, J> + Drop,
+    K: Desk<Quantum<J>, Done<J>>,
+    R: Wait + Drop,
+    W: Wait,
+>(
+    rt: &W,
+    mailbox: &Mailbox<J, B, D, S, Shown<J, B>, R>,
+    outfit: Outfit<J, B, K, R>,
+    keeper: S,
+) -> (Arc<Shared<J, B, K>, Global>, Vec<Reader<J, B>>, Vec<bool>)
+    requires fresh { IsFresh J.kind B.start B.failures B.clock (S.kept keeper).file.broken (S.kept keeper).state (D.view (S.kept keeper).file.disk) }
+    requires goes_on { S.failed keeper ≡ None }
+    requires origin { B.origin ≡ B.start }
+    requires share { outfit.share ≡ Marked B.start.number (D.view (S.kept keeper).file.disk).clock ∷ [] }
+    requires room { (outfit.room.items ≡ []) × (16 ≤ vec_capacity outfit.room) }
+    requires publisher { outfit.publisher ≡ record { batches = []; shown = [] } }
+    requires marking { outfit.marking ≡ [] }
+    ensures given { result.1.items ≡ outfit.given.items }
+{
+    let Outfit {
+        shared,
+        share,
+        room,
+        publisher,
+        marking,
+        given,
+        looked,
+    } = outfit;
+    let owned = Flusher {
+        share,
+        keeper,
+        publisher,
+        room,
+        marking,
+        disk: PhantomData,
+    };
+    post(rt, mailbox, owned);
+    (shared, given, looked)
+}
+
 /// A front at what keeps a store whose disk tells its calls. With a fault it comes back as it was.
 fn manned<
     J: Job + Drop + Send + Sync + 'static,
@@ -441,24 +482,7 @@ where
         Ok(manned) => manned,
         Err(fault) => return Err((fault, keeper)),
     };
-    let Outfit {
-        shared,
-        share,
-        room,
-        publisher,
-        marking,
-        given,
-        looked,
-    } = outfit;
-    let owned = Flusher {
-        share,
-        keeper,
-        publisher,
-        room,
-        marking,
-        disk: PhantomData,
-    };
-    post(&rt, &*mailbox, owned);
+    let (shared, given, looked) = hand_over(&rt, &*mailbox, outfit, keeper);
     let crew = Hands {
         flusher,
         workers,

@@ -116,34 +116,32 @@ fn put_replies<W: Printer<E>, E>(
 fn run_batch<W: Printer<E>, E: Engine<AnyJob>>(
     alloc: Global,
     left: u32,
-    batch: u32,
+    run: Run,
     accepted: &mut u32,
-    form: OutputForm,
     output: &mut W,
     engine: &mut E,
 ) -> Result<(u32, Option<Fault>), Fault>
     requires left { 0 < left }
-    requires some { 0 < batch }
-    requires may { MayPrint E.promise W.allows engine.old (W.contents output.old) (slot_steps (run_of E.promise form engine.old accepted.old) left) }
-    ensures ok { IfOk result (λ went. Slotted E.promise form left went.0 went.1 accepted.old engine.old engine.new (W.contents output.old) (W.contents output.new)) }
+    requires may { MayPrint E.promise W.allows engine.old (W.contents output.old) (slot_steps (run_of E.promise run.form engine.old accepted.old) left) }
+    ensures ok { IfOk result (λ went. Slotted E.promise run.form left went.0 went.1 accepted.old engine.old engine.new (W.contents output.old) (W.contents output.new)) }
     ensures counts { IfOk result (λ went. accepted.new ≡ accepted.old + went.0) }
-    ensures err { IfErr result (Stopped E.promise batch ⊥ (slot_steps (run_of E.promise form engine.old accepted.old) left) engine.old engine.new
+    ensures err { IfErr result (Stopped E.promise run.batch ⊥ (slot_steps (run_of E.promise run.form engine.old accepted.old) left) engine.old engine.new
         (W.contents output.old) (W.contents output.new)) }
 {
     if *accepted >= MOST {
-        put_refused(alloc, form, output, engine, Fault::SessionFull)?;
+        put_refused(alloc, run.form, output, engine, Fault::SessionFull)?;
         return Ok((0, Some(Fault::SessionFull)));
     }
-    match engine.slots(alloc, left.min(batch).min(MOST - *accepted)) {
+    match engine.slots(alloc, left.min(run.batch).min(MOST - *accepted)) {
         Ok(said) => {
             let ran = said.len() as u32;
             *accepted += ran;
-            put_replies(alloc, form, output, engine, &said)?;
+            put_replies(alloc, run.form, output, engine, &said)?;
             Ok((ran, None))
         }
         Err(EngineFault::Refused(fault)) => {
             let fault = machine_fault(fault);
-            put_refused(alloc, form, output, engine, fault)?;
+            put_refused(alloc, run.form, output, engine, fault)?;
             Ok((0, Some(fault)))
         }
         Err(EngineFault::Failed(fault)) => Err(fault),
@@ -154,24 +152,22 @@ fn run_batch<W: Printer<E>, E: Engine<AnyJob>>(
 fn run_slots<W: Printer<E>, E: Engine<AnyJob>>(
     alloc: Global,
     count: u32,
-    batch: u32,
+    run: Run,
     accepted: &mut u32,
-    form: OutputForm,
     output: &mut W,
     engine: &mut E,
 ) -> Result<Option<Fault>, Fault>
-    requires some { 0 < batch }
-    requires may { MayPrint E.promise W.allows engine.old (W.contents output.old) (slot_steps (run_of E.promise form engine.old accepted.old) count) }
-    ensures ok { OnOk result (Carried E.promise (slot_steps (run_of E.promise form engine.old accepted.old) count) engine.old engine.new
+    requires may { MayPrint E.promise W.allows engine.old (W.contents output.old) (slot_steps (run_of E.promise run.form engine.old accepted.old) count) }
+    ensures ok { OnOk result (Carried E.promise (slot_steps (run_of E.promise run.form engine.old accepted.old) count) engine.old engine.new
         (W.contents output.old) (W.contents output.new)) }
-    ensures counts { OnOk result (accepted.new ≡ accepted.old + length (commands_of (slot_steps (run_of E.promise form engine.old accepted.old) count))) }
-    ensures told { IfOk result (λ why. why ≡ refusal_of (slot_steps (run_of E.promise form engine.old accepted.old) count)) }
-    ensures err { IfErr result (Stopped E.promise batch ⊥ (slot_steps (run_of E.promise form engine.old accepted.old) count) engine.old engine.new
+    ensures counts { OnOk result (accepted.new ≡ accepted.old + length (commands_of (slot_steps (run_of E.promise run.form engine.old accepted.old) count))) }
+    ensures told { IfOk result (λ why. why ≡ refusal_of (slot_steps (run_of E.promise run.form engine.old accepted.old) count)) }
+    ensures err { IfErr result (Stopped E.promise run.batch ⊥ (slot_steps (run_of E.promise run.form engine.old accepted.old) count) engine.old engine.new
         (W.contents output.old) (W.contents output.new)) }
 {
     let mut left = count;
     while left > 0 {
-        let (ran, why) = run_batch(alloc, left, batch, accepted, form, output, engine)?;
+        let (ran, why) = run_batch(alloc, left, run, accepted, output, engine)?;
         if ran == 0 {
             return Ok(why);
         }
@@ -366,20 +362,18 @@ fn close<W: Printer<E>, E: Engine<AnyJob>>(
 fn run_verb<W: Printer<E>, E: Engine<AnyJob>>(
     alloc: Global,
     verb: Verb<'_>,
-    batch: u32,
+    run: Run,
     accepted: &mut u32,
-    form: OutputForm,
     output: &mut W,
     engine: &mut E,
 ) -> Result<Option<Fault>, Fault>
-    requires some { 0 < batch }
-    requires may { MayPrint E.promise W.allows engine.old (W.contents output.old) (verb_steps (run_of E.promise form engine.old accepted.old) (said_by verb)) }
-    ensures ok { OnOk result (Carried E.promise (verb_steps (run_of E.promise form engine.old accepted.old) (said_by verb.entry)) engine.old engine.new
+    requires may { MayPrint E.promise W.allows engine.old (W.contents output.old) (verb_steps (run_of E.promise run.form engine.old accepted.old) (said_by verb)) }
+    ensures ok { OnOk result (Carried E.promise (verb_steps (run_of E.promise run.form engine.old accepted.old) (said_by verb.entry)) engine.old engine.new
         (W.contents output.old) (W.contents output.new)) }
     ensures counts { OnOk result
-        (accepted.new ≡ accepted.old + length (commands_of (verb_steps (run_of E.promise form engine.old accepted.old) (said_by verb.entry)))) }
-    ensures told { IfOk result (λ why. why ≡ refusal_of (verb_steps (run_of E.promise form engine.old accepted.old) (said_by verb.entry))) }
-    ensures err { IfErr result (Stopped E.promise batch ⊥ (verb_steps (run_of E.promise form engine.old accepted.old) (said_by verb.entry))
+        (accepted.new ≡ accepted.old + length (commands_of (verb_steps (run_of E.promise run.form engine.old accepted.old) (said_by verb.entry)))) }
+    ensures told { IfOk result (λ why. why ≡ refusal_of (verb_steps (run_of E.promise run.form engine.old accepted.old) (said_by verb.entry))) }
+    ensures err { IfErr result (Stopped E.promise run.batch ⊥ (verb_steps (run_of E.promise run.form engine.old accepted.old) (said_by verb.entry))
         engine.old engine.new (W.contents output.old) (W.contents output.new)) }
 {
     match verb {
@@ -390,30 +384,30 @@ fn run_verb<W: Printer<E>, E: Engine<AnyJob>>(
             text,
         } => {
             let job = started(kind, goal, text);
-            run_submit(alloc, task, job, accepted, form, output, engine)
+            run_submit(alloc, task, job, accepted, run.form, output, engine)
         }
-        Verb::Slot { count } => run_slots(alloc, count, batch, accepted, form, output, engine),
+        Verb::Slot { count } => run_slots(alloc, count, run, accepted, output, engine),
         Verb::Withdraw { task } => {
             run_command(
                 alloc,
                 Command::Withdraw { task },
                 accepted,
-                form,
+                run.form,
                 output,
                 engine,
             )
         }
         Verb::Settle => {
-            run_settle(alloc, form, output, engine)?;
+            run_settle(alloc, run.form, output, engine)?;
             Ok(None)
         }
         Verb::Status => {
-            run_status(alloc, form, output, engine)?;
+            run_status(alloc, run.form, output, engine)?;
             Ok(None)
         }
-        Verb::Show { task } => run_jobs(alloc, task, form, output, engine),
+        Verb::Show { task } => run_jobs(alloc, task, run.form, output, engine),
         Verb::Reweigh { workers, weights } => {
-            run_reweigh(alloc, workers, weights, accepted, form, output, engine)
+            run_reweigh(alloc, workers, weights, accepted, run.form, output, engine)
         }
     }
 }
@@ -423,29 +417,28 @@ fn run_row<W: Printer<E>, E: Engine<AnyJob>>(
     alloc: Global,
     at: u64,
     row: &StringRecord,
-    batch: u32,
+    run: Run,
     accepted: &mut u32,
-    form: OutputForm,
     output: &mut W,
     engine: &mut E,
 ) -> Result<Option<Fault>, Fault>
-    requires some { 0 < batch }
     requires text { AllText (fields_of row.now) }
     requires may { (verb : Said) → verb_of (fields_of row.now) ≡ Some verb
-        → MayPrint E.promise W.allows engine.old (W.contents output.old) (verb_steps (run_of E.promise form engine.old accepted.old) verb) }
-    ensures done { IfOk result (λ why. RowDone E.promise form (fields_of row.now) why accepted.old accepted.new engine.old engine.new
+        → MayPrint E.promise W.allows engine.old (W.contents output.old) (verb_steps (run_of E.promise run.form engine.old accepted.old) verb) }
+    ensures done { IfOk result (λ why. RowDone E.promise run.form (fields_of row.now) why accepted.old accepted.new engine.old engine.new
         (W.contents output.old) (W.contents output.new)) }
-    ensures fails { IfErr result (RowFails E.promise form batch (fields_of row.now) at accepted.old engine.old engine.new (W.contents output.old) (W.contents output.new)) }
+    ensures fails { IfErr result (RowFails E.promise run.form run.batch (fields_of row.now) at accepted.old engine.old engine.new (W.contents output.old) (W.contents output.new)) }
 {
     let Some(verb) = read_verb(row) else {
         return Err(Fault::BadScript { at });
     };
-    run_verb(alloc, verb, batch, accepted, form, output, engine)
+    run_verb(alloc, verb, run, accepted, output, engine)
 }
 
 /// Reads the next record of a script, carries out what it asks for and prints its lines: `true` if there is a record,
 /// `false` if none is left, and then nothing is done. `row` is the memory of a record, `accepted` counts the commands of a
-/// run: after 1,048,576 of them each further one is refused as SessionFull. `batch` and `form` are as `run_script` has them.
+/// run: after 1,048,576 of them each further one is refused as SessionFull. `run.batch` and `run.form` are as `run_script` has them; what
+/// else `run` says is of several records.
 ///
 /// With `true` exactly the record's text was written, each line once its command was kept, and of the records none
 /// after it was read: the script has them left. So a record is answered before the next one is waited for.
@@ -455,25 +448,23 @@ pub fn run_record<R: Read + Drop, W: Printer<E>, E: Engine<AnyJob>>(
     alloc: Global,
     script: &mut Script<R>,
     row: &mut StringRecord,
-    batch: u32,
+    run: Run,
     accepted: &mut u32,
-    form: OutputForm,
     output: &mut W,
     engine: &mut E,
 ) -> Result<bool, Fault>
-    requires some { 0 < batch }
-    requires may { MayRun E.promise W.allows form AtRefusal.GoOn script.old accepted.old engine.old (W.contents output.old) }
-    ensures answers { IfOk result (λ more. Answers E.promise form script.old more script.new accepted.old accepted.new engine.old engine.new
+    requires may { MayRun E.promise W.allows run.form AtRefusal.GoOn script.old accepted.old engine.old (W.contents output.old) }
+    ensures answers { IfOk result (λ more. Answers E.promise run.form script.old more script.new accepted.old accepted.new engine.old engine.new
         (W.contents output.old) (W.contents output.new)) }
     ensures fails { IfErr result
-        (IsUnanswered E.promise form batch script.old script.new accepted.old engine.old engine.new (W.contents output.old) (W.contents output.new)) }
+        (IsUnanswered E.promise run.form run.batch script.old script.new accepted.old engine.old engine.new (W.contents output.old) (W.contents output.new)) }
     ensures counts { script.new.place < 2 ^ 64 }
 {
     if !script.next(row)? {
         return Ok(false);
     }
     let at = script.place();
-    run_row(alloc, at, row, batch, accepted, form, output, engine)?;
+    run_row(alloc, at, row, run, accepted, output, engine)?;
     Ok(true)
 }
 
@@ -535,9 +526,7 @@ pub fn run_script<R: Read + Drop, W: Printer<E>, E: Engine<AnyJob>>(
             Behind::Record => {
                 let at = script.place();
                 let accepted = &mut report.accepted;
-                let why = run_row(
-                    alloc, at, &row, run.batch, accepted, run.form, output, engine,
-                )?;
+                let why = run_row(alloc, at, &row, run, accepted, output, engine)?;
                 report.note(at, why);
                 if why.is_some() && run.at_refusal == AtRefusal::End {
                     return close(alloc, report, run.form, output, engine);

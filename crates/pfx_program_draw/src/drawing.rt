@@ -12,7 +12,7 @@ ghost use Rattle.pfx_program_draw.specs.Sizes.{IsDrawable};
 
 use crate::frame::{put_dashes, put_foot, put_grid, put_head, title};
 use crate::lags::{Course, greater};
-use crate::lane::put_lane;
+use crate::lane::{Lane, put_lane};
 use crate::sizes::{PictureSizes, sizes_for};
 use crate::text::{put_bytes, put_number};
 use pfx_choice::{ChoiceFault, PlanFault, plan};
@@ -162,16 +162,13 @@ fn put_lane_of(
     let course = course_of(ledger, x);
     let marks = marks_of(alloc, rows, x as u16)?;
     let real = ledger.real() as u64;
-    put_lane(
-        alloc,
-        text,
-        s,
-        real,
-        x as u64,
-        name.as_slice(),
+    let lane = Lane {
+        x: x as u64,
+        name: name.as_slice(),
         course,
-        marks.as_slice(),
-    )
+        marks: marks.as_slice(),
+    };
+    put_lane(alloc, text, s, real, lane)
 }
 
 #[tactic(auto, using(crate::proofs::Pieces::each_more, crate::proofs::Pieces::each_begins))]

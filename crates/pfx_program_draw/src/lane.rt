@@ -19,6 +19,15 @@ use crate::sizes::{PictureSizes, slots_end, width, y_at};
 use crate::text::{put_across, put_bytes, put_down, put_move, put_number};
 use std::alloc::{AllocError, Global};
 
+/// A task's lane: the task's number, its name, its course up to the first slot, and the mark 1 for each slot in which it runs.
+#[derive(Clone, Copy)]
+pub(crate) struct Lane<'a> {
+    pub(crate) x: u64,
+    pub(crate) name: &'a [u8],
+    pub(crate) course: Course,
+    pub(crate) marks: &'a [u64],
+}
+
 fn hue(k: u64) -> Phrase
     ensures { result ≡ hue k }
 {
@@ -255,22 +264,20 @@ fn put_tall_drawn(
     text: &mut Vec<u8>,
     s: PictureSizes,
     ink: Phrase,
-    x: u64,
-    c: Course,
-    marks: &[u64],
+    lane: Lane<'_>,
 ) -> Result<(), AllocError>
     requires drawable { IsDrawable s }
-    requires within { x ≤ 1152 }
-    requires course { IsCourse c }
-    requires limit { length marks.now ≤ 1440 }
-    ensures { OnOk result (text.new.items ≡ text.old.items ++ tall_drawn s ink x c marks.now) }
+    requires within { lane.x ≤ 1152 }
+    requires course { IsCourse lane.course }
+    requires limit { length lane.marks.now ≤ 1440 }
+    ensures { OnOk result (text.new.items ≡ text.old.items ++ tall_drawn s ink lane.x lane.course lane.entry.marks.now) }
 {
-    let top = y_at(s, x);
+    let top = y_at(s, lane.x);
     let base = top + s.heights.zero;
     let mut path = Vec::new(alloc);
-    put_lag_path(alloc, &mut path, s, c, base, marks)?;
-    put_shade(alloc, text, s, x)?;
-    put_run_bars(alloc, text, s, ink, top, marks)?;
+    put_lag_path(alloc, &mut path, s, lane.course, base, lane.marks)?;
+    put_shade(alloc, text, s, lane.x)?;
+    put_run_bars(alloc, text, s, ink, top, lane.marks)?;
     put_bounds(alloc, text, s, base)?;
     put_base_line(alloc, text, s, base)?;
     put_area(alloc, text, s, ink, base, path.as_slice())?;
@@ -289,21 +296,19 @@ fn put_tall_written(
     alloc: Global,
     text: &mut Vec<u8>,
     s: PictureSizes,
-    x: u64,
-    name: &[u8],
-    c: Course,
+    lane: Lane<'_>,
     runs: u64,
 ) -> Result<(), AllocError>
     requires few { runs ≤ 1440 }
-    requires course { IsCourse c }
+    requires course { IsCourse lane.course }
     requires drawable { IsDrawable s }
-    requires within { x ≤ 1152 }
-    ensures { OnOk result (text.new.items ≡ text.old.items ++ tall_written s x name.now c runs) }
+    requires within { lane.x ≤ 1152 }
+    ensures { OnOk result (text.new.items ≡ text.old.items ++ tall_written s lane.x lane.entry.name.now lane.course runs) }
 {
-    let y = words_y(s, x);
-    put_name(alloc, text, y, Phrase::NameEnd, name)?;
-    put_weight_label(alloc, text, s, y, c)?;
-    put_lag_label(alloc, text, s, y, c, runs)
+    let y = words_y(s, lane.x);
+    put_name(alloc, text, y, Phrase::NameEnd, lane.name)?;
+    put_weight_label(alloc, text, s, y, lane.course)?;
+    put_lag_label(alloc, text, s, y, lane.course, runs)
 }
 
 fn level_ink(k: u64) -> Phrase
@@ -361,22 +366,19 @@ fn put_low_lane(
     alloc: Global,
     text: &mut Vec<u8>,
     s: PictureSizes,
-    x: u64,
-    name: &[u8],
-    c: Course,
-    marks: &[u64],
+    lane: Lane<'_>,
 ) -> Result<(), AllocError>
-    requires limit { length marks.now ≤ 1440 }
-    requires course { IsCourse c }
+    requires limit { length lane.marks.now ≤ 1440 }
+    requires course { IsCourse lane.course }
     requires drawable { IsDrawable s }
-    requires within { x ≤ 1152 }
-    ensures { OnOk result (text.new.items ≡ text.old.items ++ low_lane s x name.now c marks.now) }
+    requires within { lane.x ≤ 1152 }
+    ensures { OnOk result (text.new.items ≡ text.old.items ++ low_lane s lane.x lane.entry.name.now lane.course lane.entry.marks.now) }
 {
-    let top = y_at(s, x);
-    let levels = levels(alloc, c, marks)?;
+    let top = y_at(s, lane.x);
+    let levels = levels(alloc, lane.course, lane.marks)?;
     put_all_cells(alloc, text, s, top, levels.as_slice())?;
-    put_run_bars(alloc, text, s, Phrase::Dark, top, marks)?;
-    put_name(alloc, text, top + 8, Phrase::SmallEnd, name)
+    put_run_bars(alloc, text, s, Phrase::Dark, top, lane.marks)?;
+    put_name(alloc, text, top + 8, Phrase::SmallEnd, lane.name)
 }
 
 #[tactic(auto, unfolding(crate::specs::Lane::lane_body))]
@@ -385,50 +387,43 @@ fn put_body(
     text: &mut Vec<u8>,
     s: PictureSizes,
     real: u64,
-    x: u64,
-    name: &[u8],
-    c: Course,
-    marks: &[u64],
+    lane: Lane<'_>,
     m: Summary,
 ) -> Result<(), AllocError>
     requires drawable { IsDrawable s }
-    requires within { x ≤ 1152 }
-    requires course { IsCourse c }
-    requires limit { length marks.now ≤ 1440 }
+    requires within { lane.x ≤ 1152 }
+    requires course { IsCourse lane.course }
+    requires limit { length lane.marks.now ≤ 1440 }
     requires few { m.runs ≤ 1440 }
-    requires runs { m.runs ≡ runs_in marks.now (length marks.now) }
-    ensures { OnOk result (text.new.items ≡ text.old.items ++ lane_body s real x name.now c marks.now) }
+    requires runs { m.runs ≡ runs_in lane.marks.now (length lane.marks.now) }
+    ensures { OnOk result (text.new.items ≡ text.old.items ++ lane_body s real lane.x lane.entry.name.now lane.course lane.entry.marks.now) }
 {
     if s.lanes <= 48 {
-        put_tall_drawn(alloc, text, s, colour(real, x), x, c, marks)?;
-        put_tall_written(alloc, text, s, x, name, c, m.runs)
+        put_tall_drawn(alloc, text, s, colour(real, lane.x), lane)?;
+        put_tall_written(alloc, text, s, lane, m.runs)
     } else {
-        put_low_lane(alloc, text, s, x, name, c, marks)
+        put_low_lane(alloc, text, s, lane)
     }
 }
 
-/// Puts the lane of task `x` of a set with `real` real tasks: of this name and course, and with the mark 1 for each slot in
-/// which it runs.
+/// Puts the lane of a task of a set with `real` real tasks.
 #[tactic(auto, unfolding(crate::specs::Lane::lane))]
 pub(crate) fn put_lane(
     alloc: Global,
     text: &mut Vec<u8>,
     s: PictureSizes,
     real: u64,
-    x: u64,
-    name: &[u8],
-    c: Course,
-    marks: &[u64],
+    lane: Lane<'_>,
 ) -> Result<(), AllocError>
     requires drawable { IsDrawable s }
-    requires within { x ≤ 1152 }
-    requires course { IsCourse c }
-    requires limit { length marks.now ≤ 1440 }
-    ensures { OnOk result (text.new.items ≡ text.old.items ++ lane s real x name.now c marks.now) }
+    requires within { lane.x ≤ 1152 }
+    requires course { IsCourse lane.course }
+    requires limit { length lane.marks.now ≤ 1440 }
+    ensures { OnOk result (text.new.items ≡ text.old.items ++ lane s real lane.x lane.entry.name.now lane.course lane.entry.marks.now) }
 {
-    let m = summed(c, marks);
-    put_task_words(alloc, text, s, name, c, m)?;
-    put_lag_words(alloc, text, s, c, m)?;
-    put_body(alloc, text, s, real, x, name, c, marks, m)?;
+    let m = summed(lane.course, lane.marks);
+    put_task_words(alloc, text, s, lane.name, lane.course, m)?;
+    put_lag_words(alloc, text, s, lane.course, m)?;
+    put_body(alloc, text, s, real, lane, m)?;
     put_phrase(text, Phrase::LaneEnd)
 }

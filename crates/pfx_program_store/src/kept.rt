@@ -4,6 +4,7 @@ ghost use Rattle.pfx_front.specs.Starting.{IsFresh};
 ghost use Rattle.pfx_kinds.specs.AnyKind.{any_kind};
 ghost use Rattle.pfx_program_store.specs.Serving.{IsServedRun};
 
+use crate::workforce::Workforce;
 use pfx_crew::desk::Desk;
 use pfx_disk::Disk;
 use pfx_disk_chronicle::chronicle::Logged;
@@ -65,12 +66,10 @@ pub fn serve_kept<
     K: Desk<Quantum<AnyJob>, Done<AnyJob>> + Drop + Send + Sync + 'static,
     R: Threads + Wait + Clock + Copy + Drop + Send + Sync + 'static,
 >(
-    rt: R,
     alloc: Global,
     lists: Lists<AnyJob>,
     keeper: S,
-    desk: K,
-    workers: u32,
+    workforce: Workforce<K, R>,
     script: &mut Script<I>,
     run: Run,
     output: &mut W,
@@ -92,6 +91,11 @@ where
             on: PhantomData,
         };
     };
+    let Workforce {
+        threads: rt,
+        desk,
+        workers,
+    } = workforce;
     match Front::<AnyJob, B, K>::start_kept::<D, S, R>(rt, alloc, lists, keeper, desk, workers, 1) {
         Err((fault, keeper)) => Kept {
             keeper,

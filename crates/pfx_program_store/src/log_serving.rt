@@ -6,6 +6,7 @@ ghost use Rattle.pfx_kinds.specs.AnyKind.{any_kind};
 ghost use Rattle.pfx_log_store.specs.Working.{failure_beside};
 
 use crate::kept::{Kept, serve_kept};
+use crate::workforce::Workforce;
 use pfx_crew::desk::Desk;
 use pfx_disk::Disk;
 use pfx_disk_chronicle::chronicle::Chronicle;
@@ -43,12 +44,10 @@ fn serve<
     K: Desk<Quantum<AnyJob>, Done<AnyJob>> + Drop + Send + Sync + 'static,
     R: Threads + Wait + Clock + Copy + Drop + Send + Sync + 'static,
 >(
-    rt: R,
     alloc: Global,
     beside: LoggedStore<D, L, AnyJob>,
     names: Names<AnyJob>,
-    desk: K,
-    workers: u32,
+    workforce: Workforce<K, R>,
     script: &mut Script<I>,
     run: Run,
     output: &mut W,
@@ -66,7 +65,7 @@ where
     let noted = beside.noted::<B>(calls);
     let _broken = noted.store.is_broken();
     let ran = serve_kept::<I, W, Chronicle<D, B>, B, LoggedStore<Chronicle<D, B>, L, AnyJob>, K, R>(
-        rt, alloc, lists, noted, desk, workers, script, run, output,
+        alloc, lists, noted, workforce, script, run, output,
     );
     let Kept { keeper, result, .. } = ran;
     LoggedServed {
@@ -76,7 +75,7 @@ where
 }
 
 /// Runs the records of a script that are left on a store beside its log, as `run_served` does on a store: through a front that is started
-/// for it and ended after it, with so many workers at the desk. The flusher's thread keeps the log too.
+/// for it and ended after it. The flusher's thread keeps the log too.
 ///
 /// What is printed is the same as without a log, and a printed line is a receipt as it is there. If the store's disk fails or the log can't
 /// be brought up the run ends with `StoreFailed`, and its cause says which: `Device`, or `Log`.
@@ -89,11 +88,9 @@ pub fn run_logged_served<
     K: Desk<Quantum<AnyJob>, Done<AnyJob>> + Drop + Send + Sync + 'static,
     R: Threads + Wait + Clock + Copy + Drop + Send + Sync + 'static,
 >(
-    rt: R,
     alloc: Global,
     beside: LoggedStore<D, L, AnyJob>,
-    desk: K,
-    workers: u32,
+    workforce: Workforce<K, R>,
     script: &mut Script<I>,
     run: Run,
     output: &mut W,
@@ -109,7 +106,7 @@ where
     let _broken = beside.store.is_broken();
     match Names::new(alloc) {
         Ok(names) => serve::<I, W, D, L, Brand, K, R>(
-            rt, alloc, beside, names, desk, workers, script, run, output,
+            alloc, beside, names, workforce, script, run, output,
         ),
         Err(_) => LoggedServed {
             beside,

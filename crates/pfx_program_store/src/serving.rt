@@ -5,6 +5,7 @@ ghost use Rattle.pfx_kinds.specs.AnyKind.{any_kind};
 ghost use Rattle.pfx_program_store.specs.Serving.{IsServedRun};
 
 use crate::kept::{Kept, serve_kept};
+use crate::workforce::Workforce;
 use pfx_crew::desk::Desk;
 use pfx_disk::Disk;
 use pfx_disk_chronicle::chronicle::Chronicle;
@@ -41,12 +42,10 @@ fn serve<
     K: Desk<Quantum<AnyJob>, Done<AnyJob>> + Drop + Send + Sync + 'static,
     R: Threads + Wait + Clock + Copy + Drop + Send + Sync + 'static,
 >(
-    rt: R,
     alloc: Global,
     store: Store<D, AnyJob>,
     names: Names<AnyJob>,
-    desk: K,
-    workers: u32,
+    workforce: Workforce<K, R>,
     script: &mut Script<I>,
     run: Run,
     output: &mut W,
@@ -63,7 +62,7 @@ where
     let noted = store.noted::<B>(calls);
     let _broken = noted.is_broken();
     let ran = serve_kept::<I, W, Chronicle<D, B>, B, Store<Chronicle<D, B>, AnyJob>, K, R>(
-        rt, alloc, lists, noted, desk, workers, script, run, output,
+        alloc, lists, noted, workforce, script, run, output,
     );
     let Kept { keeper, result, .. } = ran;
     Served {
@@ -73,7 +72,7 @@ where
 }
 
 /// Runs the records of a script that are left on a store, as `run_script` does over any engine, through a front that is started
-/// for it and ended after it: with one thread for the flusher, and so many workers at the desk, or none, if the calling thread
+/// for it and ended after it: with one thread for the flusher, and the workers of its workforce, or none, if the calling thread
 /// runs the jobs.
 ///
 /// Of the slots of a record up to `run.batch` are asked for before the last of them is waited for, and 64 at the most; so are
@@ -94,11 +93,9 @@ pub fn run_served<
     K: Desk<Quantum<AnyJob>, Done<AnyJob>> + Drop + Send + Sync + 'static,
     R: Threads + Wait + Clock + Copy + Drop + Send + Sync + 'static,
 >(
-    rt: R,
     alloc: Global,
     store: Store<D, AnyJob>,
-    desk: K,
-    workers: u32,
+    workforce: Workforce<K, R>,
     script: &mut Script<I>,
     run: Run,
     output: &mut W,
@@ -113,7 +110,7 @@ where
     let _broken = store.is_broken();
     match Names::new(alloc) {
         Ok(names) => serve::<I, W, D, Brand, K, R>(
-            rt, alloc, store, names, desk, workers, script, run, output,
+            alloc, store, names, workforce, script, run, output,
         ),
         Err(_) => Served {
             store,

@@ -34,7 +34,7 @@ fn plans(alloc: Global, m: u32, tasks: &[(u32, u32)], expected: &[&[u16]]) -> bo
 /// The workers and the weights of a set, and the rows of its first slots.
 type Worked = (u32, &'static [(u32, u32)], &'static [&'static [u16]]);
 
-const WORKED: [Worked; 6] = [
+static WORKED: [Worked; 6] = [
     (
         2,
         &[(2, 3), (2, 3), (2, 3)],
@@ -203,7 +203,7 @@ fn agrees_with_the_plain_program(rt: HostRuntime) {
     }
 }
 
-const EIGHT: [(u32, u32); 8] = [
+static EIGHT: [(u32, u32); 8] = [
     (1, 7),
     (2, 7),
     (3, 7),
@@ -214,7 +214,7 @@ const EIGHT: [(u32, u32); 8] = [
     (13, 14),
 ];
 
-const NINE: [(u32, u32); 9] = [
+static NINE: [(u32, u32); 9] = [
     (3, 8),
     (5, 8),
     (7, 16),

@@ -216,9 +216,9 @@ fn refuses_rows_and_changes_nothing(rt: HostRuntime) {
     assert!(rt; refuses_and_copies(rt.alloc()));
 }
 
-const SIXTHS: [(u32, u32); 4] = [(1, 3), (1, 3), (1, 6), (1, 6)];
+static SIXTHS: [(u32, u32); 4] = [(1, 3), (1, 3), (1, 6), (1, 6)];
 
-const THIRDS: [(u32, u32); 4] = [(2, 3), (2, 3), (5, 6), (5, 6)];
+static THIRDS: [(u32, u32); 4] = [(2, 3), (2, 3), (5, 6), (5, 6)];
 
 /// The fault that a first task out of range is, if there is one.
 fn out_of_range(first: Option<u16>) -> Option<LedgerFault> {

@@ -9,7 +9,7 @@ use std::alloc::{AllocError, Global};
 use std::cmp::Ordering;
 
 /// The lengths: none, one, around one turn of sixteen and two, and the most tasks that a ledger has, less one.
-const LENGTHS: [u32; 9] = [0, 1, 15, 16, 17, 31, 32, 33, 1151];
+static LENGTHS: [u32; 9] = [0, 1, 15, 16, 17, 31, 32, 33, 1151];
 
 /// What the columns hold of one task.
 #[derive(Clone, Copy)]

@@ -61,7 +61,7 @@ fn agrees_from(alloc: Global, ledger: Option<Columns>, slots: u32) -> bool {
 }
 
 /// Weights from far below to just below 1; the last two have leads of hundreds of slots.
-const SPREAD: [(u32, u32); 21] = [
+static SPREAD: [(u32, u32); 21] = [
     (1, 7),
     (2, 7),
     (3, 7),
@@ -86,7 +86,7 @@ const SPREAD: [(u32, u32); 21] = [
 ];
 
 /// Weights near one half, whose ends tie.
-const HALVES: [(u32, u32); 20] = [
+static HALVES: [(u32, u32); 20] = [
     (359, 720),
     (358, 720),
     (357, 720),

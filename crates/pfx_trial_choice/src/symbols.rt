@@ -51,7 +51,7 @@ fn has_the_symbols_of_worked_weights(rt: HostRuntime) {
     }
 }
 
-const CLASSES: [(i32, Symbol, Class); 9] = [
+static CLASSES: [(i32, Symbol, Class); 9] = [
     (1, Symbol::Minus, Class::Contending),
     (1, Symbol::Zero, Class::Urgent),
     (7, Symbol::Plus, Class::Urgent),

@@ -36,7 +36,7 @@ fn fills(alloc: Global, m: u32, tasks: &[(u32, u32)], hyper: u32, idle: &[(u32, 
 /// Workers, the given weights, the hyperperiod, and the idle tasks.
 type Filled = (u32, &'static [(u32, u32)], u32, &'static [(u32, u32)]);
 
-const FILLED: [Filled; 7] = [
+static FILLED: [Filled; 7] = [
     (2, &[(2, 3), (2, 3), (2, 3)], 3, &[]),
     (1, &[(1, 2), (1, 3)], 6, &[(1, 6)]),
     (2, &[(1, 2)], 2, &[(1, 2), (1, 2), (1, 2)]),
@@ -94,7 +94,7 @@ fn is_refused(alloc: Global, m: u32, tasks: &[(u32, u32)], fault: SetFault) -> b
 /// Workers, the given weights, and what they are refused for.
 type Refused = (u32, &'static [(u32, u32)], SetFault);
 
-const REFUSED: [Refused; 12] = [
+static REFUSED: [Refused; 12] = [
     (0, &[], SetFault::NoTasks),
     (0, &[(1, 2)], SetFault::BadWorkers),
     (65, &[(1, 2)], SetFault::BadWorkers),

@@ -7,7 +7,7 @@ use pfx_machine::Command;
 use std::alloc::Global;
 
 /// What becomes of what isn't synced.
-pub const FATES: [Fate; 5] = [
+pub static FATES: [Fate; 5] = [
     Fate::Kept,
     Fate::Dropped,
     Fate::Filled(0x00),

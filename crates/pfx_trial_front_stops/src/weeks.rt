@@ -13,7 +13,7 @@ use pfx_kinds::any::AnyJob;
 use pfx_kit::week::{FIRST_WEEK, SECOND_WEEK, WEEK};
 use pfx_program::{AtRefusal, OutputForm, Run};
 use pfx_program_script::Script;
-use pfx_program_store::run_served;
+use pfx_program_store::{Workforce, run_served};
 use pfx_store::Store;
 use pfx_store::laws::honest_disks_hold;
 use std::alloc::Global;
@@ -49,11 +49,13 @@ fn printed<R: Threads + Wait + Clock + Copy + Drop + Send + Sync + 'static>(
     let mut script = Script::new(alloc, WEEK.as_bytes());
     let mut output = Vec::new(alloc);
     let served = run_served::<_, _, MemoryDisk, Brand, JobDesk, R>(
-        rt,
         alloc,
         store,
-        desk,
-        workers,
+        Workforce {
+            threads: rt,
+            desk,
+            workers,
+        },
         &mut script,
         Run {
             batch: 2,

@@ -5,28 +5,28 @@ use pfx_disk::{Disk, Fate, GATE_OPEN, MemoryDisk};
 use pfx_log::{AppendFault, LogBlock, LogFile, LogHeader, LogPlace, read_block, read_header};
 use std::alloc::Global;
 
-pub const STATE: [u8; 10] = [5, 0, 0, 0, 0, 0, 0, 0, 0xAA, 0xBB];
+pub static STATE: [u8; 10] = [5, 0, 0, 0, 0, 0, 0, 0, 0xAA, 0xBB];
 
 /// The version of the store's file.
 pub const VERSION: u8 = 2;
 
 /// The head of the log before.
-pub const BEFORE: [u8; 32] = [
+pub static BEFORE: [u8; 32] = [
     0, 1, 2, 3, 4, 5, 6, 7, 8, 9, 10, 11, 12, 13, 14, 15, 16, 17, 18, 19, 20, 21, 22, 23, 24, 25,
     26, 27, 28, 29, 30, 31,
 ];
 
-pub const FRAMES: [&[u8]; 3] = [&[1, 2, 3], &[0xC3, 5, 6, 7, 8], &[9]];
+pub static FRAMES: [&[u8]; 3] = [&[1, 2, 3], &[0xC3, 5, 6, 7, 8], &[9]];
 
 /// The numbers of each block's first and last command.
-pub const NUMBERS: [(u64, u64); 3] = [(6, 6), (7, 9), (10, 10)];
+pub static NUMBERS: [(u64, u64); 3] = [(6, 6), (7, 9), (10, 10)];
 
 /// The places of the blocks' gates, and of the closed one behind them.
-pub const GATES: [usize; 4] = [57, 117, 179, 237];
+pub static GATES: [usize; 4] = [57, 117, 179, 237];
 
 pub const LEN: usize = 238;
 
-pub const LOG: [u8; 238] = [
+pub static LOG: [u8; 238] = [
     0xC3, 0x50, 0x46, 0x58, 0x41, 0x55, 0x44, 0x49, 0x54, 0x01, 0x02, 0x0A, 0x00, 0x00, 0x00, 0x05,
     0x00, 0x00, 0x00, 0x00, 0x00, 0x00, 0x00, 0xAA, 0xBB, 0x00, 0x01, 0x02, 0x03, 0x04, 0x05, 0x06,
     0x07, 0x08, 0x09, 0x0A, 0x0B, 0x0C, 0x0D, 0x0E, 0x0F, 0x10, 0x11, 0x12, 0x13, 0x14, 0x15, 0x16,
@@ -45,7 +45,7 @@ pub const LOG: [u8; 238] = [
 ];
 
 /// The fates of the writes that no sync followed.
-pub const FATES: [Fate; 3] = [Fate::Dropped, Fate::Kept, Fate::Filled(GATE_OPEN)];
+pub static FATES: [Fate; 3] = [Fate::Dropped, Fate::Kept, Fate::Filled(GATE_OPEN)];
 
 /// A disk that holds these bytes, with room for what the tests do.
 pub fn disk_of(alloc: Global, bytes: &[u8]) -> Option<MemoryDisk> {

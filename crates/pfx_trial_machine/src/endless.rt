@@ -44,14 +44,14 @@ fn has_two(alloc: Global, m: u32, tasks: &[(u32, u32)], hyper: u64) -> bool {
 /// The workers of a set, its tasks, and its hyperperiod in slots.
 type Case = (u32, &'static [(u32, u32)], u64);
 
-const PLAIN: [Case; 3] = [
+static PLAIN: [Case; 3] = [
     (2, &[(2, 3), (2, 3), (2, 3)], 3),
     (1, &[(1, 2), (1, 3), (1, 6)], 6),
     (2, &[(4, 5)], 5),
 ];
 
 // The nearest deadline alone, with ties to the lower number or to the higher one, gives some task a slot too late.
-const HARD: [Case; 7] = [
+static HARD: [Case; 7] = [
     (3, &[(16, 30), (13, 15), (8, 20), (13, 20), (11, 20)], 60),
     (
         4,
@@ -134,7 +134,7 @@ const HARD: [Case; 7] = [
     ),
 ];
 
-const LONG: [Case; 4] = [
+static LONG: [Case; 4] = [
     (
         1,
         &[

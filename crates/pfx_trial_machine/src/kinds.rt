@@ -197,7 +197,7 @@ fn is_answered(kind: &str, goal: u64, text: &[u8], want: Option<JobStartFault>) 
 type Start = (&'static str, u64, &'static [u8]);
 
 /// Starts that give a job.
-const STARTED: [Start; 7] = [
+static STARTED: [Start; 7] = [
     ("count", 4294967295, b"4294967295"),
     ("count", 1, b"0000000007"),
     ("rule", 4294967295, b"255:000"),
@@ -208,7 +208,7 @@ const STARTED: [Start; 7] = [
 ];
 
 /// Starts of no kind, whatever goal and data they have.
-const NO_KINDS: [Start; 4] = [
+static NO_KINDS: [Start; 4] = [
     ("sum", 0, b"x"),
     ("", 1, b""),
     ("Count", 1, b""),
@@ -216,7 +216,7 @@ const NO_KINDS: [Start; 4] = [
 ];
 
 /// Starts with a goal that the kind hasn't, whatever data they have.
-const BAD_GOALS: [Start; 6] = [
+static BAD_GOALS: [Start; 6] = [
     ("count", 0, b"x"),
     ("count", 4294967296, b"4294967295"),
     ("rule", 0, b"x"),
@@ -226,7 +226,7 @@ const BAD_GOALS: [Start; 6] = [
 ];
 
 /// A kind's name, a goal that it has, and data that it hasn't.
-const BAD_DATA: [(&str, u64, &[&[u8]]); 4] = [
+static BAD_DATA: [(&str, u64, &[&[u8]]); 4] = [
     ("count", 1, &[b"4294967296", b"00000000007", b"+7", b"7 "]),
     (
         "rule",

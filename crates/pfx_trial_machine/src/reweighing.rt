@@ -200,9 +200,9 @@ fn right_steps(alloc: Global, state: Option<Held>, steps: &[Step<'_>]) -> usize 
 }
 
 /// Three tasks of 2/3, and of 1/3.
-const TWO: [(u32, u32); 3] = [(2, 3), (2, 3), (2, 3)];
+static TWO: [(u32, u32); 3] = [(2, 3), (2, 3), (2, 3)];
 
-const ONE: [(u32, u32); 3] = [(1, 3), (1, 3), (1, 3)];
+static ONE: [(u32, u32); 3] = [(1, 3), (1, 3), (1, 3)];
 
 // Three tasks of 2/3 on two workers, and then of 1/3 on one.
 #[test]

@@ -11,7 +11,7 @@ use std::io;
 use std::io::Write;
 
 /// The rows of three tasks of weight 2/3 on two workers, which come round every three slots.
-const ROWS: [&str; 3] = ["0 1", "0 2", "1 2"];
+static ROWS: [&str; 3] = ["0 1", "0 2", "1 2"];
 
 /// What is printed of so many slots, one after the other, and at the end.
 fn week_of(alloc: Global, slots: u32) -> Option<Vec<u8>> {
@@ -112,7 +112,7 @@ const THIRDS: &str = "workers = 2
 task = [{name = \"0\", e = 2, p = 3}, {name = \"1\", e = 2, p = 3}, {name = \"2\", e = 2, p = 3}]
 ";
 
-const NAMES: [&str; 3] = ["0,1", "0,2", "1,2"];
+static NAMES: [&str; 3] = ["0,1", "0,2", "1,2"];
 
 /// Whether a plan of 5,000 slots has its rows, which come round every three slots.
 fn plans_five_thousand(alloc: Global) -> bool {

@@ -1,6 +1,6 @@
 //! Scripts over a state in memory, and what a failing reader or writer leaves.
 
-use crate::runs::one_by_one;
+use crate::runs::{one_by_one, run_of};
 use crate::torn::Torn;
 use csv::StringRecord;
 use pfx_fault::Fault;
@@ -349,9 +349,8 @@ fn answers_before_it_asks(alloc: Global, state: &mut State<AnyJob>) -> bool {
         alloc,
         &mut *script,
         &mut row,
-        1,
+        one_by_one(OutputForm::Text),
         &mut accepted,
-        OutputForm::Text,
         &mut written,
         state,
     );
@@ -360,9 +359,8 @@ fn answers_before_it_asks(alloc: Global, state: &mut State<AnyJob>) -> bool {
         alloc,
         &mut *script,
         &mut row,
-        1,
+        one_by_one(OutputForm::Text),
         &mut accepted,
-        OutputForm::Text,
         &mut written,
         state,
     );
@@ -404,9 +402,8 @@ fn answers_one_by_one(alloc: Global, state: &mut State<AnyJob>) -> bool {
             alloc,
             &mut *script,
             &mut row,
-            16,
+            run_of(16, AtRefusal::GoOn, OutputForm::Text),
             &mut accepted,
-            OutputForm::Text,
             &mut written,
             state,
         );

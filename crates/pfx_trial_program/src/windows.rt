@@ -12,7 +12,7 @@ use std::io;
 use std::io::Write;
 
 /// How many slots are run at once.
-const WINDOWS: [u32; 3] = [1, 2, 16];
+static WINDOWS: [u32; 3] = [1, 2, 16];
 
 /// The number after the last one.
 const END: u64 = 1 << 48;
@@ -32,7 +32,7 @@ fn with_room_for(alloc: Global, room: u64) -> Option<Held> {
 }
 
 /// The rows, which come round every three slots.
-const ROWS: [&str; 3] = ["0 1", "0 2", "1 2"];
+static ROWS: [&str; 3] = ["0 1", "0 2", "1 2"];
 
 /// Writes the lines of a record of slots, of which the state takes those below its room.
 fn put_slots(text: &mut Vec<u8>, first: u64, count: u64, room: u64) -> Option<()> {

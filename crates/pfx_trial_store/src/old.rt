@@ -20,31 +20,31 @@ pub const OLD_FRAME: usize = 906;
 pub const OLD_SEGMENT: u32 = 8192;
 
 /// The header.
-const HEADER: [u8; 41] = [
+static HEADER: [u8; 41] = [
     0xc3, b'P', b'F', b'X', b'S', b'T', b'O', b'R', b'E', 1, 2, 3, 0, 0, 32, 0, 0, 2, 0, 0, 0, 3,
     0, 0, 0, 2, 0, 0, 0, 3, 0, 0, 0, 2, 0, 0, 0, 3, 0, 0, 0,
 ];
 
 /// The gates of the first checkpoint's area, which is of the new store, and of the first segment, with its number.
-const AREA: [u8; 1] = [0xc3];
+static AREA: [u8; 1] = [0xc3];
 
-const SEGMENT: [u8; 9] = [0xc3, 1, 0, 0, 0, 0, 0, 0, 0];
+static SEGMENT: [u8; 9] = [0xc3, 1, 0, 0, 0, 0, 0, 0, 0];
 
 /// The frame of the job, up to its zeros.
-const SUBMIT: [u8; 27] = [
+static SUBMIT: [u8; 27] = [
     0xc3, 131, 0, 0, 0, 1, 0, 0, 0, 0, 0, 0, 0, 1, 0, 1, 0, 0, 2, 3, 0, 0, 0, 0x6e, 8, 0, 1,
 ];
 
 /// The frame of three slots, up to the zeros of the job's state in the first.
-const SLOTS: [u8; 28] = [
+static SLOTS: [u8; 28] = [
     0xc3, 21, 1, 0, 0, 2, 0, 0, 0, 0, 0, 0, 0, 3, 0, 2, 0, 0, 1, 2, 2, 0, 0, 0, 0x6e, 8, 0, 3,
 ];
 
 /// The rest of the first slot, and the second one up to the zeros of the job's state.
-const SECOND: [u8; 16] = [1, 0, 0, 2, 0, 0, 1, 2, 1, 0, 0, 0, 0x6e, 8, 0, 7];
+static SECOND: [u8; 16] = [1, 0, 0, 2, 0, 0, 1, 2, 1, 0, 0, 0, 0x6e, 8, 0, 7];
 
 /// The rest of the second slot, and the third one.
-const THIRD: [u8; 10] = [2, 0, 0, 2, 1, 0, 0, 2, 0, 0];
+static THIRD: [u8; 10] = [2, 0, 0, 2, 1, 0, 0, 2, 0, 0];
 
 /// The file before its first frame.
 pub fn fresh(alloc: Global) -> Option<Vec<u8>> {

@@ -47,10 +47,10 @@ fn disk_of(alloc: Global, engine: Driven<MemoryDisk>) -> Option<Left> {
 }
 
 /// Three tasks of 1/3.
-const SINGLE: [(u32, u32); 3] = [(1, 3), (1, 3), (1, 3)];
+static SINGLE: [(u32, u32); 3] = [(1, 3), (1, 3), (1, 3)];
 
 /// Three tasks of 2/3.
-const DOUBLE: [(u32, u32); 3] = [(2, 3), (2, 3), (2, 3)];
+static DOUBLE: [(u32, u32); 3] = [(2, 3), (2, 3), (2, 3)];
 
 /// The engine over the store of three tasks of 2/3 on two workers, with segments of 8,192 bytes.
 fn thirds(alloc: Global) -> Option<Driven<MemoryDisk>> {
@@ -172,7 +172,7 @@ fn refuses(
 const FOURTH: usize = 3020 + 3 * 22;
 
 /// The frame of the fourth command: three weights 1/3 on one worker.
-const FRAME: [u8; 41] = [
+static FRAME: [u8; 41] = [
     0xc3, 0x1a, 0, 0, 0, 4, 0, 0, 0, 0, 0, 0, 0, 1, 0, 4, 1, 1, 0, 0, 0, 3, 0, 0, 0, 1, 0, 0, 0, 3,
     0, 0, 0, 1, 0, 0, 0, 3, 0, 0, 0,
 ];

@@ -10,16 +10,16 @@ use pfx_store_file::{Checkpoint, PIECE, Places, Sizes, StoreFile};
 use std::alloc::Global;
 
 /// The gate, the letters PFXSTORE, version 1, two workers, three tasks, the segment's length, and the tasks.
-const HEAD: [u8; 41] = [
+static HEAD: [u8; 41] = [
     0xC3, 0x50, 0x46, 0x58, 0x53, 0x54, 0x4F, 0x52, 0x45, 1, 2, 3, 0, 0, 0x20, 0, 0, 2, 0, 0, 0, 3,
     0, 0, 0, 2, 0, 0, 0, 3, 0, 0, 0, 2, 0, 0, 0, 3, 0, 0, 0,
 ];
 
 /// Number 0 at slot 0, and no allocations and no job of any task.
-const BODY: [u8; 427] = [0; 427];
+static BODY: [u8; 427] = [0; 427];
 
 /// The number 1, the lowest byte first.
-const FIRST: [u8; 8] = [1, 0, 0, 0, 0, 0, 0, 0];
+static FIRST: [u8; 8] = [1, 0, 0, 0, 0, 0, 0, 0];
 
 const SEGMENT: usize = 8192;
 
@@ -186,7 +186,7 @@ fn a_failing_call_ends_it(rt: HostRuntime) {
 }
 
 /// What becomes of the writes after the last sync: all alike, or the first otherwise than those after it.
-const FATES: [[Fate; 5]; 5] = [
+static FATES: [[Fate; 5]; 5] = [
     [Fate::Kept; 5],
     [Fate::Dropped; 5],
     [Fate::Filled(GATE_OPEN); 5],
@@ -239,7 +239,7 @@ fn a_stop_leaves_no_store_or_the_whole_file(rt: HostRuntime) {
 }
 
 /// What stands behind the gate of the first frame, of one row of two tasks without jobs, and the next closed gate.
-const FRAME: [u8; 22] = [
+static FRAME: [u8; 22] = [
     7, 0, 0, 0, 1, 0, 0, 0, 0, 0, 0, 0, 1, 0, 2, 0, 0, 0, 1, 0, 0, 0,
 ];
 

@@ -23,7 +23,7 @@ enum Step {
 const START: &[u8] = &[1, 2, 3, 4];
 
 /// The run: writes inside, over the end, behind an unsynced end, and across others.
-const RUN: [Step; 8] = [
+static RUN: [Step; 8] = [
     Step::Write(2, &[9, 9, 9]),
     Step::Write(0, &[7]),
     Step::Sync,
@@ -42,7 +42,7 @@ enum Made {
     Wrote(usize, &'static [u8]),
 }
 
-const MADE: [Made; 14] = [
+static MADE: [Made; 14] = [
     Made::Looked,
     Made::Wrote(2, &[9, 9, 9]),
     Made::Looked,

@@ -243,7 +243,7 @@ fn new_weights(alloc: Global, workers: u8, weights: &[(u32, u32)]) -> Option<Rec
 }
 
 /// A third of the slots for each of three tasks, which one worker has.
-const THIRDS: [(u32, u32); 3] = [(1, 3), (1, 3), (1, 3)];
+static THIRDS: [(u32, u32); 3] = [(1, 3), (1, 3), (1, 3)];
 
 /// Whether new weights are right at a state, which has them then.
 fn renews(

@@ -10,7 +10,7 @@ use pfx_weights::TaskSet;
 use std::alloc::Global;
 
 /// The header of two workers, three tasks of 2/3 and segments of 8,192 bytes.
-const WORKED: [u8; 41] = [
+static WORKED: [u8; 41] = [
     0xC3, 0x50, 0x46, 0x58, 0x53, 0x54, 0x4F, 0x52, 0x45, 2, 2, 3, 0, 0, 0x20, 0, 0, 2, 0, 0, 0, 3,
     0, 0, 0, 2, 0, 0, 0, 3, 0, 0, 0, 2, 0, 0, 0, 3, 0, 0, 0,
 ];

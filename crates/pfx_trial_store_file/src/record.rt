@@ -12,7 +12,7 @@ use pfx_weights::Weights;
 use std::alloc::Global;
 
 /// A frame of one slot whose row is the tasks 0 and 1, without jobs.
-const ONE_SLOT: [u8; 22] = [
+static ONE_SLOT: [u8; 22] = [
     0xC3, 7, 0, 0, 0, 1, 0, 0, 0, 0, 0, 0, 0, 1, 0, 2, 0, 0, 0, 1, 0, 0,
 ];
 
@@ -298,7 +298,7 @@ fn faulty_records(rt: HostRuntime) {
 }
 
 /// The frame of command 4: from then on there is one worker, and each of three real tasks has the weight 1/3.
-const NEW_WEIGHTS: [u8; 41] = [
+static NEW_WEIGHTS: [u8; 41] = [
     0xC3, 0x1A, 0, 0, 0, 4, 0, 0, 0, 0, 0, 0, 0, 1, 0, 4, 1, 1, 0, 0, 0, 3, 0, 0, 0, 1, 0, 0, 0, 3,
     0, 0, 0, 1, 0, 0, 0, 3, 0, 0, 0,
 ];

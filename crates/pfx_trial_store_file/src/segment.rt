@@ -20,7 +20,7 @@ const END: usize = 76;
 /// command, and the record: its tag, and each task with no state.
 const LONG: usize = 22;
 
-const BODIES: [[u8; 22]; 3] = [
+static BODIES: [[u8; 22]; 3] = [
     [
         7, 0, 0, 0, 1, 0, 0, 0, 0, 0, 0, 0, 1, 0, 2, 0, 0, 0, 1, 0, 0, 0,
     ],

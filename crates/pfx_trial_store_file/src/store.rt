@@ -13,9 +13,9 @@ use std::alloc::Global;
 
 const LEN: usize = 92;
 
-const AREAS: [usize; 2] = [2, 5];
+static AREAS: [usize; 2] = [2, 5];
 
-const SEGMENTS: [usize; 2] = [8, 50];
+static SEGMENTS: [usize; 2] = [8, 50];
 
 /// The places of a new file.
 fn places() -> Places

@@ -9,5 +9,5 @@ pub run_row-requires-clause-may : goal.run_row-requires-clause-may
 run_row-requires-clause-may g c =
     let there : c.in_ok-next.field-0 ≡ true = search rules in
     let took : Takes c.args.script.now (fields_of c.next.new.row) c.next.new.self = rw there at c.in_ok-next.ensures.reads in
-    λ verb means. may_row g.E.Engine.promise g.met.E.Engine.laws g.W.Printer.allows c.args.form GoOn c.args.script.now c.next.new.self (fields_of c.next.new.row) verb c.args.engine.now c.args.accepted.now
+    λ verb means. may_row g.E.Engine.promise g.met.E.Engine.laws g.W.Printer.allows c.args.run.form GoOn c.args.script.now c.next.new.self (fields_of c.next.new.row) verb c.args.engine.now c.args.accepted.now
     (g.W.Printer.contents c.args.output.now) c.requires.may took means

@@ -4,7 +4,7 @@ use Rattle.pfx_program.proofs.SlotLemmas.{Slotting}
 use Rattle.pfx_program.proofs.scripts.run_slots.Given as goal
 
 abbrev pub invariant-loop-left : goal.invariant-loop-left
-invariant-loop-left g l = Slotting g.E.Engine.promise l.fn.form (slot_steps (run_of g.E.Engine.promise l.fn.form l.fn.engine l.fn.accepted) l.fn.count) l.fn.engine l.engine l.fn.accepted l.accepted
+invariant-loop-left g l = Slotting g.E.Engine.promise l.fn.run.form (slot_steps (run_of g.E.Engine.promise l.fn.run.form l.fn.engine l.fn.accepted) l.fn.count) l.fn.engine l.engine l.fn.accepted l.accepted
     l.left (g.W.Printer.contents l.fn.output) (g.W.Printer.contents l.output)
 
 abbrev pub decreases-loop-left : goal.decreases-loop-left
