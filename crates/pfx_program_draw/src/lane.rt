@@ -8,7 +8,7 @@ ghost use Rattle.std.specs.Prelude.{◌≡◌, ◌++◌, ◌≤◌, ◌<◌, OnO
 ghost use Rattle.pfx_program_draw.specs.Lags.{runs_in, IsCourse};
 ghost use Rattle.pfx_program_draw.specs.Lane.{hue, colour, task_words, lag_words, shade, stroke, bars, across, bounds, base_line, area, lag_line, named};
 ghost use Rattle.pfx_program_draw.specs.Lane.{weight_label, lag_label, tall_drawn, words_y, tall_written, level_ink, cells, all_cells, low_lane, lane_body};
-ghost use Rattle.pfx_program_draw.specs.Lane.{lane};
+ghost use Rattle.pfx_program_draw.specs.Lane as drawn;
 ghost use Rattle.pfx_program_draw.specs.Sizes.{IsDrawable};
 
 use crate::bars::{cell_track, put_bars, run_track};
@@ -270,7 +270,7 @@ fn put_tall_drawn(
     requires within { lane.x ≤ 1152 }
     requires course { IsCourse lane.course }
     requires limit { length lane.marks.now ≤ 1440 }
-    ensures { OnOk result (text.new.items ≡ text.old.items ++ tall_drawn s ink lane.x lane.course lane.entry.marks.now) }
+    ensures { OnOk result (text.new.items ≡ text.old.items ++ tall_drawn s ink lane.entry.x lane.entry.course lane.entry.marks.now) }
 {
     let top = y_at(s, lane.x);
     let base = top + s.heights.zero;
@@ -303,7 +303,7 @@ fn put_tall_written(
     requires course { IsCourse lane.course }
     requires drawable { IsDrawable s }
     requires within { lane.x ≤ 1152 }
-    ensures { OnOk result (text.new.items ≡ text.old.items ++ tall_written s lane.x lane.entry.name.now lane.course runs) }
+    ensures { OnOk result (text.new.items ≡ text.old.items ++ tall_written s lane.entry.x lane.entry.name.now lane.entry.course runs) }
 {
     let y = words_y(s, lane.x);
     put_name(alloc, text, y, Phrase::NameEnd, lane.name)?;
@@ -372,7 +372,7 @@ fn put_low_lane(
     requires course { IsCourse lane.course }
     requires drawable { IsDrawable s }
     requires within { lane.x ≤ 1152 }
-    ensures { OnOk result (text.new.items ≡ text.old.items ++ low_lane s lane.x lane.entry.name.now lane.course lane.entry.marks.now) }
+    ensures { OnOk result (text.new.items ≡ text.old.items ++ low_lane s lane.entry.x lane.entry.name.now lane.entry.course lane.entry.marks.now) }
 {
     let top = y_at(s, lane.x);
     let levels = levels(alloc, lane.course, lane.marks)?;
@@ -396,7 +396,7 @@ fn put_body(
     requires limit { length lane.marks.now ≤ 1440 }
     requires few { m.runs ≤ 1440 }
     requires runs { m.runs ≡ runs_in lane.marks.now (length lane.marks.now) }
-    ensures { OnOk result (text.new.items ≡ text.old.items ++ lane_body s real lane.x lane.entry.name.now lane.course lane.entry.marks.now) }
+    ensures { OnOk result (text.new.items ≡ text.old.items ++ lane_body s real lane.entry.x lane.entry.name.now lane.entry.course lane.entry.marks.now) }
 {
     if s.lanes <= 48 {
         put_tall_drawn(alloc, text, s, colour(real, lane.x), lane)?;
@@ -419,7 +419,7 @@ pub(crate) fn put_lane(
     requires within { lane.x ≤ 1152 }
     requires course { IsCourse lane.course }
     requires limit { length lane.marks.now ≤ 1440 }
-    ensures { OnOk result (text.new.items ≡ text.old.items ++ lane s real lane.x lane.entry.name.now lane.course lane.entry.marks.now) }
+    ensures { OnOk result (text.new.items ≡ text.old.items ++ drawn.lane s real lane.entry.x lane.entry.name.now lane.entry.course lane.entry.marks.now) }
 {
     let m = summed(lane.course, lane.marks);
     put_task_words(alloc, text, s, lane.name, lane.course, m)?;

@@ -19,5 +19,5 @@ new-durable-requires-clause-lasting g c =
 
 pub new-durable-requires-clause-durable : goal.new-durable-requires-clause-durable
 new-durable-requires-clause-durable g c =
-    let leads : applied g.J.Job.kind g.B.Named.origin (records_of c.again-word.result) ≡ Some c.args.store.now.state = search rules in
+    let leads : applied g.J.Job.kind g.B.Begun.origin (records_of c.again-word.result) ≡ Some c.args.store.now.state = search rules in
     c.moment_of.ensures.durable c.again-word.result leads
