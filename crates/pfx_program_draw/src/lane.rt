@@ -8,7 +8,7 @@ ghost use Rattle.std.specs.Prelude.{◌≡◌, ◌++◌, ◌≤◌, ◌<◌, OnO
 ghost use Rattle.pfx_program_draw.specs.Lags.{runs_in, IsCourse};
 ghost use Rattle.pfx_program_draw.specs.Lane.{hue, colour, task_words, lag_words, shade, stroke, bars, across, bounds, base_line, area, lag_line, named};
 ghost use Rattle.pfx_program_draw.specs.Lane.{weight_label, lag_label, tall_drawn, words_y, tall_written, level_ink, cells, all_cells, low_lane, lane_body};
-ghost use Rattle.pfx_program_draw.specs.Lane as drawn;
+ghost use Rattle.pfx_program_draw.specs.Lane.{lane};
 ghost use Rattle.pfx_program_draw.specs.Sizes.{IsDrawable};
 
 use crate::bars::{cell_track, put_bars, run_track};
@@ -413,17 +413,17 @@ pub(crate) fn put_lane(
     text: &mut Vec<u8>,
     s: PictureSizes,
     real: u64,
-    lane: Lane<'_>,
+    task: Lane<'_>,
 ) -> Result<(), AllocError>
     requires drawable { IsDrawable s }
-    requires within { lane.x ≤ 1152 }
-    requires course { IsCourse lane.course }
-    requires limit { length lane.marks.now ≤ 1440 }
-    ensures { OnOk result (text.new.items ≡ text.old.items ++ drawn.lane s real lane.entry.x lane.entry.name.now lane.entry.course lane.entry.marks.now) }
+    requires within { task.x ≤ 1152 }
+    requires course { IsCourse task.course }
+    requires limit { length task.marks.now ≤ 1440 }
+    ensures { OnOk result (text.new.items ≡ text.old.items ++ lane s real task.entry.x task.entry.name.now task.entry.course task.entry.marks.now) }
 {
-    let m = summed(lane.course, lane.marks);
-    put_task_words(alloc, text, s, lane.name, lane.course, m)?;
-    put_lag_words(alloc, text, s, lane.course, m)?;
-    put_body(alloc, text, s, real, lane, m)?;
+    let m = summed(task.course, task.marks);
+    put_task_words(alloc, text, s, task.name, task.course, m)?;
+    put_lag_words(alloc, text, s, task.course, m)?;
+    put_body(alloc, text, s, real, task, m)?;
     put_phrase(text, Phrase::LaneEnd)
 }
