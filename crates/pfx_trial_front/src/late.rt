@@ -1,5 +1,5 @@
-//! A desk that holds the first result that is handed back until quanta are dealt again or the desk is closed, and meanwhile
-//! answers once that there is no result.
+//! A desk that, where it is late, holds the first result that is handed back until quanta are dealt again or the desk is closed, and
+//! meanwhile answers once that there is no result.
 
 use pfx_crew::desk::Desk;
 use pfx_jobs::quantum::{Done, Quantum};
@@ -23,26 +23,25 @@ pub struct Marks {
 }
 
 impl Marks {
-    /// Nothing yet.
-    fn new() -> Marks {
+    /// Nothing yet, or, of a desk that isn't late, all that happens once.
+    fn new(is_late: bool) -> Marks {
         Marks {
-            held: AtomicBool::new(false),
+            held: AtomicBool::new(!is_late),
             missed: AtomicBool::new(false),
             released: AtomicBool::new(false),
             late: AtomicBool::new(false),
-            collected: AtomicU64::new(0),
+            collected: AtomicU64::new(if is_late { 0 } else { 2 }),
         }
     }
 
-    /// Whether a result was held, the caller was told that there is none, and it dealt again before the limit was reached.
+    /// Whether a result was held, the caller was told that there is none, it dealt again before the limit was reached, and more than two
+    /// results were collected.
     pub fn is_made_again(&self) -> bool {
         let held = self.held.load(Ordering::SeqCst) && self.missed.load(Ordering::SeqCst);
-        held && self.released.load(Ordering::SeqCst) && !self.late.load(Ordering::SeqCst)
-    }
-
-    /// How many results were collected.
-    pub fn collected(&self) -> u64 {
-        self.collected.load(Ordering::SeqCst)
+        let made = held
+            && self.released.load(Ordering::SeqCst)
+            && !self.late.load(Ordering::SeqCst);
+        made && self.collected.load(Ordering::SeqCst) > 2
     }
 
     /// Waits until the result may go on.
@@ -66,8 +65,12 @@ pub struct LateDesk<K: Drop> {
 
 impl<K: Drop> LateDesk<K> {
     /// Over this desk, with what is to happen there.
-    pub fn new(alloc: Global, desk: K) -> Result<(LateDesk<K>, Arc<Marks, Global>), AllocError> {
-        let marks = Arc::new(alloc, Marks::new())?;
+    pub fn new(
+        alloc: Global,
+        desk: K,
+        is_late: bool,
+    ) -> Result<(LateDesk<K>, Arc<Marks, Global>), AllocError> {
+        let marks = Arc::new(alloc, Marks::new(is_late))?;
         let theirs = Arc::try_clone(&marks)?;
         Ok((
             LateDesk {

@@ -15,6 +15,8 @@
 //! | `held` | a flusher that is held in its first sync: calls are answered meanwhile |
 //! | `lost` | a device that fails: who is told, and what is left |
 //! | `board` | the board by itself: what its readers see, also beside a thread that publishes |
+//!
+//! `proofs/RefutedCalls.antt` has worked rows of what a client knows whose call has no reply or no receipt.
 #![tactic(auto)]
 
 #[cfg(test)]

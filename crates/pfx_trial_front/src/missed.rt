@@ -2,14 +2,10 @@
 
 use crate::answers::{is_accepted, is_first_slot, is_number, is_settled};
 use crate::fronts::{Ended, is_kept};
-use crate::late::LateDesk;
 use crate::service::{Ask, Service};
-use crate::sessions::{Session, Visit, alone, is_right};
-use crate::stores::{SEGMENT, desk, memory};
+use crate::sessions::{Session, Visit, alone, in_memory};
 use std::alloc::Global;
 use std::sync::Wait;
-use std::thread::Threads;
-use std::time::Clock;
 
 /// How many commands are called: two Submits, and slots after them.
 const LAST: u64 = 6;
@@ -44,17 +40,7 @@ pub fn has_ended(ended: &Ended) -> bool {
     is_kept(ended, LAST)
 }
 
-/// Whether slots are answered though a result is late, and the desk had held it until the next slot.
-fn is_made_again<R: Threads + Wait + Clock + Copy + Drop + Send + Sync + 'static>(
-    rt: R,
-    alloc: Global,
-) -> Option<bool> {
-    let (desk, marks) = LateDesk::new(alloc, desk(alloc)?).ok()?;
-    let served = is_right(rt, alloc, memory(alloc)?, SEGMENT, desk, Session::Missed)?;
-    Some(served && marks.is_made_again() && marks.collected() > 2)
-}
-
 #[test]
 fn what_a_late_worker_owes_is_made_again(rt: HostRuntime) {
-    assert!(rt; is_made_again(rt, rt.alloc()) == Some(true));
+    assert!(rt; in_memory(rt, rt.alloc(), Session::Missed) == Some(true));
 }

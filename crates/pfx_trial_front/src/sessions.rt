@@ -4,6 +4,7 @@ ghost use Rattle.pfx_kinds.specs.AnyKind.{any_kind};
 ghost use Rattle.pfx_front.specs.Starting.{Begins, BeginsHonest};
 
 use crate::fronts::{Ended, Served, begin, end};
+use crate::late::LateDesk;
 use crate::service::Service;
 use crate::stores::{SEGMENT, desk, memory, thirds_by};
 use crate::{clients, held, lost, many, missed, passes, pieces, served, sole};
@@ -226,7 +227,7 @@ where
 }
 
 /// Whether all is as it should be in a session at a front of a new store on this disk, with segments of this length in bytes.
-pub fn is_right<
+fn is_right<
     K: Desk<Quantum<AnyJob>, Done<AnyJob>> + Drop + Send + Sync + 'static,
     D: Disk + Drop + Send + 'static,
     R: Threads + Wait + Clock + Copy + Drop + Send + Sync + 'static,
@@ -238,13 +239,15 @@ where
     serve_named(rt, alloc, Names::new(alloc).ok()?, store, desk, session)
 }
 
-/// The same at a desk of channels.
+/// The same at a desk of channels, which is late where that is the session.
 pub fn on_disk<
     D: Disk + Drop + Send + 'static,
     R: Threads + Wait + Clock + Copy + Drop + Send + Sync + 'static,
 >(rt: R, alloc: Global, disk: D, segment: u32, session: Session) -> Option<bool> {
-    let desk = desk(alloc)?;
-    is_right(rt, alloc, disk, segment, desk, session)
+    let is_late = matches!(session, Session::Missed);
+    let (desk, marks) = LateDesk::new(alloc, desk(alloc)?, is_late).ok()?;
+    let served = is_right(rt, alloc, disk, segment, desk, session)?;
+    Some(served && (!is_late || marks.is_made_again()))
 }
 
 /// The same of a store in memory, with segments that hold what the tests do.

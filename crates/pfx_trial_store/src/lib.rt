@@ -1,5 +1,5 @@
-//! Tests of durable stores, of new weights in them and of older ones that are made into stores of this version, in a crate of their own
-//! so that the tested crates are proved once, without them.
+//! Tests of durable stores, of new weights in them, of older ones that are made into stores of this version, and of replays, in a crate
+//! of their own so that the tested crates are proved once, without them.
 //!
 //! | Module | Tests |
 //! |---|---|
@@ -13,6 +13,7 @@
 //! | `marks` | `pfx_store`: batches of 2 and of 16 slots with turns in their midst, stops after each call, and the worked client |
 //! | `migrating` | `pfx_store_migrate`: what is made of a file, which files are refused, and a stop after each call |
 //! | `old` | a file of version 1, written down, and the state that it stands for |
+//! | `replays` | `pfx_replay`: what a replay says of whole files, and of files with changed bytes |
 //! | `reweighing` | `pfx_store_engine`: new weights between slots, opened again, stopped after each call, and with a turn for their frame |
 //! | `scripts` | `pfx_store_engine`: scripts over stores, on disks in memory, in a file, and on ones that fail |
 //! | `stops` | `pfx_store_engine`: stops after each call, and where frames go |
@@ -48,6 +49,8 @@ mod marks;
 mod migrating;
 #[cfg(test)]
 mod old;
+#[cfg(test)]
+mod replays;
 #[cfg(test)]
 mod reweighing;
 #[cfg(test)]

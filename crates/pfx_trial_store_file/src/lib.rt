@@ -1,4 +1,5 @@
-//! Tests of disks, of a store's bytes and of files of them, in a crate of their own so that the tested crates are proved once, without them.
+//! Tests of disks, of a store's bytes, of files of them and of logs, in a crate of their own so that the tested crates are proved once,
+//! without them.
 //!
 //! | Module | Tests |
 //! |---|---|
@@ -15,6 +16,8 @@
 //! | `header` | `pfx_store_header`: headers as bytes |
 //! | `effect` | `pfx_record_redo`: records taken over by states |
 //! | `format` | `pfx_store_format`: frames that lead from state to state |
+//! | `logs`, `log_vector` | `pfx_log`: what is written and read, and each refusal; each byte of a log of three blocks changed; a log that another program wrote |
+//! | `log_stops` | `pfx_log`: a stop at each call, twice, and each call failing |
 //!
 //! A case is a plain `bool`; `check`, `check_at` and `check_pair` name the one that doesn't hold.
 #![tactic(auto)]
@@ -35,6 +38,12 @@ mod format;
 mod header;
 #[cfg(test)]
 mod held;
+#[cfg(test)]
+mod log_stops;
+#[cfg(test)]
+mod log_vector;
+#[cfg(test)]
+mod logs;
 #[cfg(test)]
 mod opening;
 #[cfg(test)]

@@ -1,7 +1,7 @@
 //! Stops at each call, and calls that fail.
 
 use crate::check::{check, check_pair};
-use crate::vector::{
+use crate::log_vector::{
     BEFORE, FATES, STATE, VERSION, append, blocks_of, disk_of, ends_behind, written,
 };
 use pfx_disk::{Disk, Fate, FaultDisk, MemoryDisk};

@@ -1,6 +1,6 @@
 use Rattle.std.proofs.Common.{arith}
 use Rattle.std.proofs.lemmas.Int.{ints}
-use Rattle.pfx_trial_choice.proofs.lanes.is_lane.Goals as goal
+use Rattle.pfx_trial_machine.proofs.lanes.is_lane.Goals as goal
 
 pub returns : goal.returns
 returns c = record {

@@ -2,7 +2,7 @@ use Rattle.std.proofs.Common.{◌∙◌, ◌≡◌, ap, arith}
 use Rattle.pfx_weights.specs.Rows.{members}
 use Rattle.pfx_columns.specs.Ledgers.{total}
 use Rattle.pfx_choice.specs.PfRows.{pf_set}
-use Rattle.pfx_trial_choice.proofs.plain.plain_row.Goals as goal
+use Rattle.pfx_trial_machine.proofs.plain.plain_row.Goals as goal
 
 pub returns : goal.returns
 returns c =

@@ -4,7 +4,7 @@ use Rattle.pfx_columns.specs.Ledgers.{rank}
 use Rattle.pfx_choice.specs.Choices.{order, is_contending}
 use Rattle.pfx_choice.specs.PfRows.{is_greater}
 use Rattle.pfx_choice.proofs.Best.{rank_above}
-use Rattle.pfx_trial_choice.proofs.plain.beats.Goals as goal
+use Rattle.pfx_trial_machine.proofs.plain.beats.Goals as goal
 
 pub returns-in-Contending : goal.returns-in-Contending
 returns-in-Contending c =

@@ -2,7 +2,7 @@ use Rattle.std.proofs.Common.{pos, get_or, w32, of_z, to_z, rules, FitsSigned}
 use Rattle.std.proofs.lemmas.Int.{to_z-of_z}
 use borrow.Author.Count.{below_more}
 use Rattle.pfx_lanes.specs.Classes.{IsLane}
-use Rattle.pfx_trial_choice.proofs.lanes.are_lanes.Goals as goal
+use Rattle.pfx_trial_machine.proofs.lanes.are_lanes.Goals as goal
 
 pub loop-k-preserved : goal.loop-k-preserved
 loop-k-preserved c =

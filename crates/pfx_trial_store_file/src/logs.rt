@@ -1,7 +1,7 @@
 //! Logs that are written and read.
 
 use crate::check::{check, check_at};
-use crate::vector::{
+use crate::log_vector::{
     BEFORE, FRAMES, GATES, LEN, LOG, NUMBERS, STATE, VERSION, append, block_at, disk_of,
     ends_behind, header_of, held, written,
 };
